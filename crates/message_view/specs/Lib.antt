@@ -1,0 +1,7 @@
+pub mod Order
+pub mod Message
+pub mod Header
+pub mod Spelling
+pub mod Valid
+pub mod Fixed
+pub mod Reading

@@ -1,0 +1,12 @@
+//! D-Bus messages, read where they lie. The layers above use what `View::read` ensures: it accepts
+//! exactly the valid messages, and what it lends is the message's own.
+#![tactic(auto)]
+
+mod fault;
+mod field;
+mod kind;
+mod order;
+
+pub use fault::MsgError;
+pub use kind::Kind;
+pub use order::Order;
