@@ -2,8 +2,10 @@
 //! exactly the valid messages, and what it lends is the message's own.
 #![tactic(auto)]
 
+mod content;
 mod fault;
 mod field;
+mod fixed;
 mod kind;
 mod order;
 

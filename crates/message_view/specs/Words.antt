@@ -1,0 +1,53 @@
+-- Words that the contracts of the readers use.
+use Rattle.std.specs.Prelude.{◌≡◌, ℕ, List, [], ◌∷◌, length, slice_index, ◌≤◌, Option, Some, None, Result, Ok, Err}
+use Rattle.message_view.specs.declared.fault.MsgError.{MsgError}
+use Rattle.message_view.specs.declared.order.Order.{Order}
+use Rattle.message_view.specs.declared.fixed.Fixed.{Fixed}
+use Rattle.message_view.specs.declared.content.Content.{Content}
+use Rattle.message_view.specs.declared.content.Content.TheVariants.{Text, Number}
+use Rattle.message_view.specs.Message.{Value, number, text}
+use Rattle.message_view.specs.Header.{kind_of}
+use Rattle.message_view.specs.Fixed.{order_in, serial_in, fields_len, body_len, whole_len, framing}
+use Rattle.message_view.specs.Valid.{max_array_len, max_message_len}
+use Rattle.message_view.specs.Spelling.{fixed_len}
+use Rattle.message_view.specs.Reading.{At}
+
+-- What a call returned, and where it then stands, is what reading gives.
+abbrev pub Reads : {X Y : Type 0} → (X → Y) → Result X MsgError → At → Result (Y × At) MsgError → Type 0
+Reads view (Ok x) behind read = read ≡ Ok (view x, behind)
+Reads view (Err fault) behind read = read ≡ Err fault
+
+-- the same where only the place changes
+abbrev pub Skips : {X : Type 0} → Result X MsgError → At → Result At MsgError → Type 0
+Skips (Ok x) behind read = read ≡ Ok behind
+Skips (Err fault) behind read = read ≡ Err fault
+
+-- What a call returned is what reading gives, seen by a view of each.
+abbrev pub Gives : {X Y Z : Type 0} → (X → Z) → (Y → Z) → Result X MsgError → Result Y MsgError → Type 0
+Gives view_of read_as (Ok x) (Ok y) = view_of x ≡ read_as y
+Gives view_of read_as (Err fault) (Err other) = fault ≡ other
+Gives view_of read_as (Ok x) (Err other) = ⊥
+Gives view_of read_as (Err fault) (Ok y) = ⊥
+
+-- a field's content as the value that it is
+abbrev pub value_of : Content → Value
+value_of (Text t) = text t.now
+value_of (Number n) = number n
+
+-- the fixed part of some bytes
+pub record IsFixed (fixed : Fixed) (bytes : List ℕ) : Type 0 where
+  pub whole : fixed_len ≤ length bytes
+  pub order : fixed.order ≡ order_in bytes
+  pub kind : kind_of (slice_index bytes 1) ≡ Some fixed.kind
+  pub flags : fixed.flags ≡ slice_index bytes 2
+  pub body : fixed.body_len ≡ body_len bytes
+  pub serial : fixed.serial ≡ serial_in bytes
+  pub fields : fixed.fields_len ≡ fields_len bytes
+  pub array_fits : fields_len bytes ≤ max_array_len
+  pub fits : whole_len bytes ≤ max_message_len
+
+-- what a reader of the fixed part answers
+abbrev pub ReadsFixed : Result (Option Fixed) MsgError → List ℕ → Type 0
+ReadsFixed (Ok (Some fixed)) bytes = (framing bytes ≡ Ok (Some (whole_len bytes))) × IsFixed fixed bytes
+ReadsFixed (Ok None) bytes = framing bytes ≡ Ok None
+ReadsFixed (Err fault) bytes = framing bytes ≡ Err fault
