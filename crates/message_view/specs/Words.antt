@@ -1,10 +1,12 @@
 -- Words that the contracts of the readers use.
-use Rattle.std.specs.Prelude.{◌≡◌, ℕ, List, [], ◌∷◌, length, slice_index, ◌≤◌, Option, Some, None, Result, Ok, Err}
+use Rattle.std.specs.Prelude.{◌≡◌, ℕ, Bool, true, false, List, [], ◌∷◌, length, slice_index, ◌≤◌, Option, Some, None, Result, Ok, Err}
 use Rattle.message_view.specs.declared.fault.MsgError.{MsgError}
 use Rattle.message_view.specs.declared.order.Order.{Order}
 use Rattle.message_view.specs.declared.fixed.Fixed.{Fixed}
 use Rattle.message_view.specs.declared.content.Content.{Content}
 use Rattle.message_view.specs.declared.content.Content.TheVariants.{Text, Number}
+use Rattle.message_view.specs.declared.text.TextType.{TextType}
+use Rattle.message_view.specs.declared.text.TextType.TheVariants.{String, ObjectPath, Signature}
 use Rattle.message_view.specs.Message.{Value, number, text}
 use Rattle.message_view.specs.Header.{kind_of}
 use Rattle.message_view.specs.Fixed.{order_in, serial_in, fields_len, body_len, whole_len, framing}
@@ -51,3 +53,14 @@ abbrev pub ReadsFixed : Result (Option Fixed) MsgError → List ℕ → Type 0
 ReadsFixed (Ok (Some fixed)) bytes = (framing bytes ≡ Ok (Some (whole_len bytes))) × IsFixed fixed bytes
 ReadsFixed (Ok None) bytes = framing bytes ≡ Ok None
 ReadsFixed (Err fault) bytes = framing bytes ≡ Err fault
+
+-- the basic code of a text's type
+abbrev pub text_code : TextType → ℕ
+text_code String = 115
+text_code ObjectPath = 111
+text_code Signature = 103
+
+-- what a test of a text's form lends: the text itself
+abbrev pub LendsText : Bool → List ℕ → Option (List ℕ) → Type 0
+LendsText allowed bytes (Some found) = (allowed ≡ true) × (found ≡ bytes)
+LendsText allowed bytes None = allowed ≡ false

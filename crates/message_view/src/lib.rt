@@ -3,11 +3,13 @@
 #![tactic(auto)]
 
 mod content;
+mod cursor;
 mod fault;
 mod field;
 mod fixed;
 mod kind;
 mod order;
+mod text;
 
 pub use fault::MsgError;
 pub use kind::Kind;
