@@ -19,11 +19,14 @@ slot_of Sender = 6
 slot_of Signature = 7
 slot_of UnixFds = 8
 
-abbrev pub no_slots : List (Option Value)
+abbrev pub Slots : Type 0
+Slots = List (Option Value)
+
+abbrev pub no_slots : Slots
 no_slots = None ∷ None ∷ None ∷ None ∷ None ∷ None ∷ None ∷ None ∷ None ∷ []
 
 -- the value of each known field, if it is there
-abbrev pub slots_of : List Field → List (Option Value)
+abbrev pub slots_of : List Field → Slots
 slots_of fields =
     field_with 1 fields ∷ field_with 2 fields ∷ field_with 3 fields ∷ field_with 4 fields ∷ field_with 5 fields
     ∷ field_with 6 fields ∷ field_with 7 fields ∷ field_with 8 fields ∷ field_with 9 fields ∷ []
@@ -34,7 +37,7 @@ pub record Kept : Type 0 where
   pub kind : Kind
   pub flags : ℕ
   pub serial : ℕ
-  pub slots : List (Option Value)
+  pub slots : Slots
 
 abbrev pub kept_of : Message → Kept
 kept_of m = record { order = m.order; kind = m.kind; flags = m.flags; serial = m.serial; slots = slots_of m.fields }

@@ -1,18 +1,24 @@
 -- Words that the contracts of the readers use.
-use Rattle.std.specs.Prelude.{◌≡◌, ℕ, Bool, true, false, List, [], ◌∷◌, length, slice_index, ◌≤◌, Option, Some, None, Result, Ok, Err}
+use Rattle.std.specs.Prelude.{◌≡◌, ℕ, Bool, true, false, List, [], ◌∷◌, length, map, option_map, slice_index, ◌≤◌, Option, Some, None, Result, Ok, Err}
 use Rattle.message_view.specs.declared.fault.MsgError.{MsgError}
 use Rattle.message_view.specs.declared.order.Order.{Order}
 use Rattle.message_view.specs.declared.fixed.Fixed.{Fixed}
 use Rattle.message_view.specs.declared.content.Content.{Content}
 use Rattle.message_view.specs.declared.content.Content.TheVariants.{Text, Number}
+use Rattle.message_view.specs.declared.fields.Fields.{Fields}
 use Rattle.message_view.specs.declared.text.TextType.{TextType}
-use Rattle.message_view.specs.declared.text.TextType.TheVariants.{String, ObjectPath, Signature}
+use Rattle.message_view.specs.declared.text.TextType.TheVariants as texts
+use Rattle.message_view.specs.declared.field.FieldCode.{FieldCode}
+use Rattle.message_view.specs.declared.field.FieldCode.TheVariants.{Path, Interface, Member, ErrorName, ReplySerial, Destination, Sender, Signature, UnixFds}
+use Rattle.message_view.specs.declared.field.FieldType.{FieldType}
+use Rattle.message_view.specs.declared.field.FieldType.TheVariants as types
 use Rattle.message_view.specs.Message.{Value, number, text}
 use Rattle.message_view.specs.Header.{kind_of}
 use Rattle.message_view.specs.Fixed.{order_in, serial_in, fields_len, body_len, whole_len, framing}
 use Rattle.message_view.specs.Valid.{max_array_len, max_message_len}
 use Rattle.message_view.specs.Spelling.{fixed_len}
 use Rattle.message_view.specs.Reading.{At}
+use Rattle.message_view.specs.Slots.{Slots}
 
 -- What a call returned, and where it then stands, is what reading gives.
 abbrev pub Reads : {X Y : Type 0} → (X → Y) → Result X MsgError → At → Result (Y × At) MsgError → Type 0
@@ -56,11 +62,32 @@ ReadsFixed (Err fault) bytes = framing bytes ≡ Err fault
 
 -- the basic code of a text's type
 abbrev pub text_code : TextType → ℕ
-text_code String = 115
-text_code ObjectPath = 111
-text_code Signature = 103
+text_code texts.String = 115
+text_code texts.ObjectPath = 111
+text_code texts.Signature = 103
 
 -- what a test of a text's form lends: the text itself
 abbrev pub LendsText : Bool → List ℕ → Option (List ℕ) → Type 0
 LendsText allowed bytes (Some found) = (allowed ≡ true) × (found ≡ bytes)
 LendsText allowed bytes None = allowed ≡ false
+
+-- the type of a field's value, as the code has it
+abbrev pub type_of : FieldCode → FieldType
+type_of Path = types.Text texts.ObjectPath
+type_of Interface = types.Text texts.String
+type_of Member = types.Text texts.String
+type_of ErrorName = types.Text texts.String
+type_of ReplySerial = types.Number
+type_of Destination = types.Text texts.String
+type_of Sender = types.Text texts.String
+type_of Signature = types.Text texts.Signature
+type_of UnixFds = types.Number
+
+-- the basic code of a field's type
+abbrev pub type_code_of : FieldType → ℕ
+type_code_of (types.Text t) = text_code t
+type_code_of types.Number = 117
+
+-- the values that are kept of the known fields
+abbrev pub shown : Fields → Slots
+shown fields = map (option_map value_of) fields.slots

@@ -6,6 +6,7 @@ mod content;
 mod cursor;
 mod fault;
 mod field;
+mod fields;
 mod fixed;
 mod kind;
 mod order;

@@ -55,6 +55,17 @@ fn signature_text(bytes: &[u8]) -> Option<&str>
 }
 
 impl TextType {
+    /// The basic code of the type.
+    pub(crate) fn code(self) -> u8
+        ensures { result ≡ text_code self }
+    {
+        match self {
+            TextType::String => b's',
+            TextType::ObjectPath => b'o',
+            TextType::Signature => b'g',
+        }
+    }
+
     /// The text that the bytes are, where they have this type's form.
     fn lend(self, bytes: &[u8]) -> Option<&str>
         ensures { LendsText (is_text_of (text_code self) bytes.now) bytes.now (option_map (λ text. text.now) result) }
