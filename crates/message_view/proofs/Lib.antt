@@ -1,0 +1,3 @@
+pub mod Results
+pub mod Numbers
+pub mod Items
