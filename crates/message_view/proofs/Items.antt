@@ -47,6 +47,9 @@ item_again len place text rest is =
 
 -- ---- zeros
 
+pub length-zeros : (n : ℕ) → length (zeros n) ≡ n
+length-zeros n = length-replicate n 0
+
 zeros_again : (n : ℕ) → list_all (λ byte. eqb byte 0) (zeros n) ≡ true
 zeros_again zero = refl
 zeros_again (suc n) = zeros_again n
@@ -71,7 +74,7 @@ aligned_takes alignment a found e =
 pub aligned_again : (alignment place : ℕ) (rest : List ℕ) → aligned_at alignment (at place (zeros (padding alignment place) ++ rest)) ≡ Ok (at (place + padding alignment place) rest)
 unfolding aligned_at
 aligned_again alignment place rest =
-    rw (item_again (padding alignment place) place (zeros (padding alignment place)) rest (length-replicate (padding alignment place) 0), zeros_again (padding alignment place)) refl
+    rw (item_again (padding alignment place) place (zeros (padding alignment place)) rest (length-zeros (padding alignment place)), zeros_again (padding alignment place)) refl
 
 -- ---- a byte
 

@@ -1,3 +1,4 @@
 pub mod Results
 pub mod Numbers
 pub mod Items
+pub mod Values
