@@ -2,3 +2,4 @@ pub mod Results
 pub mod Numbers
 pub mod Items
 pub mod Values
+pub mod Fields

@@ -1,7 +1,7 @@
 -- Steps that may fail: what an Ok of several says of each.
-use Rattle.std.proofs.Common.{◌≡◌, Bool, true, false, cond, Option, Some, None, Result, Ok, Err, refl}
+use Rattle.std.proofs.Common.{◌≡◌, Bool, true, false, cond, is_some, Option, Some, None, Result, Ok, Err, refl}
 use Rattle.message_view.specs.declared.fault.MsgError.{MsgError}
-use Rattle.message_view.specs.Reading.{◌>>=◌}
+use Rattle.message_view.specs.Reading.{◌>>=◌, or_fault}
 
 -- the value of a step that did not fail
 pub bind_ok : {A B : Type 0} (r : Result A MsgError) (f : A → Result B MsgError) (y : B) → (r >>= f) ≡ Ok y → (x : A) × (r ≡ Ok x) × (f x ≡ Ok y)
@@ -34,7 +34,15 @@ pub passed_ok : {A : Type 0} (b : Bool) (d : MsgError) (x y : A) → cond b (Ok 
 passed_ok true d x y e = (refl, cc)
 passed_ok false d x y e = absurd cc
 
--- a test that did not name a fault
-pub no_fault : (b : Bool) (d : MsgError) (o : Option MsgError) → cond b (Some d) o ≡ None → (b ≡ false) × (o ≡ None)
-no_fault true d o e = absurd cc
-no_fault false d o e = (refl, e)
+-- a test that found nothing
+pub found_none : {A : Type 0} (b : Bool) (x : A) (o : Option A) → cond b (Some x) o ≡ None → (b ≡ false) × (o ≡ None)
+found_none true x o e = absurd cc
+found_none false x o e = (refl, e)
+
+pub is_none : {A : Type 0} (o : Option A) → is_some o ≡ false → o ≡ None
+is_none None e = refl
+is_none (Some x) e = absurd cc
+
+pub or_fault_ok : {A : Type 0} (o : Option MsgError) (x y : A) → or_fault o x ≡ Ok y → (o ≡ None) × (x ≡ y)
+or_fault_ok (Some d) x y e = absurd cc
+or_fault_ok None x y e = (refl, cc)
