@@ -49,7 +49,7 @@ or_unknown_ok : (o : Option FieldCode) (code : FieldCode) → or_unknown o ≡ O
 or_unknown_ok (Some c) code e = cc
 or_unknown_ok None code e = absurd cc
 
-abbrev code_bytes : ℕ → FieldCode → List ℕ
+abbrev pub code_bytes : ℕ → FieldCode → List ℕ
 code_bytes place code = zeros (padding 8 place) ++ code_byte code ∷ []
 
 pub code_takes : (front : List Field) (a : At) (found : FieldCode × At) → code_at front a ≡ Ok found → Takes a (code_bytes a.place found.0) found.1 × (field_with (code_byte found.0) front ≡ None)
@@ -118,7 +118,7 @@ no_content_fault code (members vs) has = absurd has
 no_content_fault code (of_type s v) has = absurd has
 
 -- the type and the value of a variant whose type stands at a place
-abbrev content_bytes : Order → ℕ → FieldCode → Value → List ℕ
+abbrev pub content_bytes : Order → ℕ → FieldCode → Value → List ℕ
 content_bytes order place code value = signature_bytes (basic (type_code code)) ++ value_bytes order (place + 3) (basic (type_code code)) value
 
 pub record Holds (order : Order) (code : FieldCode) (a : At) (value : Value) (behind : At) : Type 0 where
@@ -148,7 +148,7 @@ content_again order code place value rest shaped allowed =
 
 -- ---- a field
 
-abbrev field_of : FieldCode → Value → Field
+abbrev pub field_of : FieldCode → Value → Field
 field_of code value = record { code = code_byte code; type = basic (type_code code); value = value }
 
 pub record Reads (order : Order) (front : List Field) (a : At) (field : Field) (behind : At) : Type 0 where

@@ -3,3 +3,5 @@ pub mod Numbers
 pub mod Items
 pub mod Values
 pub mod Fields
+pub mod Turns
+pub mod Arrays
