@@ -5,3 +5,4 @@ pub mod Values
 pub mod Fields
 pub mod Turns
 pub mod Arrays
+pub mod Fixed
