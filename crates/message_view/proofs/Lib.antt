@@ -1,2 +1,11 @@
+pub mod Results
+pub mod Numbers
+pub mod Items
+pub mod Values
+pub mod FieldLaws
+pub mod Turns
+pub mod Arrays
+pub mod FixedChecks
 pub mod PlainTexts
 pub mod Kept
+pub mod FixedPart

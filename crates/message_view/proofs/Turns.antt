@@ -1,0 +1,106 @@
+-- Each field takes at least a byte, so that more turns than the array has bytes change nothing.
+use Rattle.std.proofs.Common.{◌≡◌, ℕ, zero, suc, ◌+◌, ◌<◌, ◌≤◌, Bool, true, false, cond, eqb, List, [], ◌∷◌, ◌++◌, length, Result, Ok, Err, refl, sym, ap, subst, ◌∙◌, arith}
+use Rattle.std.proofs.lemmas.Bool.{eqb-true, eqb-false, eq-eqb}
+use Rattle.std.proofs.lemmas.List.{length-append}
+use Rattle.signature.specs.DataType.{basic}
+use Rattle.message_view.specs.declared.order.Order.{Order}
+use Rattle.message_view.specs.declared.field.FieldCode.{FieldCode}
+use Rattle.message_view.specs.declared.fault.MsgError.{MsgError}
+use Rattle.message_view.specs.Header.{code_byte, type_code}
+use Rattle.message_view.specs.Message.{Value, number, text, Field}
+use Rattle.message_view.specs.Order.{word_of}
+use Rattle.message_view.specs.Spelling.{padding, zeros, signature_bytes}
+use Rattle.message_view.specs.Reading.{◌>>=◌, At, item_at, aligned_at, byte_at, number_at, text_at, number_value_at, text_value_at, signature_value_at, value_at, content_fault, type_at, or_fault, content_at, code_at, field_at, fields_from}
+use Rattle.message_view.proofs.Results.{bind_ok, or_fault_ok, ok_is}
+use Rattle.message_view.proofs.Items.{at, Takes, item_takes, aligned_takes, byte_takes}
+use Rattle.message_view.proofs.Values.{text_takes}
+use Rattle.message_view.proofs.FieldLaws.{code_bytes, code_takes, type_takes, field_of}
+
+-- what is left behind
+Takes-leaves : (a : At) (taken : List ℕ) (b : At) → Takes a taken b → length taken + length b.rest ≡ length a.rest
+Takes-leaves a taken b t = sym (length-append taken b.rest) ∙ ap (λ (x : List ℕ). length x) (sym t.parts)
+
+-- an Ok leaves no more than so many bytes
+abbrev pub Leaves : {A : Type 0} → Result (A × At) MsgError → ℕ → Type 0
+Leaves (Ok found) n = length found.1.rest ≤ n
+Leaves (Err fault) n = Unit {0}
+
+pub leaves_at : {A : Type 0} (r : Result (A × At) MsgError) (n : ℕ) (found : A × At) → Leaves r n → r ≡ Ok found → length found.1.rest ≤ n
+leaves_at {A = A} r n found h e = subst (λ (x : Result (A × At) MsgError). Leaves x n) e h
+
+leaves_from : {A : Type 0} (r : Result (A × At) MsgError) (n : ℕ) → ((found : A × At) → r ≡ Ok found → length found.1.rest ≤ n) → Leaves r n
+leaves_from (Ok found) n h = h found refl
+leaves_from (Err fault) n h = tt
+
+Leaves-then : {A B : Type 0} (r : Result (A × At) MsgError) (f : A × At → Result (B × At) MsgError) (n : ℕ) → Leaves r n → ((x : A × At) → Leaves (f x) (length x.1.rest)) → Leaves (r >>= f) n
+Leaves-then {B = B} (Ok x) f n h k = within (f x) (k x)
+  where
+    within : (r : Result (B × At) MsgError) → Leaves r (length x.1.rest) → Leaves r n
+    within (Ok y) l = omega arith
+    within (Err fault) l = tt
+Leaves-then (Err fault) f n h k = tt
+
+item_leaves : (len : ℕ) (a : At) → Leaves (item_at len a) (length a.rest)
+item_leaves len a = leaves_from (item_at len a) (length a.rest) (λ (found : List ℕ × At) e. omega (arith, Takes-leaves a found.0 found.1 (item_takes len a found e).0))
+
+byte_leaves : (a : At) → Leaves (byte_at a) (length a.rest)
+byte_leaves a = leaves_from (byte_at a) (length a.rest) (λ (found : ℕ × At) e. omega (arith, Takes-leaves a (found.0 ∷ []) found.1 (byte_takes a found e).0))
+
+text_leaves : (code len : ℕ) (a : At) → Leaves (text_at code len a) (length a.rest)
+text_leaves code len a = leaves_from (text_at code len a) (length a.rest) (λ (found : List ℕ × At) e. omega (arith, Takes-leaves a (found.0 ++ 0 ∷ []) found.1 (text_takes code len a found e).0))
+
+number_leaves : (order : Order) (a : At) → Leaves (number_at order a) (length a.rest)
+unfolding number_at
+number_leaves order a = aligned (aligned_at 4 a) (λ start e. omega (arith, Takes-leaves a (zeros (padding 4 a.place)) start (aligned_takes 4 a start e)))
+  where
+    aligned : (r : Result At MsgError) → ((start : At) → r ≡ Ok start → length start.rest ≤ length a.rest) → Leaves (r >>= λ start. item_at 4 start >>= λ bytes. Ok (word_of order bytes.0, bytes.1)) (length a.rest)
+    aligned (Ok start) h =
+        let le = h start refl in
+        Leaves-then (item_at 4 start) (λ bytes. Ok (word_of order bytes.0, bytes.1)) (length a.rest) (leaves_from (item_at 4 start) (length a.rest) (λ (found : List ℕ × At) e. omega (arith, le, leaves_at (item_at 4 start) (length start.rest) found (item_leaves 4 start) e))) (λ x. omega arith)
+    aligned (Err fault) h = tt
+
+value_leaves : (order : Order) (code : ℕ) (a : At) → Leaves (value_at order code a) (length a.rest)
+unfolding value_at number_value_at text_value_at signature_value_at
+value_leaves order code a = go (eqb code 117) (eqb code 103)
+  where
+    go : (n g : Bool) → Leaves (cond n (number_value_at order a) (cond g (signature_value_at a) (text_value_at order code a))) (length a.rest)
+    go true g = Leaves-then (number_at order a) (λ n. Ok (number n.0, n.1)) (length a.rest) (number_leaves order a) (λ x. omega arith)
+    go false true = Leaves-then (byte_at a) (λ len. text_at 103 len.0 len.1 >>= λ found. Ok (text found.0, found.1)) (length a.rest) (byte_leaves a) (λ x. Leaves-then (text_at 103 x.0 x.1) (λ found. Ok (text found.0, found.1)) (length x.1.rest) (text_leaves 103 x.0 x.1) (λ y. omega arith))
+    go false false = Leaves-then (number_at order a) (λ len. text_at code len.0 len.1 >>= λ found. Ok (text found.0, found.1)) (length a.rest) (number_leaves order a) (λ x. Leaves-then (text_at code x.0 x.1) (λ found. Ok (text found.0, found.1)) (length x.1.rest) (text_leaves code x.0 x.1) (λ y. omega arith))
+
+-- a field leaves fewer bytes
+pub field_shorter : (order : Order) (front : List Field) (a : At) (found : Field × At) → field_at order front a ≡ Ok found → length found.1.rest < length a.rest
+unfolding field_at content_at
+field_shorter order front a found e =
+    let c = bind_ok (code_at front a) (λ code. content_at order code.0 code.1 >>= λ value. Ok (field_of code.0 value.0, value.1)) found e in
+    let v = bind_ok (content_at order c.0.0 c.0.1) (λ value. Ok (field_of c.0.0 value.0, value.1)) found c.2 in
+    let s = bind_ok (type_at (type_code c.0.0) c.0.1) (λ start. value_at order (type_code c.0.0) start >>= λ value. or_fault (content_fault c.0.0 value.0) value) v.0 v.1 in
+    let w = bind_ok (value_at order (type_code c.0.0) s.0) (λ value. or_fault (content_fault c.0.0 value.0) value) v.0 s.2 in
+    let made : Field × At = (field_of c.0.0 v.0.0, v.0.1) in
+    let end : made ≡ found = ok_is made found v.2 in
+    let same : w.0 ≡ v.0 = (or_fault_ok (content_fault c.0.0 w.0.0) w.0 v.0 w.2).1 in
+    let code = Takes-leaves a (code_bytes a.place c.0.0) c.0.1 (code_takes front a c.0 c.1).0 in
+    let some = length-append (zeros (padding 8 a.place)) (code_byte c.0.0 ∷ []) in
+    let type = Takes-leaves c.0.1 (signature_bytes (basic (type_code c.0.0))) s.0 (type_takes (type_code c.0.0) c.0.1 s.0 s.1) in
+    let value = leaves_at (value_at order (type_code c.0.0) s.0) (length s.0.rest) w.0 (value_leaves order (type_code c.0.0) s.0) w.1 in
+    let last : length w.0.1.rest ≡ length v.0.1.rest = ap (λ (x : Value × At). length x.1.rest) same in
+    let found_last : length v.0.1.rest ≡ length found.1.rest = ap (λ (x : Field × At). length x.1.rest) end in
+    omega (arith, code, some, type, value, last, found_last)
+
+nothing_left : (more : ℕ) (order : Order) (front : List Field) (a : At) → length a.rest ≡ 0 → fields_from more order front a ≡ Ok front
+nothing_left zero order front a e = refl
+nothing_left (suc more) order front a e = rw e refl
+
+pub enough_turns : (turns more : ℕ) (order : Order) (front : List Field) (a : At) → length a.rest ≤ turns → fields_from (turns + more) order front a ≡ fields_from turns order front a
+enough_turns zero more order front a le =
+    let none : 0 + more ≡ more = omega arith in
+    rw none (nothing_left more order front a (omega arith))
+enough_turns (suc turns) more order front a le =
+    let one : suc turns + more ≡ suc (turns + more) = omega arith in
+    rw one (go (eqb (length a.rest) 0) (field_at order front a) (λ field e. enough_turns turns more order (front ++ field.0 ∷ []) field.1 (omega (arith, field_shorter order front a field e))))
+  where
+    go : (b : Bool) (r : Result (Field × At) MsgError) → ((field : Field × At) → r ≡ Ok field → fields_from (turns + more) order (front ++ field.0 ∷ []) field.1 ≡ fields_from turns order (front ++ field.0 ∷ []) field.1)
+        → cond b (Ok front) (r >>= λ field. fields_from (turns + more) order (front ++ field.0 ∷ []) field.1) ≡ cond b (Ok front) (r >>= λ field. fields_from turns order (front ++ field.0 ∷ []) field.1)
+    go true r ih = refl
+    go false (Ok field) ih = ih field refl
+    go false (Err fault) ih = refl
