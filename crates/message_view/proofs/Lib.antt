@@ -9,3 +9,4 @@ pub mod FixedChecks
 pub mod PlainTexts
 pub mod Kept
 pub mod FixedPart
+pub mod Loop

@@ -1,5 +1,5 @@
 -- Words that the contracts of the readers use.
-use Rattle.std.specs.Prelude.{◌≡◌, ℕ, Bool, true, false, List, [], ◌∷◌, length, map, option_map, slice_index, ◌≤◌, Option, Some, None, Result, Ok, Err}
+use Rattle.std.specs.Prelude.{◌≡◌, ℕ, Bool, true, false, List, [], ◌∷◌, ◌++◌, length, map, option_map, slice_index, ◌≤◌, Option, Some, None, Result, Ok, Err}
 use Rattle.message_view.specs.declared.fault.MsgError.{MsgError}
 use Rattle.message_view.specs.declared.order.Order.{Order}
 use Rattle.message_view.specs.declared.fixed.Fixed.{Fixed}
@@ -12,13 +12,13 @@ use Rattle.message_view.specs.declared.field.FieldCode.{FieldCode}
 use Rattle.message_view.specs.declared.field.FieldCode.TheVariants.{Path, Interface, Member, ErrorName, ReplySerial, Destination, Sender, Signature, UnixFds}
 use Rattle.message_view.specs.declared.field.FieldType.{FieldType}
 use Rattle.message_view.specs.declared.field.FieldType.TheVariants as types
-use Rattle.message_view.specs.Message.{Value, number, text}
+use Rattle.message_view.specs.Message.{Value, number, text, Field}
 use Rattle.message_view.specs.Header.{kind_of}
 use Rattle.message_view.specs.Fixed.{order_in, serial_in, fields_len, body_len, whole_len, framing}
 use Rattle.message_view.specs.Valid.{max_array_len, max_message_len}
 use Rattle.message_view.specs.Spelling.{fixed_len}
 use Rattle.message_view.specs.Reading.{At}
-use Rattle.message_view.specs.Slots.{Slots}
+use Rattle.message_view.specs.Slots.{Slots, slots_of}
 
 -- What a call returned, and where it then stands, is what reading gives.
 abbrev pub Reads : {X Y : Type 0} → (X → Y) → Result X MsgError → At → Result (Y × At) MsgError → Type 0
@@ -91,3 +91,9 @@ type_code_of types.Number = 117
 -- the values that are kept of the known fields
 abbrev pub shown : Fields → Slots
 shown fields = map (option_map value_of) fields.slots
+
+-- What a reader of the next field answers, and the slots that it leaves: reading gives one field behind
+-- those in front.
+abbrev pub KeepsNext : {X : Type 0} → Result X MsgError → Slots → At → List Field → Result (Field × At) MsgError → Type 0
+KeepsNext (Ok x) slots behind front read = (field : Field) × (read ≡ Ok (field, behind)) × (slots ≡ slots_of (front ++ field ∷ []))
+KeepsNext (Err fault) slots behind front read = read ≡ Err fault

@@ -1,12 +1,12 @@
 // The known fields of a header.
 
-ghost use Rattle.std.specs.Prelude.{◌≡◌, ℕ, ◌+◌, ◌≤◌, Bool, List, [], ◌∷◌, length, Some, None, Ok, option_map, is_some, slice_index_or, slice_set, IfOk};
+ghost use Rattle.std.specs.Prelude.{◌≡◌, ℕ, ◌+◌, ◌<◌, ◌≤◌, List, [], length, Some, None, option_map, is_some, slice_index_or, slice_set};
 ghost use Rattle.signature.specs.DataType.{basic};
 ghost use Rattle.message_view.specs.Message.{Value, Field, text_in, number_in, field_with};
 ghost use Rattle.message_view.specs.Header.{code_byte, type_code, has_required};
 ghost use Rattle.message_view.specs.Slots.{slot_of, slots_of, no_slots};
 ghost use Rattle.message_view.specs.Reading.{At, type_at, value_at, content_at, code_at, field_at, fields_from};
-ghost use Rattle.message_view.specs.Words.{Reads, Skips, Gives, value_of, type_code_of, shown};
+ghost use Rattle.message_view.specs.Words.{Reads, Skips, Gives, value_of, type_code_of, shown, KeepsNext};
 
 use crate::content::Content;
 use crate::cursor::Cursor;
@@ -148,5 +148,28 @@ impl<'a> Fields<'a> {
             return Err(MsgError::FieldTwice);
         }
         Ok(code)
+    }
+
+    /// The next field is kept.
+    fn read_next(&mut self, cursor: &mut Cursor<'a>, order: Order) -> Result<(), MsgError>
+        ensures { (front : List Field) → shown self.old ≡ slots_of front → KeepsNext result (shown self.new) cursor.new front (field_at order front cursor.old) }
+    {
+        let code = self.next_code(cursor)?;
+        let content = code.read_content(cursor, order)?;
+        self.put(code, content);
+        Ok(())
+    }
+
+    /// The fields that the array holds, which begins at a place of the message.
+    pub(crate) fn read(order: Order, place: usize, bytes: &'a [u8]) -> Result<Fields<'a>, MsgError>
+        requires { place + length bytes.now ≤ 134217728 }
+        ensures { Gives shown slots_of result (fields_from (length bytes.entry.now) order [] (record { place = place; rest = bytes.entry.now })) }
+    {
+        let mut fields = Fields::new();
+        let mut cursor = Cursor::new(place, bytes);
+        while !cursor.is_empty() {
+            fields.read_next(&mut cursor, order)?;
+        }
+        Ok(fields)
     }
 }
