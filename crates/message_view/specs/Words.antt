@@ -12,7 +12,7 @@ use Rattle.message_view.specs.declared.field.FieldCode.{FieldCode}
 use Rattle.message_view.specs.declared.field.FieldCode.TheVariants.{Path, Interface, Member, ErrorName, ReplySerial, Destination, Sender, Signature, UnixFds}
 use Rattle.message_view.specs.declared.field.FieldType.{FieldType}
 use Rattle.message_view.specs.declared.field.FieldType.TheVariants as types
-use Rattle.message_view.specs.Message.{Value, number, text, Field}
+use Rattle.message_view.specs.Message.{Value, number, text, Field, Message}
 use Rattle.message_view.specs.Header.{kind_of}
 use Rattle.message_view.specs.Fixed.{order_in, serial_in, fields_len, body_len, whole_len, framing}
 use Rattle.message_view.specs.Valid.{max_array_len, max_message_len}
@@ -97,3 +97,8 @@ shown fields = map (option_map value_of) fields.slots
 abbrev pub KeepsNext : {X : Type 0} → Result X MsgError → Slots → At → List Field → Result (Field × At) MsgError → Type 0
 KeepsNext (Ok x) slots behind front read = (field : Field) × (read ≡ Ok (field, behind)) × (slots ≡ slots_of (front ++ field ∷ []))
 KeepsNext (Err fault) slots behind front read = read ≡ Err fault
+
+-- what a reader of the message behind a fixed part answers
+abbrev pub ReadsFramed : Result Fields MsgError → List ℕ → Result Message MsgError → Type 0
+ReadsFramed (Ok fields) bytes read = (m : Message) × (read ≡ Ok m) × (shown fields ≡ slots_of m.fields)
+ReadsFramed (Err fault) bytes read = read ≡ Err fault

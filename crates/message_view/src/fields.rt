@@ -134,6 +134,23 @@ impl<'a> Fields<'a> {
         }
     }
 
+    /// Whether the fields are there without which a message of this kind is none.
+    pub(crate) fn has_required(&self, kind: Kind) -> bool
+        ensures { (front : List Field) → shown self.now ≡ slots_of front → result ≡ has_required kind front }
+    {
+        match kind {
+            Kind::MethodCall => self.has(FieldCode::Path) && self.has(FieldCode::Member),
+            Kind::MethodReturn => self.has(FieldCode::ReplySerial),
+            Kind::Error => self.has(FieldCode::ErrorName) && self.has(FieldCode::ReplySerial),
+            Kind::Signal => {
+                self.has(FieldCode::Path)
+                    && self.has(FieldCode::Interface)
+                    && self.has(FieldCode::Member)
+            }
+            Kind::Other(_) => true,
+        }
+    }
+
     /// The code of the next field, behind its padding.
     #[tactic(auto, unfolding(crate::specs::Reading::code_at))]
     fn next_code(&self, cursor: &mut Cursor<'a>) -> Result<FieldCode, MsgError>

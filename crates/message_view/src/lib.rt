@@ -11,7 +11,9 @@ mod fixed;
 mod kind;
 mod order;
 mod text;
+mod view;
 
 pub use fault::MsgError;
 pub use kind::Kind;
 pub use order::Order;
+pub use view::View;
