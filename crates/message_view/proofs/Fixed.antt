@@ -38,7 +38,7 @@ order_of_in bytes e = go (eqb (get_or bytes 0 0) 108) (eqb (get_or bytes 0 0) 66
     go false true e = refl
     go false false e = absurd cc
 
-order_in_of : (bytes : List ℕ) (order : Order) → get_or bytes 0 0 ≡ order_byte order → order_in bytes ≡ order
+pub order_in_of : (bytes : List ℕ) (order : Order) → get_or bytes 0 0 ≡ order_byte order → order_in bytes ≡ order
 order_in_of bytes Little e = rw e refl
 order_in_of bytes Big e = rw e refl
 

@@ -6,3 +6,4 @@ pub mod Fields
 pub mod Turns
 pub mod Arrays
 pub mod Fixed
+pub mod Places
