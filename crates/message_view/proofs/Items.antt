@@ -50,7 +50,7 @@ item_again len place text rest is =
 pub length-zeros : (n : ℕ) → length (zeros n) ≡ n
 length-zeros n = length-replicate n 0
 
-zeros_again : (n : ℕ) → list_all (λ byte. eqb byte 0) (zeros n) ≡ true
+pub zeros_again : (n : ℕ) → list_all (λ byte. eqb byte 0) (zeros n) ≡ true
 zeros_again zero = refl
 zeros_again (suc n) = zeros_again n
 

@@ -7,3 +7,4 @@ pub mod Turns
 pub mod Arrays
 pub mod Fixed
 pub mod Places
+pub mod OneMessage
