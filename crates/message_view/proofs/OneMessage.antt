@@ -1,24 +1,23 @@
 -- The two laws: valid bytes are read, and what is read is valid. So bytes spell one message at most.
-use Rattle.std.proofs.Common.{◌≡◌, ℕ, zero, suc, ◌+◌, ◌^◌, ◌<◌, ◌≤◌, Bool, true, false, not, cond, eqb, ltb, List, [], ◌∷◌, ◌++◌, length, get_or, take, drop, is_none, Option, Some, None, Result, Ok, Err, refl, sym, ap, subst, ◌∙◌, add-zero, arith}
+use Rattle.std.proofs.Common.{◌≡◌, ℕ, ◌+◌, ◌<◌, ◌≤◌, true, false, not, cond, eqb, ltb, List, [], length, get_or, take, drop, is_none, Option, Some, None, Ok, Err, refl, sym, ap, subst, ◌∙◌, add-zero, arith}
 use Rattle.std.specs.List.{list_all}
 use Rattle.std.proofs.lemmas.Bool.{eqb-true, eq-eqb, ltb-false, le-ltb, not-false}
-use Rattle.std.proofs.lemmas.List.{length-take, length-take-le, length-drop}
+use Rattle.std.proofs.lemmas.List.{length-take-le, length-drop}
 use Rattle.signature.specs.DataType.{DataTypes, no_types}
 use Rattle.message_view.specs.declared.order.Order.{Order}
 use Rattle.message_view.specs.declared.kind.Kind.{Kind}
-use Rattle.message_view.specs.declared.fault.MsgError.{MsgError}
 use Rattle.message_view.specs.declared.fault.MsgError.TheVariants as faults
 use Rattle.message_view.specs.Order.{order_byte, order_of}
 use Rattle.message_view.specs.Header.{kind_byte, kind_of, has_required}
 use Rattle.message_view.specs.Message.{Values, no_values, Field, Message}
-use Rattle.message_view.specs.Spelling.{padding, zeros, fixed_len, fields_bytes, message_bytes}
-use Rattle.message_view.specs.Valid.{Valid, AreFields, max_array_len, max_message_len}
+use Rattle.message_view.specs.Spelling.{padding, zeros, fixed_len, fields_bytes}
+use Rattle.message_view.specs.Valid.{Valid, AreFields}
 use Rattle.message_view.specs.Fixed.{order_in, serial_in, fields_len, body_len, whole_len, framing}
-use Rattle.message_view.specs.Reading.{◌>>=◌, At, fields_from, fields_of, header_padding, ending_fault, message_of, or_fault, or_kind, framed_message, or_short, of_len, message_at}
+use Rattle.message_view.specs.Reading.{◌>>=◌, fields_from, fields_of, header_padding, ending_fault, message_of, or_fault, or_kind, framed_message, or_short, of_len, message_at}
 use Rattle.message_view.proofs.Results.{bind_ok, not_refused, found_none, or_fault_ok, ok_is}
 use Rattle.message_view.proofs.Numbers.{IsBytes, IsBytes-drop, IsBytes-take}
 use Rattle.message_view.proofs.Items.{at, zeros_are, zeros_again}
-use Rattle.message_view.proofs.Arrays.{Follow, fields_again, fields_take}
+use Rattle.message_view.proofs.Arrays.{fields_again, fields_take}
 use Rattle.message_view.proofs.Fixed.{IsFixed, order_of-order_byte, order_byte-order_of, kind_byte-kind_of, kind_again, framing_takes, framing_again}
 use Rattle.message_view.proofs.Places.{laid, Lies, laid_lies, lies_laid, word_at-lt}
 

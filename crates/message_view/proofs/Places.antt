@@ -1,13 +1,13 @@
 -- Where the parts of a message lie in its bytes.
-use Rattle.std.proofs.Common.{◌≡◌, ℕ, zero, suc, ◌+◌, ◌-◌, ◌^◌, ◌<◌, ◌≤◌, List, [], ◌∷◌, ◌++◌, length, get_or, take, drop, refl, sym, ap, ap₂, subst, ◌∙◌, append_assoc, arith}
-use Rattle.std.proofs.lemmas.List.{append-nil, take_at, drop_at, take_all, take-append-drop, drop-drop, drop_all, length-append, length-take-le, length-drop}
+use Rattle.std.proofs.Common.{◌≡◌, ℕ, ◌+◌, ◌^◌, ◌<◌, ◌≤◌, List, [], ◌∷◌, ◌++◌, length, get_or, take, drop, refl, sym, ap, ap₂, ◌∙◌, arith}
+use Rattle.std.proofs.lemmas.List.{take_at, drop_at, take-append-drop, drop-drop, drop_all, length-append, length-take-le, length-drop}
 use Rattle.message_view.specs.declared.order.Order.{Order}
 use Rattle.message_view.specs.Order.{order_byte, word_bytes, word_of}
 use Rattle.message_view.specs.Spelling.{padding, zeros, fixed_len}
-use Rattle.message_view.specs.Fixed.{order_in, word_at, body_len, serial_in, fields_len, whole_len}
+use Rattle.message_view.specs.Fixed.{order_in, word_at, body_len, serial_in, fields_len}
 use Rattle.message_view.specs.Reading.{header_padding}
 use Rattle.message_view.proofs.Numbers.{IsBytes, IsBytes-drop, IsBytes-take, length-word_bytes, word_of-word_bytes, word_bytes-word_of, word_of-lt}
-use Rattle.message_view.proofs.Items.{length-zeros, zeros_are}
+use Rattle.message_view.proofs.Items.{length-zeros}
 use Rattle.message_view.proofs.Fixed.{order_in_of}
 
 -- the bytes of a message without a body

@@ -1,10 +1,9 @@
 -- Values of a field's types: what is read is spelled so and has the type, and what is spelled so is read again.
-use Rattle.std.proofs.Common.{◌≡◌, ℕ, zero, suc, ◌+◌, ◌-◌, ◌%◌, ◌^◌, ◌<◌, ◌≤◌, Bool, true, false, not, cond, eqb, ltb, List, [], ◌∷◌, ◌++◌, length, get_or, take, drop, Result, Ok, Err, refl, sym, ap, subst, ◌∙◌, append_assoc, inl, inr, arith}
+use Rattle.std.proofs.Common.{◌≡◌, ℕ, ◌+◌, ◌^◌, ◌<◌, Bool, true, false, not, cond, eqb, List, [], ◌∷◌, ◌++◌, length, get_or, take, Ok, Err, refl, sym, ap, subst, ◌∙◌, append_assoc, inl, inr, arith}
 use Rattle.std.proofs.lemmas.Bool.{eqb-true, eq-eqb, not-false, cases_Bool}
 use Rattle.std.proofs.lemmas.List.{take_at, get_or_at, take_more, take_all, length-append, length-take-le}
 use Rattle.signature.specs.DataType.{basic}
 use Rattle.message_view.specs.declared.order.Order.{Order}
-use Rattle.message_view.specs.declared.fault.MsgError.{MsgError}
 use Rattle.message_view.specs.declared.fault.MsgError.TheVariants as faults
 use Rattle.message_view.specs.Message.{Value, number, text, elements, entries, members, of_type}
 use Rattle.message_view.specs.Order.{word_bytes}
