@@ -8,3 +8,4 @@ pub mod Arrays
 pub mod Fixed
 pub mod Places
 pub mod OneMessage
+pub mod Front

@@ -6,6 +6,7 @@ use Rattle.std.proofs.lemmas.List.{length-take-le, length-drop}
 use Rattle.signature.specs.DataType.{DataTypes, no_types}
 use Rattle.message_view.specs.declared.order.Order.{Order}
 use Rattle.message_view.specs.declared.kind.Kind.{Kind}
+use Rattle.message_view.specs.declared.fault.MsgError.{MsgError}
 use Rattle.message_view.specs.declared.fault.MsgError.TheVariants as faults
 use Rattle.message_view.specs.Order.{order_byte, order_of}
 use Rattle.message_view.specs.Header.{kind_byte, kind_of, has_required}
@@ -48,7 +49,7 @@ valid_lies bytes m v =
     rw v.spelled (laid_lies m.order (kind_byte m.kind) m.flags m.serial fields v.serial_fits (omega (arith, v.fields_fit)))
 
 -- the length that is said is the one that they have
-lies_whole : (bytes : List ℕ) (order : Order) (serial : ℕ) (fields : List ℕ) → Lies bytes order serial fields → whole_len bytes ≡ length bytes
+pub lies_whole : (bytes : List ℕ) (order : Order) (serial : ℕ) (fields : List ℕ) → Lies bytes order serial fields → whole_len bytes ≡ length bytes
 lies_whole bytes order serial fields l =
     ap (λ (k : ℕ). fixed_len + k + padding 8 k + body_len bytes) l.is_len
       ∙ ap (λ (b : ℕ). fixed_len + length fields + padding 8 (length fields) + b) l.is_body
@@ -196,6 +197,11 @@ reads_valid bytes m fits e =
     let long : b.0 ≤ length bytes = ltb-false _ _ g.0 in
     let short : length bytes ≤ b.0 = ltb-false _ _ h.0 in
     framed_valid bytes m fits f.0 (omega (arith, long, short, f.1)) h.1
+
+-- ---- bytes with a fault are no message
+
+pub fault_invalid : (bytes : List ℕ) (fault : MsgError) (m : Message) → message_at bytes ≡ Err fault → Valid bytes m → ⊥
+fault_invalid bytes fault m e v = let no : message_at bytes ≡ Ok m = valid_reads bytes m v in absurd cc
 
 -- ---- bytes spell one message at most
 

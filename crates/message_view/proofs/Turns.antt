@@ -1,7 +1,7 @@
 -- Each field takes at least a byte, so that more turns than the array has bytes change nothing.
-use Rattle.std.proofs.Common.{◌≡◌, ℕ, zero, suc, ◌+◌, ◌-◌, ◌<◌, ◌≤◌, Bool, true, false, cond, eqb, List, [], ◌∷◌, ◌++◌, length, Result, Ok, Err, refl, sym, ap, subst, ◌∙◌, arith}
+use Rattle.std.proofs.Common.{◌≡◌, ℕ, zero, suc, ◌+◌, ◌-◌, ◌<◌, ◌≤◌, Bool, true, false, cond, eqb, List, [], ◌∷◌, ◌++◌, length, take, drop, Result, Ok, Err, refl, sym, ap, subst, ◌∙◌, arith}
 use Rattle.std.proofs.lemmas.Bool.{ne_eqb}
-use Rattle.std.proofs.lemmas.List.{length-append}
+use Rattle.std.proofs.lemmas.List.{length-append, length-take}
 use Rattle.signature.specs.DataType.{basic}
 use Rattle.message_view.specs.declared.order.Order.{Order}
 use Rattle.message_view.specs.declared.field.FieldCode.{FieldCode}
@@ -9,10 +9,11 @@ use Rattle.message_view.specs.declared.fault.MsgError.{MsgError}
 use Rattle.message_view.specs.Header.{code_byte, type_code}
 use Rattle.message_view.specs.Message.{Value, number, text, Field}
 use Rattle.message_view.specs.Order.{word_of}
-use Rattle.message_view.specs.Spelling.{padding, zeros, signature_bytes}
-use Rattle.message_view.specs.Reading.{◌>>=◌, At, item_at, aligned_at, byte_at, number_at, text_at, number_value_at, text_value_at, signature_value_at, value_at, content_fault, type_at, or_fault, content_at, code_at, field_at, fields_from}
+use Rattle.message_view.specs.Spelling.{padding, zeros, signature_bytes, fixed_len}
+use Rattle.message_view.specs.Fixed.{order_in, fields_len}
+use Rattle.message_view.specs.Reading.{◌>>=◌, At, item_at, aligned_at, byte_at, number_at, text_at, number_value_at, text_value_at, signature_value_at, value_at, content_fault, type_at, or_fault, content_at, code_at, field_at, fields_from, fields_of}
 use Rattle.message_view.proofs.Results.{bind_ok, or_fault_ok, ok_is}
-use Rattle.message_view.proofs.Items.{Takes, item_takes, aligned_takes, byte_takes}
+use Rattle.message_view.proofs.Items.{at, Takes, item_takes, aligned_takes, byte_takes}
 use Rattle.message_view.proofs.Values.{text_takes}
 use Rattle.message_view.proofs.Fields.{code_bytes, code_takes, type_takes, field_of}
 
@@ -119,6 +120,10 @@ pub behind_start : (turns : ℕ) (order : Order) (front : List Field) (a : At) �
 behind_start turns order front a le =
     let more : turns ≡ length a.rest + (turns - length a.rest) = omega arith in
     ap (λ (k : ℕ). fields_from k order front a) more ∙ enough_turns (length a.rest) (turns - length a.rest) order front a (omega arith)
+
+-- the whole array
+pub fields_of_behind : (bytes : List ℕ) → fields_of bytes ≡ fields_behind (order_in bytes) [] (at fixed_len (take (fields_len bytes) (drop fixed_len bytes)))
+fields_of_behind bytes = behind_start (fields_len bytes) (order_in bytes) [] (at fixed_len (take (fields_len bytes) (drop fixed_len bytes))) (omega (arith, length-take (fields_len bytes) (drop fixed_len bytes)))
 
 pub behind_none : (order : Order) (front : List Field) (a : At) → length a.rest ≡ 0 → fields_behind order front a ≡ Ok front
 behind_none order front a e = nothing_left (length a.rest) order front a e
