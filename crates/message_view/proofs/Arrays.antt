@@ -1,16 +1,15 @@
 -- The array of fields: what is read is spelled so and are fields, and what is spelled so is read again.
-use Rattle.std.proofs.Common.{◌≡◌, ℕ, zero, suc, ◌+◌, ◌-◌, ◌<◌, ◌≤◌, Bool, true, false, cond, eqb, List, [], ◌∷◌, ◌++◌, length, Option, Some, None, Result, Ok, Err, refl, sym, ap, subst, ◌∙◌, append_assoc, inl, inr, arith}
-use Rattle.std.proofs.lemmas.Bool.{eqb-true, eqb-false, eq-eqb, ne_eqb}
+use Rattle.std.proofs.Common.{◌≡◌, ℕ, zero, suc, ◌+◌, ◌<◌, ◌≤◌, Bool, true, false, cond, eqb, List, [], ◌∷◌, ◌++◌, length, None, Ok, refl, sym, ap, ◌∙◌, append_assoc, arith}
+use Rattle.std.proofs.lemmas.Bool.{eqb-true, eqb-false, ne_eqb}
 use Rattle.std.proofs.lemmas.List.{append-nil, nil_from_length, length-append}
 use Rattle.message_view.specs.declared.order.Order.{Order}
-use Rattle.message_view.specs.declared.fault.MsgError.{MsgError}
-use Rattle.message_view.specs.Message.{Value, Field, field_with}
+use Rattle.message_view.specs.Message.{Field, field_with}
 use Rattle.message_view.specs.Spelling.{padding, zeros, signature_bytes, value_bytes, field_bytes, fields_bytes}
 use Rattle.message_view.specs.Valid.{IsField, AreFields}
 use Rattle.message_view.specs.Reading.{◌>>=◌, At, field_at, fields_from}
 use Rattle.message_view.proofs.Results.{bind_ok, found_none, ok_is}
 use Rattle.message_view.proofs.Numbers.{IsBytes}
-use Rattle.message_view.proofs.Items.{at, Takes}
+use Rattle.message_view.proofs.Items.{at}
 use Rattle.message_view.proofs.FieldLaws.{Reads, field_takes, field_again}
 use Rattle.message_view.proofs.Turns.{field_shorter}
 

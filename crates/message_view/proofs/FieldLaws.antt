@@ -1,23 +1,22 @@
 -- One field: what is read is spelled so and is a field, and what is spelled so is read again.
-use Rattle.std.proofs.Common.{◌≡◌, ℕ, zero, suc, ◌+◌, ◌-◌, ◌%◌, ◌^◌, ◌<◌, ◌≤◌, Bool, true, false, not, cond, eqb, ltb, List, [], ◌∷◌, ◌++◌, length, get_or, take, drop, is_some, Option, Some, None, Result, Ok, Err, refl, sym, ap, subst, ◌∙◌, append_assoc, inl, inr, arith}
+use Rattle.std.proofs.Common.{◌≡◌, ℕ, ◌+◌, Bool, true, false, not, cond, eqb, List, [], ◌∷◌, ◌++◌, length, is_some, Option, Some, None, Ok, Err, refl, sym, ap, subst, ◌∙◌, append_assoc, arith}
 use Rattle.std.specs.Str.{bytes_eq}
-use Rattle.std.proofs.lemmas.Bool.{eqb-true, eq-eqb, not-false, cond_both}
+use Rattle.std.proofs.lemmas.Bool.{eqb-true, not-false}
 use Rattle.std.proofs.lemmas.List.{length-append}
 use Rattle.std.proofs.lemmas.Slice.Eq.{bytes_eq-Decides}
 use Rattle.signature.specs.DataType.{DataType, basic}
 use Rattle.message_view.specs.declared.order.Order.{Order}
 use Rattle.message_view.specs.declared.field.FieldCode.{FieldCode}
 use Rattle.message_view.specs.declared.field.FieldCode.TheVariants.{Path, Interface, Member, ErrorName, ReplySerial, Destination, Sender, Signature, UnixFds}
-use Rattle.message_view.specs.declared.fault.MsgError.{MsgError}
 use Rattle.message_view.specs.declared.fault.MsgError.TheVariants as faults
 use Rattle.message_view.specs.Header.{code_byte, code_of, type_code, is_named_well, is_reserved, is_number_allowed}
 use Rattle.message_view.specs.Message.{Value, number, text, elements, entries, members, of_type, Field, field_with}
 use Rattle.message_view.specs.Spelling.{padding, zeros, value_bytes, signature_bytes, field_bytes}
 use Rattle.message_view.specs.Valid.{HasType, HasContent, IsField}
 use Rattle.message_view.specs.Reading.{◌>>=◌, At, item_at, aligned_at, byte_at, value_at, number_fault, content_fault, type_at, or_fault, content_at, or_unknown, code_at, field_at}
-use Rattle.message_view.proofs.Results.{bind_ok, passed_ok, not_refused, found_none, is_none, or_fault_ok, ok_is, some_is}
+use Rattle.message_view.proofs.Results.{bind_ok, passed_ok, guard_ok, found_none, nothing_is, or_fault_ok, ok_is, some_is}
 use Rattle.message_view.proofs.Numbers.{IsBytes}
-use Rattle.message_view.proofs.Items.{at, Takes, Takes-then, length-zeros, item_takes, item_again, byte_takes, byte_again, aligned_takes, aligned_again}
+use Rattle.message_view.proofs.Items.{at, Takes, Takes-then, Takes-as, length-zeros, item_takes, item_again, byte_takes, byte_again, aligned_takes, aligned_again}
 use Rattle.message_view.proofs.Values.{value_takes, value_again}
 
 -- ---- codes
@@ -52,19 +51,25 @@ or_unknown_ok None code e = absurd cc
 abbrev pub code_bytes : ℕ → FieldCode → List ℕ
 code_bytes place code = zeros (padding 8 place) ++ code_byte code ∷ []
 
+-- the byte of a code that is not in front
+code_is : (front : List Field) (byte : ℕ × At) (found : FieldCode × At) → (or_unknown (code_of byte.0) >>= λ code. cond (is_some (field_with byte.0 front)) (Err faults.FieldTwice) (Ok (code, byte.1))) ≡ Ok found → (code_byte found.0 ≡ byte.0) × (found.1 ≡ byte.1) × (field_with (code_byte found.0) front ≡ None)
+code_is front byte found e =
+    let c = bind_ok (or_unknown (code_of byte.0)) (λ code. cond (is_some (field_with byte.0 front)) (Err faults.FieldTwice) (Ok (code, byte.1))) found e in
+    let g = guard_ok (is_some (field_with byte.0 front)) faults.FieldTwice (c.0, byte.1) found c.2 in
+    let same : c.0 ≡ found.0 = ap (λ (x : FieldCode × At). x.0) g.1 in
+    let behind : byte.1 ≡ found.1 = ap (λ (x : FieldCode × At). x.1) g.1 in
+    let is : code_byte found.0 ≡ byte.0 = ap code_byte (sym same) ∙ code_byte-code_of byte.0 c.0 (or_unknown_ok (code_of byte.0) c.0 c.1) in
+    (is, sym behind, ap (λ (k : ℕ). field_with k front) is ∙ nothing_is (field_with byte.0 front) g.0)
+
 pub code_takes : (front : List Field) (a : At) (found : FieldCode × At) → code_at front a ≡ Ok found → Takes a (code_bytes a.place found.0) found.1 × (field_with (code_byte found.0) front ≡ None)
 unfolding code_at
 code_takes front a found e =
     let s = bind_ok (aligned_at 8 a) (λ start. byte_at start >>= λ byte. or_unknown (code_of byte.0) >>= λ code. cond (is_some (field_with byte.0 front)) (Err faults.FieldTwice) (Ok (code, byte.1))) found e in
     let b = bind_ok (byte_at s.0) (λ byte. or_unknown (code_of byte.0) >>= λ code. cond (is_some (field_with byte.0 front)) (Err faults.FieldTwice) (Ok (code, byte.1))) found s.2 in
-    let c = bind_ok (or_unknown (code_of b.0.0)) (λ code. cond (is_some (field_with b.0.0 front)) (Err faults.FieldTwice) (Ok (code, b.0.1))) found b.2 in
-    let made : FieldCode × At = (c.0, b.0.1) in
-    let g = not_refused (is_some (field_with b.0.0 front)) faults.FieldTwice (Ok made) found c.2 in
-    let byte : code_byte c.0 ≡ b.0.0 = code_byte-code_of b.0.0 c.0 (or_unknown_ok (code_of b.0.0) c.0 c.1) in
+    let c = code_is front b.0 found b.2 in
     let both = Takes-then a (zeros (padding 8 a.place)) s.0 (b.0.0 ∷ []) b.0.1 (aligned_takes 8 a s.0 s.1) (byte_takes s.0 b.0 b.1).0 in
-    let takes : Takes a (code_bytes a.place c.0) b.0.1 = subst (λ (k : ℕ). Takes a (zeros (padding 8 a.place) ++ k ∷ []) b.0.1) (sym byte) both in
-    let once : field_with (code_byte c.0) front ≡ None = subst (λ (k : ℕ). field_with k front ≡ None) (sym byte) (is_none (field_with b.0.0 front) g.0) in
-    subst (λ (f : FieldCode × At). Takes a (code_bytes a.place f.0) f.1 × (field_with (code_byte f.0) front ≡ None)) (ok_is made found g.1) (takes, once)
+    let text : zeros (padding 8 a.place) ++ b.0.0 ∷ [] ≡ code_bytes a.place found.0 = ap (λ (k : ℕ). zeros (padding 8 a.place) ++ k ∷ []) (sym c.0) in
+    (Takes-as a (zeros (padding 8 a.place) ++ b.0.0 ∷ []) (code_bytes a.place found.0) b.0.1 found.1 both text (sym c.1), c.2)
 
 pub code_again : (front : List Field) (code : FieldCode) (place : ℕ) (rest : List ℕ) → field_with (code_byte code) front ≡ None → code_at front (at place (zeros (padding 8 place) ++ (code_byte code ∷ rest))) ≡ Ok (code, at (place + padding 8 place + 1) rest)
 unfolding code_at
@@ -171,7 +176,7 @@ field_takes order front a found fits e =
     let takes : Takes a (field_bytes order a.place (field_of c.0.0 v.0.0)) v.0.1 = subst (λ (x : List ℕ). Takes a x v.0.1) grouped both in
     let made : Field × At = (field_of c.0.0 v.0.0, v.0.1) in
     let is : IsField (field_of c.0.0 v.0.0) = record { code = c.0.0; named = code_of-code_byte c.0.0; typed = refl; shaped = second.shaped; allowed = second.allowed } in
-    subst (λ (f : Field × At). Reads order front a f.0 f.1) (ok_is made found v.2) (record { takes = takes; is = is; once = first.1 })
+    subst (λ (f : Field × At). Reads order front a f.0 f.1) {x = made} (ok_is made found v.2) (record { takes = takes; is = is; once = first.1 })
 
 field_of_again : (order : Order) (front : List Field) (code : FieldCode) (value : Value) (place : ℕ) (rest : List ℕ) → HasType (type_code code) value → HasContent code value → field_with (code_byte code) front ≡ None
     → field_at order front (at place (field_bytes order place (field_of code value) ++ rest)) ≡ Ok (field_of code value, at (place + length (field_bytes order place (field_of code value))) rest)

@@ -1,7 +1,7 @@
 -- The fixed part of a header: its checks all pass exactly where a whole length is said.
-use Rattle.std.proofs.Common.{◌≡◌, ℕ, zero, suc, ◌+◌, ◌<◌, ◌≤◌, Bool, true, false, not, cond, eqb, leb, ltb, List, [], ◌∷◌, ◌++◌, length, get_or, is_none, Option, Some, None, Result, Ok, Err, refl, sym, ap, subst, ◌∙◌, arith}
+use Rattle.std.proofs.Common.{◌≡◌, ℕ, zero, suc, ◌<◌, ◌≤◌, Bool, true, false, not, cond, eqb, leb, ltb, List, [], ◌∷◌, length, get_or, is_none, Option, Some, None, Ok, Err, refl, sym, ap, ◌∙◌, arith}
 use Rattle.std.specs.Prelude.{◌&&◌}
-use Rattle.std.proofs.lemmas.Bool.{eqb-true, eqb-false, eq-eqb, ne_eqb, ltb-false, le-ltb, le-leb, not-false}
+use Rattle.std.proofs.lemmas.Bool.{eqb-true, eq-eqb, ne_eqb, ltb-false, le-ltb, le-leb, not-false}
 use Rattle.message_view.specs.declared.order.Order.{Order}
 use Rattle.message_view.specs.declared.order.Order.TheVariants.{Little, Big}
 use Rattle.message_view.specs.declared.kind.Kind.{Kind}
@@ -38,7 +38,7 @@ order_of_in bytes e = go (eqb (get_or bytes 0 0) 108) (eqb (get_or bytes 0 0) 66
     go false true e = refl
     go false false e = absurd cc
 
-order_in_of : (bytes : List ℕ) (order : Order) → get_or bytes 0 0 ≡ order_byte order → order_in bytes ≡ order
+pub order_in_of : (bytes : List ℕ) (order : Order) → get_or bytes 0 0 ≡ order_byte order → order_in bytes ≡ order
 order_in_of bytes Little e = rw e refl
 order_in_of bytes Big e = rw e refl
 

@@ -1,10 +1,9 @@
 -- Items of the array of fields: what is read is what was in front, and in front of anything it is read again.
-use Rattle.std.proofs.Common.{◌≡◌, ℕ, zero, suc, ◌+◌, ◌-◌, ◌%◌, ◌^◌, ◌<◌, ◌≤◌, Bool, true, false, cond, eqb, ltb, List, [], ◌∷◌, ◌++◌, length, get_or, take, drop, replicate, Result, Ok, Err, refl, sym, ap, subst, ◌∙◌, append_assoc, arith}
+use Rattle.std.proofs.Common.{◌≡◌, ℕ, zero, suc, ◌+◌, ◌^◌, ◌<◌, ◌≤◌, true, false, cond, eqb, ltb, List, [], ◌∷◌, ◌++◌, length, get_or, take, drop, Ok, Err, refl, sym, ap, subst, ◌∙◌, append_assoc, arith}
 use Rattle.std.specs.List.{list_all}
 use Rattle.std.proofs.lemmas.Bool.{ltb-false, le-ltb, eqb-true, and_parts}
-use Rattle.std.proofs.lemmas.List.{take_at, drop_at, take-append-drop, length-append, length-take, length-drop, length-replicate}
+use Rattle.std.proofs.lemmas.List.{take_at, drop_at, take-append-drop, length-append, length-take, length-replicate}
 use Rattle.message_view.specs.declared.order.Order.{Order}
-use Rattle.message_view.specs.declared.fault.MsgError.{MsgError}
 use Rattle.message_view.specs.declared.fault.MsgError.TheVariants as faults
 use Rattle.message_view.specs.Order.{word_bytes, word_of}
 use Rattle.message_view.specs.Spelling.{padding, zeros}
@@ -28,6 +27,10 @@ Takes-then a x b y c p q = record {
   fits = λ h. q.fits (p.fits h);
 }
 
+-- the same text, and the same place behind it
+pub Takes-as : (a : At) (x y : List ℕ) (b c : At) → Takes a x b → x ≡ y → b ≡ c → Takes a y c
+Takes-as a x y b c t text behind = subst (λ (z : List ℕ). Takes a z c) text (subst (λ (z : At). Takes a x z) behind t)
+
 -- ---- so many bytes
 
 pub item_takes : (len : ℕ) (a : At) (found : List ℕ × At) → item_at len a ≡ Ok found → Takes a found.0 found.1 × (length found.0 ≡ len) × (IsBytes a.rest → IsBytes found.0)
@@ -50,7 +53,7 @@ item_again len place text rest is =
 pub length-zeros : (n : ℕ) → length (zeros n) ≡ n
 length-zeros n = length-replicate n 0
 
-zeros_again : (n : ℕ) → list_all (λ byte. eqb byte 0) (zeros n) ≡ true
+pub zeros_again : (n : ℕ) → list_all (λ byte. eqb byte 0) (zeros n) ≡ true
 zeros_again zero = refl
 zeros_again (suc n) = zeros_again n
 
@@ -90,7 +93,7 @@ byte_takes a found e =
     let t = item_takes 1 a b.0 b.1 in
     let takes : Takes a (get_or b.0.0 0 0 ∷ []) b.0.1 = subst (λ (x : List ℕ). Takes a x b.0.1) (one_byte b.0.0 t.1) t.0 in
     let made : ℕ × At = (get_or b.0.0 0 0, b.0.1) in
-    subst (λ (f : ℕ × At). Takes a (f.0 ∷ []) f.1 × (IsBytes a.rest → f.0 < 256)) (ok_is made found b.2) (takes, λ h. t.2 h 0)
+    subst (λ (f : ℕ × At). Takes a (f.0 ∷ []) f.1 × (IsBytes a.rest → f.0 < 256)) {x = made} (ok_is made found b.2) (takes, λ h. t.2 h 0)
 
 pub byte_again : (place byte : ℕ) (rest : List ℕ) → byte_at (at place (byte ∷ rest)) ≡ Ok (byte, at (place + 1) rest)
 unfolding byte_at
@@ -112,7 +115,7 @@ number_takes order a found fits e =
     let both = Takes-then a (zeros (padding 4 a.place)) s.0 b.0.0 b.0.1 first second.0 in
     let made : ℕ × At = (word_of order b.0.0, b.0.1) in
     let takes : Takes a (number_bytes order a.place (word_of order b.0.0)) b.0.1 = subst (λ (x : List ℕ). Takes a (zeros (padding 4 a.place) ++ x) b.0.1) (sym (word_bytes-word_of order b.0.0 second.1 are)) both in
-    subst (λ (f : ℕ × At). Takes a (number_bytes order a.place f.0) f.1 × (f.0 < 2 ^ 32)) (ok_is made found b.2) (takes, word_of-lt order b.0.0 are)
+    subst (λ (f : ℕ × At). Takes a (number_bytes order a.place f.0) f.1 × (f.0 < 2 ^ 32)) {x = made} (ok_is made found b.2) (takes, word_of-lt order b.0.0 are)
 
 pub number_again : (order : Order) (place n : ℕ) (rest : List ℕ) → n < 2 ^ 32 → number_at order (at place (number_bytes order place n ++ rest)) ≡ Ok (n, at (place + padding 4 place + 4) rest)
 unfolding number_at

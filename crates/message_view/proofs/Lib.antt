@@ -6,7 +6,11 @@ pub mod FieldLaws
 pub mod Turns
 pub mod Arrays
 pub mod FixedChecks
+pub mod Places
+pub mod OneMessage
+pub mod Front
 pub mod PlainTexts
 pub mod Kept
 pub mod FixedPart
 pub mod Loop
+pub mod Framed

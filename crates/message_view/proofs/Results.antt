@@ -39,9 +39,9 @@ pub found_none : {A : Type 0} (b : Bool) (x : A) (o : Option A) → cond b (Some
 found_none true x o e = absurd cc
 found_none false x o e = (refl, e)
 
-pub is_none : {A : Type 0} (o : Option A) → is_some o ≡ false → o ≡ None
-is_none None e = refl
-is_none (Some x) e = absurd cc
+pub nothing_is : {A : Type 0} (o : Option A) → is_some o ≡ false → o ≡ None
+nothing_is None e = refl
+nothing_is (Some x) e = absurd cc
 
 pub or_fault_ok : {A : Type 0} (o : Option MsgError) (x y : A) → or_fault o x ≡ Ok y → (o ≡ None) × (x ≡ y)
 or_fault_ok (Some d) x y e = absurd cc

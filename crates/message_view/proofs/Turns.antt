@@ -1,7 +1,7 @@
 -- Each field takes at least a byte, so that more turns than the array has bytes change nothing.
-use Rattle.std.proofs.Common.{◌≡◌, ℕ, zero, suc, ◌+◌, ◌<◌, ◌≤◌, Bool, true, false, cond, eqb, List, [], ◌∷◌, ◌++◌, length, Result, Ok, Err, refl, sym, ap, subst, ◌∙◌, arith}
-use Rattle.std.proofs.lemmas.Bool.{eqb-true, eqb-false, eq-eqb}
-use Rattle.std.proofs.lemmas.List.{length-append}
+use Rattle.std.proofs.Common.{◌≡◌, ℕ, zero, suc, ◌+◌, ◌-◌, ◌<◌, ◌≤◌, Bool, true, false, cond, eqb, List, [], ◌∷◌, ◌++◌, length, take, drop, Result, Ok, Err, refl, sym, ap, subst, ◌∙◌, arith}
+use Rattle.std.proofs.lemmas.Bool.{ne_eqb}
+use Rattle.std.proofs.lemmas.List.{length-append, length-take}
 use Rattle.signature.specs.DataType.{basic}
 use Rattle.message_view.specs.declared.order.Order.{Order}
 use Rattle.message_view.specs.declared.field.FieldCode.{FieldCode}
@@ -9,8 +9,9 @@ use Rattle.message_view.specs.declared.fault.MsgError.{MsgError}
 use Rattle.message_view.specs.Header.{code_byte, type_code}
 use Rattle.message_view.specs.Message.{Value, number, text, Field}
 use Rattle.message_view.specs.Order.{word_of}
-use Rattle.message_view.specs.Spelling.{padding, zeros, signature_bytes}
-use Rattle.message_view.specs.Reading.{◌>>=◌, At, item_at, aligned_at, byte_at, number_at, text_at, number_value_at, text_value_at, signature_value_at, value_at, content_fault, type_at, or_fault, content_at, code_at, field_at, fields_from}
+use Rattle.message_view.specs.Spelling.{padding, zeros, signature_bytes, fixed_len}
+use Rattle.message_view.specs.Fixed.{order_in, fields_len}
+use Rattle.message_view.specs.Reading.{◌>>=◌, At, item_at, aligned_at, byte_at, number_at, text_at, number_value_at, text_value_at, signature_value_at, value_at, content_fault, type_at, or_fault, content_at, code_at, field_at, fields_from, fields_of}
 use Rattle.message_view.proofs.Results.{bind_ok, or_fault_ok, ok_is}
 use Rattle.message_view.proofs.Items.{at, Takes, item_takes, aligned_takes, byte_takes}
 use Rattle.message_view.proofs.Values.{text_takes}
@@ -68,24 +69,28 @@ value_leaves order code a = go (eqb code 117) (eqb code 103)
     go false true = Leaves-then (byte_at a) (λ len. text_at 103 len.0 len.1 >>= λ found. Ok (text found.0, found.1)) (length a.rest) (byte_leaves a) (λ x. Leaves-then (text_at 103 x.0 x.1) (λ found. Ok (text found.0, found.1)) (length x.1.rest) (text_leaves 103 x.0 x.1) (λ y. omega arith))
     go false false = Leaves-then (number_at order a) (λ len. text_at code len.0 len.1 >>= λ found. Ok (text found.0, found.1)) (length a.rest) (number_leaves order a) (λ x. Leaves-then (text_at code x.0 x.1) (λ found. Ok (text found.0, found.1)) (length x.1.rest) (text_leaves code x.0 x.1) (λ y. omega arith))
 
+content_shorter : (order : Order) (code : FieldCode) (a : At) (found : Value × At) → content_at order code a ≡ Ok found → length found.1.rest ≤ length a.rest
+unfolding content_at
+content_shorter order code a found e =
+    let s = bind_ok (type_at (type_code code) a) (λ start. value_at order (type_code code) start >>= λ value. or_fault (content_fault code value.0) value) found e in
+    let v = bind_ok (value_at order (type_code code) s.0) (λ value. or_fault (content_fault code value.0) value) found s.2 in
+    let type = Takes-leaves a (signature_bytes (basic (type_code code))) s.0 (type_takes (type_code code) a s.0 s.1) in
+    let value = leaves_at (value_at order (type_code code) s.0) (length s.0.rest) v.0 (value_leaves order (type_code code) s.0) v.1 in
+    let same : length v.0.1.rest ≡ length found.1.rest = ap (λ (x : Value × At). length x.1.rest) {x = v.0} (or_fault_ok (content_fault code v.0.0) v.0 found v.2).1 in
+    omega (arith, type, value, same)
+
 -- a field leaves fewer bytes
 pub field_shorter : (order : Order) (front : List Field) (a : At) (found : Field × At) → field_at order front a ≡ Ok found → length found.1.rest < length a.rest
-unfolding field_at content_at
+unfolding field_at
 field_shorter order front a found e =
     let c = bind_ok (code_at front a) (λ code. content_at order code.0 code.1 >>= λ value. Ok (field_of code.0 value.0, value.1)) found e in
     let v = bind_ok (content_at order c.0.0 c.0.1) (λ value. Ok (field_of c.0.0 value.0, value.1)) found c.2 in
-    let s = bind_ok (type_at (type_code c.0.0) c.0.1) (λ start. value_at order (type_code c.0.0) start >>= λ value. or_fault (content_fault c.0.0 value.0) value) v.0 v.1 in
-    let w = bind_ok (value_at order (type_code c.0.0) s.0) (λ value. or_fault (content_fault c.0.0 value.0) value) v.0 s.2 in
-    let made : Field × At = (field_of c.0.0 v.0.0, v.0.1) in
-    let end : made ≡ found = ok_is made found v.2 in
-    let same : w.0 ≡ v.0 = (or_fault_ok (content_fault c.0.0 w.0.0) w.0 v.0 w.2).1 in
     let code = Takes-leaves a (code_bytes a.place c.0.0) c.0.1 (code_takes front a c.0 c.1).0 in
     let some = length-append (zeros (padding 8 a.place)) (code_byte c.0.0 ∷ []) in
-    let type = Takes-leaves c.0.1 (signature_bytes (basic (type_code c.0.0))) s.0 (type_takes (type_code c.0.0) c.0.1 s.0 s.1) in
-    let value = leaves_at (value_at order (type_code c.0.0) s.0) (length s.0.rest) w.0 (value_leaves order (type_code c.0.0) s.0) w.1 in
-    let last : length w.0.1.rest ≡ length v.0.1.rest = ap (λ (x : Value × At). length x.1.rest) same in
-    let found_last : length v.0.1.rest ≡ length found.1.rest = ap (λ (x : Field × At). length x.1.rest) end in
-    omega (arith, code, some, type, value, last, found_last)
+    let content = content_shorter order c.0.0 c.0.1 v.0 v.1 in
+    let made : Field × At = (field_of c.0.0 v.0.0, v.0.1) in
+    let same : length v.0.1.rest ≡ length found.1.rest = ap (λ (x : Field × At). length x.1.rest) {x = made} (ok_is made found v.2) in
+    omega (arith, code, some, content, same)
 
 nothing_left : (more : ℕ) (order : Order) (front : List Field) (a : At) → length a.rest ≡ 0 → fields_from more order front a ≡ Ok front
 nothing_left zero order front a e = refl
@@ -104,3 +109,39 @@ enough_turns (suc turns) more order front a le =
     go true r ih = refl
     go false (Ok field) ih = ih field refl
     go false (Err fault) ih = refl
+
+-- ---- the array by steps, as a loop goes over it
+
+-- the fields behind those in front, with as many turns as there are bytes
+abbrev pub fields_behind : Order → List Field → At → Result (List Field) MsgError
+fields_behind order front a = fields_from (length a.rest) order front a
+
+pub behind_start : (turns : ℕ) (order : Order) (front : List Field) (a : At) → length a.rest ≤ turns → fields_from turns order front a ≡ fields_behind order front a
+behind_start turns order front a le =
+    let more : turns ≡ length a.rest + (turns - length a.rest) = omega arith in
+    ap (λ (k : ℕ). fields_from k order front a) more ∙ enough_turns (length a.rest) (turns - length a.rest) order front a (omega arith)
+
+-- the whole array
+pub fields_of_behind : (bytes : List ℕ) → fields_of bytes ≡ fields_behind (order_in bytes) [] (at fixed_len (take (fields_len bytes) (drop fixed_len bytes)))
+fields_of_behind bytes = behind_start (fields_len bytes) (order_in bytes) [] (at fixed_len (take (fields_len bytes) (drop fixed_len bytes))) (omega (arith, length-take (fields_len bytes) (drop fixed_len bytes)))
+
+pub behind_none : (order : Order) (front : List Field) (a : At) → length a.rest ≡ 0 → fields_behind order front a ≡ Ok front
+behind_none order front a e = nothing_left (length a.rest) order front a e
+
+one_turn : (turns : ℕ) (order : Order) (front : List Field) (a : At) → 0 < length a.rest → fields_from (suc turns) order front a ≡ (field_at order front a >>= λ field. fields_from turns order (front ++ field.0 ∷ []) field.1)
+one_turn turns order front a lt =
+    let some : eqb (length a.rest) 0 ≡ false = ne_eqb _ _ (λ e. omega arith) in
+    rw some refl
+
+behind_suc : (order : Order) (front : List Field) (a : At) → 0 < length a.rest → fields_behind order front a ≡ (field_at order front a >>= λ field. fields_from (length a.rest - 1) order (front ++ field.0 ∷ []) field.1)
+behind_suc order front a lt =
+    let is : length a.rest ≡ suc (length a.rest - 1) = omega arith in
+    ap (λ (k : ℕ). fields_from k order front a) is ∙ one_turn (length a.rest - 1) order front a lt
+
+pub behind_one : (order : Order) (front : List Field) (a : At) (found : Field × At) → 0 < length a.rest → field_at order front a ≡ Ok found → fields_behind order front a ≡ fields_behind order (front ++ found.0 ∷ []) found.1
+behind_one order front a found lt e =
+    let shorter = field_shorter order front a found e in
+    behind_suc order front a lt ∙ rw e (behind_start (length a.rest - 1) order (front ++ found.0 ∷ []) found.1 (omega (arith, shorter)))
+
+pub behind_fault : (order : Order) (front : List Field) (a : At) (fault : MsgError) → 0 < length a.rest → field_at order front a ≡ Err fault → fields_behind order front a ≡ Err fault
+behind_fault order front a fault lt e = behind_suc order front a lt ∙ rw e refl

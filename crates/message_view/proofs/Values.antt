@@ -1,10 +1,9 @@
 -- Values of a field's types: what is read is spelled so and has the type, and what is spelled so is read again.
-use Rattle.std.proofs.Common.{◌≡◌, ℕ, zero, suc, ◌+◌, ◌-◌, ◌%◌, ◌^◌, ◌<◌, ◌≤◌, Bool, true, false, not, cond, eqb, ltb, List, [], ◌∷◌, ◌++◌, length, get_or, take, drop, Result, Ok, Err, refl, sym, ap, subst, ◌∙◌, append_assoc, inl, inr, arith}
+use Rattle.std.proofs.Common.{◌≡◌, ℕ, ◌+◌, ◌^◌, ◌<◌, Bool, true, false, not, cond, eqb, List, [], ◌∷◌, ◌++◌, length, get_or, take, Ok, Err, refl, sym, ap, subst, ◌∙◌, append_assoc, inl, inr, arith}
 use Rattle.std.proofs.lemmas.Bool.{eqb-true, eq-eqb, not-false, cases_Bool}
 use Rattle.std.proofs.lemmas.List.{take_at, get_or_at, take_more, take_all, length-append, length-take-le}
 use Rattle.signature.specs.DataType.{basic}
 use Rattle.message_view.specs.declared.order.Order.{Order}
-use Rattle.message_view.specs.declared.fault.MsgError.{MsgError}
 use Rattle.message_view.specs.declared.fault.MsgError.TheVariants as faults
 use Rattle.message_view.specs.Message.{Value, number, text, elements, entries, members, of_type}
 use Rattle.message_view.specs.Order.{word_bytes}
@@ -51,7 +50,7 @@ number_value_takes order a found fits e =
     let n = bind_ok (number_at order a) (λ n. Ok (number n.0, n.1)) found e in
     let t = number_takes order a n.0 fits n.1 in
     let made : Value × At = (number n.0.0, n.0.1) in
-    subst (λ (f : Value × At). Takes a (value_bytes order a.place (basic 117) f.0) f.1 × HasType 117 f.0) (ok_is made found n.2) (t.0, (refl, t.1))
+    subst (λ (f : Value × At). Takes a (value_bytes order a.place (basic 117) f.0) f.1 × HasType 117 f.0) {x = made} (ok_is made found n.2) (t.0, (refl, t.1))
 
 number_value_again : (order : Order) (place bits : ℕ) (rest : List ℕ) → bits < 2 ^ 32 → number_value_at order (at place (number_bytes order place bits ++ rest)) ≡ Ok (number bits, at (place + padding 4 place + 4) rest)
 unfolding number_value_at
@@ -74,7 +73,7 @@ text_value_takes order code a found other fits e =
     let takes : Takes a (text_bytes order a.place b.0.0) b.0.1 = subst (λ (x : List ℕ). Takes a x b.0.1) grouped both in
     let spelled : Takes a (value_bytes order a.place (basic code) (text b.0.0)) b.0.1 = rw other takes in
     let made : Value × At = (text b.0.0, b.0.1) in
-    subst (λ (f : Value × At). Takes a (value_bytes order a.place (basic code) f.0) f.1 × HasType code f.0) (ok_is made found b.2) (spelled, (second.2, omega (arith, second.1, first.1)))
+    subst (λ (f : Value × At). Takes a (value_bytes order a.place (basic code) f.0) f.1 × HasType code f.0) {x = made} (ok_is made found b.2) (spelled, (second.2, omega (arith, second.1, first.1)))
 
 text_value_again : (order : Order) (code place : ℕ) (bytes rest : List ℕ) → is_text_of code bytes ≡ true → length bytes < 2 ^ 32 → text_value_at order code (at place (text_bytes order place bytes ++ rest)) ≡ Ok (text bytes, at (place + padding 4 place + 4 + (length bytes + 1)) rest)
 unfolding text_value_at
@@ -99,7 +98,7 @@ signature_value_takes order a found fits e =
     let both = Takes-then a (n.0.0 ∷ []) n.0.1 (b.0.0 ++ 0 ∷ []) b.0.1 first.0 second.0 in
     let takes : Takes a (sig_bytes b.0.0) b.0.1 = subst (λ (k : ℕ). Takes a (k ∷ (b.0.0 ++ 0 ∷ [])) b.0.1) (sym second.1) both in
     let made : Value × At = (text b.0.0, b.0.1) in
-    subst (λ (f : Value × At). Takes a (value_bytes order a.place (basic 103) f.0) f.1 × HasType 103 f.0) (ok_is made found b.2) (takes, (second.2, omega (arith, second.1, short)))
+    subst (λ (f : Value × At). Takes a (value_bytes order a.place (basic 103) f.0) f.1 × HasType 103 f.0) {x = made} (ok_is made found b.2) (takes, (second.2, omega (arith, second.1, short)))
 
 signature_value_again : (place : ℕ) (bytes rest : List ℕ) → is_text_of 103 bytes ≡ true → signature_value_at (at place (sig_bytes bytes ++ rest)) ≡ Ok (text bytes, at (place + 1 + (length bytes + 1)) rest)
 unfolding signature_value_at

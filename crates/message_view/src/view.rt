@@ -1,11 +1,11 @@
 // A message as a view of its bytes.
 
-ghost use Rattle.std.specs.Prelude.{◌≡◌, length, Some, Ok};
-ghost use Rattle.message_view.specs.Message.{Message, path_of};
+ghost use Rattle.std.specs.Prelude.{◌≡◌, List, length, Some, Ok};
+ghost use Rattle.message_view.specs.Message.{Message, Field, path_of};
 ghost use Rattle.message_view.specs.Valid.{Valid};
 ghost use Rattle.message_view.specs.Fixed.{whole_len};
-ghost use Rattle.message_view.specs.Reading.{message_at, framed_message};
-ghost use Rattle.message_view.specs.Slots.{kept_of_reading};
+ghost use Rattle.message_view.specs.Reading.{message_at, framed_message, ending_of};
+ghost use Rattle.message_view.specs.Slots.{kept_of_reading, slots_of};
 ghost use Rattle.message_view.specs.Words.{ReadsFixed, ReadsFramed, shown};
 
 use crate::cursor::are_zeros;
@@ -17,26 +17,41 @@ use crate::kind::Kind;
 use crate::order::Order;
 use std::marker::Model;
 
+/// What there is to say behind the fields of a message.
+fn ending_fault(
+    kind: Kind,
+    fields: &Fields<'_>,
+    skipped: &[u8],
+    body_len: u32,
+) -> Option<MsgError>
+    ensures { (front : List Field) → shown fields.now ≡ slots_of front → result ≡ ending_of kind skipped.now body_len front }
+{
+    if !fields.has_required(kind) {
+        Some(MsgError::FieldMissing)
+    } else if !are_zeros(skipped) {
+        Some(MsgError::Padding)
+    } else if body_len != 0 {
+        Some(MsgError::Trailing)
+    } else {
+        None
+    }
+}
+
 /// The fields of a message whose fixed part was read, and whose length is the one that it says.
-#[tactic(auto, unfolding(crate::specs::Reading::framed_message))]
 fn framed<'a>(fixed: &Fixed, bytes: &'a [u8]) -> Result<Fields<'a>, MsgError>
     requires fixed { ReadsFixed (Ok (Some fixed.now)) bytes.now }
     requires whole { length bytes.now ≡ whole_len bytes.now }
     ensures { ReadsFramed result bytes.entry.now (framed_message bytes.entry.now) }
 {
     let fields_len = fixed.fields_len as usize;
-    let fields_end = FIXED_LEN + fields_len;
-    let fields = Fields::read(fixed.order, FIXED_LEN, &bytes[FIXED_LEN..fields_end])?;
-    if !fields.has_required(fixed.kind) {
-        return Err(MsgError::FieldMissing);
+    let (_, behind_fixed) = bytes.split_at(FIXED_LEN);
+    let (array, behind_fields) = behind_fixed.split_at(fields_len);
+    let (skipped, _) = behind_fields.split_at(padding(8, fields_len));
+    let fields = Fields::read(fixed.order, FIXED_LEN, array)?;
+    match ending_fault(fixed.kind, &fields, skipped, fixed.body_len) {
+        Some(fault) => Err(fault),
+        None => Ok(fields),
     }
-    if !are_zeros(&bytes[fields_end..fields_end + padding(8, fields_len)]) {
-        return Err(MsgError::Padding);
-    }
-    if fixed.body_len != 0 {
-        return Err(MsgError::Trailing);
-    }
-    Ok(fields)
 }
 
 /// A valid message, whose parts lie in the bytes that it was read from.

@@ -1,28 +1,25 @@
-use Rattle.std.proofs.Common.{rules, ◌≡◌, length, Some, Ok, ℕ, ◌+◌, ◌-◌, ◌*◌, ◌<◌, ◌≤◌, ◌/◌, ◌%◌, Bool, true, false, nat_eq, nat_lt, List, [], ◌∷◌, ◌++◌, slice_index_or, slice_set, bit_and, bit_or, Fits, w8, w32, w64, Bor, MutBor}
-use Rattle.message_view.specs.Message.{Message, path_of}
-use Rattle.message_view.specs.Valid.{Valid}
-use Rattle.message_view.specs.Fixed.{whole_len}
-use Rattle.message_view.specs.Reading.{message_at, framed_message}
-use Rattle.message_view.specs.Slots.{kept_of_reading}
-use Rattle.message_view.specs.Words.{ReadsFixed, ReadsFramed, shown}
+use Rattle.std.proofs.Common.{refl}
+use Rattle.std.proofs.lemmas.Result.{err_from_is_err_and}
+use Rattle.message_view.proofs.Framed.{array_is, skipped_is, fields_fail, ending_fails, ending_passes}
 use Rattle.message_view.proofs.view.framed.Goals as goal
 
--- src/view.rt:29:18
 pub returns-in_err-fields : goal.returns-in_err-fields
-returns-in_err-fields c = ?
+returns-in_err-fields c =
+    let p = err_from_is_err_and c.from_residual.result c.from_residual.ensures.1 in
+    let is = c.requires.fixed.1 in
+    let array = array_is c.args.fixed.now c.args.bytes.now _ _ is c.split_at.ensures.back c.split_at-2.ensures.front c.split_at-2.ensures.front_len in
+    rw (p.1, p.2) (fields_fail c.args.fixed.now c.args.bytes.now _ _ is array c.in_err-fields.ensures)
 
--- src/view.rt:31:9
-pub returns-then-not-has_required : goal.returns-then-not-has_required
-returns-then-not-has_required c = ?
+pub returns-in-Some : goal.returns-in-Some
+returns-in-Some c =
+    let is = c.requires.fixed.1 in
+    let array = array_is c.args.fixed.now c.args.bytes.now _ _ is c.split_at.ensures.back c.split_at-2.ensures.front c.split_at-2.ensures.front_len in
+    let skip = skipped_is c.args.fixed.now c.args.bytes.now _ _ _ _ is c.split_at.ensures.back c.split_at-2.ensures.back c.padding.ensures c.split_at-3.ensures.front in
+    ending_fails c.args.fixed.now c.in_ok-fields.fields c.args.bytes.now _ _ _ is array c.in_ok-fields.ensures skip (λ front same. c.in-Some.ensures front same)
 
--- src/view.rt:34:9
-pub returns-then-not-are_zeros : goal.returns-then-not-are_zeros
-returns-then-not-are_zeros c = ?
-
--- src/view.rt:37:9
-pub returns-then-fixed-ne0 : goal.returns-then-fixed-ne0
-returns-then-fixed-ne0 c = ?
-
--- src/view.rt:21:1
-pub returns : goal.returns
-returns c = ?
+pub returns-in-None : goal.returns-in-None
+returns-in-None c =
+    let is = c.requires.fixed.1 in
+    let array = array_is c.args.fixed.now c.args.bytes.now _ _ is c.split_at.ensures.back c.split_at-2.ensures.front c.split_at-2.ensures.front_len in
+    let skip = skipped_is c.args.fixed.now c.args.bytes.now _ _ _ _ is c.split_at.ensures.back c.split_at-2.ensures.back c.padding.ensures c.split_at-3.ensures.front in
+    ending_passes c.args.fixed.now c.in_ok-fields.fields c.args.bytes.now _ _ is array c.in_ok-fields.ensures skip (λ front same. c.in-None.ensures front same)
