@@ -49,10 +49,10 @@ ending_fails fixed fields bytes skipped whole fault is same gave skip found =
     rw (is.kind, read, end) refl
 
 pub ending_passes : (fixed : Fixed) (fields : Fields) (bytes skipped : List ℕ) (whole : Result (List Field) MsgError) → IsFixed fixed bytes → whole ≡ fields_of bytes → Gives shown slots_of (Ok fields) whole → skipped ≡ header_padding bytes
-    → ((front : List Field) → shown fields ≡ slots_of front → None ≡ ending_of fixed.kind skipped fixed.body_len front) → (m : Message) × (framed_message bytes ≡ Ok m) × (shown fields ≡ slots_of m.fields)
+    → ((front : List Field) → shown fields ≡ slots_of front → None ≡ ending_of fixed.kind skipped fixed.body_len front) → (front : List Field) × (framed_message bytes ≡ Ok (message_of bytes fixed.kind front)) × (shown fields ≡ slots_of front)
 unfolding framed_message
 ending_passes fixed fields bytes skipped whole is same gave skip found =
     let f = gave_fields fields whole gave in
     let read : fields_of bytes ≡ Ok f.0 = sym same ∙ f.1 in
     let end : ending_fault fixed.kind bytes f.0 ≡ None = rw (← skip, ← is.body) (sym (found f.0 f.2)) in
-    (message_of bytes fixed.kind f.0, rw (is.kind, read, end) refl, f.2)
+    (f.0, rw (is.kind, read, end) refl, f.2)

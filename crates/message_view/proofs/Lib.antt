@@ -14,3 +14,4 @@ pub mod Kept
 pub mod FixedPart
 pub mod Loop
 pub mod Framed
+pub mod Views

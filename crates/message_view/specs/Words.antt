@@ -1,6 +1,7 @@
 -- Words that the contracts of the readers use.
 use Rattle.std.specs.Prelude.{◌≡◌, ℕ, Bool, true, false, List, [], ◌∷◌, ◌++◌, length, map, option_map, slice_index, ◌≤◌, Option, Some, None, Result, Ok, Err}
 use Rattle.message_view.specs.declared.fault.MsgError.{MsgError}
+use Rattle.message_view.specs.declared.kind.Kind.{Kind}
 use Rattle.message_view.specs.declared.order.Order.{Order}
 use Rattle.message_view.specs.declared.fixed.Fixed.{Fixed}
 use Rattle.message_view.specs.declared.content.Content.{Content}
@@ -17,7 +18,7 @@ use Rattle.message_view.specs.Header.{kind_of}
 use Rattle.message_view.specs.Fixed.{order_in, serial_in, fields_len, body_len, whole_len, framing}
 use Rattle.message_view.specs.Valid.{max_array_len, max_message_len}
 use Rattle.message_view.specs.Spelling.{fixed_len}
-use Rattle.message_view.specs.Reading.{At}
+use Rattle.message_view.specs.Reading.{At, message_of}
 use Rattle.message_view.specs.Slots.{Slots, slots_of}
 
 -- What a call returned, and where it then stands, is what reading gives.
@@ -99,6 +100,11 @@ KeepsNext (Ok x) slots behind front read = (field : Field) × (read ≡ Ok (fiel
 KeepsNext (Err fault) slots behind front read = read ≡ Err fault
 
 -- what a reader of the message behind a fixed part answers
-abbrev pub ReadsFramed : Result Fields MsgError → List ℕ → Result Message MsgError → Type 0
-ReadsFramed (Ok fields) bytes read = (m : Message) × (read ≡ Ok m) × (shown fields ≡ slots_of m.fields)
-ReadsFramed (Err fault) bytes read = read ≡ Err fault
+abbrev pub ReadsFramed : Result Fields MsgError → Kind → List ℕ → Result Message MsgError → Type 0
+ReadsFramed (Ok fields) kind bytes read = (front : List Field) × (read ≡ Ok (message_of bytes kind front)) × (shown fields ≡ slots_of front)
+ReadsFramed (Err fault) kind bytes read = read ≡ Err fault
+
+-- what a reader of a view answers, whose value is its bytes
+abbrev pub ReadsView : Result (List ℕ) MsgError → List ℕ → Result Message MsgError → Type 0
+ReadsView (Ok view) bytes read = (view ≡ bytes) × ((m : Message) × (read ≡ Ok m))
+ReadsView (Err fault) bytes read = read ≡ Err fault
