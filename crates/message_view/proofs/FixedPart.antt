@@ -1,84 +1,155 @@
--- The fixed part as the code reads it: one number after the other.
-use Rattle.std.proofs.Common.{◌≡◌, ℕ, suc, ◌+◌, ◌<◌, ◌≤◌, List, [], ◌∷◌, length, get_or, take, drop, Bool, true, false, cond, eqb, Option, Some, None, Result, Ok, Err, refl, sym, ap, ◌∙◌, arith, add-zero, length-drop}
-use Rattle.std.specs.Prelude.{slice_index}
-use Rattle.std.proofs.lemmas.List.{get_or-drop}
+-- The fixed part of a header: its checks all pass exactly where a whole length is said.
+use Rattle.std.proofs.Common.{◌≡◌, ℕ, zero, suc, ◌<◌, ◌≤◌, Bool, true, false, not, cond, eqb, leb, ltb, List, [], ◌∷◌, length, get_or, is_none, Option, Some, None, Ok, Err, refl, sym, ap, ◌∙◌, arith}
+use Rattle.std.specs.Prelude.{◌&&◌}
+use Rattle.std.proofs.lemmas.Bool.{eqb-true, eq-eqb, ne_eqb, ltb-false, le-ltb, le-leb, not-false}
 use Rattle.message_view.specs.declared.order.Order.{Order}
 use Rattle.message_view.specs.declared.order.Order.TheVariants.{Little, Big}
 use Rattle.message_view.specs.declared.kind.Kind.{Kind}
+use Rattle.message_view.specs.declared.kind.Kind.TheVariants as kinds
 use Rattle.message_view.specs.declared.fault.MsgError.{MsgError}
 use Rattle.message_view.specs.declared.fault.MsgError.TheVariants as faults
-use Rattle.message_view.specs.declared.fixed.Fixed.{Fixed}
-use Rattle.message_view.specs.Order.{order_of, word_of}
-use Rattle.message_view.specs.Header.{kind_of}
-use Rattle.message_view.specs.Spelling.{padding}
-use Rattle.message_view.specs.Fixed.{order_in, word_at, body_len, serial_in, fields_len, whole_len, framing}
-use Rattle.message_view.specs.Words as words
-use Rattle.message_view.proofs.Results.{some_is}
-use Rattle.message_view.proofs.FixedChecks.{framing_again}
-use Rattle.message_view.proofs.FixedChecks as proved
+use Rattle.message_view.specs.Order.{order_byte, order_of}
+use Rattle.message_view.specs.Header.{kind_byte, kind_of}
+use Rattle.message_view.specs.Spelling.{fixed_len}
+use Rattle.message_view.specs.Valid.{max_array_len, max_message_len}
+use Rattle.message_view.specs.Fixed.{order_in, serial_in, fields_len, whole_len, Check, checks, first_failing, framing}
+use Rattle.message_view.proofs.OkSteps.{found_none, ok_is, some_is}
 
-front_four : (bytes : List ℕ) → 4 ≤ length bytes → take 4 bytes ≡ get_or bytes 0 0 ∷ get_or bytes 1 0 ∷ get_or bytes 2 0 ∷ get_or bytes 3 0 ∷ []
-front_four [] fits = absurd (omega arith)
-front_four (a ∷ []) fits = absurd (omega arith)
-front_four (a ∷ b ∷ []) fits = absurd (omega arith)
-front_four (a ∷ b ∷ c ∷ []) fits = absurd (omega arith)
-front_four (a ∷ b ∷ c ∷ d ∷ bytes) fits = refl
+-- ---- the order and the kind
 
--- the four bytes at a place
-four : (bytes : List ℕ) (p : ℕ) → p + 4 ≤ length bytes → take 4 (drop p bytes) ≡ get_or bytes p 0 ∷ get_or bytes (p + 1) 0 ∷ get_or bytes (p + 2) 0 ∷ get_or bytes (p + 3) 0 ∷ []
-four bytes p fits =
-    let first : get_or (drop p bytes) 0 0 ≡ get_or bytes p 0 = get_or-drop p bytes 0 0 ∙ ap (λ i. get_or bytes i 0) (add-zero p) in
-    front_four (drop p bytes) (omega (arith, length-drop p bytes))
-    ∙ rw (first, get_or-drop p bytes 1 0, get_or-drop p bytes 2 0, get_or-drop p bytes 3 0) refl
+pub order_of-order_byte : (order : Order) → order_of (order_byte order) ≡ Some order
+order_of-order_byte Little = refl
+order_of-order_byte Big = refl
 
--- the order that the first byte names is the one that is looked at
-order_named : (bytes : List ℕ) (order : Order) → order_of (slice_index bytes 0) ≡ Some order → order_in bytes ≡ order
-order_named bytes order is = go (eqb (slice_index bytes 0) 108) (eqb (slice_index bytes 0) 66) is
+pub order_byte-order_of : (byte : ℕ) (order : Order) → order_of byte ≡ Some order → order_byte order ≡ byte
+order_byte-order_of byte order e = go (eqb byte 108) (eqb byte 66) refl refl e
   where
-    go : (l b : Bool) → cond l (Some Little) (cond b (Some Big) None) ≡ Some order → cond l Little Big ≡ order
-    go true b e = some_is Little order e
-    go false true e = some_is Big order e
+    go : (l b : Bool) → eqb byte 108 ≡ l → eqb byte 66 ≡ b → cond l (Some Little) (cond b (Some Big) None) ≡ Some order → order_byte order ≡ byte
+    go true b l-is b-is e = ap order_byte (sym (some_is Little order e)) ∙ sym (eqb-true byte 108 l-is)
+    go false true l-is b-is e = ap order_byte (sym (some_is Big order e)) ∙ sym (eqb-true byte 66 b-is)
+    go false false l-is b-is e = absurd cc
+
+-- the order that is looked at is the one that the byte names
+order_of_in : (bytes : List ℕ) → is_none (order_of (get_or bytes 0 0)) ≡ false → order_of (get_or bytes 0 0) ≡ Some (order_in bytes)
+order_of_in bytes e = go (eqb (get_or bytes 0 0) 108) (eqb (get_or bytes 0 0) 66) e
+  where
+    go : (l b : Bool) → is_none (cond l (Some Little) (cond b (Some Big) None)) ≡ false → cond l (Some Little) (cond b (Some Big) None) ≡ Some (cond l Little Big)
+    go true b e = refl
+    go false true e = refl
     go false false e = absurd cc
 
-pub word_read : (bytes : List ℕ) (order : Order) (p : ℕ) → p + 4 ≤ length bytes → order_of (slice_index bytes 0) ≡ Some order
-    → word_of order (get_or bytes p 0 ∷ get_or bytes (p + 1) 0 ∷ get_or bytes (p + 2) 0 ∷ get_or bytes (p + 3) 0 ∷ []) ≡ word_at p bytes
-word_read bytes order p fits is = rw (order_named bytes order is, four bytes p fits) refl
+pub order_in_of : (bytes : List ℕ) (order : Order) → get_or bytes 0 0 ≡ order_byte order → order_in bytes ≡ order
+order_in_of bytes Little e = rw e refl
+order_in_of bytes Big e = rw e refl
 
-abbrev long_of : Order → List ℕ → ℕ → ℕ
-long_of order bytes p = word_of order (get_or bytes p 0 ∷ get_or bytes (p + 1) 0 ∷ get_or bytes (p + 2) 0 ∷ get_or bytes (p + 3) 0 ∷ [])
-
--- a fixed part that passes each check
-pub fixed_found : (bytes : List ℕ) (fixed : Fixed) → 16 ≤ length bytes → order_of (slice_index bytes 0) ≡ Some fixed.order → kind_of (slice_index bytes 1) ≡ Some fixed.kind → fixed.flags ≡ slice_index bytes 2 → slice_index bytes 3 ≡ 1
-    → fixed.body_len ≡ long_of fixed.order bytes 4 → fixed.serial ≡ long_of fixed.order bytes 8 → (fixed.serial ≡ 0 → ⊥) → fixed.fields_len ≡ long_of fixed.order bytes 12 → fixed.fields_len ≤ 67108864 → 16 + fixed.fields_len + padding 8 fixed.fields_len + fixed.body_len ≤ 134217728
-    → words.ReadsFixed (Ok (Some fixed)) bytes
-fixed_found bytes fixed long order kind flags version body serial some fields few whole =
-    let body_is : fixed.body_len ≡ body_len bytes = body ∙ word_read bytes fixed.order 4 (omega arith) order in
-    let serial_is : fixed.serial ≡ serial_in bytes = serial ∙ word_read bytes fixed.order 8 (omega arith) order in
-    let fields_is : fixed.fields_len ≡ fields_len bytes = fields ∙ word_read bytes fixed.order 12 (omega arith) order in
-    let order_is = order_named bytes fixed.order order in
-    let whole_is : 16 + fixed.fields_len + padding 8 fixed.fields_len + fixed.body_len ≡ whole_len bytes = rw (fields_is, body_is) refl in
-    let few_is : fields_len bytes ≤ 67108864 = rw fields_is at few in
-    let fits : whole_len bytes ≤ 134217728 = rw whole_is at whole in
-    let sound : proved.IsFixed bytes = record {
-      long = long;
-      order = order ∙ ap (λ o. Some o) (sym order_is);
-      kind = rw kind refl;
-      version = version;
-      serial = positive (serial_in bytes) (λ e. some (serial_is ∙ e));
-      fields = few_is;
-      whole = fits;
-    } in
-    (framing_again bytes sound, record {
-      whole = long;
-      order = sym order_is;
-      kind = kind;
-      flags = flags;
-      body = body_is;
-      serial = serial_is;
-      fields = fields_is;
-      array_fits = few_is;
-      fits = fits;
-    })
+row : (byte n : ℕ) (named : Kind) (others : Option Kind) → kind_byte named ≡ n → ((kind : Kind) → others ≡ Some kind → kind_byte kind ≡ byte) → (kind : Kind) → cond (eqb byte n) (Some named) others ≡ Some kind → kind_byte kind ≡ byte
+row byte n named others is later kind e = go (eqb byte n) refl e
   where
-    positive : (n : ℕ) → (n ≡ 0 → ⊥) → 0 < n
-    positive n h = omega arith
+    go : (b : Bool) → eqb byte n ≡ b → cond b (Some named) others ≡ Some kind → kind_byte kind ≡ byte
+    go true h e = ap kind_byte (sym (some_is named kind e)) ∙ is ∙ sym (eqb-true byte n h)
+    go false h e = later kind e
+
+pub kind_byte-kind_of : (byte : ℕ) (kind : Kind) → kind_of byte ≡ Some kind → kind_byte kind ≡ byte
+kind_byte-kind_of byte kind e = go (eqb byte 0) e
+  where
+    named : (k : Kind) → cond (eqb byte 1) (Some kinds.MethodCall) (cond (eqb byte 2) (Some kinds.MethodReturn) (cond (eqb byte 3) (Some kinds.Error) (cond (eqb byte 4) (Some kinds.Signal) (Some (kinds.Other byte))))) ≡ Some k → kind_byte k ≡ byte
+    named = row byte 1 kinds.MethodCall _ refl (row byte 2 kinds.MethodReturn _ refl (row byte 3 kinds.Error _ refl (row byte 4 kinds.Signal _ refl (λ k h. ap kind_byte (sym (some_is (kinds.Other byte) k h))))))
+    go : (b : Bool) → cond b None (cond (eqb byte 1) (Some kinds.MethodCall) (cond (eqb byte 2) (Some kinds.MethodReturn) (cond (eqb byte 3) (Some kinds.Error) (cond (eqb byte 4) (Some kinds.Signal) (Some (kinds.Other byte)))))) ≡ Some kind → kind_byte kind ≡ byte
+    go true e = absurd cc
+    go false e = named kind e
+
+pub kind_again : (byte : ℕ) (kind : Kind) → kind_of byte ≡ Some kind → kind_of (kind_byte kind) ≡ Some kind
+kind_again byte kind e = ap kind_of (kind_byte-kind_of byte kind e) ∙ e
+
+-- ---- the checks
+
+-- a fixed part without a fault
+pub record IsFixed (bytes : List ℕ) : Type 0 where
+  pub long : fixed_len ≤ length bytes
+  pub order : order_of (get_or bytes 0 0) ≡ Some (order_in bytes)
+  pub kind : is_none (kind_of (get_or bytes 1 0)) ≡ false
+  pub version : get_or bytes 3 0 ≡ 1
+  pub serial : 0 < serial_in bytes
+  pub fields : fields_len bytes ≤ max_array_len
+  pub whole : whole_len bytes ≤ max_message_len
+
+-- a check that has its bytes
+passes : (need have : ℕ) (fails : Bool) → need ≤ have → (leb need have && fails) ≡ false → fails ≡ false
+passes need have true le e = absurd (let has : leb need have ≡ true = le-leb need have le in let no : true ≡ false = rw has at e in cc)
+passes need have false le e = refl
+
+check_passes : (have : ℕ) (check : Check) (later : List Check) → check.need ≤ have → first_failing have (check ∷ later) ≡ None → (check.fails ≡ false) × (first_failing have later ≡ None)
+check_passes have check later le e =
+    let n = found_none (leb check.need have && check.fails) check.fault (first_failing have later) e in
+    (passes check.need have check.fails le n.0, n.1)
+
+abbrev check : ℕ → Bool → MsgError → Check
+check need fails fault = record { need = need; fails = fails; fault = fault }
+
+no_check_fails : (bytes : List ℕ) → fixed_len ≤ length bytes → first_failing (length bytes) (checks bytes) ≡ None → IsFixed bytes
+no_check_fails bytes long e =
+    let too_large = check 16 (ltb max_message_len (whole_len bytes)) faults.TooLarge in
+    let array_length = check 16 (ltb max_array_len (fields_len bytes)) faults.ArrayLength in
+    let no_serial = check 12 (eqb (serial_in bytes) 0) faults.Serial in
+    let version = check 4 (not (eqb (get_or bytes 3 0) 1)) faults.Version in
+    let kind = check 2 (is_none (kind_of (get_or bytes 1 0))) faults.Kind in
+    let order = check 1 (is_none (order_of (get_or bytes 0 0))) faults.Order in
+    let c1 = check_passes (length bytes) order (kind ∷ version ∷ no_serial ∷ array_length ∷ too_large ∷ []) (omega arith) e in
+    let c2 = check_passes (length bytes) kind (version ∷ no_serial ∷ array_length ∷ too_large ∷ []) (omega arith) c1.1 in
+    let c3 = check_passes (length bytes) version (no_serial ∷ array_length ∷ too_large ∷ []) (omega arith) c2.1 in
+    let c4 = check_passes (length bytes) no_serial (array_length ∷ too_large ∷ []) (omega arith) c3.1 in
+    let c5 = check_passes (length bytes) array_length (too_large ∷ []) (omega arith) c4.1 in
+    let c6 = check_passes (length bytes) too_large [] (omega arith) c5.1 in
+    record {
+      long = long;
+      order = order_of_in bytes c1.0;
+      kind = c2.0;
+      version = eqb-true _ _ (not-false _ c3.0);
+      serial = above (serial_in bytes) c4.0;
+      fields = ltb-false _ _ c5.0;
+      whole = ltb-false _ _ c6.0;
+    }
+  where
+    above : (n : ℕ) → eqb n 0 ≡ false → 0 < n
+    above zero e = absurd cc
+    above (suc n) e = omega arith
+
+no_check_again : (bytes : List ℕ) → IsFixed bytes → first_failing (length bytes) (checks bytes) ≡ None
+no_check_again bytes f =
+    by_fails (length bytes) _ _ _ _ _ _ (rw f.order refl) f.kind (rw (eq-eqb _ _ f.version) refl) (ne_eqb _ _ (λ e. omega (arith, f.serial, e))) (le-ltb _ _ f.fields) (le-ltb _ _ f.whole)
+  where
+    skip : (a : Bool) (fails : Bool) (fault : MsgError) (o : Option MsgError) → fails ≡ false → cond (a && fails) (Some fault) o ≡ o
+    skip true fails fault o e = rw e refl
+    skip false fails fault o e = refl
+    by_fails : (have : ℕ) (a b c d e f : Bool) → a ≡ false → b ≡ false → c ≡ false → d ≡ false → e ≡ false → f ≡ false
+        → first_failing have (check 1 a faults.Order ∷ check 2 b faults.Kind ∷ check 4 c faults.Version ∷ check 12 d faults.Serial ∷ check 16 e faults.ArrayLength ∷ check 16 f faults.TooLarge ∷ []) ≡ None
+    by_fails have a b c d e f pa pb pc pd pe pf =
+        skip (leb 1 have) a faults.Order _ pa ∙ skip (leb 2 have) b faults.Kind _ pb ∙ skip (leb 4 have) c faults.Version _ pc ∙ skip (leb 12 have) d faults.Serial _ pd ∙ skip (leb 16 have) e faults.ArrayLength _ pe ∙ skip (leb 16 have) f faults.TooLarge None pf
+
+-- ---- the whole length
+
+-- what is said of so many bytes
+abbrev said : List ℕ → Option ℕ
+said bytes = cond (ltb (length bytes) fixed_len) None (Some (whole_len bytes))
+
+framing_by : (bytes : List ℕ) (o : Option MsgError) (x : Option ℕ) → first_failing (length bytes) (checks bytes) ≡ o → framing bytes ≡ Ok x → (o ≡ None) × (said bytes ≡ x)
+framing_by bytes (Some fault) x is e = absurd (let no : Err fault ≡ Ok x = rw is at e in cc)
+framing_by bytes None x is e =
+    let same : framing bytes ≡ Ok (said bytes) = rw is refl in
+    (refl, ok_is (said bytes) x (sym same ∙ e))
+
+-- a length is said only of a fixed part that is whole and has no fault
+pub framing_takes : (bytes : List ℕ) (len : ℕ) → framing bytes ≡ Ok (Some len) → IsFixed bytes × (len ≡ whole_len bytes)
+framing_takes bytes len e =
+    let f = framing_by bytes (first_failing (length bytes) (checks bytes)) (Some len) refl e in
+    go (ltb (length bytes) fixed_len) refl f.0 f.1
+  where
+    go : (b : Bool) → ltb (length bytes) fixed_len ≡ b → first_failing (length bytes) (checks bytes) ≡ None → cond b None (Some (whole_len bytes)) ≡ Some len → IsFixed bytes × (len ≡ whole_len bytes)
+    go true h none e = absurd cc
+    go false h none e = (no_check_fails bytes (ltb-false _ _ h) none, sym (some_is (whole_len bytes) len e))
+
+-- and of each such
+pub framing_again : (bytes : List ℕ) → IsFixed bytes → framing bytes ≡ Ok (Some (whole_len bytes))
+framing_again bytes f =
+    let long : ltb (length bytes) fixed_len ≡ false = le-ltb _ _ f.long in
+    rw (no_check_again bytes f, long) refl

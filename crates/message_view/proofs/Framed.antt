@@ -1,7 +1,9 @@
 -- A message behind its fixed part, by the slices that the code reads.
-use Rattle.std.proofs.Common.{◌≡◌, ℕ, ◌+◌, ◌≤◌, List, [], length, take, drop, Option, Some, None, Result, Ok, Err, refl, sym, ap, ◌∙◌, arith}
+use Rattle.std.proofs.Common.{◌≡◌, ℕ, ◌+◌, ◌≤◌, List, [], length, take, drop, Option, Some, None, Result, Ok, Err, eqb, refl, sym, ap, ◌∙◌, arith}
 use Rattle.std.proofs.lemmas.List.{drop-drop}
+use Rattle.std.proofs.lemmas.Bool.{eqb-true, not-false}
 use Rattle.message_view.specs.declared.fault.MsgError.{MsgError}
+use Rattle.message_view.specs.declared.fault.MsgError.TheVariants as faults
 use Rattle.message_view.specs.declared.fields.Fields.{Fields}
 use Rattle.message_view.specs.declared.fixed.Fixed.{Fixed}
 use Rattle.message_view.specs.declared.kind.Kind.{Kind}
@@ -10,6 +12,7 @@ use Rattle.message_view.specs.Slots.{slots_of}
 use Rattle.message_view.specs.Spelling.{padding}
 use Rattle.message_view.specs.Fixed.{fields_len, body_len}
 use Rattle.message_view.specs.Reading.{◌>>=◌, or_fault, or_kind, ending_of, ending_fault, header_padding, message_of, fields_of, fields_from, framed_message}
+use Rattle.message_view.proofs.OkSteps.{found_none}
 use Rattle.message_view.specs.Words.{IsFixed, Gives, ReadsFramed, shown}
 
 -- what a reader of the fields was given, by what it answered
@@ -56,3 +59,11 @@ ending_passes fixed fields bytes skipped whole is same gave skip found =
     let read : fields_of bytes ≡ Ok f.0 = sym same ∙ f.1 in
     let end : ending_fault fixed.kind bytes f.0 ≡ None = rw (← skip, ← is.body) (sym (found f.0 f.2)) in
     (f.0, rw (is.kind, read, end) refl, f.2)
+
+-- what passes the last of these checks has no body
+pub no_body : (kind : Kind) (skipped : List ℕ) (body : ℕ) (front : List Field) → None ≡ ending_of kind skipped body front → body ≡ 0
+no_body kind skipped body front none =
+    let required = found_none _ faults.FieldMissing _ (sym none) in
+    let padded = found_none _ faults.Padding _ required.1 in
+    let bodiless = found_none _ faults.Trailing _ padded.1 in
+    eqb-true body 0 (not-false (eqb body 0) bodiless.0)

@@ -15,7 +15,7 @@ use Rattle.message_view.specs.declared.order.Order.{Order}
 use Rattle.message_view.specs.Reading.{At, code_at, content_at, field_at}
 use Rattle.message_view.specs.Slots.{Slots, slot_of, slots_of}
 use Rattle.message_view.specs.Words.{value_of}
-use Rattle.message_view.proofs.FieldLaws.{code_takes}
+use Rattle.message_view.proofs.ReadFields.{code_takes}
 
 -- a slot shows its value
 pub slot_shown : (slots : List (Option Content)) (i j : ℕ) → i ≡ j → option_map value_of (slice_index_or slots i None) ≡ slice_index_or (map (option_map value_of) slots) j None

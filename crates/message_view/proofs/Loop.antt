@@ -9,7 +9,7 @@ use Rattle.message_view.specs.Message.{Field}
 use Rattle.message_view.specs.Slots.{Slots, no_slots, slots_of}
 use Rattle.message_view.specs.Reading.{At, ◌>>=◌, field_at, fields_from}
 use Rattle.message_view.specs.Words.{Gives, shown}
-use Rattle.message_view.proofs.Turns.{field_shorter}
+use Rattle.message_view.proofs.FieldTurns.{field_shorter}
 
 -- The slots are those of the fields in front, and reading goes on behind them to what the whole array reads as.
 pub record SoFar (order : Order) (slots : Slots) (at : At) (whole : Result (List Field) MsgError) : Type 0 where

@@ -1,6 +1,6 @@
 -- What a view keeps is its message's.
-use Rattle.std.proofs.Common.{◌≡◌, ℕ, ◌+◌, ◌<◌, ◌≤◌, List, [], length, map, get_or, Option, Some, None, Result, Ok, Err, Bool, true, false, cond, ltb, refl, sym, ap, ◌∙◌, arith}
-use Rattle.std.specs.Prelude.{slice_index_or}
+use Rattle.std.proofs.Common.{◌≡◌, ℕ, ◌+◌, ◌-◌, ◌<◌, ◌≤◌, List, [], length, take, drop, map, get_or, Option, Some, None, Result, Ok, Err, Bool, true, false, cond, ltb, refl, sym, ap, ◌∙◌, arith}
+use Rattle.std.specs.Prelude.{slice_index_or, IfOk, IsOk}
 use Rattle.std.proofs.Math.ListN.{get_or-map}
 use Rattle.std.proofs.lemmas.Bool.{lt-ltb, le-ltb}
 use Rattle.message_view.specs.declared.fault.MsgError.{MsgError}
@@ -13,8 +13,8 @@ use Rattle.message_view.specs.Spelling.{padding}
 use Rattle.message_view.specs.Fixed.{framing, whole_len, fields_len, body_len}
 use Rattle.message_view.specs.Reading.{◌>>=◌, message_at, framed_message, message_of}
 use Rattle.message_view.specs.Slots.{Slots, Kept, kept_of, kept_of_reading, slots_of}
-use Rattle.message_view.specs.Words.{IsFixed, ReadsFixed, ReadsFramed, shown}
-use Rattle.message_view.proofs.OneMessage.{valid_reads}
+use Rattle.message_view.specs.Words.{IsFixed, ReadsFixed, ReadsView, shown}
+use Rattle.message_view.proofs.OneMessage.{valid_reads, reads_valid, fault_invalid}
 
 -- ---- the length
 
@@ -70,3 +70,19 @@ text_kept xs ys i same = sym (get_or-map text_in xs i None) ∙ ap (λ texts. ge
 
 pub number_kept : (xs ys : Slots) (i : ℕ) → map number_in xs ≡ map number_in ys → number_in (slice_index_or xs i None) ≡ number_in (slice_index_or ys i None)
 number_kept xs ys i same = sym (get_or-map number_in xs i None) ∙ ap (λ numbers. get_or numbers i None) same ∙ get_or-map number_in ys i None
+
+-- nothing lies behind a message without a body
+pub nothing_behind : (bytes : List ℕ) (len body : ℕ) → body ≡ 0 → length bytes ≤ len → len ≤ length bytes → take (length bytes - (len - body)) (drop (len - body) bytes) ≡ []
+nothing_behind bytes len body none low high =
+    let left : length bytes - (len - body) ≡ 0 = omega arith in
+    rw left refl
+
+-- ---- what reading found
+
+pub reading_found : (bytes : List ℕ) (result : Result (List ℕ) MsgError) → ((i : ℕ) → get_or bytes i 0 < 256) → ReadsView result bytes (message_at bytes) → IfOk result (λ v. (v ≡ bytes) × ((m : Message) × Valid bytes m))
+reading_found bytes (Ok view) fits read = (read.0, (read.1.0, reads_valid bytes read.1.0 fits read.1.1))
+reading_found bytes (Err fault) fits read = tt
+
+pub reading_only : (bytes : List ℕ) (result : Result (List ℕ) MsgError) (m : Message) → ReadsView result bytes (message_at bytes) → Valid bytes m → IsOk result
+reading_only bytes (Ok view) m read valid = refl
+reading_only bytes (Err fault) m read valid = absurd (fault_invalid bytes fault m read valid)

@@ -1,6 +1,6 @@
 // A message as a view of its bytes.
 
-ghost use Rattle.std.specs.Prelude.{◌≡◌, List, length, Some, Ok};
+ghost use Rattle.std.specs.Prelude.{◌≡◌, List, length, Some, Ok, OnOk};
 ghost use Rattle.message_view.specs.Message.{Message, Field, path_of};
 ghost use Rattle.message_view.specs.Valid.{Valid};
 ghost use Rattle.message_view.specs.Fixed.{whole_len};
@@ -41,7 +41,9 @@ fn ending_fault(
 fn framed<'a>(fixed: &Fixed, bytes: &'a [u8]) -> Result<Fields<'a>, MsgError>
     requires fixed { ReadsFixed (Ok (Some fixed.now)) bytes.now }
     requires whole { length bytes.now ≡ whole_len bytes.now }
-    ensures { ReadsFramed result fixed.now.kind bytes.entry.now (framed_message bytes.entry.now) }
+    ensures fields { ReadsFramed result fixed.now.kind bytes.entry.now (framed_message bytes.entry.now) }
+    // For now a message has no body.
+    ensures body { OnOk result (fixed.now.body_len ≡ 0) }
 {
     let fields_len = fixed.fields_len as usize;
     let (_, behind_fixed) = bytes.split_at(FIXED_LEN);
@@ -58,6 +60,7 @@ fn framed<'a>(fixed: &Fixed, bytes: &'a [u8]) -> Result<Fields<'a>, MsgError>
 #[derive(Drop)]
 pub struct View<'a> {
     bytes: &'a [u8],
+    body: &'a [u8],
     order: Order,
     kind: Kind,
     flags: u8,
@@ -66,7 +69,7 @@ pub struct View<'a> {
 }
 
 impl<'a> Model for View<'a> {
-    ghost use Rattle.std.specs.Prelude.{◌≡◌, ℕ, List, Ok, map};
+    ghost use Rattle.std.specs.Prelude.{◌≡◌, ℕ, List, [], Ok, map};
     ghost use Rattle.message_view.specs.Message.{text_in, number_in};
     ghost use Rattle.message_view.specs.Reading.{message_at};
     ghost use Rattle.message_view.specs.Slots.{kept_of_reading};
@@ -76,7 +79,7 @@ impl<'a> Model for View<'a> {
 
     ghost view = { λ v. v.bytes.now };
 
-    ghost invariant = { λ v. kept_of_reading (message_at v.bytes.now) ≡ Ok (record { order = v.order; kind = v.kind; flags = v.flags; serial = v.serial; texts = map text_in (shown v.fields); numbers = map number_in (shown v.fields) }) };
+    ghost invariant = { λ v. (v.body.now ≡ []) × kept_of_reading (message_at v.bytes.now) ≡ Ok (record { order = v.order; kind = v.kind; flags = v.flags; serial = v.serial; texts = map text_in (shown v.fields); numbers = map number_in (shown v.fields) }) };
 }
 
 impl<'a> View<'a> {
@@ -105,6 +108,7 @@ impl<'a> View<'a> {
         let fields = framed(&fixed, bytes)?;
         Ok(View {
             bytes,
+            body: &bytes[len - fixed.body_len as usize..],
             order: fixed.order,
             kind: fixed.kind,
             flags: fixed.flags,
@@ -226,6 +230,6 @@ impl<'a> View<'a> {
     pub fn body(&self) -> &'a [u8]
         ensures { (m : Message) → Valid self.now m → result.now ≡ body_bytes m }
     {
-        &[]
+        self.body
     }
 }

@@ -1,6 +1,5 @@
 use Rattle.std.proofs.Common.{sym, refl}
 use Rattle.std.proofs.lemmas.Result.{err_from_is_err_and}
-use Rattle.message_view.specs.Words.{shown}
 use Rattle.message_view.proofs.Loop.{goes_on, stops, at_end}
 use Rattle.message_view.proofs.fields.Fields.read.Goals as goal
 

@@ -1,6 +1,6 @@
 use Rattle.std.proofs.Common.{sym, refl, slice_index}
 use Rattle.message_view.specs.declared.fixed.Fixed.{Fixed}
-use Rattle.message_view.proofs.FixedPart.{fixed_found}
+use Rattle.message_view.proofs.FixedFound.{fixed_found}
 use Rattle.message_view.proofs.fixed.Fixed.read.Goals as goal
 
 pub returns : goal.returns
