@@ -15,12 +15,12 @@ use Rattle.message_view.specs.Spelling.{padding, zeros, fixed_len, fields_bytes}
 use Rattle.message_view.specs.Valid.{Valid, AreFields}
 use Rattle.message_view.specs.Fixed.{order_in, serial_in, fields_len, body_len, whole_len, framing}
 use Rattle.message_view.specs.Reading.{◌>>=◌, fields_from, fields_of, header_padding, ending_fault, message_of, or_fault, or_kind, framed_message, or_short, of_len, message_at}
-use Rattle.message_view.proofs.Results.{bind_ok, not_refused, found_none, or_fault_ok, ok_is}
-use Rattle.message_view.proofs.Numbers.{IsBytes, IsBytes-drop, IsBytes-take}
-use Rattle.message_view.proofs.Items.{at, zeros_are, zeros_again}
-use Rattle.message_view.proofs.Arrays.{fields_again, fields_take}
-use Rattle.message_view.proofs.Fixed.{IsFixed, order_of-order_byte, order_byte-order_of, kind_byte-kind_of, kind_again, framing_takes, framing_again}
-use Rattle.message_view.proofs.Places.{laid, Lies, laid_lies, lies_laid, word_at-lt}
+use Rattle.message_view.proofs.OkSteps.{bind_ok, not_refused, found_none, or_fault_ok, ok_is}
+use Rattle.message_view.proofs.WordBytes.{IsBytes, IsBytes-drop, IsBytes-take}
+use Rattle.message_view.proofs.ReadItems.{at, zeros_are, zeros_again}
+use Rattle.message_view.proofs.FieldArrays.{fields_again, fields_take}
+use Rattle.message_view.proofs.FixedPart.{IsFixed, order_of-order_byte, order_byte-order_of, kind_byte-kind_of, kind_again, framing_takes, framing_again}
+use Rattle.message_view.proofs.PartPlaces.{laid, Lies, laid_lies, lies_laid, word_at-lt}
 
 -- ---- valid bytes are read
 

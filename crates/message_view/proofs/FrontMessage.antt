@@ -9,7 +9,7 @@ use Rattle.message_view.specs.Message.{Message}
 use Rattle.message_view.specs.Spelling.{padding, fixed_len, fields_bytes}
 use Rattle.message_view.specs.Valid.{Valid}
 use Rattle.message_view.specs.Fixed.{order_in, word_at, body_len, serial_in, fields_len, whole_len, framing}
-use Rattle.message_view.proofs.Fixed.{IsFixed, framing_again}
+use Rattle.message_view.proofs.FixedPart.{IsFixed, framing_again}
 use Rattle.message_view.proofs.OneMessage.{valid_lies, valid_fixed, lies_whole}
 
 same_order : (bytes rest : List ℕ) → 0 < length bytes → order_in (bytes ++ rest) ≡ order_in bytes

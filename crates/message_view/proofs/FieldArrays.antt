@@ -7,11 +7,11 @@ use Rattle.message_view.specs.Message.{Field, field_with}
 use Rattle.message_view.specs.Spelling.{padding, zeros, signature_bytes, value_bytes, field_bytes, fields_bytes}
 use Rattle.message_view.specs.Valid.{IsField, AreFields}
 use Rattle.message_view.specs.Reading.{◌>>=◌, At, field_at, fields_from}
-use Rattle.message_view.proofs.Results.{bind_ok, found_none, ok_is}
-use Rattle.message_view.proofs.Numbers.{IsBytes}
-use Rattle.message_view.proofs.Items.{at}
-use Rattle.message_view.proofs.Fields.{Reads, field_takes, field_again}
-use Rattle.message_view.proofs.Turns.{field_shorter}
+use Rattle.message_view.proofs.OkSteps.{bind_ok, found_none, ok_is}
+use Rattle.message_view.proofs.WordBytes.{IsBytes}
+use Rattle.message_view.proofs.ReadItems.{at}
+use Rattle.message_view.proofs.ReadFields.{Reads, field_takes, field_again}
+use Rattle.message_view.proofs.FieldTurns.{field_shorter}
 
 -- ---- no code comes twice
 

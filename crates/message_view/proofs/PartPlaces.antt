@@ -6,9 +6,9 @@ use Rattle.message_view.specs.Order.{order_byte, word_bytes, word_of}
 use Rattle.message_view.specs.Spelling.{padding, zeros, fixed_len}
 use Rattle.message_view.specs.Fixed.{order_in, word_at, body_len, serial_in, fields_len}
 use Rattle.message_view.specs.Reading.{header_padding}
-use Rattle.message_view.proofs.Numbers.{IsBytes, IsBytes-drop, IsBytes-take, length-word_bytes, word_of-word_bytes, word_bytes-word_of, word_of-lt}
-use Rattle.message_view.proofs.Items.{length-zeros}
-use Rattle.message_view.proofs.Fixed.{order_in_of}
+use Rattle.message_view.proofs.WordBytes.{IsBytes, IsBytes-drop, IsBytes-take, length-word_bytes, word_of-word_bytes, word_bytes-word_of, word_of-lt}
+use Rattle.message_view.proofs.ReadItems.{length-zeros}
+use Rattle.message_view.proofs.FixedPart.{order_in_of}
 
 -- the bytes of a message without a body
 abbrev pub laid : Order → ℕ → ℕ → ℕ → List ℕ → List ℕ

@@ -13,7 +13,7 @@ use Rattle.message_view.specs.Header.{kind_byte, kind_of}
 use Rattle.message_view.specs.Spelling.{fixed_len}
 use Rattle.message_view.specs.Valid.{max_array_len, max_message_len}
 use Rattle.message_view.specs.Fixed.{order_in, serial_in, fields_len, whole_len, Check, checks, first_failing, framing}
-use Rattle.message_view.proofs.Results.{found_none, ok_is, some_is}
+use Rattle.message_view.proofs.OkSteps.{found_none, ok_is, some_is}
 
 -- ---- the order and the kind
 

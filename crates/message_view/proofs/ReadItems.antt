@@ -8,8 +8,8 @@ use Rattle.message_view.specs.declared.fault.MsgError.TheVariants as faults
 use Rattle.message_view.specs.Order.{word_bytes, word_of}
 use Rattle.message_view.specs.Spelling.{padding, zeros}
 use Rattle.message_view.specs.Reading.{◌>>=◌, At, item_at, aligned_at, byte_at, number_at}
-use Rattle.message_view.proofs.Results.{bind_ok, guard_ok, passed_ok, ok_is}
-use Rattle.message_view.proofs.Numbers.{IsBytes, IsBytes-drop, IsBytes-take, length-word_bytes, word_of-word_bytes, word_bytes-word_of, word_of-lt}
+use Rattle.message_view.proofs.OkSteps.{bind_ok, guard_ok, passed_ok, ok_is}
+use Rattle.message_view.proofs.WordBytes.{IsBytes, IsBytes-drop, IsBytes-take, length-word_bytes, word_of-word_bytes, word_bytes-word_of, word_of-lt}
 
 abbrev pub at : ℕ → List ℕ → At
 at place rest = record { place = place; rest = rest }

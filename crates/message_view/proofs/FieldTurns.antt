@@ -12,10 +12,10 @@ use Rattle.message_view.specs.Order.{word_of}
 use Rattle.message_view.specs.Spelling.{padding, zeros, signature_bytes, fixed_len}
 use Rattle.message_view.specs.Fixed.{order_in, fields_len}
 use Rattle.message_view.specs.Reading.{◌>>=◌, At, item_at, aligned_at, byte_at, number_at, text_at, number_value_at, text_value_at, signature_value_at, value_at, content_fault, type_at, or_fault, content_at, code_at, field_at, fields_from, fields_of}
-use Rattle.message_view.proofs.Results.{bind_ok, or_fault_ok, ok_is}
-use Rattle.message_view.proofs.Items.{at, Takes, item_takes, aligned_takes, byte_takes}
-use Rattle.message_view.proofs.Values.{text_takes}
-use Rattle.message_view.proofs.Fields.{code_bytes, code_takes, type_takes, field_of}
+use Rattle.message_view.proofs.OkSteps.{bind_ok, or_fault_ok, ok_is}
+use Rattle.message_view.proofs.ReadItems.{at, Takes, item_takes, aligned_takes, byte_takes}
+use Rattle.message_view.proofs.ReadValues.{text_takes}
+use Rattle.message_view.proofs.ReadFields.{code_bytes, code_takes, type_takes, field_of}
 
 -- what is left behind
 Takes-leaves : (a : At) (taken : List ℕ) (b : At) → Takes a taken b → length taken + length b.rest ≡ length a.rest

@@ -10,9 +10,9 @@ use Rattle.message_view.specs.Order.{word_bytes}
 use Rattle.message_view.specs.Spelling.{padding, zeros, value_bytes}
 use Rattle.message_view.specs.Valid.{is_text_of, HasType}
 use Rattle.message_view.specs.Reading.{◌>>=◌, At, item_at, byte_at, number_at, text_fault, ended, text_at, number_value_at, text_value_at, signature_value_at, value_at}
-use Rattle.message_view.proofs.Results.{bind_ok, not_refused, guard_ok, ok_is}
-use Rattle.message_view.proofs.Numbers.{IsBytes, length-word_bytes}
-use Rattle.message_view.proofs.Items.{at, Takes, Takes-then, length-zeros, item_takes, item_again, byte_takes, byte_again, number_bytes, number_takes, number_again}
+use Rattle.message_view.proofs.OkSteps.{bind_ok, not_refused, guard_ok, ok_is}
+use Rattle.message_view.proofs.WordBytes.{IsBytes, length-word_bytes}
+use Rattle.message_view.proofs.ReadItems.{at, Takes, Takes-then, length-zeros, item_takes, item_again, byte_takes, byte_again, number_bytes, number_takes, number_again}
 
 -- ---- a text with its zero byte
 

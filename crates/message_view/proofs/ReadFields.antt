@@ -14,10 +14,10 @@ use Rattle.message_view.specs.Message.{Value, number, text, elements, entries, m
 use Rattle.message_view.specs.Spelling.{padding, zeros, value_bytes, signature_bytes, field_bytes}
 use Rattle.message_view.specs.Valid.{HasType, HasContent, IsField}
 use Rattle.message_view.specs.Reading.{◌>>=◌, At, item_at, aligned_at, byte_at, value_at, number_fault, content_fault, type_at, or_fault, content_at, or_unknown, code_at, field_at}
-use Rattle.message_view.proofs.Results.{bind_ok, passed_ok, guard_ok, found_none, nothing_is, or_fault_ok, ok_is, some_is}
-use Rattle.message_view.proofs.Numbers.{IsBytes}
-use Rattle.message_view.proofs.Items.{at, Takes, Takes-then, Takes-as, length-zeros, item_takes, item_again, byte_takes, byte_again, aligned_takes, aligned_again}
-use Rattle.message_view.proofs.Values.{value_takes, value_again}
+use Rattle.message_view.proofs.OkSteps.{bind_ok, passed_ok, guard_ok, found_none, nothing_is, or_fault_ok, ok_is, some_is}
+use Rattle.message_view.proofs.WordBytes.{IsBytes}
+use Rattle.message_view.proofs.ReadItems.{at, Takes, Takes-then, Takes-as, length-zeros, item_takes, item_again, byte_takes, byte_again, aligned_takes, aligned_again}
+use Rattle.message_view.proofs.ReadValues.{value_takes, value_again}
 
 -- ---- codes
 
