@@ -9,3 +9,4 @@ pub mod FixedPart
 pub mod PartPlaces
 pub mod OneMessage
 pub mod FrontMessage
+pub mod Examples
