@@ -15,8 +15,9 @@ use Rattle.match_rule.specs.Condition.{key_of, has_key, condition_with}
 use Rattle.match_rule.specs.RuleTree.{RuleTree}
 use Rattle.match_rule.specs.Grammar.{is_blank, apostrophe, backslash, comma, equals, begins_with, Piece, quoted, escaped, plain, pieces_bytes, pieces_value, ArePieces, Part, part_bytes, IsPart, AreParts, HaveOwnKeys, further_bytes, parts_bytes, IsEnding, ReadsAs}
 use Rattle.match_rule.specs.Reading.{◌>>=◌, behind_blanks, step, after_step, value_from, with_byte, part_at, parts_from, conditions_at, rule_with, rule_at}
-use Rattle.match_rule.proofs.PartReads.{bind_ok, pair_ok, guard_ok, reads_from, word_is, condition_is}
-use Rattle.match_rule.proofs.Spelled.{tail_bytes, tail_rest, begins_tail, quoted_regroup, part_regroup}
+use Rattle.match_rule.proofs.PartReads.{ok, bind_ok, pair_ok, guard_ok, reads_from, word_is, condition_is, part_len}
+use Rattle.match_rule.proofs.Turns.{blanks_len}
+use Rattle.match_rule.proofs.Spelled.{tail_bytes, tail_rest, begins_tail, quoted_regroup, part_regroup, parts_from-nil}
 
 -- ---- values
 
@@ -237,6 +238,7 @@ more_found front bytes rest condition part conditions says new is more = go more
   where
     joined : conditions ≡ front ++ (condition ∷ more.own)
     joined = more.joined ∙ append_assoc front (condition ∷ []) more.own
+
     go : (parts : List Part) (ending : List ℕ) → rest ≡ parts_bytes parts ending → IsEnding parts ending → AreParts parts more.own → Rest front bytes conditions
     go [] ending spelled ends said = record { own = condition ∷ more.own; parts = part ∷ []; ending = comma ∷ ending; joined = joined; spelled = is ∙ ap (λ (x : List ℕ). part_bytes part ++ comma ∷ x) spelled; ends = (refl, ends); said = (says, said); once = (new, more.once) }
     go (next ∷ parts) ending spelled ends said = record { own = condition ∷ more.own; parts = part ∷ next ∷ parts; ending = ending; joined = joined; spelled = is ∙ ap (λ (x : List ℕ). part_bytes part ++ comma ∷ x) spelled; ends = later ending ends; said = (says, said); once = (new, more.once) }
@@ -245,8 +247,31 @@ more_found front bytes rest condition part conditions says new is more = go more
         later [] is = is
         later (b ∷ bs) is = is
 
+after_first : (n : ℕ) (front : List Condition) (bytes : List ℕ) (conditions : List Condition) (condition : Condition) (rest : List ℕ) → First front bytes condition rest → parts_from n (front ++ condition ∷ []) (behind_blanks rest) ≡ Ok conditions → Rest (front ++ condition ∷ []) rest conditions → Rest front bytes conditions
+after_first n front bytes conditions condition rest first e more = go first.tail first.spelled first.ends
+  where
+    go : (tail : Option (List ℕ)) → bytes ≡ part_bytes first.part ++ tail_bytes tail → rest ≡ tail_rest tail → Rest front bytes conditions
+    go None spelled ends =
+        let last : ok (front ++ condition ∷ []) ≡ ok conditions = sym (parts_from-nil n (front ++ condition ∷ [])) ∙ ap (λ (x : List ℕ). parts_from n (front ++ condition ∷ []) (behind_blanks x)) (sym ends) ∙ e in
+        let same : front ++ condition ∷ [] ≡ conditions = cc in
+        last_found front bytes condition first.part conditions first.says first.new spelled same
+    go (Some r) spelled ends = more_found front bytes r condition first.part conditions first.says first.new spelled (let P : List ℕ → Type 0 = λ x. Rest (front ++ condition ∷ []) x conditions in subst P ends more)
+
 parts_found : (n : ℕ) (front : List Condition) (bytes : List ℕ) (conditions : List Condition) → length (behind_blanks bytes) ≤ n → parts_from n front (behind_blanks bytes) ≡ Ok conditions → Rest front bytes conditions
-parts_found n front bytes conditions enough e = ?
+parts_found zero front bytes conditions enough e = go (behind_blanks bytes) refl enough
+  where
+    go : (text : List ℕ) → behind_blanks bytes ≡ text → length text ≤ 0 → Rest front bytes conditions
+    go [] is fits = none_found front bytes conditions is cc
+    go (b ∷ bs) is fits = absurd (omega arith)
+parts_found (suc n) front bytes conditions enough e = go (behind_blanks bytes) refl enough e (λ f rest. parts_found n f rest conditions)
+  where
+    go : (text : List ℕ) → behind_blanks bytes ≡ text → length text ≤ suc n → parts_from (suc n) front text ≡ Ok conditions → ((f : List Condition) (rest : List ℕ) → length (behind_blanks rest) ≤ n → parts_from n f (behind_blanks rest) ≡ Ok conditions → Rest f rest conditions) → Rest front bytes conditions
+    go [] is fits e more = none_found front bytes conditions is cc
+    go (b ∷ bs) is fits e more =
+        let p = bind_ok (part_at front (b ∷ bs)) _ conditions e in
+        let shorter = part_len front (b ∷ bs) p.0.0 p.0.1 p.1 in
+        let blanks = blanks_len p.0.1 in
+        after_first n front bytes conditions p.0.0 p.0.1 (first_found front bytes p.0.0 p.0.1 (ap (part_at front) is ∙ p.1)) p.2 (more (front ++ p.0.0 ∷ []) p.0.1 (omega arith) p.2)
 
 -- what is read as a rule reads as it
 pub rule_found : (text : List ℕ) (rule : RuleTree) → rule_at text ≡ Ok rule → ReadsAs text rule

@@ -177,7 +177,7 @@ first_read front part parts ending condition is ends new =
     ap (λ (bytes : List ℕ). parts_from (length bytes) front bytes) behind
     ∙ sym (turn front text condition (tail_rest tail) (part_read front part condition tail is new))
 
-parts_from-nil : (n : ℕ) (front : List Condition) → parts_from n front [] ≡ Ok front
+pub parts_from-nil : (n : ℕ) (front : List Condition) → parts_from n front [] ≡ Ok front
 parts_from-nil zero front = refl
 parts_from-nil (suc n) front = refl
 

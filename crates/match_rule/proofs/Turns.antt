@@ -1,6 +1,6 @@
 -- As many turns as there are bytes are enough.
 use Rattle.std.proofs.Common.{◌≡◌, ℕ, zero, suc, ◌+◌, ◌*◌, ◌<◌, ◌≤◌, Bool, true, false, cond, List, [], ◌∷◌, ◌++◌, length, refl, sym, ap, ◌∙◌, arith}
-use Rattle.std.specs.Prelude.{Result, Ok, Err, sum_by}
+use Rattle.std.specs.Prelude.{Result, Ok, Err, sum_by, ◌==◌}
 use Rattle.std.proofs.lemmas.List.Sums.{sum_by-append}
 use Rattle.match_rule.specs.declared.fault.RuleError.{RuleError}
 use Rattle.match_rule.specs.declared.condition.Condition.{Condition}
@@ -41,6 +41,11 @@ turn front (b ∷ bs) condition rest e =
     let blanks = blanks_len rest in
     enough_turns (length (behind_blanks rest)) (length bs) (front ++ condition ∷ []) (behind_blanks rest) (omega arith) (omega arith)
     ∙ sym (ap (λ found. found >>= λ part. parts_from (length bs) (front ++ part.0 ∷ []) (behind_blanks part.1)) e)
+
+-- the last turn
+pub turn_err : (front : List Condition) (bytes : List ℕ) (fault : RuleError) → (length bytes == 0) ≡ false → part_at front bytes ≡ Err fault → parts_from (length bytes) front bytes ≡ Err fault
+turn_err front [] fault some e = absurd cc
+turn_err front (b ∷ bs) fault some e = ap (λ found. found >>= λ part. parts_from (length bs) (front ++ part.0 ∷ []) (behind_blanks part.1)) e
 
 -- what conditions weigh together
 abbrev pub total : List Condition → ℕ

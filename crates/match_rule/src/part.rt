@@ -60,7 +60,9 @@ fn condition_with(key: Key, value: Vec<u8>) -> Result<Condition, RuleError>
         return Err(RuleError::BadValue);
     };
     match key {
-        Key::Interface if check_interface(text.as_str()) => Ok(Condition::Interface(Text::new(text))),
+        Key::Interface if check_interface(text.as_str()) => Ok(Condition::Interface(Text::new(
+            text,
+        ))),
         Key::Member if check_member(text.as_str()) => Ok(Condition::Member(Text::new(text))),
         Key::Path if check_path(text.as_str()) => Ok(Condition::Path(Text::new(text))),
         _ => Err(RuleError::BadValue),
@@ -69,7 +71,11 @@ fn condition_with(key: Key, value: Vec<u8>) -> Result<Condition, RuleError>
 
 /// A part behind these conditions, and what stands behind it and its comma.
 #[tactic(auto, unfolding(crate::specs::Reading::part_at))]
-pub(crate) fn part_at<'a>(alloc: Global, front: &[Condition], bytes: &'a [u8]) -> Result<(Condition, &'a [u8]), RuleError>
+pub(crate) fn part_at<'a>(
+    alloc: Global,
+    front: &[Condition],
+    bytes: &'a [u8],
+) -> Result<(Condition, &'a [u8]), RuleError>
     ensures { Gives (λ x. (x.0, x.1.now)) result (part_at front.now bytes.now) }
 {
     let (key, rest) = key_at(bytes)?;
