@@ -1,12 +1,12 @@
 -- Names are ASCII, and so they are text.
-use Rattle.std.proofs.Common.{◌≡◌, ℕ, ◌+◌, ◌<◌, Bool, true, false, cond, List, [], ◌∷◌, length, get_or, refl, sym, ap, ◌∙◌, arith, eqb, zero, suc}
-use Rattle.std.specs.Prelude.{◌&&◌, ◌||◌, ◌==◌, nat_lt, nat_le, Option, Some, None}
+use Rattle.std.proofs.Common.{◌≡◌, ℕ, ◌<◌, Bool, true, false, cond, List, [], ◌∷◌, length, get_or, refl, arith, eqb, zero, suc}
+use Rattle.std.specs.Prelude.{◌&&◌, ◌==◌, nat_lt, nat_le, Some, None}
 use Rattle.std.specs.List.{list_all, slice_split, onto_first}
 use Rattle.std.specs.Str.{IsUtf8}
 use Rattle.std.proofs.lemmas.Str.{IsUtf8-from_ascii}
 use Rattle.std.proofs.lemmas.Bool.{eqb-true}
 use Rattle.std.proofs.lemmas.Bool.Decides.{nat_tests}
-use Rattle.signature.specs.Name.{is_letter, is_digit, may_begin, may_follow, is_element, elements, are_elements, is_interface, is_member, is_path, max_name_len, interface_form, path_form}
+use Rattle.signature.specs.Name.{is_letter, may_begin, may_follow, is_element, elements, are_elements, is_interface, is_member, is_path, max_name_len, interface_form, path_form}
 use Rattle.match_rule.specs.declared.key.Key.{Key}
 use Rattle.match_rule.specs.declared.key.Key.TheVariants.{Kind, Interface, Member, Path}
 use Rattle.match_rule.specs.declared.condition.Condition.TheVariants as conditions

@@ -1,20 +1,17 @@
 -- What is read is spelled.
-use Rattle.std.proofs.Common.{◌≡◌, ℕ, zero, suc, ◌+◌, ◌<◌, ◌≤◌, Bool, true, false, cond, List, [], ◌∷◌, ◌++◌, length, refl, sym, ap, ◌∙◌, append_assoc, subst, arith}
-use Rattle.std.specs.Prelude.{Result, Ok, Err, Option, Some, None, not, nat_lt, ◌==◌, ◌&&◌, ◌||◌}
+use Rattle.std.proofs.Common.{◌≡◌, ℕ, zero, suc, ◌≤◌, Bool, true, false, cond, List, [], ◌∷◌, ◌++◌, length, refl, sym, ap, ◌∙◌, append_assoc, subst, arith}
+use Rattle.std.specs.Prelude.{Ok, Option, Some, None, not, nat_lt, ◌==◌, ◌&&◌, ◌||◌}
 use Rattle.std.specs.List.{list_all}
 use Rattle.std.proofs.lemmas.Bool.{eqb-true, ltb-false}
 use Rattle.std.proofs.lemmas.List.{append-nil}
-use Rattle.match_rule.specs.declared.fault.RuleError.{RuleError}
 use Rattle.match_rule.specs.declared.fault.RuleError.TheVariants.{TooLong}
 use Rattle.match_rule.specs.declared.condition.Condition.{Condition}
 use Rattle.match_rule.specs.declared.quoting.Quoting.TheVariants.{Outside, Inside, Escaped}
-use Rattle.match_rule.specs.declared.quoting.Step.{Step}
 use Rattle.match_rule.specs.declared.quoting.Step.TheVariants.{End, Skip, Take}
-use Rattle.match_rule.specs.Key.{key_named}
 use Rattle.match_rule.specs.Condition.{key_of, has_key, condition_with}
 use Rattle.match_rule.specs.RuleTree.{RuleTree}
-use Rattle.match_rule.specs.Grammar.{is_blank, apostrophe, backslash, comma, equals, begins_with, Piece, quoted, escaped, plain, pieces_bytes, pieces_value, ArePieces, Part, part_bytes, IsPart, AreParts, HaveOwnKeys, further_bytes, parts_bytes, IsEnding, ReadsAs}
-use Rattle.match_rule.specs.Reading.{◌>>=◌, behind_blanks, step, after_step, value_from, with_byte, part_at, parts_from, conditions_at, rule_with, rule_at}
+use Rattle.match_rule.specs.Grammar.{is_blank, apostrophe, backslash, comma, equals, begins_with, Piece, quoted, escaped, plain, pieces_bytes, pieces_value, ArePieces, Part, part_bytes, IsPart, AreParts, HaveOwnKeys, parts_bytes, IsEnding, ReadsAs}
+use Rattle.match_rule.specs.Reading.{◌>>=◌, behind_blanks, after_step, value_from, with_byte, part_at, parts_from, conditions_at, rule_with, rule_at}
 use Rattle.match_rule.proofs.PartReads.{ok, bind_ok, pair_ok, guard_ok, reads_from, word_is, condition_is, part_len}
 use Rattle.match_rule.proofs.Turns.{blanks_len}
 use Rattle.match_rule.proofs.Spelled.{tail_bytes, tail_rest, begins_tail, quoted_regroup, part_regroup, parts_from-nil}

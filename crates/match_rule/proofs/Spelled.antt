@@ -1,6 +1,6 @@
 -- What is spelled is read.
-use Rattle.std.proofs.Common.{◌≡◌, ℕ, zero, suc, ◌+◌, ◌<◌, ◌≤◌, Bool, true, false, cond, List, [], ◌∷◌, ◌++◌, length, refl, sym, ap, ◌∙◌, append_assoc, arith}
-use Rattle.std.specs.Prelude.{Result, Ok, Err, Option, Some, None, codes, not, nat_lt, ◌==◌, ◌&&◌, ◌||◌}
+use Rattle.std.proofs.Common.{◌≡◌, ℕ, zero, suc, ◌≤◌, Bool, true, false, cond, List, [], ◌∷◌, ◌++◌, length, refl, sym, ap, ◌∙◌, append_assoc}
+use Rattle.std.specs.Prelude.{Result, Ok, Err, Option, Some, None, codes, not, ◌==◌, ◌&&◌, ◌||◌}
 use Rattle.std.specs.List.{list_all}
 use Rattle.std.proofs.lemmas.Bool.{le-ltb}
 use Rattle.std.proofs.lemmas.List.{append-nil}
@@ -9,12 +9,11 @@ use Rattle.match_rule.specs.declared.key.Key.{Key}
 use Rattle.match_rule.specs.declared.key.Key.TheVariants.{Kind, Interface, Member, Path}
 use Rattle.match_rule.specs.declared.condition.Condition.{Condition}
 use Rattle.match_rule.specs.declared.quoting.Quoting.TheVariants.{Outside, Inside, Escaped}
-use Rattle.match_rule.specs.declared.quoting.Step.{Step}
 use Rattle.match_rule.specs.declared.quoting.Step.TheVariants.{End, Skip, Take}
 use Rattle.match_rule.specs.Key.{key_named}
 use Rattle.match_rule.specs.Condition.{key_of, has_key}
 use Rattle.match_rule.specs.RuleTree.{RuleTree}
-use Rattle.match_rule.specs.Grammar.{is_blank, apostrophe, comma, equals, begins_with, Piece, quoted, escaped, plain, pieces_bytes, pieces_value, IsPiece, ArePieces, Part, part_bytes, IsPart, AreParts, HaveOwnKeys, further_bytes, parts_bytes, IsEnding, ReadsAs}
+use Rattle.match_rule.specs.Grammar.{is_blank, apostrophe, comma, equals, begins_with, Piece, quoted, escaped, plain, pieces_bytes, pieces_value, ArePieces, Part, part_bytes, IsPart, AreParts, HaveOwnKeys, further_bytes, parts_bytes, IsEnding, ReadsAs}
 use Rattle.match_rule.specs.Reading.{◌>>=◌, behind_blanks, word_at, step, after_step, value_from, with_byte, part_at, parts_from, conditions_at, rule_with, rule_at}
 use Rattle.match_rule.proofs.Steps.{with_front}
 use Rattle.match_rule.proofs.PartReads.{found_in, reads_to}

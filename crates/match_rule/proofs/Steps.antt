@@ -1,13 +1,13 @@
 -- Reading a value byte for byte.
-use Rattle.std.proofs.Common.{◌≡◌, ℕ, ◌+◌, ◌<◌, ◌≤◌, Bool, true, false, List, [], ◌∷◌, ◌++◌, length, get_or, drop, refl, sym, ap, ◌∙◌, append_assoc, arith, take, ◌-◌, length-drop}
+use Rattle.std.proofs.Common.{◌≡◌, ℕ, ◌+◌, ◌<◌, List, [], ◌∷◌, ◌++◌, length, get_or, drop, refl, sym, ap, ◌∙◌, append_assoc, arith, take, ◌-◌, length-drop}
 use Rattle.std.specs.Prelude.{Result, Ok, Err, IsErrAnd}
 use Rattle.std.proofs.lemmas.List.{at_drop_more, take_all}
 use Rattle.match_rule.specs.declared.fault.RuleError.{RuleError}
 use Rattle.match_rule.specs.declared.fault.RuleError.TheVariants.{NoMemory}
 use Rattle.match_rule.specs.declared.quoting.Quoting.{Quoting}
-use Rattle.match_rule.specs.declared.quoting.Step.TheVariants.{End, Skip, Take}
+use Rattle.match_rule.specs.declared.quoting.Step.TheVariants.{Skip, Take}
 use Rattle.match_rule.specs.Grammar.{begins_with, apostrophe}
-use Rattle.match_rule.specs.Reading.{◌>>=◌, step, after_step, value_from, with_byte, Gives}
+use Rattle.match_rule.specs.Reading.{◌>>=◌, step, value_from, with_byte, Gives}
 
 -- what reading gives behind these bytes
 abbrev pub with_front : List ℕ → Result (List ℕ × List ℕ) RuleError → Result (List ℕ × List ℕ) RuleError

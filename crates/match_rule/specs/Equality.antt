@@ -1,6 +1,6 @@
 -- Equal conditions are one, and equal rules are the same set.
-use Rattle.std.specs.Prelude.{◌≡◌, ℕ, ◌<◌, Bool, true, false, List, length, Contains, slice_index_or, Option, Some, None, unwrap_or, ◌==◌, ◌&&◌, if◌then◌else◌}
-use Rattle.std.specs.List.{list_all, list_any}
+use Rattle.std.specs.Prelude.{◌≡◌, ℕ, Bool, true, false, List, Contains, slice_index_or, unwrap_or, ◌==◌, ◌&&◌, if◌then◌else◌}
+use Rattle.std.specs.List.{list_any}
 use Rattle.std.specs.Bool.{beq, Decides, one_answer}
 use Rattle.std.specs.Str.{bytes_eq}
 use Rattle.std.specs.Cmp.{IsPartialEquivalence, IsEquivalence, decided, equiv, partial_equiv_from_equiv}
@@ -12,12 +12,11 @@ use Rattle.std.proofs.lemmas.List.Folds.{Any-from_list_any, list_any-from_Any}
 use Rattle.std.proofs.lemmas.List.Elements.{All-contains_itself}
 use Rattle.match_rule.specs.declared.key.Key.{Key}
 use Rattle.match_rule.specs.declared.key.Key.TheVariants as keys
-use Rattle.match_rule.specs.declared.kind_name.KindName.{KindName}
 use Rattle.match_rule.specs.declared.kind_name.KindName.TheVariants.{Signal, MethodCall, MethodReturn, Error}
 use Rattle.match_rule.specs.declared.condition.Condition.{Condition}
 use Rattle.match_rule.specs.declared.condition.Condition.TheVariants.{Kind, Interface, Member, Path}
 use Rattle.match_rule.specs.Key.{key_number, key_eq}
-use Rattle.match_rule.specs.Condition.{kind_word, kind_named, key_of, value_of, condition_eq}
+use Rattle.match_rule.specs.Condition.{kind_named, key_of, value_of, condition_eq}
 use Rattle.match_rule.specs.RuleTree.{RuleTree, are_among, rule_eq, AreSame}
 
 key_with : ℕ → Key
@@ -69,6 +68,7 @@ condition_decides a b = (forth, back)
         ∙ ap (λ k. condition_of k (value_of a)) (same_key (key_of a) (key_of b) h.0)
         ∙ ap (condition_of (key_of b)) ((bytes_eq-Decides (value_of a) (value_of b)).0 h.1)
         ∙ condition_of-parts b
+
     back : a ≡ b → condition_eq a b ≡ true
     back e = both_true (key_eq (key_of a) (key_of b)) (bytes_eq (value_of a) (value_of b)) (eq-eqb _ _ (ap (λ c. key_number (key_of c)) e)) ((bytes_eq-Decides (value_of a) (value_of b)).1 (ap value_of e))
 
@@ -89,6 +89,7 @@ among_decides xs ys = (forth, back)
         let same = (condition_decides other.1 c).0 other.4 in
         let P : Condition → Type 0 = Contains ys in
         subst P same (other.0, other.2, other.3)
+
     back : ((c : Condition) → Contains xs c → Contains ys c) → are_among xs ys ≡ true
     back within = list_all-from_AllPass (λ c. list_any (λ d. condition_eq d c) ys) xs (λ k d lt.
         let c = slice_index_or xs k d in
@@ -122,6 +123,7 @@ rule_decides a b = (forth, back)
         let h = both (are_among a.conditions b.conditions && are_among b.conditions a.conditions) (beq a.eavesdrops b.eavesdrops) e in
         let g = both (are_among a.conditions b.conditions) (are_among b.conditions a.conditions) h.0 in
         record { within = (among_decides a.conditions b.conditions).0 g.0; without = (among_decides b.conditions a.conditions).0 g.1; eavesdrop = same_flag a.eavesdrops b.eavesdrops h.1 }
+
     back : AreSame a b → rule_eq a b ≡ true
     back s =
         both_true (are_among a.conditions b.conditions && are_among b.conditions a.conditions) (beq a.eavesdrops b.eavesdrops)

@@ -1,5 +1,5 @@
 -- Where a rule holds of a message (D-Bus Specification, "Match Rules").
-use Rattle.std.specs.Prelude.{◌≡◌, ◌⊎◌, Bool, true, List, ℕ, Option, Some, None, All, IfSome}
+use Rattle.std.specs.Prelude.{◌≡◌, ◌⊎◌, Bool, true, List, ℕ, Some, None, All, IfSome}
 use Rattle.message_view.specs.Message.{Message, path_of, interface_of, member_of, destination_of}
 use Rattle.match_rule.specs.declared.condition.Condition.{Condition}
 use Rattle.match_rule.specs.declared.condition.Condition.TheVariants.{Kind, Interface, Member, Path}

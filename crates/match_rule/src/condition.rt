@@ -104,7 +104,9 @@ pub(crate) fn all_hold(conditions: &[Condition], view: &View<'_>) -> bool
 pub(crate) fn are_among(conditions: &[Condition], others: &[Condition]) -> bool
     ensures { result ≡ are_among conditions.now others.now }
 {
-    conditions.iter().all(|condition| others.contains(condition))
+    conditions
+        .iter()
+        .all(|condition| others.contains(condition))
 }
 
 /// What a rule of these conditions weighs.

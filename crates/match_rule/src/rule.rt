@@ -68,7 +68,8 @@ impl Rule {
     pub fn holds(&self, view: &View<'_>, owns: bool) -> bool
         ensures { (m : Message) (owned : List ℕ → Bool) → Valid view.now m → Agrees self.now owned owns → (IsTrue result ↔ Holds self.now m owned) }
     {
-        (self.eavesdrops || view.destination().is_none()) && all_hold(self.conditions.as_slice(), view)
+        (self.eavesdrops || view.destination().is_none())
+            && all_hold(self.conditions.as_slice(), view)
     }
 
     /// The well-known name whose owner decides whether the rule holds. For now no rule has one.

@@ -1,5 +1,4 @@
-use Rattle.std.proofs.Common.{◌≡◌, ◌+◌, get_or, drop, sym, ◌∙◌, ap, arith}
-use Rattle.match_rule.specs.declared.quoting.Step.TheVariants.{Skip, Take}
+use Rattle.std.proofs.Common.{◌+◌, get_or, sym, ◌∙◌, ap, arith}
 use Rattle.match_rule.specs.Grammar.{begins_with, apostrophe}
 use Rattle.match_rule.specs.Reading.{step}
 use Rattle.match_rule.proofs.Steps.{past_skipped, past_taken, whole_rest}

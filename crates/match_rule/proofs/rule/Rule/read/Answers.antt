@@ -1,4 +1,4 @@
-use Rattle.std.proofs.Common.{◌≡◌, sym, ◌∙◌, ap, arith}
+use Rattle.std.proofs.Common.{sym, ◌∙◌, ap, arith}
 use Rattle.match_rule.specs.Reading.{conditions_at}
 use Rattle.match_rule.proofs.Steps.{gives_err}
 use Rattle.match_rule.proofs.Spelled.{read_of, rule_at-ok, rule_at-err}
