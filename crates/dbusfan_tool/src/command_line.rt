@@ -14,14 +14,21 @@ pub enum Row<'a> {
 }
 
 impl<'a> Row<'a> {
-    ghost use Rattle.std.specs.Prelude.{◌≡◌, map};
+    ghost use Rattle.std.specs.Prelude.{◌≡◌, IfSome, Some};
     ghost use Rattle.std.specs.Option.{option_map};
-    ghost use Rattle.dbusfan_tool.specs.Row.{asked_by};
+    ghost use Rattle.dbusfan_tool.specs.Row.{Asked, IsRow, asked_by, texts};
     ghost use Rattle.dbusfan_tool.specs.RowReading.{asked_in};
 
     /// The row that some words are, if they are one.
     pub fn read(words: &[&'a str]) -> Option<Row<'a>>
-        ensures { option_map asked_by result ≡ asked_in (map (λ word. word.now) words.now) }
+        ensures found { IfSome result (λ row. IsRow (asked_by row) (texts words.now)) }
+        ensures only { (asked : Asked) → IsRow asked (texts words.now) → option_map asked_by result ≡ Some asked }
+    {
+        Row::from_left(words)
+    }
+
+    fn from_left(words: &[&'a str]) -> Option<Row<'a>>
+        ensures { option_map asked_by result ≡ asked_in (texts words.now) }
     {
         let (command, words) = words.split_first()?;
         if *command != "match" {
