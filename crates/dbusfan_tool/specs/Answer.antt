@@ -1,5 +1,5 @@
 -- What a command has to say, and how it is said.
-use Rattle.std.specs.Prelude.{◌≡◌, ℕ, Bool, true, false, List, [], ◌∷◌, ◌++◌, codes, Option, string_bytes}
+use Rattle.std.specs.Prelude.{◌≡◌, ℕ, Bool, true, false, List, [], ◌∷◌, ◌++◌, codes, Option, Result, Ok, Err, string_bytes}
 use Rattle.std.specs.Io.KnownBytes.{Appends}
 use Rattle.dbusfan_tool.specs.declared.fault.Fault.{Fault}
 use Rattle.dbusfan_tool.specs.declared.fault.Fault.TheVariants.{File}
@@ -20,6 +20,11 @@ failing fault = record { output = []; error = fault_line fault; status = fault_s
 abbrev pub said_of_match : Bool → Said
 said_of_match true = record { output = codes "match" ++ line_end; error = []; status = 0 }
 said_of_match false = record { output = codes "no match" ++ line_end; error = []; status = 1 }
+
+-- how what was found is said
+abbrev pub said_of : Result Bool Fault → Said
+said_of (Ok matches) = said_of_match matches
+said_of (Err fault) = failing fault
 
 -- how an answer is said
 abbrev pub said_by : Answer → Said

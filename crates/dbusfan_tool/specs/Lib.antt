@@ -7,3 +7,4 @@ pub mod Output
 pub mod Fault
 pub mod Answer
 pub mod Usage
+pub mod Tool

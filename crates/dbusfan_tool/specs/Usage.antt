@@ -1,16 +1,8 @@
 -- What words get that are no row of the command line.
-use Rattle.dbusfan_tool.specs.declared.fault.Fault.{Fault}
-use Rattle.dbusfan_tool.specs.declared.fault.Fault.TheVariants.{Hex, Usage, File, Memory}
-use Rattle.dbusfan_tool.specs.declared.answer.Answer.{Answer}
-use Rattle.dbusfan_tool.specs.declared.answer.Answer.TheVariants.{Verdict, Text, Fault as Fails}
+use Rattle.std.specs.Prelude.{◌≡◌, ◌⊎◌, ℕ, List, []}
+use Rattle.dbusfan_tool.specs.declared.fault.Fault.TheVariants.{Usage}
+use Rattle.dbusfan_tool.specs.Answer.{Said, failing}
 
-abbrev pub IsUsageFault : Fault → Type 0
-IsUsageFault Usage = Unit {0}
-IsUsageFault Memory = Unit {0}
-IsUsageFault _ = ⊥
-
--- the text that was asked for, or that the words are no row
-abbrev pub IsUsage : Answer → Type 0
-IsUsage (Text text) = Unit {0}
-IsUsage (Fails fault) = IsUsageFault fault
-IsUsage (Verdict matches) = ⊥
+-- a text that they ask for, on standard output alone, or that they are no row
+abbrev pub SaysUsage : Said → Type 0
+SaysUsage said = ((text : List ℕ) × (said ≡ record { output = text; error = []; status = 0 })) ⊎ (said ≡ failing Usage)

@@ -1,6 +1,8 @@
 // Words that are no row of the command line.
 
-ghost use Rattle.dbusfan_tool.specs.Usage.{IsUsage};
+ghost use Rattle.std.specs.Prelude.{◌≡◌, ◌⊎◌};
+ghost use Rattle.dbusfan_tool.specs.Answer.{said_by, failing};
+ghost use Rattle.dbusfan_tool.specs.Usage.{SaysUsage};
 
 use crate::answer::Answer;
 use crate::fault::Fault;
@@ -10,7 +12,7 @@ use std::alloc::{AllocError, Global};
 
 /// Help or the version, where the words ask for it. Else the words are at fault.
 pub(crate) fn answer<'a>(alloc: Global, words: &'a [&'a str]) -> Answer
-    ensures { IsUsage result }
+    ensures { SaysUsage (said_by result) ⊎ (said_by result ≡ failing Fault.Memory) }
 {
     let Err(error) = parse(alloc, words) else {
         return Answer::Fault(Fault::Usage);
@@ -23,7 +25,7 @@ pub(crate) fn answer<'a>(alloc: Global, words: &'a [&'a str]) -> Answer
 }
 
 fn shown(alloc: Global, error: &Error) -> Answer
-    ensures { IsUsage result }
+    ensures { SaysUsage (said_by result) ⊎ (said_by result ≡ failing Fault.Memory) }
 {
     match error.to_string(alloc) {
         Ok(text) => Answer::Text(text),

@@ -1,0 +1,23 @@
+-- What the rows of the command line come to.
+use Rattle.std.specs.Prelude.{◌≡◌, ◌⊎◌, ◌↔◌, ℕ, Bool, List, Option, Some, None, Result, Ok, Err, IsTrue}
+use Rattle.dbusfan_tool.specs.declared.fault.Fault.{Fault}
+use Rattle.dbusfan_tool.specs.declared.fault.Fault.TheVariants.{Hex, File, Memory}
+use Rattle.dbusfan_tool.specs.HexText.{bytes_of_hex}
+use Rattle.dbusfan_tool.specs.Row.{Asked, to_match}
+use Rattle.dbusfan_tool.specs.Answer.{Said, said_of, failing}
+
+-- What `match` finds for a rule's text, what its file may give, and whether the sender owns the rule's name.
+-- The rule's faults come before those of the file: that it can't be read, that it is no hexadecimal text,
+-- and those of its message.
+pub data Judges (rule : List ℕ) (may_give : Option (List ℕ) → Type 0) (owns : Bool) : Result Bool Fault → Type 0 where
+  no_file : may_give None → Judges rule may_give owns (Err File)
+  no_hex : {text : List ℕ} → may_give (Some text) → bytes_of_hex text ≡ None → Judges rule may_give owns (Err Hex)
+  verdict : {text bytes : List ℕ} {matches : Bool} → may_give (Some text) → bytes_of_hex text ≡ Some bytes → Judges rule may_give owns (Ok matches)
+
+-- what is said to a row, where a file of a name may give these bytes, or nothing
+abbrev pub Tool : (List ℕ → Option (List ℕ) → Type 0) → Asked → Said → Type 0
+Tool may_give (to_match rule file owns) said = (found : Result Bool Fault) × Judges rule (may_give file) owns found × (said ≡ said_of found)
+
+-- what the words allow is said, or that memory was short
+abbrev pub Says : (Said → Type 0) → (Said → Type 0) → Type 0
+Says allowed told = (said : Said) × (allowed said ⊎ (said ≡ failing Memory)) × told said
