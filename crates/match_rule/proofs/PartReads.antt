@@ -1,0 +1,170 @@
+-- What it is that a part was read.
+use Rattle.std.proofs.Common.{◌≡◌, ℕ, ◌+◌, ◌<◌, ◌≤◌, Bool, true, false, cond, List, [], ◌∷◌, ◌++◌, length, refl, sym, ap, ◌∙◌, arith, length-append}
+use Rattle.std.specs.Prelude.{Result, Ok, Err, Option, Some, None, option_map, codes, ◌==◌}
+use Rattle.std.proofs.lemmas.Bool.{eqb-true}
+use Rattle.std.specs.Str.{bytes_eq}
+use Rattle.std.proofs.lemmas.Slice.Eq.{bytes_eq-Decides}
+use Rattle.signature.specs.Name.{is_interface, is_member, is_path}
+use Rattle.match_rule.specs.declared.fault.RuleError.{RuleError}
+use Rattle.match_rule.specs.declared.fault.RuleError.TheVariants.{UnknownKey, KeyTwice, BadValue}
+use Rattle.match_rule.specs.declared.key.Key.{Key}
+use Rattle.match_rule.specs.declared.key.Key.TheVariants as keys
+use Rattle.match_rule.specs.declared.condition.Condition.{Condition}
+use Rattle.match_rule.specs.declared.condition.Condition.TheVariants as conditions
+use Rattle.match_rule.specs.declared.kind_name.KindName.{KindName}
+use Rattle.match_rule.specs.declared.kind_name.KindName.TheVariants.{Signal, MethodCall, MethodReturn, Error}
+use Rattle.match_rule.specs.declared.quoting.Quoting.{Quoting}
+use Rattle.match_rule.specs.declared.quoting.Quoting.TheVariants.{Outside, Inside, Escaped}
+use Rattle.match_rule.specs.declared.quoting.Step.{Step}
+use Rattle.match_rule.specs.declared.quoting.Step.TheVariants.{End, Skip, Take}
+use Rattle.match_rule.specs.Key.{key_named}
+use Rattle.match_rule.specs.Condition.{condition_with, key_of, value_of, has_key, kind_named, kind_word}
+use Rattle.match_rule.specs.Grammar.{equals, comma, apostrophe, begins_with}
+use Rattle.match_rule.specs.Reading.{◌>>=◌, step, after_step, value_from, with_byte, word_at, key_at, part_at, or_fault, ended}
+
+pub bind_ok : {A B : Type 0} (r : Result A RuleError) (f : A → Result B RuleError) (y : B) → (r >>= f) ≡ Ok y → (x : A) × (r ≡ Ok x) × (f x ≡ Ok y)
+bind_ok (Ok x) f y e = (x, refl, e)
+bind_ok (Err fault) f y e = absurd cc
+
+abbrev pub ok : {A : Type 0} → A → Result A RuleError
+ok x = Ok x
+
+pub pair_ok : {A B : Type 0} (x y : A × B) → ok x ≡ ok y → (x.0 ≡ y.0) × (x.1 ≡ y.1)
+pair_ok x y e = let same : x ≡ y = cc in (ap (λ p. p.0) same, ap (λ p. p.1) same)
+
+pair_some : {A B : Type 0} (x y : A × B) → Some x ≡ Some y → (x.0 ≡ y.0) × (x.1 ≡ y.1)
+pair_some x y e = let same : x ≡ y = cc in (ap (λ p. p.0) same, ap (λ p. p.1) same)
+
+or_fault_ok : {A : Type 0} (fault : RuleError) (o : Option A) (x : A) → or_fault fault o ≡ Ok x → o ≡ Some x
+or_fault_ok fault (Some y) x e = cc
+or_fault_ok fault None x e = absurd cc
+
+pub guard_ok : {A : Type 0} (b : Bool) (fault : RuleError) (r : Result A RuleError) (x : A) → cond b (Err fault) r ≡ Ok x → (b ≡ false) × (r ≡ Ok x)
+guard_ok true fault r x e = absurd cc
+guard_ok false fault r x e = (refl, e)
+
+-- the part in front of the rest says the condition
+pub record Reads (front : List Condition) (bytes : List ℕ) (condition : Condition) (rest : List ℕ) : Type 0 where
+  pub word : List ℕ
+  pub spelling : List ℕ
+  pub key : Key
+  pub value : List ℕ
+  pub has_word : word_at bytes ≡ Some (word, spelling)
+  pub known : key_named word ≡ Some key
+  pub new : has_key key front ≡ false
+  pub spelled : value_from Outside spelling ≡ Ok (value, rest)
+  pub allowed : condition_with key value ≡ Some condition
+
+key_reads : (bytes : List ℕ) (found : Key × List ℕ) → key_at bytes ≡ Ok found → (word : List ℕ) × (word_at bytes ≡ Some (word, found.1)) × (key_named word ≡ Some found.0)
+unfolding key_at
+key_reads bytes found e =
+    let w = bind_ok (or_fault UnknownKey (word_at bytes)) _ found e in
+    let n = bind_ok (or_fault UnknownKey (key_named w.0.0)) _ found w.2 in
+    let word = or_fault_ok UnknownKey (word_at bytes) w.0 w.1 in
+    let named = or_fault_ok UnknownKey (key_named w.0.0) n.0 n.1 in
+    let same = pair_ok (n.0, w.0.1) found n.2 in
+    (w.0.0, word ∙ ap (λ (x : List ℕ). Some (w.0.0, x)) same.1, named ∙ ap (λ k. Some k) same.0)
+
+pub reads_from : (front : List Condition) (bytes : List ℕ) (condition : Condition) (rest : List ℕ) → part_at front bytes ≡ Ok (condition, rest) → Reads front bytes condition rest
+unfolding part_at
+reads_from front bytes condition rest e =
+    let k = bind_ok (key_at bytes) _ (condition, rest) e in
+    let v = bind_ok (cond (has_key k.0.0 front) (Err KeyTwice) (value_from Outside k.0.1)) _ (condition, rest) k.2 in
+    let c = bind_ok (or_fault BadValue (condition_with k.0.0 v.0.0)) _ (condition, rest) v.2 in
+    let g = guard_ok (has_key k.0.0 front) KeyTwice (value_from Outside k.0.1) v.0 v.1 in
+    let w = key_reads bytes k.0 k.1 in
+    let same = pair_ok (c.0, v.0.1) (condition, rest) c.2 in
+    record {
+      word = w.0;
+      spelling = k.0.1;
+      key = k.0.0;
+      value = v.0.0;
+      has_word = w.1;
+      known = w.2;
+      new = g.0;
+      spelled = g.1 ∙ ap (λ (x : List ℕ). Ok (v.0.0, x)) same.1;
+      allowed = or_fault_ok BadValue (condition_with k.0.0 v.0.0) c.0 c.1 ∙ ap (λ x. Some x) same.0;
+    }
+
+pub reads_to : (front : List Condition) (bytes : List ℕ) (condition : Condition) (rest : List ℕ) → Reads front bytes condition rest → part_at front bytes ≡ Ok (condition, rest)
+unfolding part_at key_at
+reads_to front bytes condition rest r = rw (r.has_word, r.known, r.new, r.spelled, r.allowed) refl
+
+-- ---- what is read is spelled
+
+pub word_is : (bytes word rest : List ℕ) → word_at bytes ≡ Some (word, rest) → bytes ≡ word ++ equals ∷ rest
+word_is [] word rest e = absurd cc
+word_is (b ∷ bs) word rest e = go (b == equals) (b == comma) refl e (word_at bs) refl (λ w r. word_is bs w r)
+  where
+    go : (x y : Bool) → b == equals ≡ x → cond x (Some ([], bs)) (cond y None (option_map (with_byte b) (word_at bs))) ≡ Some (word, rest) → (found : Option (List ℕ × List ℕ)) → word_at bs ≡ found → ((w r : List ℕ) → word_at bs ≡ Some (w, r) → bs ≡ w ++ equals ∷ r) → b ∷ bs ≡ word ++ equals ∷ rest
+    go true y is e found has more =
+        let same : b ≡ equals = eqb-true b equals is in
+        let h = pair_some ([], bs) (word, rest) e in
+        rw (← h.0, ← h.1, same) refl
+    go false true is e found has more = absurd cc
+    go false false is e None has more = let h : option_map (with_byte b) (word_at bs) ≡ None = rw has refl in absurd cc
+    go false false is e (Some f) has more =
+        let h = pair_some (b ∷ f.0, f.1) (word, rest) (sym (ap (option_map (with_byte b)) has) ∙ e) in
+        rw (← h.0, ← h.1) (ap (λ (x : List ℕ). b ∷ x) (more f.0 f.1 has))
+
+-- ---- what a chain of tests of a word found
+
+is_word : (a b : List ℕ) → bytes_eq a b ≡ true → b ≡ a
+is_word a b e = sym ((bytes_eq-Decides a b).0 e)
+
+pub found_in : {A : Type 0} (F : A → List ℕ) (word name : List ℕ) (x : A) (b : Bool) (others : Option A) (y : A) → bytes_eq word name ≡ b → F x ≡ name → cond b (Some x) others ≡ Some y → (others ≡ Some y → F y ≡ word) → F y ≡ word
+found_in F word name x true others y is named e more = let same : x ≡ y = cc in ap F (sym same) ∙ named ∙ is_word word name is
+found_in F word name x false others y is named e more = more e
+
+kind_is : (word : List ℕ) (kind : KindName) → kind_named word ≡ Some kind → kind_word kind ≡ word
+kind_is word kind e =
+    found_in kind_word word (codes "signal") Signal _ _ kind refl refl e (λ e.
+    found_in kind_word word (codes "method_call") MethodCall _ _ kind refl refl e (λ e.
+    found_in kind_word word (codes "method_return") MethodReturn _ _ kind refl refl e (λ e.
+    found_in kind_word word (codes "error") Error _ _ kind refl refl e (λ e. absurd cc))))
+
+chosen : {A : Type 0} (b : Bool) (x y : A) → cond b (Some x) None ≡ Some y → (b ≡ true) × (x ≡ y)
+chosen true x y e = (refl, cc)
+chosen false x y e = absurd cc
+
+-- a condition has the key and the value that it was made of
+pub condition_is : (key : Key) (value : List ℕ) (condition : Condition) → condition_with key value ≡ Some condition → (key_of condition ≡ key) × (value_of condition ≡ value)
+condition_is keys.Kind value condition e = go (kind_named value) refl e
+  where
+    go : (o : Option KindName) → kind_named value ≡ o → option_map conditions.Kind o ≡ Some condition → (key_of condition ≡ keys.Kind) × (value_of condition ≡ value)
+    go None is e = absurd cc
+    go (Some kind) is e = let same : conditions.Kind kind ≡ condition = cc in (ap key_of (sym same), ap value_of (sym same) ∙ kind_is value kind is)
+condition_is keys.Interface value condition e = let h = chosen (is_interface value) (conditions.Interface value) condition e in (ap key_of (sym h.1), ap value_of (sym h.1))
+condition_is keys.Member value condition e = let h = chosen (is_member value) (conditions.Member value) condition e in (ap key_of (sym h.1), ap value_of (sym h.1))
+condition_is keys.Path value condition e = let h = chosen (is_path value) (conditions.Path value) condition e in (ap key_of (sym h.1), ap value_of (sym h.1))
+
+-- ---- a value takes no more bytes than it has
+
+ended_len : (q : Quoting) (value rest : List ℕ) → ended q ≡ Ok (value, rest) → length value + length rest ≤ 0
+ended_len Outside value rest e = let h = pair_ok ([], []) (value, rest) e in rw (← h.0, ← h.1) (omega arith)
+ended_len Inside value rest e = absurd cc
+ended_len Escaped value rest e = let h = pair_ok ([], []) (value, rest) e in rw (← h.0, ← h.1) (omega arith)
+
+pub value_len : (bytes : List ℕ) (q : Quoting) (value rest : List ℕ) → value_from q bytes ≡ Ok (value, rest) → length value + length rest ≤ length bytes
+value_len [] q value rest e = ended_len q value rest e
+value_len (b ∷ bs) q value rest e = go (step q b (begins_with apostrophe bs)) e (λ next v r. value_len bs next v r)
+  where
+    go : (s : Step) → after_step s b bs (λ next. value_from next bs) ≡ Ok (value, rest) → ((next : Quoting) (v r : List ℕ) → value_from next bs ≡ Ok (v, r) → length v + length r ≤ length bs) → length value + length rest ≤ length (b ∷ bs)
+    go End e more = let h = pair_ok ([], bs) (value, rest) e in rw (← h.0, ← h.1) (omega arith)
+    go (Skip next) e more = let h = more next value rest e in omega arith
+    go (Take next) e more =
+        let f = bind_ok (value_from next bs) _ (value, rest) e in
+        let h = more next f.0.0 f.0.1 f.1 in
+        let g = pair_ok (b ∷ f.0.0, f.0.1) (value, rest) f.2 in
+        let a = ap length g.0 in
+        let b = ap length g.1 in
+        omega arith
+
+pub part_len : (front : List Condition) (bytes : List ℕ) (condition : Condition) (rest : List ℕ) → part_at front bytes ≡ Ok (condition, rest) → length (value_of condition) + length rest < length bytes
+part_len front bytes condition rest e =
+    let r = reads_from front bytes condition rest e in
+    let v = value_len r.spelling Outside r.value rest r.spelled in
+    let has = (condition_is r.key r.value condition r.allowed).1 in
+    let whole = ap length (word_is bytes r.word r.spelling r.has_word) ∙ length-append r.word (equals ∷ r.spelling) in
+    let value = ap length has in
+    omega arith

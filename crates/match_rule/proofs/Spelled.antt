@@ -1,0 +1,220 @@
+-- What is spelled is read.
+use Rattle.std.proofs.Common.{◌≡◌, ℕ, zero, suc, ◌+◌, ◌<◌, ◌≤◌, Bool, true, false, cond, List, [], ◌∷◌, ◌++◌, length, refl, sym, ap, ◌∙◌, append_assoc, arith}
+use Rattle.std.specs.Prelude.{Result, Ok, Err, Option, Some, None, codes, not, nat_lt, ◌==◌, ◌&&◌, ◌||◌}
+use Rattle.std.specs.List.{list_all}
+use Rattle.std.proofs.lemmas.Bool.{le-ltb}
+use Rattle.std.proofs.lemmas.List.{append-nil}
+use Rattle.match_rule.specs.declared.fault.RuleError.{RuleError}
+use Rattle.match_rule.specs.declared.key.Key.{Key}
+use Rattle.match_rule.specs.declared.key.Key.TheVariants.{Kind, Interface, Member, Path}
+use Rattle.match_rule.specs.declared.condition.Condition.{Condition}
+use Rattle.match_rule.specs.declared.quoting.Quoting.TheVariants.{Outside, Inside, Escaped}
+use Rattle.match_rule.specs.declared.quoting.Step.{Step}
+use Rattle.match_rule.specs.declared.quoting.Step.TheVariants.{End, Skip, Take}
+use Rattle.match_rule.specs.Key.{key_named}
+use Rattle.match_rule.specs.Condition.{key_of, has_key}
+use Rattle.match_rule.specs.RuleTree.{RuleTree}
+use Rattle.match_rule.specs.Grammar.{is_blank, apostrophe, comma, equals, begins_with, Piece, quoted, escaped, plain, pieces_bytes, pieces_value, IsPiece, ArePieces, Part, part_bytes, IsPart, AreParts, HaveOwnKeys, further_bytes, parts_bytes, IsEnding, ReadsAs}
+use Rattle.match_rule.specs.Reading.{◌>>=◌, behind_blanks, word_at, step, after_step, value_from, with_byte, part_at, parts_from, conditions_at, rule_with, rule_at}
+use Rattle.match_rule.proofs.Steps.{with_front}
+use Rattle.match_rule.proofs.PartReads.{found_in, reads_to}
+use Rattle.match_rule.proofs.Turns.{turn}
+
+-- ---- values
+
+-- behind a value: the end, or a comma and the rest
+abbrev pub tail_bytes : Option (List ℕ) → List ℕ
+tail_bytes None = []
+tail_bytes (Some rest) = comma ∷ rest
+
+abbrev pub tail_rest : Option (List ℕ) → List ℕ
+tail_rest None = []
+tail_rest (Some rest) = rest
+
+pub begins_tail : (bytes : List ℕ) (tail : Option (List ℕ)) → begins_with apostrophe (bytes ++ tail_bytes tail) ≡ begins_with apostrophe bytes
+begins_tail [] None = refl
+begins_tail [] (Some rest) = refl
+begins_tail (b ∷ bs) tail = refl
+
+with_front-nil : (read : Result (List ℕ × List ℕ) RuleError) → read ≡ with_front [] read
+with_front-nil (Ok found) = refl
+with_front-nil (Err fault) = refl
+
+with_front-cons : (b : ℕ) (front : List ℕ) (read : Result (List ℕ × List ℕ) RuleError) → (with_front front read >>= λ found. Ok (with_byte b found)) ≡ with_front (b ∷ front) read
+with_front-cons b front (Ok found) = refl
+with_front-cons b front (Err fault) = refl
+
+not_and : (a b : Bool) → (not a && b) ≡ true → (a ≡ false) × (b ≡ true)
+not_and true b e = absurd cc
+not_and false b e = (refl, e)
+
+inside_read : (inside rest : List ℕ) → list_all (λ byte. not (byte == apostrophe)) inside ≡ true → value_from Inside (inside ++ apostrophe ∷ rest) ≡ with_front inside (value_from Outside rest)
+inside_read [] rest e = with_front-nil (value_from Outside rest)
+inside_read (b ∷ bs) rest e =
+    let h = not_and (b == apostrophe) (list_all (λ byte. not (byte == apostrophe)) bs) e in
+    rw h.0 (ap (λ read. read >>= λ found. Ok (with_byte b found)) (inside_read bs rest h.1) ∙ with_front-cons b bs (value_from Outside rest))
+
+plain_step : (ends opens slash follows : Bool) → (opens || ends || slash && follows) ≡ false → cond ends End (cond opens (Skip Inside) (cond slash (cond follows (Skip Escaped) (Take Outside)) (Take Outside))) ≡ Take Outside
+plain_step true true slash follows e = absurd cc
+plain_step true false slash follows e = absurd cc
+plain_step false true slash follows e = absurd cc
+plain_step false false true true e = absurd cc
+plain_step false false true false e = refl
+plain_step false false false follows e = refl
+
+pub quoted_regroup : (inside pieces tail : List ℕ) → ((inside ++ apostrophe ∷ []) ++ pieces) ++ tail ≡ inside ++ apostrophe ∷ (pieces ++ tail)
+quoted_regroup inside pieces tail = append_assoc (inside ++ apostrophe ∷ []) pieces tail ∙ append_assoc inside (apostrophe ∷ []) (pieces ++ tail)
+
+pub value_spelled : (pieces : List Piece) (tail : Option (List ℕ)) → ArePieces pieces → value_from Outside (pieces_bytes pieces ++ tail_bytes tail) ≡ Ok (pieces_value pieces, tail_rest tail)
+value_spelled [] None are = refl
+value_spelled [] (Some rest) are = refl
+value_spelled (quoted inside ∷ pieces) tail are =
+    ap (λ (bytes : List ℕ). value_from Inside bytes) (quoted_regroup inside (pieces_bytes pieces) (tail_bytes tail))
+    ∙ inside_read inside (pieces_bytes pieces ++ tail_bytes tail) are.0
+    ∙ ap (with_front inside) (value_spelled pieces tail are.1)
+value_spelled (escaped ∷ pieces) tail are = ap (λ read. read >>= λ found. Ok (with_byte apostrophe found)) (value_spelled pieces tail are.1)
+value_spelled (plain b ∷ pieces) tail are =
+    let rest = pieces_bytes pieces ++ tail_bytes tail in
+    let follows = begins_tail (pieces_bytes pieces) tail in
+    let is : step Outside b (begins_with apostrophe rest) ≡ Take Outside = ap (step Outside b) follows ∙ plain_step (b == comma) (b == apostrophe) (b == 92) (begins_with apostrophe (pieces_bytes pieces)) are.0 in
+    ap (λ s. after_step s b rest (λ next. value_from next rest)) is
+    ∙ ap (λ read. read >>= λ found. Ok (with_byte b found)) (value_spelled pieces tail are.1)
+
+-- ---- keys and blanks
+
+abbrev key_word : Key → List ℕ
+key_word Kind = codes "type"
+key_word Interface = codes "interface"
+key_word Member = codes "member"
+key_word Path = codes "path"
+
+named_is : (word : List ℕ) (key : Key) → key_named word ≡ Some key → key_word key ≡ word
+named_is word key e =
+    found_in key_word word (codes "type") Kind _ _ key refl refl e (λ e.
+    found_in key_word word (codes "interface") Interface _ _ key refl refl e (λ e.
+    found_in key_word word (codes "member") Member _ _ key refl refl e (λ e.
+    found_in key_word word (codes "path") Path _ _ key refl refl e (λ e. absurd cc))))
+
+word_read : (key : Key) (rest : List ℕ) → word_at (key_word key ++ equals ∷ rest) ≡ Some (key_word key, rest)
+word_read Kind rest = refl
+word_read Interface rest = refl
+word_read Member rest = refl
+word_read Path rest = refl
+
+word_no_blank : (key : Key) (rest : List ℕ) → behind_blanks (key_word key ++ rest) ≡ key_word key ++ rest
+word_no_blank Kind rest = refl
+word_no_blank Interface rest = refl
+word_no_blank Member rest = refl
+word_no_blank Path rest = refl
+
+both : (a b : Bool) → (a && b) ≡ true → (a ≡ true) × (b ≡ true)
+both true b e = (refl, e)
+both false b e = absurd cc
+
+blanks_read : (blanks rest : List ℕ) → list_all is_blank blanks ≡ true → behind_blanks (blanks ++ rest) ≡ behind_blanks rest
+blanks_read [] rest e = refl
+blanks_read (b ∷ bs) rest e = let h = both (is_blank b) (list_all is_blank bs) e in rw h.0 (blanks_read bs rest h.1)
+
+-- ---- parts
+
+-- what stands behind a value with these parts to come
+abbrev tail_of : List Part → List ℕ → Option (List ℕ)
+tail_of [] [] = None
+tail_of [] (byte ∷ blanks) = Some blanks
+tail_of (part ∷ parts) ending = Some (parts_bytes (part ∷ parts) ending)
+
+-- a part has stood before
+abbrev IsLaterEnding : List ℕ → Type 0
+IsLaterEnding [] = Unit {0}
+IsLaterEnding (byte ∷ blanks) = (byte ≡ comma) × (list_all is_blank blanks ≡ true)
+
+later_ending : (part : Part) (parts : List Part) (ending : List ℕ) → IsEnding (part ∷ parts) ending → IsLaterEnding ending
+later_ending part parts [] is = is
+later_ending part parts (b ∷ bs) is = is
+
+further_is : (parts : List Part) (ending : List ℕ) → IsLaterEnding ending → further_bytes parts ending ≡ tail_bytes (tail_of parts ending)
+further_is [] [] is = refl
+further_is [] (b ∷ bs) is = ap (λ (x : ℕ). x ∷ bs) is.0
+further_is (part ∷ parts) ending is = refl
+
+pub part_regroup : (blanks word pieces rest : List ℕ) → (blanks ++ (word ++ equals ∷ pieces)) ++ rest ≡ blanks ++ (word ++ equals ∷ (pieces ++ rest))
+part_regroup blanks word pieces rest = append_assoc blanks (word ++ equals ∷ pieces) rest ∙ ap (λ (x : List ℕ). blanks ++ x) (append_assoc word (equals ∷ pieces) rest)
+
+behind_part_blanks : (part : Part) (condition : Condition) (rest : List ℕ) → IsPart part condition → behind_blanks (part_bytes part ++ rest) ≡ part.word ++ equals ∷ (pieces_bytes part.pieces ++ rest)
+behind_part_blanks part condition rest is =
+    let named = named_is part.word (key_of condition) is.known in
+    ap behind_blanks (part_regroup part.blanks part.word (pieces_bytes part.pieces) rest)
+    ∙ blanks_read part.blanks (part.word ++ equals ∷ (pieces_bytes part.pieces ++ rest)) is.blank
+    ∙ ap (λ (word : List ℕ). behind_blanks (word ++ equals ∷ (pieces_bytes part.pieces ++ rest))) (sym named)
+    ∙ word_no_blank (key_of condition) (equals ∷ (pieces_bytes part.pieces ++ rest))
+    ∙ ap (λ (word : List ℕ). word ++ equals ∷ (pieces_bytes part.pieces ++ rest)) named
+
+part_read : (front : List Condition) (part : Part) (condition : Condition) (tail : Option (List ℕ)) → IsPart part condition → has_key (key_of condition) front ≡ false → part_at front (part.word ++ equals ∷ (pieces_bytes part.pieces ++ tail_bytes tail)) ≡ Ok (condition, tail_rest tail)
+part_read front part condition tail is new =
+    let named = named_is part.word (key_of condition) is.known in
+    let spelling = pieces_bytes part.pieces ++ tail_bytes tail in
+    reads_to front (part.word ++ equals ∷ spelling) condition (tail_rest tail) (record {
+      word = part.word;
+      spelling = spelling;
+      key = key_of condition;
+      value = pieces_value part.pieces;
+      has_word = ap (λ (word : List ℕ). word_at (word ++ equals ∷ spelling)) (sym named) ∙ word_read (key_of condition) spelling ∙ ap (λ (word : List ℕ). Some (word, spelling)) named;
+      known = is.known;
+      new = new;
+      spelled = value_spelled part.pieces tail is.spelled;
+      allowed = is.allowed;
+    })
+
+-- the parts of a text and its conditions, in as many turns as there are bytes
+abbrev parts_in : List Condition → List ℕ → Result (List Condition) RuleError
+parts_in front bytes = parts_from (length (behind_blanks bytes)) front (behind_blanks bytes)
+
+first_read : (front : List Condition) (part : Part) (parts : List Part) (ending : List ℕ) (condition : Condition) → IsPart part condition → IsLaterEnding ending → has_key (key_of condition) front ≡ false → parts_in front (parts_bytes (part ∷ parts) ending) ≡ parts_in (front ++ condition ∷ []) (tail_rest (tail_of parts ending))
+first_read front part parts ending condition is ends new =
+    let tail = tail_of parts ending in
+    let text = part.word ++ equals ∷ (pieces_bytes part.pieces ++ tail_bytes tail) in
+    let behind : behind_blanks (parts_bytes (part ∷ parts) ending) ≡ text = ap (λ (rest : List ℕ). behind_blanks (part_bytes part ++ rest)) (further_is parts ending ends) ∙ behind_part_blanks part condition (tail_bytes tail) is in
+    ap (λ (bytes : List ℕ). parts_from (length bytes) front bytes) behind
+    ∙ sym (turn front text condition (tail_rest tail) (part_read front part condition tail is new))
+
+pub parts_from-nil : (n : ℕ) (front : List Condition) → parts_from n front [] ≡ Ok front
+parts_from-nil zero front = refl
+parts_from-nil (suc n) front = refl
+
+pub parts_read : (parts : List Part) (conditions front : List Condition) (ending : List ℕ) → IsEnding parts ending → AreParts parts conditions → HaveOwnKeys front conditions → parts_in front (parts_bytes parts ending) ≡ Ok (front ++ conditions)
+parts_read [] [] front ending ends said once =
+    let blank : behind_blanks ending ≡ [] = ap behind_blanks (sym (append-nil ending)) ∙ blanks_read ending [] ends in
+    ap (λ (bytes : List ℕ). parts_from (length bytes) front bytes) blank ∙ ap (λ (cs : List Condition). Ok cs) (sym (append-nil front))
+parts_read [] (condition ∷ conditions) front ending ends said once = absurd said
+parts_read (part ∷ parts) [] front ending ends said once = absurd said
+parts_read (part ∷ []) (condition ∷ conditions) front [] ends said once =
+    first_read front part [] [] condition said.0 tt once.0
+    ∙ parts_read [] conditions (front ++ condition ∷ []) [] refl said.1 once.1
+    ∙ ap (λ (cs : List Condition). Ok cs) (append_assoc front (condition ∷ []) conditions)
+parts_read (part ∷ []) (condition ∷ conditions) front (b ∷ blanks) ends said once =
+    first_read front part [] (b ∷ blanks) condition said.0 ends once.0
+    ∙ parts_read [] conditions (front ++ condition ∷ []) blanks ends.1 said.1 once.1
+    ∙ ap (λ (cs : List Condition). Ok cs) (append_assoc front (condition ∷ []) conditions)
+parts_read (part ∷ next ∷ parts) (condition ∷ conditions) front ending ends said once =
+    let later = later_ending part (next ∷ parts) ending ends in
+    first_read front part (next ∷ parts) ending condition said.0 later once.0
+    ∙ parts_read (next ∷ parts) conditions (front ++ condition ∷ []) ending (ending_of next parts ending later) said.1 once.1
+    ∙ ap (λ (cs : List Condition). Ok cs) (append_assoc front (condition ∷ []) conditions)
+  where
+    ending_of : (part : Part) (parts : List Part) (ending : List ℕ) → IsLaterEnding ending → IsEnding (part ∷ parts) ending
+    ending_of part parts [] is = is
+    ending_of part parts (b ∷ bs) is = is
+
+-- a text that isn't too long has the rule of its conditions
+pub rule_at-ok : (text : List ℕ) (conditions : List Condition) → length text ≤ 1024 → conditions_at text ≡ Ok conditions → rule_at text ≡ Ok (rule_with conditions)
+rule_at-ok text conditions short e = rw (le-ltb 1024 (length text) short) (ap (λ read. read >>= λ cs. Ok (rule_with cs)) e)
+
+pub rule_at-err : (text : List ℕ) (fault : RuleError) → length text ≤ 1024 → conditions_at text ≡ Err fault → rule_at text ≡ Err fault
+rule_at-err text fault short e = rw (le-ltb 1024 (length text) short) (ap (λ read. read >>= λ cs. Ok (rule_with cs)) e)
+
+-- a text that reads as a rule is read as that
+pub read_of : (text : List ℕ) (rule : RuleTree) → ReadsAs text rule → rule_at text ≡ Ok rule
+read_of text rule is =
+    let conditions : conditions_at text ≡ Ok rule.conditions = ap conditions_at is.spelled ∙ parts_read is.parts rule.conditions [] is.ending is.ends is.said is.once in
+    let same : rule_with rule.conditions ≡ rule = ap (λ b. record { conditions = rule.conditions; eavesdrops = b }) (sym is.eavesdrop) in
+    rule_at-ok text rule.conditions is.short conditions ∙ ap (λ r. Ok r) same

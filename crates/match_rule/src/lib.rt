@@ -1,0 +1,21 @@
+//! Match rules of D-Bus, read from their texts and tested on messages. The layers above use what
+//! `Rule::read` ensures, that it is the grammar of rule texts, and what `Rule::holds` ensures, that it is
+//! the sentence of each condition.
+#![tactic(auto)]
+
+mod condition;
+mod fault;
+mod key;
+mod kind_name;
+mod part;
+mod quoting;
+mod rule;
+mod text;
+mod word;
+
+pub use condition::Condition;
+pub use fault::RuleError;
+pub use key::Key;
+pub use kind_name::KindName;
+pub use rule::Rule;
+pub use text::Text;

@@ -1,0 +1,47 @@
+// Blanks and the words of keys.
+
+ghost use Rattle.std.specs.Prelude.{◌≡◌, option_map};
+ghost use Rattle.match_rule.specs.Grammar.{is_blank, begins_with, apostrophe};
+ghost use Rattle.match_rule.specs.Reading.{behind_blanks, word_at};
+
+fn is_blank(byte: u8) -> bool
+    ensures { result ≡ is_blank byte }
+{
+    matches!(byte, b' ' | b'\t' | b'\r' | b'\n')
+}
+
+/// Whether an apostrophe comes first.
+pub(crate) fn begins_with_apostrophe(bytes: &[u8]) -> bool
+    ensures { result ≡ begins_with apostrophe bytes.now }
+{
+    match bytes.split_first() {
+        None => false,
+        Some((first, _)) => *first == b'\'',
+    }
+}
+
+/// What stands behind the blanks.
+pub(crate) fn behind_blanks(bytes: &[u8]) -> &[u8]
+    ensures { result.now ≡ behind_blanks bytes.now }
+{
+    for (i, byte) in bytes.iter().enumerate() {
+        if !is_blank(*byte) {
+            return &bytes[i..];
+        }
+    }
+    &[]
+}
+
+/// The bytes up to the first `=`, and those behind it, where no comma stands before it.
+pub(crate) fn word_at(bytes: &[u8]) -> Option<(&[u8], &[u8])>
+    ensures { option_map (λ x. (x.0.now, x.1.now)) result ≡ word_at bytes.now }
+{
+    for (i, byte) in bytes.iter().enumerate() {
+        match *byte {
+            b'=' => return Some((&bytes[..i], &bytes[i + 1..])),
+            b',' => return None,
+            _ => {}
+        }
+    }
+    None
+}
