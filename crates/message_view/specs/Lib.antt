@@ -5,3 +5,5 @@ pub mod Spelling
 pub mod Valid
 pub mod Fixed
 pub mod Reading
+pub mod Words
+pub mod Slots

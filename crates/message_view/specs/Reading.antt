@@ -161,12 +161,15 @@ abbrev pub header_padding : List ℕ → List ℕ
 header_padding bytes = take (padding 8 (fields_len bytes)) (drop (fixed_len + fields_len bytes) bytes)
 
 -- what there is to say behind the fields; for now a body is bytes left over
-abbrev pub ending_fault : Kind → List ℕ → List Field → Option MsgError
-ending_fault kind bytes fields =
+abbrev pub ending_of : Kind → List ℕ → ℕ → List Field → Option MsgError
+ending_of kind skipped body fields =
     if not (has_required kind fields) then Some faults.FieldMissing
-    else if not (list_all (λ byte. byte == 0) (header_padding bytes)) then Some faults.Padding
-    else if not (body_len bytes == 0) then Some faults.Trailing
+    else if not (list_all (λ byte. byte == 0) skipped) then Some faults.Padding
+    else if not (body == 0) then Some faults.Trailing
     else None
+
+abbrev pub ending_fault : Kind → List ℕ → List Field → Option MsgError
+ending_fault kind bytes fields = ending_of kind (header_padding bytes) (body_len bytes) fields
 
 -- the message of the fixed part and the fields
 abbrev pub message_of : List ℕ → Kind → List Field → Message

@@ -2,11 +2,18 @@
 //! exactly the valid messages, and what it lends is the message's own.
 #![tactic(auto)]
 
+mod content;
+mod cursor;
 mod fault;
 mod field;
+mod fields;
+mod fixed;
 mod kind;
 mod order;
+mod text;
+mod view;
 
 pub use fault::MsgError;
 pub use kind::Kind;
 pub use order::Order;
+pub use view::View;

@@ -1,0 +1,85 @@
+-- What the slots of the known fields keep.
+use Rattle.std.proofs.Common.{◌≡◌, ℕ, ◌++◌, [], ◌∷◌, Bool, true, false, cond, List, Option, Some, None, Result, Ok, Err, get_or, map, refl, sym, ap, ◌∙◌}
+use Rattle.std.proofs.lemmas.Bool.{eq-eqb}
+use Rattle.std.proofs.Math.ListN.{get_or-map, set}
+use Rattle.std.proofs.lemmas.List.{map-set}
+use Rattle.std.specs.Prelude.{◌==◌, option_map, slice_set, slice_index_or}
+use Rattle.message_view.specs.declared.content.Content.{Content}
+use Rattle.signature.specs.DataType.{basic}
+use Rattle.message_view.specs.declared.field.FieldCode.{FieldCode}
+use Rattle.message_view.specs.declared.field.FieldCode.TheVariants as codes
+use Rattle.message_view.specs.Header.{code_byte, type_code}
+use Rattle.message_view.specs.Message.{Value, Field, field_with}
+use Rattle.message_view.specs.declared.fault.MsgError.{MsgError}
+use Rattle.message_view.specs.declared.order.Order.{Order}
+use Rattle.message_view.specs.Reading.{At, code_at, content_at, field_at}
+use Rattle.message_view.specs.Slots.{Slots, slot_of, slots_of}
+use Rattle.message_view.specs.Words.{value_of}
+use Rattle.message_view.proofs.ReadFields.{code_takes}
+
+-- a slot shows its value
+pub slot_shown : (slots : List (Option Content)) (i j : ℕ) → i ≡ j → option_map value_of (slice_index_or slots i None) ≡ slice_index_or (map (option_map value_of) slots) j None
+slot_shown slots i j e = rw e (sym (get_or-map (option_map value_of) slots j None))
+
+-- a written slot shows the new value, and the others what they did
+pub slot_written : (slots : List (Option Content)) (i j : ℕ) (content : Content) → i ≡ j → map (option_map value_of) (slice_set slots i (Some content)) ≡ slice_set (map (option_map value_of) slots) j (Some (value_of content))
+slot_written slots i j content e = rw e (map-set (option_map value_of) slots j (Some content))
+
+abbrev or_value : Option Value → Option Value → Option Value
+or_value (Some value) later = Some value
+or_value None later = later
+
+or_none : (value : Option Value) → or_value value None ≡ value
+or_none (Some value) = refl
+or_none None = refl
+
+-- the value of a code in a list with one field more
+more_fields : (code : ℕ) (front : List Field) (field : Field) → field_with code (front ++ field ∷ []) ≡ or_value (field_with code front) (cond (field.code == code) (Some field.value) None)
+more_fields code [] field = refl
+more_fields code (first ∷ front) field = go (first.code == code) (more_fields code front field)
+  where
+    go : (b : Bool) → field_with code (front ++ field ∷ []) ≡ or_value (field_with code front) (cond (field.code == code) (Some field.value) None)
+        → cond b (Some first.value) (field_with code (front ++ field ∷ [])) ≡ or_value (cond b (Some first.value) (field_with code front)) (cond (field.code == code) (Some field.value) None)
+    go true e = refl
+    go false e = e
+
+-- the slots with one field more
+pub slots_more : (front : List Field) (code : FieldCode) (value : Value) → field_with (code_byte code) front ≡ None
+    → slice_set (slots_of front) (slot_of code) (Some value) ≡ slots_of (front ++ record { code = code_byte code; type = basic (type_code code); value = value } ∷ [])
+slots_more front code value none = go code own other
+  where
+    field : Field
+    field = record { code = code_byte code; type = basic (type_code code); value = value }
+    own : field_with (code_byte code) (front ++ field ∷ []) ≡ Some value
+    own = more_fields (code_byte code) front field ∙ rw (none, eq-eqb (code_byte code) (code_byte code) refl) refl
+    other : (k : ℕ) → (code_byte code == k) ≡ false → field_with k (front ++ field ∷ []) ≡ field_with k front
+    other k differ = more_fields k front field ∙ rw differ (or_none (field_with k front))
+    go : (c : FieldCode) → field_with (code_byte c) (front ++ field ∷ []) ≡ Some value → ((k : ℕ) → (code_byte c == k) ≡ false → field_with k (front ++ field ∷ []) ≡ field_with k front)
+        → slice_set (slots_of front) (slot_of c) (Some value) ≡ slots_of (front ++ field ∷ [])
+    go codes.Path own other = cc (own, other 2 refl, other 3 refl, other 4 refl, other 5 refl, other 6 refl, other 7 refl, other 8 refl, other 9 refl)
+    go codes.Interface own other = cc (own, other 1 refl, other 3 refl, other 4 refl, other 5 refl, other 6 refl, other 7 refl, other 8 refl, other 9 refl)
+    go codes.Member own other = cc (own, other 1 refl, other 2 refl, other 4 refl, other 5 refl, other 6 refl, other 7 refl, other 8 refl, other 9 refl)
+    go codes.ErrorName own other = cc (own, other 1 refl, other 2 refl, other 3 refl, other 5 refl, other 6 refl, other 7 refl, other 8 refl, other 9 refl)
+    go codes.ReplySerial own other = cc (own, other 1 refl, other 2 refl, other 3 refl, other 4 refl, other 6 refl, other 7 refl, other 8 refl, other 9 refl)
+    go codes.Destination own other = cc (own, other 1 refl, other 2 refl, other 3 refl, other 4 refl, other 5 refl, other 7 refl, other 8 refl, other 9 refl)
+    go codes.Sender own other = cc (own, other 1 refl, other 2 refl, other 3 refl, other 4 refl, other 5 refl, other 6 refl, other 8 refl, other 9 refl)
+    go codes.Signature own other = cc (own, other 1 refl, other 2 refl, other 3 refl, other 4 refl, other 5 refl, other 6 refl, other 7 refl, other 9 refl)
+    go codes.UnixFds own other = cc (own, other 1 refl, other 2 refl, other 3 refl, other 4 refl, other 5 refl, other 6 refl, other 7 refl, other 8 refl)
+
+-- a field that was read, with the slots behind it
+pub kept_next : (order : Order) (front : List Field) (old behind : At) (middle : At) (code : FieldCode) (value : Value) (slots kept : Slots) → slots ≡ slots_of front → kept ≡ slice_set slots (slot_of code) (Some value)
+    → code_at front old ≡ Ok (code, middle) → content_at order code middle ≡ Ok (value, behind)
+    → (field : Field) × (field_at order front old ≡ Ok (field, behind)) × (kept ≡ slots_of (front ++ field ∷ []))
+unfolding field_at
+kept_next order front old behind middle code value slots kept is put coded valued =
+    (record { code = code_byte code; type = basic (type_code code); value = value },
+      rw (coded, valued) refl,
+      put ∙ rw is (slots_more front code value (code_takes front old (code, middle) coded).1))
+
+pub no_code : (order : Order) (front : List Field) (old : At) (fault : MsgError) → code_at front old ≡ Err fault → field_at order front old ≡ Err fault
+unfolding field_at
+no_code order front old fault coded = rw coded refl
+
+pub no_content : (order : Order) (front : List Field) (old middle : At) (code : FieldCode) (fault : MsgError) → code_at front old ≡ Ok (code, middle) → content_at order code middle ≡ Err fault → field_at order front old ≡ Err fault
+unfolding field_at
+no_content order front old middle code fault coded valued = rw (coded, valued) refl

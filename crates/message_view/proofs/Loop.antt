@@ -1,0 +1,52 @@
+-- The loop over the array of fields: what is kept so far, and what is left to read.
+use Rattle.std.proofs.Common.{◌≡◌, ℕ, zero, suc, ◌<◌, ◌≤◌, Bool, true, false, cond, eqb, List, [], ◌∷◌, ◌++◌, length, Result, Ok, Err, refl, sym, ap, ◌∙◌, arith}
+use Rattle.std.specs.Prelude.{◌==◌}
+use Rattle.std.proofs.lemmas.Bool.{eq-eqb}
+use Rattle.message_view.specs.declared.order.Order.{Order}
+use Rattle.message_view.specs.declared.fault.MsgError.{MsgError}
+use Rattle.message_view.specs.declared.fields.Fields.{Fields}
+use Rattle.message_view.specs.Message.{Field}
+use Rattle.message_view.specs.Slots.{Slots, no_slots, slots_of}
+use Rattle.message_view.specs.Reading.{At, ◌>>=◌, field_at, fields_from}
+use Rattle.message_view.specs.Words.{Gives, shown}
+use Rattle.message_view.proofs.FieldTurns.{field_shorter}
+
+-- The slots are those of the fields in front, and reading goes on behind them to what the whole array reads as.
+pub record SoFar (order : Order) (slots : Slots) (at : At) (whole : Result (List Field) MsgError) : Type 0 where
+  pub front : List Field
+  pub turns : ℕ
+  pub enough : length at.rest ≤ turns
+  pub kept : slots ≡ slots_of front
+  pub same : fields_from turns order front at ≡ whole
+
+pub at_start : (order : Order) (slots : Slots) (at : At) → slots ≡ no_slots → SoFar order slots at (fields_from (length at.rest) order [] at)
+at_start order slots at none = record { front = []; turns = length at.rest; enough = omega arith; kept = none; same = refl }
+
+-- one turn, where bytes are left
+turn : (turns : ℕ) (order : Order) (front : List Field) (at : At) → length at.rest ≤ turns → (length at.rest == 0) ≡ false
+    → (before : ℕ) × (turns ≡ suc before) × (fields_from turns order front at ≡ (field_at order front at >>= λ field. fields_from before order (front ++ field.0 ∷ []) field.1))
+turn zero order front at enough some = absurd (let none : (length at.rest == 0) ≡ true = eq-eqb _ _ (omega arith) in cc)
+turn (suc before) order front at enough some = (before, refl, rw some refl)
+
+pub goes_on : (order : Order) (slots after : Slots) (at behind : At) (whole : Result (List Field) MsgError) (so_far : SoFar order slots at whole) → (length at.rest == 0) ≡ false
+    → (field : Field) × (field_at order so_far.front at ≡ Ok (field, behind)) × (after ≡ slots_of (so_far.front ++ field ∷ [])) → SoFar order after behind whole × (length behind.rest < length at.rest)
+goes_on order slots after at behind whole so_far some next =
+    let t = turn so_far.turns order so_far.front at so_far.enough some in
+    let fewer = field_shorter order so_far.front at (next.0, behind) next.1 in
+    let same : fields_from t.0 order (so_far.front ++ next.0 ∷ []) behind ≡ whole = sym (t.2 ∙ rw next.1 refl) ∙ so_far.same in
+    (record { front = so_far.front ++ next.0 ∷ []; turns = t.0; enough = omega arith; kept = next.2; same = same }, fewer)
+
+pub stops : (order : Order) (slots : Slots) (at : At) (whole : Result (List Field) MsgError) (fault : MsgError) (so_far : SoFar order slots at whole) → (length at.rest == 0) ≡ false
+    → field_at order so_far.front at ≡ Err fault → whole ≡ Err fault
+stops order slots at whole fault so_far some failed =
+    let t = turn so_far.turns order so_far.front at so_far.enough some in
+    sym so_far.same ∙ t.2 ∙ rw failed refl
+
+empty_front : (turns : ℕ) (order : Order) (front : List Field) (at : At) → (length at.rest == 0) ≡ true → fields_from turns order front at ≡ Ok front
+empty_front zero order front at none = refl
+empty_front (suc turns) order front at none = rw none refl
+
+pub at_end : (order : Order) (fields : Fields) (at : At) (whole : Result (List Field) MsgError) → SoFar order (shown fields) at whole → (length at.rest == 0) ≡ true → Gives {X = Fields} shown slots_of (Ok fields) whole
+at_end order fields at whole so_far none =
+    let is : whole ≡ Ok so_far.front = sym so_far.same ∙ empty_front so_far.turns order so_far.front at none in
+    rw is so_far.kept

@@ -1,0 +1,48 @@
+use Rattle.std.proofs.Common.{refl, sym, ◌∙◌, arith}
+use Rattle.std.proofs.lemmas.Result.{err_from_is_err_and}
+use Rattle.message_view.proofs.Views.{fixed_fault, fixed_short, len_is, whole_short, whole_long, whole_framed, kept_first, nothing_behind}
+use Rattle.message_view.proofs.view.View.read_exactly.Goals as goal
+
+pub returns-in_err-fixed : goal.returns-in_err-fixed
+returns-in_err-fixed c =
+    let p = err_from_is_err_and c.from_residual.result c.from_residual.ensures.1 in
+    rw (p.1, p.2) (fixed_fault c.args.bytes.now _ c.in_err-fixed.ensures)
+
+pub returns-in_default : goal.returns-in_default
+returns-in_default c = fixed_short c.args.bytes.now (rw c.in_default.is at c.in_ok-fixed.ensures)
+
+pub returns-then-bytes-len : goal.returns-then-bytes-len
+returns-then-bytes-len c =
+    let fixed = rw c.in-Some.is at c.in_ok-fixed.ensures in
+    let len = len_is c.in-Some.fixed c.args.bytes.now _ fixed.1 c.whole_len-len.ensures in
+    whole_short c.args.bytes.now fixed.0 (omega arith)
+
+pub returns-then-bytes-len-2 : goal.returns-then-bytes-len-2
+returns-then-bytes-len-2 c =
+    let fixed = rw c.in-Some.is at c.in_ok-fixed.ensures in
+    let len = len_is c.in-Some.fixed c.args.bytes.now _ fixed.1 c.whole_len-len.ensures in
+    whole_long c.args.bytes.now fixed.0 (omega arith)
+
+pub returns-in_err-fields : goal.returns-in_err-fields
+returns-in_err-fields c =
+    let p = err_from_is_err_and c.from_residual-in_err-fields.result c.from_residual-in_err-fields.ensures.1 in
+    let fixed = rw c.in-Some.is at c.in_ok-fixed.ensures in
+    let len = len_is c.in-Some.fixed c.args.bytes.now _ fixed.1 c.whole_len-len.ensures in
+    rw (p.1, p.2) (whole_framed c.args.bytes.now _ fixed.0 len c.if-bytes-len.false c.if-bytes-len-2.false ∙ c.in_err-fields.ensures.fields)
+
+pub invariant_of-result : goal.invariant_of-result
+invariant_of-result c =
+    let fixed = rw c.in-Some.is at c.in_ok-fixed.ensures in
+    let len = len_is c.in-Some.fixed c.args.bytes.now _ fixed.1 c.whole_len-len.ensures in
+    let same = whole_framed c.args.bytes.now _ fixed.0 len c.if-bytes-len.false c.if-bytes-len-2.false in
+    let found = c.in_ok-fields.ensures.fields in
+    (nothing_behind c.args.bytes.now _ _ c.in_ok-fields.ensures.body c.if-bytes-len-2.false c.if-bytes-len.false,
+      kept_first c.in-Some.fixed c.in_ok-fields.fields c.args.bytes.now fixed.1 (found.0, same ∙ found.1, found.2))
+
+pub returns : goal.returns
+returns c =
+    let fixed = rw c.in-Some.is at c.in_ok-fixed.ensures in
+    let len = len_is c.in-Some.fixed c.args.bytes.now _ fixed.1 c.whole_len-len.ensures in
+    let same = whole_framed c.args.bytes.now _ fixed.0 len c.if-bytes-len.false c.if-bytes-len-2.false in
+    let found = c.in_ok-fields.ensures.fields in
+    (refl, (_, same ∙ found.1))

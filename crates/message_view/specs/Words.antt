@@ -1,0 +1,110 @@
+-- Words that the contracts of the readers use.
+use Rattle.std.specs.Prelude.{◌≡◌, ℕ, Bool, true, false, List, [], ◌∷◌, ◌++◌, length, map, option_map, slice_index, ◌≤◌, Option, Some, None, Result, Ok, Err}
+use Rattle.message_view.specs.declared.fault.MsgError.{MsgError}
+use Rattle.message_view.specs.declared.kind.Kind.{Kind}
+use Rattle.message_view.specs.declared.order.Order.{Order}
+use Rattle.message_view.specs.declared.fixed.Fixed.{Fixed}
+use Rattle.message_view.specs.declared.content.Content.{Content}
+use Rattle.message_view.specs.declared.content.Content.TheVariants.{Text, Number}
+use Rattle.message_view.specs.declared.fields.Fields.{Fields}
+use Rattle.message_view.specs.declared.text.TextType.{TextType}
+use Rattle.message_view.specs.declared.text.TextType.TheVariants as texts
+use Rattle.message_view.specs.declared.field.FieldCode.{FieldCode}
+use Rattle.message_view.specs.declared.field.FieldCode.TheVariants.{Path, Interface, Member, ErrorName, ReplySerial, Destination, Sender, Signature, UnixFds}
+use Rattle.message_view.specs.declared.field.FieldType.{FieldType}
+use Rattle.message_view.specs.declared.field.FieldType.TheVariants as types
+use Rattle.message_view.specs.Message.{Value, number, text, Field, Message}
+use Rattle.message_view.specs.Header.{kind_of}
+use Rattle.message_view.specs.Fixed.{order_in, serial_in, fields_len, body_len, whole_len, framing}
+use Rattle.message_view.specs.Valid.{max_array_len, max_message_len}
+use Rattle.message_view.specs.Spelling.{fixed_len}
+use Rattle.message_view.specs.Reading.{At, message_of}
+use Rattle.message_view.specs.Slots.{Slots, slots_of}
+
+-- What a call returned, and where it then stands, is what reading gives.
+abbrev pub Reads : {X Y : Type 0} → (X → Y) → Result X MsgError → At → Result (Y × At) MsgError → Type 0
+Reads view (Ok x) behind read = read ≡ Ok (view x, behind)
+Reads view (Err fault) behind read = read ≡ Err fault
+
+-- the same where only the place changes
+abbrev pub Skips : {X : Type 0} → Result X MsgError → At → Result At MsgError → Type 0
+Skips (Ok x) behind read = read ≡ Ok behind
+Skips (Err fault) behind read = read ≡ Err fault
+
+-- What a call returned is what reading gives, seen by a view of each.
+abbrev pub Gives : {X Y Z : Type 0} → (X → Z) → (Y → Z) → Result X MsgError → Result Y MsgError → Type 0
+Gives view_of read_as (Ok x) (Ok y) = view_of x ≡ read_as y
+Gives view_of read_as (Err fault) (Err other) = fault ≡ other
+Gives view_of read_as (Ok x) (Err other) = ⊥
+Gives view_of read_as (Err fault) (Ok y) = ⊥
+
+-- a field's content as the value that it is
+abbrev pub value_of : Content → Value
+value_of (Text t) = text t.now
+value_of (Number n) = number n
+
+-- the fixed part of some bytes
+pub record IsFixed (fixed : Fixed) (bytes : List ℕ) : Type 0 where
+  pub whole : fixed_len ≤ length bytes
+  pub order : fixed.order ≡ order_in bytes
+  pub kind : kind_of (slice_index bytes 1) ≡ Some fixed.kind
+  pub flags : fixed.flags ≡ slice_index bytes 2
+  pub body : fixed.body_len ≡ body_len bytes
+  pub serial : fixed.serial ≡ serial_in bytes
+  pub fields : fixed.fields_len ≡ fields_len bytes
+  pub array_fits : fields_len bytes ≤ max_array_len
+  pub fits : whole_len bytes ≤ max_message_len
+
+-- what a reader of the fixed part answers
+abbrev pub ReadsFixed : Result (Option Fixed) MsgError → List ℕ → Type 0
+ReadsFixed (Ok (Some fixed)) bytes = (framing bytes ≡ Ok (Some (whole_len bytes))) × IsFixed fixed bytes
+ReadsFixed (Ok None) bytes = framing bytes ≡ Ok None
+ReadsFixed (Err fault) bytes = framing bytes ≡ Err fault
+
+-- the basic code of a text's type
+abbrev pub text_code : TextType → ℕ
+text_code texts.String = 115
+text_code texts.ObjectPath = 111
+text_code texts.Signature = 103
+
+-- what a test of a text's form lends: the text itself
+abbrev pub LendsText : Bool → List ℕ → Option (List ℕ) → Type 0
+LendsText allowed bytes (Some found) = (allowed ≡ true) × (found ≡ bytes)
+LendsText allowed bytes None = allowed ≡ false
+
+-- the type of a field's value, as the code has it
+abbrev pub type_of : FieldCode → FieldType
+type_of Path = types.Text texts.ObjectPath
+type_of Interface = types.Text texts.String
+type_of Member = types.Text texts.String
+type_of ErrorName = types.Text texts.String
+type_of ReplySerial = types.Number
+type_of Destination = types.Text texts.String
+type_of Sender = types.Text texts.String
+type_of Signature = types.Text texts.Signature
+type_of UnixFds = types.Number
+
+-- the basic code of a field's type
+abbrev pub type_code_of : FieldType → ℕ
+type_code_of (types.Text t) = text_code t
+type_code_of types.Number = 117
+
+-- the values that are kept of the known fields
+abbrev pub shown : Fields → Slots
+shown fields = map (option_map value_of) fields.slots
+
+-- What a reader of the next field answers, and the slots that it leaves: reading gives one field behind
+-- those in front.
+abbrev pub KeepsNext : {X : Type 0} → Result X MsgError → Slots → At → List Field → Result (Field × At) MsgError → Type 0
+KeepsNext (Ok x) slots behind front read = (field : Field) × (read ≡ Ok (field, behind)) × (slots ≡ slots_of (front ++ field ∷ []))
+KeepsNext (Err fault) slots behind front read = read ≡ Err fault
+
+-- what a reader of the message behind a fixed part answers
+abbrev pub ReadsFramed : Result Fields MsgError → Kind → List ℕ → Result Message MsgError → Type 0
+ReadsFramed (Ok fields) kind bytes read = (front : List Field) × (read ≡ Ok (message_of bytes kind front)) × (shown fields ≡ slots_of front)
+ReadsFramed (Err fault) kind bytes read = read ≡ Err fault
+
+-- what a reader of a view answers, whose value is its bytes
+abbrev pub ReadsView : Result (List ℕ) MsgError → List ℕ → Result Message MsgError → Type 0
+ReadsView (Ok view) bytes read = (view ≡ bytes) × ((m : Message) × (read ≡ Ok m))
+ReadsView (Err fault) bytes read = read ≡ Err fault
