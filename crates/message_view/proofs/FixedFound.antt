@@ -1,17 +1,14 @@
 -- The fixed part as the code reads it: one number after the other.
-use Rattle.std.proofs.Common.{◌≡◌, ℕ, suc, ◌+◌, ◌<◌, ◌≤◌, List, [], ◌∷◌, length, get_or, take, drop, Bool, true, false, cond, eqb, Option, Some, None, Result, Ok, Err, refl, sym, ap, ◌∙◌, arith, add-zero, length-drop}
+use Rattle.std.proofs.Common.{◌≡◌, ℕ, ◌+◌, ◌<◌, ◌≤◌, List, [], ◌∷◌, length, get_or, take, drop, Bool, true, false, cond, eqb, Some, None, Ok, refl, sym, ap, ◌∙◌, arith, add-zero, length-drop}
 use Rattle.std.specs.Prelude.{slice_index}
 use Rattle.std.proofs.lemmas.List.{get_or-drop}
 use Rattle.message_view.specs.declared.order.Order.{Order}
 use Rattle.message_view.specs.declared.order.Order.TheVariants.{Little, Big}
-use Rattle.message_view.specs.declared.kind.Kind.{Kind}
-use Rattle.message_view.specs.declared.fault.MsgError.{MsgError}
-use Rattle.message_view.specs.declared.fault.MsgError.TheVariants as faults
 use Rattle.message_view.specs.declared.fixed.Fixed.{Fixed}
 use Rattle.message_view.specs.Order.{order_of, word_of}
 use Rattle.message_view.specs.Header.{kind_of}
 use Rattle.message_view.specs.Spelling.{padding}
-use Rattle.message_view.specs.Fixed.{order_in, word_at, body_len, serial_in, fields_len, whole_len, framing}
+use Rattle.message_view.specs.Fixed.{order_in, word_at, body_len, serial_in, fields_len, whole_len}
 use Rattle.message_view.specs.Words as words
 use Rattle.message_view.proofs.OkSteps.{some_is}
 use Rattle.message_view.proofs.FixedPart.{framing_again}

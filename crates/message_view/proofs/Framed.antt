@@ -1,5 +1,5 @@
 -- A message behind its fixed part, by the slices that the code reads.
-use Rattle.std.proofs.Common.{◌≡◌, ℕ, ◌+◌, ◌≤◌, List, [], length, take, drop, Option, Some, None, Result, Ok, Err, eqb, refl, sym, ap, ◌∙◌, arith}
+use Rattle.std.proofs.Common.{◌≡◌, ℕ, List, [], length, take, drop, Some, None, Result, Ok, Err, eqb, refl, sym, ap, ◌∙◌}
 use Rattle.std.proofs.lemmas.List.{drop-drop}
 use Rattle.std.proofs.lemmas.Bool.{eqb-true, not-false}
 use Rattle.message_view.specs.declared.fault.MsgError.{MsgError}
@@ -7,13 +7,13 @@ use Rattle.message_view.specs.declared.fault.MsgError.TheVariants as faults
 use Rattle.message_view.specs.declared.fields.Fields.{Fields}
 use Rattle.message_view.specs.declared.fixed.Fixed.{Fixed}
 use Rattle.message_view.specs.declared.kind.Kind.{Kind}
-use Rattle.message_view.specs.Message.{Field, Message}
+use Rattle.message_view.specs.Message.{Field}
 use Rattle.message_view.specs.Slots.{slots_of}
 use Rattle.message_view.specs.Spelling.{padding}
-use Rattle.message_view.specs.Fixed.{fields_len, body_len}
-use Rattle.message_view.specs.Reading.{◌>>=◌, or_fault, or_kind, ending_of, ending_fault, header_padding, message_of, fields_of, fields_from, framed_message}
+use Rattle.message_view.specs.Fixed.{fields_len}
+use Rattle.message_view.specs.Reading.{ending_of, ending_fault, header_padding, message_of, fields_of, fields_from, framed_message}
 use Rattle.message_view.proofs.OkSteps.{found_none}
-use Rattle.message_view.specs.Words.{IsFixed, Gives, ReadsFramed, shown}
+use Rattle.message_view.specs.Words.{IsFixed, Gives, shown}
 
 -- what a reader of the fields was given, by what it answered
 gave_fault : (fault : MsgError) (whole : Result (List Field) MsgError) → Gives {X = Fields} shown slots_of (Err fault) whole → whole ≡ Err fault

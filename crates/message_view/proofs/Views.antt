@@ -1,5 +1,5 @@
 -- What a view keeps is its message's.
-use Rattle.std.proofs.Common.{◌≡◌, ℕ, ◌+◌, ◌-◌, ◌<◌, ◌≤◌, List, [], length, take, drop, map, get_or, Option, Some, None, Result, Ok, Err, Bool, true, false, cond, ltb, refl, sym, ap, ◌∙◌, arith}
+use Rattle.std.proofs.Common.{◌≡◌, ℕ, ◌+◌, ◌-◌, ◌<◌, ◌≤◌, List, [], length, take, drop, map, get_or, Some, None, Result, Ok, Err, false, ltb, refl, sym, ap, ◌∙◌, arith}
 use Rattle.std.specs.Prelude.{slice_index_or, IfOk, IsOk}
 use Rattle.std.proofs.Math.ListN.{get_or-map}
 use Rattle.std.proofs.lemmas.Bool.{lt-ltb, le-ltb}
@@ -7,13 +7,13 @@ use Rattle.message_view.specs.declared.fault.MsgError.{MsgError}
 use Rattle.message_view.specs.declared.fault.MsgError.TheVariants as faults
 use Rattle.message_view.specs.declared.fields.Fields.{Fields}
 use Rattle.message_view.specs.declared.fixed.Fixed.{Fixed}
-use Rattle.message_view.specs.Message.{Value, Field, text_in, number_in, Message}
+use Rattle.message_view.specs.Message.{Field, text_in, number_in, Message}
 use Rattle.message_view.specs.Valid.{Valid}
 use Rattle.message_view.specs.Spelling.{padding}
-use Rattle.message_view.specs.Fixed.{framing, whole_len, fields_len, body_len}
-use Rattle.message_view.specs.Reading.{◌>>=◌, message_at, framed_message, message_of}
+use Rattle.message_view.specs.Fixed.{framing, whole_len}
+use Rattle.message_view.specs.Reading.{message_at, framed_message, message_of}
 use Rattle.message_view.specs.Slots.{Slots, Kept, kept_of, kept_of_reading, slots_of}
-use Rattle.message_view.specs.Words.{IsFixed, ReadsFixed, ReadsView, shown}
+use Rattle.message_view.specs.Words.{IsFixed, ReadsView, shown}
 use Rattle.message_view.proofs.OneMessage.{valid_reads, reads_valid, fault_invalid}
 
 -- ---- the length

@@ -1,5 +1,5 @@
 -- The fixed part of a header: its first 16 bytes (D-Bus Specification, "Message Format").
-use Rattle.std.specs.Prelude.{ℕ, ◌+◌, Bool, true, false, not, List, [], ◌∷◌, length, take, drop, slice_index, slice_range, Option, Some, None, is_none, Result, Ok, Err, nat_lt, nat_le, ◌==◌, ◌&&◌, if◌then◌else◌}
+use Rattle.std.specs.Prelude.{ℕ, ◌+◌, Bool, not, List, [], ◌∷◌, length, take, drop, slice_index, Option, Some, None, is_none, Result, Ok, Err, nat_lt, nat_le, ◌==◌, ◌&&◌, if◌then◌else◌}
 use Rattle.message_view.specs.declared.order.Order.{Order}
 use Rattle.message_view.specs.declared.order.Order.TheVariants.{Little, Big}
 use Rattle.message_view.specs.declared.fault.MsgError.{MsgError}

@@ -1,10 +1,9 @@
 -- The header's fields: their codes, types and contents (D-Bus Specification, "Header Fields").
-use Rattle.std.specs.Prelude.{ℕ, Bool, true, false, not, List, [], ◌∷◌, Option, Some, None, is_some, ◌==◌, ◌&&◌, if◌then◌else◌}
-use Rattle.std.specs.List.{list_all, list_any}
+use Rattle.std.specs.Prelude.{ℕ, Bool, true, false, not, List, [], ◌∷◌, Option, Some, None, is_some, ◌==◌, if◌then◌else◌}
+use Rattle.std.specs.List.{list_all}
 use Rattle.std.specs.Str.{bytes_eq}
-use Rattle.signature.specs.DataType.{DataType, basic}
 use Rattle.signature.specs.Name.{is_interface, is_member, is_bus_name}
-use Rattle.message_view.specs.Message.{Value, number, text, Field, field_with}
+use Rattle.message_view.specs.Message.{Field, field_with}
 use Rattle.message_view.specs.declared.kind.Kind.{Kind}
 use Rattle.message_view.specs.declared.kind.Kind.TheVariants.{MethodCall, MethodReturn, Error, Signal, Other}
 use Rattle.message_view.specs.declared.field.FieldCode.{FieldCode}

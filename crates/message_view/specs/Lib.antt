@@ -7,3 +7,4 @@ pub mod Fixed
 pub mod Reading
 pub mod Words
 pub mod Slots
+pub mod Fault

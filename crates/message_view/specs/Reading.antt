@@ -1,8 +1,8 @@
 -- Reading a message from left to right, with the first fault that is met.
-use Rattle.std.specs.Prelude.{◌≡◌, ℕ, zero, suc, ◌+◌, Bool, true, false, not, List, [], ◌∷◌, ◌++◌, length, take, drop, slice_index, Option, Some, None, is_some, Result, Ok, Err, nat_lt, ◌==◌, ◌&&◌, if◌then◌else◌}
+use Rattle.std.specs.Prelude.{ℕ, zero, suc, ◌+◌, not, List, [], ◌∷◌, ◌++◌, length, take, drop, slice_index, Option, Some, None, is_some, Result, Ok, Err, nat_lt, ◌==◌, if◌then◌else◌}
 use Rattle.std.specs.List.{list_all}
 use Rattle.std.specs.Str.{bytes_eq}
-use Rattle.signature.specs.DataType.{DataType, basic, no_types}
+use Rattle.signature.specs.DataType.{basic, no_types}
 use Rattle.message_view.specs.declared.order.Order.{Order}
 use Rattle.message_view.specs.declared.kind.Kind.{Kind}
 use Rattle.message_view.specs.declared.field.FieldCode.{FieldCode}
@@ -14,7 +14,7 @@ use Rattle.message_view.specs.Header.{kind_of, code_byte, code_of, type_code, is
 use Rattle.message_view.specs.Message.{Value, number, text, no_values, Field, field_with, Message}
 use Rattle.message_view.specs.Spelling.{padding, fixed_len}
 use Rattle.message_view.specs.Valid.{is_text_of}
-use Rattle.message_view.specs.Fixed.{order_in, serial_in, fields_len, body_len, whole_len, framing}
+use Rattle.message_view.specs.Fixed.{order_in, serial_in, fields_len, body_len, framing}
 
 infixl 10 ◌>>=◌
 abbrev pub ◌>>=◌ : {A B : Type 0} → Result A MsgError → (A → Result B MsgError) → Result B MsgError

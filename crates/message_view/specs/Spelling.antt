@@ -1,10 +1,10 @@
 -- The bytes of values and messages (D-Bus Specification, "Marshaling" and "Message Format").
 use Rattle.std.specs.Prelude.{ℕ, ◌+◌, ◌-◌, ◌%◌, List, [], ◌∷◌, ◌++◌, length, ◌==◌, if◌then◌else◌, replicate}
-use Rattle.signature.specs.DataType.{DataType, DataTypes, basic, spelling}
+use Rattle.signature.specs.DataType.{DataType, basic, spelling}
 use Rattle.message_view.specs.declared.order.Order.{Order}
 use Rattle.message_view.specs.Order.{order_byte, word_bytes}
 use Rattle.message_view.specs.Header.{kind_byte}
-use Rattle.message_view.specs.Message.{Value, number, text, Values, Field, Message}
+use Rattle.message_view.specs.Message.{Value, number, text, Field, Message}
 
 -- how many bytes lie before the next multiple
 abbrev pub padding : ℕ → ℕ → ℕ

@@ -1,8 +1,8 @@
 -- Valid messages (D-Bus Specification, "Message Protocol").
-use Rattle.std.specs.Prelude.{◌≡◌, ℕ, ◌+◌, ◌^◌, ◌<◌, ◌≤◌, Bool, true, false, not, List, [], ◌∷◌, length, Option, Some, None, is_none, is_some, ◌==◌, ◌&&◌, if◌then◌else◌, nat_lt}
+use Rattle.std.specs.Prelude.{◌≡◌, ℕ, ◌^◌, ◌<◌, ◌≤◌, Bool, true, false, not, List, [], ◌∷◌, length, Some, None, ◌==◌, ◌&&◌, if◌then◌else◌}
 use Rattle.std.specs.List.{list_any}
 use Rattle.std.specs.Str.{is_utf8}
-use Rattle.signature.specs.DataType.{DataType, DataTypes, basic, no_types}
+use Rattle.signature.specs.DataType.{basic, no_types}
 use Rattle.signature.specs.Name.{is_path}
 use Rattle.message_view.specs.declared.field.FieldCode.{FieldCode}
 use Rattle.message_view.specs.Header.{kind_byte, kind_of, code_of, type_code, is_named_well, is_reserved, is_number_allowed, has_required}

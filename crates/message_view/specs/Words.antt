@@ -2,7 +2,6 @@
 use Rattle.std.specs.Prelude.{◌≡◌, ℕ, Bool, true, false, List, [], ◌∷◌, ◌++◌, length, map, option_map, slice_index, ◌≤◌, Option, Some, None, Result, Ok, Err}
 use Rattle.message_view.specs.declared.fault.MsgError.{MsgError}
 use Rattle.message_view.specs.declared.kind.Kind.{Kind}
-use Rattle.message_view.specs.declared.order.Order.{Order}
 use Rattle.message_view.specs.declared.fixed.Fixed.{Fixed}
 use Rattle.message_view.specs.declared.content.Content.{Content}
 use Rattle.message_view.specs.declared.content.Content.TheVariants.{Text, Number}

@@ -1,6 +1,6 @@
 // A message as a view of its bytes.
 
-ghost use Rattle.std.specs.Prelude.{◌≡◌, List, length, Some, Ok, OnOk};
+ghost use Rattle.std.specs.Prelude.{◌≡◌, ℕ, List, length, Some, Ok, OnOk};
 ghost use Rattle.message_view.specs.Message.{Message, Field, path_of};
 ghost use Rattle.message_view.specs.Valid.{Valid};
 ghost use Rattle.message_view.specs.Fixed.{whole_len};
@@ -232,4 +232,10 @@ impl<'a> View<'a> {
     {
         self.body
     }
+}
+
+/// Bytes spell at most one message.
+pub fn one_message()
+    ensures { (bytes : List ℕ) (m n : Message) → Valid bytes m → Valid bytes n → m ≡ n }
+{
 }

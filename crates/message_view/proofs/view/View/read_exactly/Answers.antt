@@ -1,4 +1,4 @@
-use Rattle.std.proofs.Common.{refl, sym, ◌∙◌, arith}
+use Rattle.std.proofs.Common.{refl, ◌∙◌, arith}
 use Rattle.std.proofs.lemmas.Result.{err_from_is_err_and}
 use Rattle.message_view.proofs.Views.{fixed_fault, fixed_short, len_is, whole_short, whole_long, whole_framed, kept_first, nothing_behind}
 use Rattle.message_view.proofs.view.View.read_exactly.Goals as goal
