@@ -218,3 +218,8 @@ read_of text rule is =
     let conditions : conditions_at text ≡ Ok rule.conditions = ap conditions_at is.spelled ∙ parts_read is.parts rule.conditions [] is.ending is.ends is.said is.once in
     let same : rule_with rule.conditions ≡ rule = ap (λ b. record { conditions = rule.conditions; eavesdrops = b }) (sym is.eavesdrop) in
     rule_at-ok text rule.conditions is.short conditions ∙ ap (λ r. Ok r) same
+
+pub ReadsAs-unique : (text : List ℕ) (rule other : RuleTree) → ReadsAs text rule → ReadsAs text other → rule ≡ other
+ReadsAs-unique text rule other is also =
+    let same = sym (read_of text rule is) ∙ read_of text other also in
+    cc

@@ -5,3 +5,4 @@ pub mod RuleTree
 pub mod Grammar
 pub mod Reading
 pub mod Holds
+pub mod Equality

@@ -20,7 +20,7 @@ sender_name_of rule = None
 
 -- each condition of the first is among those of the second
 abbrev pub are_among : List Condition → List Condition → Bool
-are_among conditions others = list_all (λ c. list_any (condition_eq c) others) conditions
+are_among conditions others = list_all (λ c. list_any (λ d. condition_eq d c) others) conditions
 
 -- equal as sets of conditions, with the same eavesdropping
 abbrev pub rule_eq : RuleTree → RuleTree → Bool

@@ -1,8 +1,9 @@
 // Rules.
 
-use crate::condition::Condition;
+use crate::condition::{Condition, all_hold, are_among, weight_of};
 use crate::fault::RuleError;
 use crate::part::conditions_at;
+use message_view::View;
 use std::alloc::Global;
 use std::marker::Model;
 
@@ -27,9 +28,12 @@ impl Model for Rule {
 }
 
 impl Rule {
-    ghost use Rattle.std.specs.Prelude.{◌≡◌, ◌⊎◌, IfOk, IfErr, Ok, Err};
+    ghost use Rattle.std.specs.Prelude.{◌≡◌, ◌⊎◌, ◌↔◌, ℕ, Bool, List, IfOk, IfErr, Ok, Err, IsTrue, option_map};
+    ghost use Rattle.message_view.specs.Message.{Message};
+    ghost use Rattle.message_view.specs.Valid.{Valid};
     ghost use Rattle.match_rule.specs.declared.fault.RuleError.TheVariants.{NoMemory};
-    ghost use Rattle.match_rule.specs.RuleTree.{RuleTree};
+    ghost use Rattle.match_rule.specs.RuleTree.{RuleTree, sender_name_of, weight_of};
+    ghost use Rattle.match_rule.specs.Holds.{Holds, Agrees};
     ghost use Rattle.match_rule.specs.Grammar.{ReadsAs};
     ghost use Rattle.match_rule.specs.Reading.{Gives, rule_at};
 
@@ -51,4 +55,55 @@ impl Rule {
             eavesdrops: false,
         })
     }
+
+    /// Its conditions, in the order of the text.
+    pub fn conditions(&self) -> &[Condition]
+        ensures { result.now ≡ self.now.conditions }
+    {
+        self.conditions.as_slice()
+    }
+
+    /// Whether it holds of a message, whose sender is or isn't the primary owner of the rule's sender name.
+    /// For now no rule has such a name.
+    pub fn holds(&self, view: &View<'_>, owns: bool) -> bool
+        ensures { (m : Message) (owned : List ℕ → Bool) → Valid view.now m → Agrees self.now owned owns → (IsTrue result ↔ Holds self.now m owned) }
+    {
+        (self.eavesdrops || view.destination().is_none()) && all_hold(self.conditions.as_slice(), view)
+    }
+
+    /// The well-known name whose owner decides whether the rule holds. For now no rule has one.
+    pub fn sender_name(&self) -> Option<&str>
+        ensures { option_map (λ name. name.now) result ≡ sender_name_of self.now }
+    {
+        None
+    }
+
+    /// How large a program for the rule may become: 8, and for each condition 24 and the bytes of its value.
+    pub fn weight(&self) -> u64
+        ensures { result ≡ weight_of self.now }
+    {
+        weight_of(self.conditions.as_slice())
+    }
+}
+
+impl PartialEq for Rule {
+    ghost use Rattle.match_rule.specs.RuleTree.{rule_eq};
+    ghost use Rattle.match_rule.specs.Equality.{rules_partial};
+
+    ghost eq = { rule_eq };
+
+    ghost laws = { rules_partial };
+
+    /// Equality of the sets of conditions and of the eavesdropping, whatever the order.
+    fn eq(&self, other: &Rule) -> bool {
+        are_among(self.conditions.as_slice(), other.conditions.as_slice())
+            && are_among(other.conditions.as_slice(), self.conditions.as_slice())
+            && self.eavesdrops == other.eavesdrops
+    }
+}
+
+impl Eq for Rule {
+    ghost use Rattle.match_rule.specs.Equality.{rules_equiv};
+
+    ghost laws = { rules_equiv };
 }

@@ -22,7 +22,7 @@ impl Text {
     ghost use Rattle.std.specs.String.{string_bytes};
 
     /// A text of its own.
-    pub fn new(text: String) -> Self
+    pub(crate) fn new(text: String) -> Self
         ensures { result ≡ string_bytes text }
     {
         Text { text }
