@@ -1,5 +1,6 @@
 -- What `match` finds, from what its steps answer.
 use Rattle.std.proofs.Common.{◌≡◌, ◌⊎◌, ◌↔◌, ℕ, Bool, IsTrue, List, Option, Some, None, Result, Ok, Err, refl, sym, ap, subst, inl, inr}
+use Rattle.std.specs.Option.{IfSome}
 use Rattle.std.specs.Result.{IsErrAnd}
 use Rattle.std.specs.Global.{Vec}
 use Rattle.dbusfan_tool.specs.declared.fault.Fault.{Fault}
@@ -10,10 +11,10 @@ use Rattle.message_view.specs.Valid.{Valid}
 use Rattle.message_view.specs.Reading.{message_at}
 use Rattle.match_rule.specs.declared.fault.RuleError.{RuleError}
 use Rattle.match_rule.specs.declared.fault.RuleError.TheVariants.{TooLong, UnknownKey, KeyTwice, BadValue, Unquoted, PathTwice, ArgNumber, NoMemory}
-use Rattle.match_rule.specs.RuleTree.{RuleTree}
+use Rattle.match_rule.specs.RuleTree.{RuleTree, sender_name_of}
 use Rattle.match_rule.specs.Grammar.{ReadsAs}
 use Rattle.match_rule.specs.Reading.{rule_at}
-use Rattle.match_rule.specs.Holds.{Holds}
+use Rattle.match_rule.specs.Holds.{Holds, Agrees}
 use Rattle.dbusfan_tool.specs.declared.files.FileError.{FileError}
 use Rattle.dbusfan_tool.specs.declared.files.FileError.TheVariants as of_file
 use Rattle.dbusfan_tool.specs.declared.hex_text.HexError.{HexError}
@@ -22,6 +23,14 @@ use Rattle.dbusfan_tool.specs.Fault.{fault_of_rule, fault_of_file, fault_of_hex}
 use Rattle.dbusfan_tool.specs.Files.{ReadsFile}
 use Rattle.dbusfan_tool.specs.HexText.{bytes_of_hex}
 use Rattle.dbusfan_tool.specs.Tool.{Judges, no_rule, no_file, no_hex, no_message, judged}
+
+agrees_at : (name : Option (List ℕ)) (owns : Bool) → IfSome name (λ (name : List ℕ). owns ≡ owns)
+agrees_at None owns = tt
+agrees_at (Some name) owns = refl
+
+-- an answer for all names agrees with itself
+pub agrees : (tree : RuleTree) (owns : Bool) → Agrees tree (λ name. owns) owns
+agrees tree owns = agrees_at (sender_name_of tree) owns
 
 -- a result that is a fault is that fault
 err_of : (found : Result Bool Fault) (fault : Fault) → IsErrAnd found (λ f. f ≡ fault) → Err fault ≡ found

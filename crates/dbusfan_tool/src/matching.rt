@@ -43,7 +43,5 @@ fn verdict<F: Files>(
     let text = files.read(alloc, file)?;
     let bytes = decode(alloc, &text)?;
     let message = View::read(&bytes)?;
-    let _ = rule;
-    let _ = message.kind();
-    Ok(owns)
+    Ok(rule.holds(&message, owns))
 }

@@ -1,4 +1,6 @@
-use Rattle.dbusfan_tool.proofs.Judged.{of_rule_fault, of_file_fault, of_hex_fault, of_message_fault, of_verdict}
+use Rattle.std.proofs.Common.{ℕ, List, sym, subst}
+use Rattle.message_view.specs.Valid.{Valid}
+use Rattle.dbusfan_tool.proofs.Judged.{agrees, of_rule_fault, of_file_fault, of_hex_fault, of_message_fault, of_verdict}
 use Rattle.dbusfan_tool.proofs.matching.verdict.Goals as goal
 
 pub returns-in_err-rule : goal.returns-in_err-rule
@@ -22,4 +24,9 @@ returns-in_err-message g c =
     of_message_fault _ _ _ _ reads _ c.in_err-message.field-0.0 _ _ c.from_residual-in_err-message.ensures.1 c.in_ok-text.ensures spells fault
 
 pub returns : goal.returns
-returns g c = ?
+returns g c =
+    let spells = rw c.deref.ensures.value at c.in_ok-bytes.ensures.ok in
+    let found = rw c.deref-2.ensures.value at c.in_ok-message.ensures.found in
+    let valid = subst (λ (bytes : List ℕ). Valid bytes found.1.0) (sym found.0) found.1.1 in
+    let holds = c.holds.ensures found.1.0 (λ name. c.args.owns) valid (agrees c.in_ok-rule.rule c.args.owns) in
+    of_verdict _ _ _ _ c.in_ok-rule.ensures.found _ _ _ found.1.0 c.in_ok-text.ensures spells found.1.1 holds
