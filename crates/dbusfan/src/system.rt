@@ -1,0 +1,56 @@
+// The files of the system.
+
+ghost use Rattle.std.specs.Prelude.{⊤};
+
+use dbusfan_tool::{FileError, Files};
+use std::alloc::Global;
+use std::fs;
+use std::fs::OpenFile;
+use std::io;
+use std::io::{ErrorKind, Input, Read};
+use std::rt::Runtime;
+
+/// The files of the system by their paths, and standard input as `-`.
+#[derive(Drop)]
+pub struct System<'a, R> {
+    rt: &'a R,
+}
+
+impl<'a, R: Runtime<A = Global>> System<'a, R> {
+    pub fn new(rt: &'a R) -> System<'a, R> {
+        System { rt }
+    }
+
+    /// The bytes of a file. Room for all of them comes first, so that a file that memory can't hold is
+    /// refused before it is read.
+    fn read_file(&self, alloc: Global, path: &str) -> io::Result<Vec<u8>> {
+        let file = fs::open(self.rt, path)?;
+        let len = file.metadata()?.len();
+        read_all(alloc, file, len)
+    }
+}
+
+impl<'a, R: Runtime<A = Global>> Files for System<'a, R> {
+    // Nothing is known of what the system gives.
+    ghost may_give = { λ _ _ _. ⊤ };
+
+    fn read(&self, alloc: Global, name: &str) -> Result<Vec<u8>, FileError> {
+        let read = if name == "-" {
+            read_all(alloc, self.rt.reader(), 0)
+        } else {
+            self.read_file(alloc, name)
+        };
+        read.map_err(|error| match error.kind() {
+            ErrorKind::OutOfMemory => FileError::Memory,
+            _ => FileError::File,
+        })
+    }
+}
+
+/// All bytes of a reader, of which so many are expected.
+fn read_all<I: Read + Drop>(alloc: Global, mut input: I, expected: u64) -> io::Result<Vec<u8>> {
+    let mut bytes = Vec::new(alloc);
+    bytes.reserve(usize::try_from(expected).unwrap_or(usize::MAX))?;
+    input.read_to_end(&mut bytes)?;
+    Ok(bytes)
+}

@@ -1,0 +1,41 @@
+-- What a command has to say, and how it is said.
+use Rattle.std.specs.Prelude.{◌≡◌, ℕ, Bool, true, false, List, [], ◌∷◌, ◌++◌, codes, Option, Result, Ok, Err, string_bytes}
+use Rattle.std.specs.Io.KnownBytes.{Appends}
+use Rattle.dbusfan_tool.specs.declared.fault.Fault.{Fault}
+use Rattle.dbusfan_tool.specs.declared.fault.Fault.TheVariants.{File}
+use Rattle.dbusfan_tool.specs.Fault.{line_end, fault_line, fault_status}
+use Rattle.dbusfan_tool.specs.declared.answer.Answer.{Answer}
+use Rattle.dbusfan_tool.specs.declared.answer.Answer.TheVariants.{Verdict, Text, Fault as Fails}
+
+-- what is written on standard output and on standard error, and the status
+pub record Said : Type 0 where
+  pub output : List ℕ
+  pub error : List ℕ
+  pub status : ℕ
+
+-- a fault has one line on standard error
+abbrev pub failing : Fault → Said
+failing fault = record { output = []; error = fault_line fault; status = fault_status fault }
+
+abbrev pub said_of_match : Bool → Said
+said_of_match true = record { output = codes "match" ++ line_end; error = []; status = 0 }
+said_of_match false = record { output = codes "no match" ++ line_end; error = []; status = 1 }
+
+-- how what was found is said
+abbrev pub said_of : Result Bool Fault → Said
+said_of (Ok matches) = said_of_match matches
+said_of (Err fault) = failing fault
+
+-- how an answer is said
+abbrev pub said_by : Answer → Said
+said_by (Verdict matches) = said_of_match matches
+said_by (Text text) = record { output = string_bytes text; error = []; status = 0 }
+said_by (Fails fault) = failing fault
+
+-- What is said has been written, where `out` and `err` did not fail; where `out` failed, that is the fault.
+pub record Tells (said : Said) (out_failed err_failed : Bool) (out_before out_after err_before err_after : Option (List ℕ)) (status : ℕ) : Type 0 where
+  pub output : out_failed ≡ false → Appends out_before out_after said.output
+  pub error : out_failed ≡ false → err_failed ≡ false → Appends err_before err_after said.error
+  pub answered : out_failed ≡ false → status ≡ said.status
+  pub refused : out_failed ≡ true → status ≡ 4
+  pub named : out_failed ≡ true → err_failed ≡ false → Appends err_before err_after (fault_line File)

@@ -1,0 +1,53 @@
+-- How a fault is named.
+use Rattle.std.specs.Prelude.{ℕ, List, [], ◌∷◌, ◌++◌, codes}
+use Rattle.dbusfan_tool.specs.declared.fault.Fault.{Fault}
+use Rattle.dbusfan_tool.specs.declared.fault.Fault.TheVariants.{Rule, Message, Hex, Usage, File, Memory}
+use Rattle.message_view.specs.declared.fault.MsgError.{MsgError}
+use Rattle.message_view.specs.Fault.{name_of as message_name}
+use Rattle.match_rule.specs.declared.fault.RuleError.{RuleError}
+use Rattle.match_rule.specs.declared.fault.RuleError.TheVariants.{NoMemory}
+use Rattle.match_rule.specs.Fault.{name_of as rule_name}
+use Rattle.dbusfan_tool.specs.declared.files.FileError.{FileError}
+use Rattle.dbusfan_tool.specs.declared.files.FileError.TheVariants as of_file
+use Rattle.dbusfan_tool.specs.declared.hex_text.HexError.{HexError}
+use Rattle.dbusfan_tool.specs.declared.hex_text.HexError.TheVariants as of_hex
+
+-- the end of a line
+abbrev pub line_end : List ℕ
+line_end = 10 ∷ []
+
+-- the word that is at fault, and the name of what is wrong with it, where there is one
+abbrev pub fault_text : Fault → List ℕ
+fault_text (Rule fault) = codes "rule " ++ rule_name fault
+fault_text (Message fault) = codes "message " ++ message_name fault
+fault_text Hex = codes "hex"
+fault_text Usage = codes "usage"
+fault_text File = codes "file"
+fault_text Memory = codes "memory"
+
+-- a fault is one line
+abbrev pub fault_line : Fault → List ℕ
+fault_line fault = codes "dbusfan: " ++ fault_text fault ++ line_end
+
+abbrev pub fault_status : Fault → ℕ
+fault_status (Rule fault) = 2
+fault_status (Message fault) = 2
+fault_status Hex = 2
+fault_status Usage = 3
+fault_status File = 4
+fault_status Memory = 5
+
+-- what it means for a command that a text is no rule
+abbrev pub fault_of_rule : RuleError → Fault
+fault_of_rule NoMemory = Memory
+fault_of_rule fault = Rule fault
+
+-- what it means for a command that a file gave no bytes
+abbrev pub fault_of_file : FileError → Fault
+fault_of_file of_file.File = File
+fault_of_file of_file.Memory = Memory
+
+-- what it means for a command that a text spells no bytes
+abbrev pub fault_of_hex : HexError → Fault
+fault_of_hex of_hex.Hex = Hex
+fault_of_hex of_hex.Memory = Memory

@@ -1,0 +1,10 @@
+pub mod Row
+pub mod RowReading
+pub mod Gathered
+pub mod HexText
+pub mod Files
+pub mod Output
+pub mod Fault
+pub mod Answer
+pub mod Usage
+pub mod Tool

@@ -1,0 +1,34 @@
+-- What the rows of the command line come to.
+use Rattle.std.specs.Prelude.{◌≡◌, ◌⊎◌, ◌↔◌, ℕ, Bool, List, Option, Some, None, Result, Ok, Err, IsTrue}
+use Rattle.dbusfan_tool.specs.declared.fault.Fault.{Fault}
+use Rattle.dbusfan_tool.specs.declared.fault.Fault.TheVariants.{Rule, Message as BadMessage, Hex, File, Memory}
+use Rattle.message_view.specs.declared.fault.MsgError.{MsgError}
+use Rattle.message_view.specs.Message.{Message}
+use Rattle.message_view.specs.Valid.{Valid}
+use Rattle.message_view.specs.Reading.{message_at}
+use Rattle.match_rule.specs.declared.fault.RuleError.{RuleError}
+use Rattle.match_rule.specs.RuleTree.{RuleTree}
+use Rattle.match_rule.specs.Grammar.{ReadsAs}
+use Rattle.match_rule.specs.Reading.{rule_at}
+use Rattle.match_rule.specs.Holds.{Holds}
+use Rattle.dbusfan_tool.specs.HexText.{bytes_of_hex}
+use Rattle.dbusfan_tool.specs.Row.{Asked, to_match}
+use Rattle.dbusfan_tool.specs.Answer.{Said, said_of, failing}
+
+-- What `match` finds for a rule's text, what its file may give, and whether the sender owns the rule's name.
+-- The rule's fault comes before those of the file: that it can't be read, that it is no hexadecimal text, and
+-- that of its message.
+pub data Judges (rule : List ℕ) (may_give : Option (List ℕ) → Type 0) (owns : Bool) : Result Bool Fault → Type 0 where
+  no_rule : {fault : RuleError} → rule_at rule ≡ Err fault → Judges rule may_give owns (Err (Rule fault))
+  no_file : {tree : RuleTree} → ReadsAs rule tree → may_give None → Judges rule may_give owns (Err File)
+  no_hex : {tree : RuleTree} {text : List ℕ} → ReadsAs rule tree → may_give (Some text) → bytes_of_hex text ≡ None → Judges rule may_give owns (Err Hex)
+  no_message : {tree : RuleTree} {text bytes : List ℕ} {fault : MsgError} → ReadsAs rule tree → may_give (Some text) → bytes_of_hex text ≡ Some bytes → message_at bytes ≡ Err fault → Judges rule may_give owns (Err (BadMessage fault))
+  judged : {tree : RuleTree} {text bytes : List ℕ} {m : Message} {matches : Bool} → ReadsAs rule tree → may_give (Some text) → bytes_of_hex text ≡ Some bytes → Valid bytes m → IsTrue matches ↔ Holds tree m (λ name. owns) → Judges rule may_give owns (Ok matches)
+
+-- what is said to a row, where a file of a name may give these bytes, or nothing
+abbrev pub Tool : (List ℕ → Option (List ℕ) → Type 0) → Asked → Said → Type 0
+Tool may_give (to_match rule file owns) said = (found : Result Bool Fault) × Judges rule (may_give file) owns found × (said ≡ said_of found)
+
+-- what the words allow is said, or that memory was short
+abbrev pub Says : (Said → Type 0) → (Said → Type 0) → Type 0
+Says allowed told = (said : Said) × (allowed said ⊎ (said ≡ failing Memory)) × told said

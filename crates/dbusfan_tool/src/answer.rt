@@ -1,0 +1,58 @@
+// What a command has to say.
+
+ghost use Rattle.std.specs.Prelude.{◌≡◌};
+ghost use Rattle.dbusfan_tool.specs.Answer.{said_by, Tells};
+
+use crate::fault::Fault;
+use crate::output::Output;
+use std::io::Write;
+
+/// What a command has to say.
+#[derive(Drop)]
+pub(crate) enum Answer {
+    /// Whether the rule matches.
+    Verdict(bool),
+    /// A text for standard output.
+    Text(String),
+    Fault(Fault),
+}
+
+impl Answer {
+    fn output(&self) -> &[u8]
+        ensures { result.now ≡ (said_by self.now).output }
+    {
+        match self {
+            Answer::Verdict(true) => b"match\n",
+            Answer::Verdict(false) => b"no match\n",
+            Answer::Text(text) => text.as_bytes(),
+            Answer::Fault(_) => b"",
+        }
+    }
+
+    fn status(&self) -> u8
+        ensures { result ≡ (said_by self.now).status }
+    {
+        match self {
+            Answer::Verdict(true) | Answer::Text(_) => 0,
+            Answer::Verdict(false) => 1,
+            Answer::Fault(fault) => fault.status(),
+        }
+    }
+
+    /// Says it. Where `out` fails that is a fault of its own.
+    pub(crate) fn tell<O: Write, E: Write>(&self, out: &mut Output<O>, err: &mut Output<E>) -> u8
+        ensures { Tells (said_by self.now) out.new.has_failed err.new.has_failed
+            (O.contents out.old.writer) (O.contents out.new.writer)
+            (E.contents err.old.writer) (E.contents err.new.writer) result }
+    {
+        out.put(self.output());
+        if out.has_failed {
+            err.put_fault(Fault::File);
+            return Fault::File.status();
+        }
+        if let Answer::Fault(fault) = self {
+            err.put_fault(*fault);
+        }
+        self.status()
+    }
+}

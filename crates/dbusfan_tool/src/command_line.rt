@@ -1,0 +1,39 @@
+// The rows of the command line.
+
+use crate::gathered::Gathered;
+
+/// What a command line asks for.
+#[derive(Clone, Copy)]
+pub enum Row<'a> {
+    /// `match RULE FILE [--owns]`: does the rule match the message in the file?
+    Match {
+        rule: &'a str,
+        file: &'a str,
+        owns: bool,
+    },
+}
+
+impl<'a> Row<'a> {
+    ghost use Rattle.std.specs.Prelude.{◌≡◌, IfSome, Some};
+    ghost use Rattle.std.specs.Option.{option_map};
+    ghost use Rattle.dbusfan_tool.specs.Row.{Asked, IsRow, asked_by, texts};
+    ghost use Rattle.dbusfan_tool.specs.RowReading.{asked_in};
+
+    /// The row that some words are, if they are one.
+    pub fn read(words: &[&'a str]) -> Option<Row<'a>>
+        ensures found { IfSome result (λ row. IsRow (asked_by row) (texts words.now)) }
+        ensures only { (asked : Asked) → IsRow asked (texts words.now) → option_map asked_by result ≡ Some asked }
+    {
+        Row::from_left(words)
+    }
+
+    fn from_left(words: &[&'a str]) -> Option<Row<'a>>
+        ensures { option_map asked_by result ≡ asked_in (texts words.now) }
+    {
+        let (command, words) = words.split_first()?;
+        if *command != "match" {
+            return None;
+        }
+        Gathered::read(words)?.to_match()
+    }
+}

@@ -1,0 +1,97 @@
+// What a command line is refused for.
+
+ghost use Rattle.std.specs.Prelude.{◌≡◌, Some};
+ghost use Rattle.dbusfan_tool.specs.Fault.{fault_text, fault_status, fault_of_rule, fault_of_file, fault_of_hex};
+ghost use Rattle.dbusfan_tool.specs.declared.fault.Fault.TheVariants.{Message};
+
+use crate::files::FileError;
+use crate::hex_text::HexError;
+use match_rule::RuleError;
+use message_view::MsgError;
+use std::fmt;
+
+/// What a command line is refused for.
+#[derive(Clone, Copy, Debug, PartialEq, Eq)]
+pub enum Fault {
+    /// The rule's text is no rule.
+    Rule(RuleError),
+    /// The bytes of the message's file are no message.
+    Message(MsgError),
+    /// The text of the message's file is no hexadecimal text.
+    Hex,
+    /// The words are no row of the command line.
+    Usage,
+    /// A file can't be read, or standard output can't be written.
+    File,
+    Memory,
+}
+
+impl Fault {
+    /// The status that the program ends with.
+    pub fn status(self) -> u8
+        ensures { result ≡ fault_status self }
+    {
+        match self {
+            Fault::Rule(_) | Fault::Message(_) | Fault::Hex => 2,
+            Fault::Usage => 3,
+            Fault::File => 4,
+            Fault::Memory => 5,
+        }
+    }
+}
+
+impl fmt::Display for Fault {
+    ghost output = { λ fault. Some (fault_text fault) };
+
+    fn fmt<W: fmt::Write>(&self, f: &mut fmt::Formatter<W>) -> fmt::Result {
+        match self {
+            Fault::Rule(fault) => write!(f, "rule {fault}"),
+            Fault::Message(fault) => write!(f, "message {fault}"),
+            Fault::Hex => f.write_str("hex"),
+            Fault::Usage => f.write_str("usage"),
+            Fault::File => f.write_str("file"),
+            Fault::Memory => f.write_str("memory"),
+        }
+    }
+}
+
+impl From<RuleError> for Fault {
+    ghost from_gives = { λ error fault. fault ≡ fault_of_rule error };
+
+    fn from(error: RuleError) -> Fault {
+        match error {
+            RuleError::NoMemory => Fault::Memory,
+            fault => Fault::Rule(fault),
+        }
+    }
+}
+
+impl From<MsgError> for Fault {
+    ghost from_gives = { λ error fault. fault ≡ Message error };
+
+    fn from(error: MsgError) -> Fault {
+        Fault::Message(error)
+    }
+}
+
+impl From<FileError> for Fault {
+    ghost from_gives = { λ error fault. fault ≡ fault_of_file error };
+
+    fn from(error: FileError) -> Fault {
+        match error {
+            FileError::File => Fault::File,
+            FileError::Memory => Fault::Memory,
+        }
+    }
+}
+
+impl From<HexError> for Fault {
+    ghost from_gives = { λ error fault. fault ≡ fault_of_hex error };
+
+    fn from(error: HexError) -> Fault {
+        match error {
+            HexError::Hex => Fault::Hex,
+            HexError::Memory => Fault::Memory,
+        }
+    }
+}

@@ -1,0 +1,21 @@
+//! The command line of dbusfan. The program above uses `tool`: for words that are a row of the command
+//! line, what it writes and answers is what `Tool` says, or it is out of memory.
+#![tactic(auto)]
+
+mod answer;
+mod command_line;
+mod entry;
+mod fault;
+mod files;
+mod gathered;
+mod hex_text;
+mod matching;
+mod output;
+mod usage;
+
+pub use command_line::Row;
+pub use entry::tool;
+pub use fault::Fault;
+pub use files::{FileError, Files};
+pub use hex_text::{HexError, decode};
+pub use output::Output;

@@ -1,0 +1,47 @@
+// `match RULE FILE [--owns]`.
+
+ghost use Rattle.std.specs.Prelude.{◌≡◌, ◌⊎◌, Err};
+ghost use Rattle.dbusfan_tool.specs.Tool.{Judges, Tool};
+ghost use Rattle.dbusfan_tool.specs.Row.{to_match};
+ghost use Rattle.dbusfan_tool.specs.Answer.{said_by, failing};
+
+use crate::answer::Answer;
+use crate::fault::Fault;
+use crate::files::Files;
+use crate::hex_text::decode;
+use match_rule::Rule;
+use message_view::View;
+use std::alloc::Global;
+
+/// Whether the rule matches the message in the file, or the first fault.
+pub(crate) fn answer<F: Files>(
+    alloc: Global,
+    rule: &str,
+    file: &str,
+    owns: bool,
+    files: &F,
+) -> Answer
+    ensures { Tool (F.may_give files.now) (to_match rule.now file.now owns) (said_by result)
+        ⊎ (said_by result ≡ failing Fault.Memory) }
+{
+    match verdict(alloc, rule, file, owns, files) {
+        Ok(matches) => Answer::Verdict(matches),
+        Err(fault) => Answer::Fault(fault),
+    }
+}
+
+fn verdict<F: Files>(
+    alloc: Global,
+    rule: &str,
+    file: &str,
+    owns: bool,
+    files: &F,
+) -> Result<bool, Fault>
+    ensures { Judges rule.now (F.may_give files.now file.now) owns result ⊎ (result ≡ Err Fault.Memory) }
+{
+    let rule = Rule::read(alloc, rule)?;
+    let text = files.read(alloc, file)?;
+    let bytes = decode(alloc, &text)?;
+    let message = View::read(&bytes)?;
+    Ok(rule.holds(&message, owns))
+}

@@ -1,0 +1,69 @@
+// Words that are no row of the command line.
+
+ghost use Rattle.std.specs.Prelude.{◌≡◌, ◌⊎◌};
+ghost use Rattle.dbusfan_tool.specs.Answer.{said_by, failing};
+ghost use Rattle.dbusfan_tool.specs.Usage.{SaysUsage};
+
+use crate::answer::Answer;
+use crate::fault::Fault;
+use clap::error::ErrorKind;
+use clap::{Arg, ArgAction, ArgMatches, Command, Error};
+use std::alloc::{AllocError, Global};
+
+/// Help or the version, where the words ask for it. Else the words are at fault.
+pub(crate) fn answer<'a>(alloc: Global, words: &'a [&'a str]) -> Answer
+    ensures { SaysUsage (said_by result) ⊎ (said_by result ≡ failing Fault.Memory) }
+{
+    let Err(error) = parse(alloc, words) else {
+        return Answer::Fault(Fault::Usage);
+    };
+    match error.kind() {
+        ErrorKind::DisplayHelp | ErrorKind::DisplayVersion => shown(alloc, &error),
+        ErrorKind::OutOfMemory => Answer::Fault(Fault::Memory),
+        _ => Answer::Fault(Fault::Usage),
+    }
+}
+
+fn shown(alloc: Global, error: &Error) -> Answer
+    ensures { SaysUsage (said_by result) ⊎ (said_by result ≡ failing Fault.Memory) }
+{
+    match error.to_string(alloc) {
+        Ok(text) => Answer::Text(text),
+        Err(_) => Answer::Fault(Fault::Memory),
+    }
+}
+
+fn parse<'a>(alloc: Global, words: &'a [&'a str]) -> Result<ArgMatches<'a>, Error> {
+    dbusfan(alloc)?.try_get_matches_from(words)
+}
+
+fn dbusfan<'a>(alloc: Global) -> Result<Command<'a>, AllocError> {
+    Command::new(alloc, "dbusfan")
+        .version("0.1.0")
+        .about("A D-Bus broadcast bus with BPF match programs")
+        .after_help(
+            "`-` as FILE is standard input. A RULE that begins with `-` is given behind `--`.",
+        )
+        .no_binary_name(true)
+        .bin_name("dbusfan")?
+        .subcommand_required(true)
+        .subcommand(matching(alloc)?)
+}
+
+fn matching<'a>(alloc: Global) -> Result<Command<'a>, AllocError> {
+    let rule = Arg::new(alloc, "RULE")
+        .required(true)
+        .help("A match rule, as \"type='signal',member='c'\"");
+    let file = Arg::new(alloc, "FILE")
+        .required(true)
+        .help("A file that has a message as hexadecimal text");
+    let owns = Arg::new(alloc, "owns")
+        .long("owns")
+        .action(ArgAction::SetTrue)
+        .help("The sender owns the rule's well-known name");
+    Command::new(alloc, "match")
+        .about("Says whether a rule matches a message")
+        .arg(rule)?
+        .arg(file)?
+        .arg(owns)
+}
