@@ -1,0 +1,7 @@
+//! Tests of instructions, their byte form and the verifier. Each is named after its worked example.
+#![tactic(auto)]
+
+#[cfg(test)]
+mod byte_forms;
+#[cfg(test)]
+mod verdicts;
