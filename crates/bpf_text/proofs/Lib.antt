@@ -1,0 +1,5 @@
+pub mod Faults
+pub mod Labels
+pub mod Lines
+pub mod Numbers
+pub mod Programs

@@ -1,0 +1,6 @@
+pub mod Lexis
+pub mod Mnemonics
+pub mod Operands
+pub mod Rows
+pub mod Source
+pub mod Views
