@@ -1,5 +1,5 @@
-//! The assembler: programs of the packet filter as text, one instruction a line. The layers above use that
-//! `assemble` is `SourceText`: Ok with the program that the text names, else the first fault.
+//! Programs of the packet filter as text, one instruction a line. The layers above use that `assemble` is
+//! `SourceText`, else the first fault, and that `print` gives the text `text_of`, else the lowest fault.
 #![tactic(auto)]
 
 mod assembler;
@@ -8,7 +8,10 @@ mod lexis;
 mod line;
 mod mnemonic;
 mod operands;
+mod printer;
 mod resolve;
 mod row;
+mod spelling;
 
 pub use assembler::assemble;
+pub use printer::print;

@@ -4,4 +4,6 @@
 #[cfg(test)]
 mod byte_forms;
 #[cfg(test)]
+mod texts;
+#[cfg(test)]
 mod verdicts;
