@@ -1,0 +1,14 @@
+//! Instructions of the classic packet filter: what each code does, and their byte form. What a program
+//! means stands in `specs/`: `Step` and `Ends` for its runs, `WellFormed` for the programs that are accepted.
+//! The layers above use that `Op::of` is the table of codes, and that `decode` and `encode` mean the same list.
+#![tactic(auto)]
+
+mod byte_form;
+mod error;
+mod instruction;
+mod operation;
+
+pub use byte_form::{decode, encode};
+pub use error::CodeError;
+pub use instruction::Ins;
+pub use operation::{Arithmetic, Op, Operand, Test, Width};

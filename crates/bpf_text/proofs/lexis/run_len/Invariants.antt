@@ -1,0 +1,7 @@
+use Rattle.std.proofs.Common.{◌≡◌, ◌+◌, drop}
+use Rattle.std.specs.List.{prefix_len}
+use Rattle.bpf_text.specs.Lexis.{is_name_byte}
+use Rattle.bpf_text.proofs.lexis.run_len.Given as goal
+
+abbrev pub invariant-loop-len : goal.invariant-loop-len
+invariant-loop-len l = prefix_len is_name_byte l.bytes ≡ l.len + prefix_len is_name_byte (drop l.len l.bytes)

@@ -1,0 +1,17 @@
+//! Programs of the packet filter as text, one instruction a line. The layers above use that `assemble` is
+//! `SourceText`, else the first fault, and that `print` gives the text `text_of`, else the lowest fault.
+#![tactic(auto)]
+
+mod assembler;
+mod draft;
+mod lexis;
+mod line;
+mod mnemonic;
+mod operands;
+mod printer;
+mod resolve;
+mod row;
+mod spelling;
+
+pub use assembler::assemble;
+pub use printer::print;

@@ -1,0 +1,72 @@
+ghost use Rattle.std.specs.Prelude.{◌≡◌, ◌⊎◌, ◌<◌, length, map, IfOk, IfErr, IfSome, OnOk};
+ghost use Rattle.std.specs.Option.{option_map};
+ghost use Rattle.bpf_code.specs.declared.error.CodeError.TheVariants.{NoMemory};
+ghost use Rattle.bpf_text.specs.Source.{label_at, has_name, IsLine, Line, TakesLabels, with_line};
+ghost use Rattle.bpf_text.specs.Views.{label_view, sketch_view};
+
+use crate::draft::{Draft, Label, Noted};
+use crate::lexis::{sign, word};
+use crate::row::statement;
+use bpf_code::CodeError;
+
+/// A label and its colon.
+#[tactic(auto, unfolding(crate::specs::Source::label_at))]
+fn read_label(bytes: &[u8]) -> Option<(&[u8], &[u8])>
+    ensures value { option_map (λ x. (x.0.now, x.1.now)) result ≡ label_at bytes.now }
+    ensures shorter { IfSome result (λ x. length x.1.now < length bytes.now) }
+{
+    let (name, rest) = word(bytes)?;
+    let rest = sign(b':', rest)?;
+    Some((name, rest))
+}
+
+/// Whether one of the labels has the name.
+fn is_defined(labels: &[Label], name: &[u8]) -> bool
+    ensures { result ≡ has_name (map label_view labels.now) name.now }
+{
+    for label in labels {
+        if label.name == name {
+            return true;
+        }
+    }
+    false
+}
+
+/// Takes the labels that bytes begin with. Answers whether one was defined before it, and the bytes behind.
+fn take_labels<'a>(
+    labels: &mut Vec<Label<'a>>,
+    place: usize,
+    bytes: &'a [u8],
+) -> Result<(bool, &'a [u8]), CodeError>
+    ensures found { IfOk result (λ x. TakesLabels bytes.now x.1.now place (map label_view labels.old.items) (map label_view labels.new.items) x.0) }
+    ensures only { IfErr result (λ e. e ≡ NoMemory) }
+{
+    let mut again = false;
+    let mut rest = bytes;
+    while let Some((name, behind)) = read_label(rest) {
+        again = again || is_defined(labels, name);
+        labels.push(Label { name, place })?;
+        rest = behind;
+    }
+    Ok((again, rest))
+}
+
+/// Adds the line of this number to a draft.
+pub(crate) fn add_line<'a>(
+    draft: &mut Draft<'a>,
+    bytes: &'a [u8],
+    number: usize,
+) -> Result<(), CodeError>
+    ensures found { OnOk result ((line : Line) × IsLine bytes.now line × (sketch_view draft.new ≡ with_line (sketch_view draft.old) line)) }
+    ensures fault { IfErr result (λ e. (e ≡ NoMemory) ⊎ ((e ≡ CodeError.Line number) × ((line : Line) → ¬ IsLine bytes.now line))) }
+{
+    let (again, rest) = take_labels(&mut draft.labels, draft.count, bytes)?;
+    let Some(row) = statement(rest) else {
+        return Err(CodeError::Line(number));
+    };
+    draft.lines.push(Noted { again, row })?;
+    if row.is_some() {
+        draft.count += 1;
+    }
+    Ok(())
+}

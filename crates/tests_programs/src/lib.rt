@@ -1,0 +1,9 @@
+//! Tests of instructions, their byte form and the verifier. Each is named after its worked example.
+#![tactic(auto)]
+
+#[cfg(test)]
+mod byte_forms;
+#[cfg(test)]
+mod texts;
+#[cfg(test)]
+mod verdicts;
