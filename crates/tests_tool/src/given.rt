@@ -7,6 +7,7 @@ use dbusfan_tool::{FileError, Files, Output, tool};
 use std::alloc::{AllocError, Global};
 use std::io;
 use std::io::Write;
+use std::process::Abort;
 
 /// One file.
 #[derive(Drop)]
@@ -40,31 +41,43 @@ impl Write for Full {
     }
 }
 
-/// What was said.
-#[derive(Drop)]
-pub struct Said {
-    pub output: String,
-    pub error: String,
-    pub status: u8,
-}
-
-/// What the command line says to the words of a line, which `|` divides, where `F` is the only file.
-pub fn say(alloc: Global, line: &str, text: &[u8]) -> Result<Said, AllocError> {
+/// Asserts what the command line says to the words of a line, which `|` divides, where `F` is the only file.
+pub fn assert_says(
+    rt: &impl Abort,
+    alloc: Global,
+    line: &str,
+    text: &[u8],
+    output: &str,
+    error: &str,
+    status: u8,
+) -> Result<(), AllocError> {
     let words: Vec<&str> = line.split('|').collect(alloc)?;
-    say_words(alloc, words.as_slice(), text)
-}
-
-pub fn say_words(alloc: Global, words: &[&str], text: &[u8]) -> Result<Said, AllocError> {
     let files = OneFile {
         name: "F",
         bytes: text,
     };
     let mut out = Output::new(Vec::new(alloc));
     let mut err = Output::new(Vec::new(alloc));
-    let status = tool(alloc, words, &files, &mut out, &mut err);
-    Ok(Said {
-        output: String::from_utf8_lossy(alloc, out.writer.as_slice())?,
-        error: String::from_utf8_lossy(alloc, err.writer.as_slice())?,
-        status,
-    })
+    let answered = tool(alloc, words.as_slice(), &files, &mut out, &mut err);
+    assert_eq!(rt; out.writer.as_slice(), output.as_bytes(), "on standard output at {line}");
+    assert_eq!(rt; err.writer.as_slice(), error.as_bytes(), "on standard error at {line}");
+    assert_eq!(rt; answered, status, "at {line}");
+    Ok(())
+}
+
+/// Asserts that the command line gives help to the words of a line.
+pub fn assert_helps(rt: &impl Abort, alloc: Global, line: &str) -> Result<(), AllocError> {
+    let words: Vec<&str> = line.split('|').collect(alloc)?;
+    let files = OneFile {
+        name: "F",
+        bytes: b"",
+    };
+    let mut out = Output::new(Vec::new(alloc));
+    let mut err = Output::new(Vec::new(alloc));
+    let answered = tool(alloc, words.as_slice(), &files, &mut out, &mut err);
+    let text = String::from_utf8_lossy(alloc, out.writer.as_slice())?;
+    assert!(rt; text.as_str().contains("Usage: dbusfan"), "at {line}");
+    assert!(rt; err.writer.is_empty(), "at {line}");
+    assert_eq!(rt; answered, 0, "at {line}");
+    Ok(())
 }

@@ -1,84 +1,76 @@
 // Messages and rules.
 
-use crate::given::say;
+use crate::given::assert_says;
 use std::test::Fail;
 
-/// A signal with path `/a`, interface `a.b` and member `c`.
-pub const S1: &[u8] = b"6c040001 00000000 01000000 2a000000 01016f00 02000000 2f610000 00000000 02017300 03000000 612e6200 00000000 03017300 01000000 63000000 00000000\n";
+/// A signal with path `/a`, interface `a.b` and member `c`, without its line's end.
+pub const S1: &str = "6c04000100000000010000002a00000001016f00020000002f610000000000000201730003000000612e62000000000003017300010000006300000000000000";
 
-const S1_BIG_ENDIAN: &[u8] = b"42040001 00000000 00000001 0000002a 01016f00 00000002 2f610000 00000000 02017300 00000003 612e6200 00000000 03017300 00000001 63000000 00000000\n";
+const S1_BIG_ENDIAN: &str = "420400010000000000000001 0000002a 01016f00 00000002 2f610000 00000000 02017300 00000003 612e6200 00000000 03017300 00000001 63000000 00000000";
 
 #[test]
 fn s1(rt: HostRuntime) -> Result<(), Fail> {
-    let said = say(rt.alloc(), "match|type='signal',member='c'|F", S1)?;
-    assert_eq!(rt; said.output.as_str(), "match\n");
-    assert_eq!(rt; said.error.as_str(), "");
-    assert_eq!(rt; said.status, 0);
-    Ok(())
-}
-
-#[test]
-fn s1_big_endian(rt: HostRuntime) -> Result<(), Fail> {
-    for (line, output, status) in [
-        ("match|type='signal',member='c'|F", "match\n", 0),
-        ("match||F", "match\n", 0),
-        ("match|interface='a.c'|F", "no match\n", 1),
-    ] {
-        for text in [S1, S1_BIG_ENDIAN] {
-            let said = say(rt.alloc(), line, text)?;
-            assert_eq!(rt; said.output.as_str(), output, "at {line}");
-            assert_eq!(rt; said.error.as_str(), "", "at {line}");
-            assert_eq!(rt; said.status, status, "at {line}");
-        }
-    }
+    let line = "match|type='signal',member='c'|F";
+    assert_says(&rt, rt.alloc(), line, S1.as_bytes(), "match\n", "", 0)?;
     Ok(())
 }
 
 #[test]
 fn rules_on_s1(rt: HostRuntime) -> Result<(), Fail> {
-    for (line, output, status) in [
-        ("match||F", "match\n", 0),
-        ("match|interface='a.c'|F", "no match\n", 1),
-        ("match|interface='a.b'|F", "match\n", 0),
-        ("match|path='/a'|F", "match\n", 0),
-        ("match|type='method_call'|F", "no match\n", 1),
-    ] {
-        let said = say(rt.alloc(), line, S1)?;
-        assert_eq!(rt; said.output.as_str(), output, "at {line}");
-        assert_eq!(rt; said.error.as_str(), "", "at {line}");
-        assert_eq!(rt; said.status, status, "at {line}");
+    for line in ["match||F", "match|interface='a.b'|F", "match|path='/a',|F"] {
+        assert_says(&rt, rt.alloc(), line, S1.as_bytes(), "match\n", "", 0)?;
+    }
+    for line in ["match|interface='a.c'|F", "match|type='method_call'|F"] {
+        assert_says(&rt, rt.alloc(), line, S1.as_bytes(), "no match\n", "", 1)?;
     }
     Ok(())
 }
 
-// S1 with one byte changed, or of another length, and what it is then called.
-const DAMAGED: [(&str, &[u8]); 16] = [
-    ("Order", b"7804000100000000010000002a00000001016f00020000002f610000000000000201730003000000612e62000000000003017300010000006300000000000000"),
-    ("Kind", b"6c00000100000000010000002a00000001016f00020000002f610000000000000201730003000000612e62000000000003017300010000006300000000000000"),
-    ("FieldMissing", b"6c02000100000000010000002a00000001016f00020000002f610000000000000201730003000000612e62000000000003017300010000006300000000000000"),
-    ("Version", b"6c04000200000000010000002a00000001016f00020000002f610000000000000201730003000000612e62000000000003017300010000006300000000000000"),
-    ("Serial", b"6c04000100000000000000002a00000001016f00020000002f610000000000000201730003000000612e62000000000003017300010000006300000000000000"),
-    ("ArrayLength", b"6c04000100000000010000002b00000001016f00020000002f610000000000000201730003000000612e62000000000003017300010000006300000000000000"),
-    ("FieldType", b"6c04000100000000010000002a00000002016f00020000002f610000000000000201730003000000612e62000000000003017300010000006300000000000000"),
-    ("BadName", b"6c04000100000000010000002a00000001016f000200000078610000000000000201730003000000612e62000000000003017300010000006300000000000000"),
-    ("Padding", b"6c04000100000000010000002a00000001016f00020000002f610001000000000201730003000000612e62000000000003017300010000006300000000000000"),
-    ("Padding", b"6c04000100000000010000002a00000001016f00020000002f610000000000000201730003000000612e62000000000003017300010000006300000000000001"),
-    ("FieldTwice", b"6c04000100000000010000002a00000001016f00020000002f610000000000000101730003000000612e62000000000003017300010000006300000000000000"),
-    ("FieldCode", b"6c04000100000000010000002a00000001016f00020000002f610000000000000201730003000000612e62000000000000017300010000006300000000000000"),
-    ("Short", b"6c04000100000000010000002a00000001016f00020000002f610000000000000201730003000000612e620000000000030173000100000063000000000000"),
-    ("Short", b"6c04000100000000010000002a0000"),
-    ("Short", b""),
-    ("Trailing", b"6c04000100000000010000002a00000001016f00020000002f610000000000000201730003000000612e6200000000000301730001000000630000000000000000"),
-];
+#[test]
+fn s1_big_endian(rt: HostRuntime) -> Result<(), Fail> {
+    for line in ["match||F", "match|type='signal',member='c'|F"] {
+        assert_says(&rt, rt.alloc(), line, S1_BIG_ENDIAN.as_bytes(), "match\n", "", 0)?;
+    }
+    let line = "match|interface='a.c'|F";
+    assert_says(&rt, rt.alloc(), line, S1_BIG_ENDIAN.as_bytes(), "no match\n", "", 1)?;
+    Ok(())
+}
 
+// S1 with one byte changed, and what it is then called.
 #[test]
 fn s1_damaged(rt: HostRuntime) -> Result<(), Fail> {
-    for (name, text) in DAMAGED {
-        let said = say(rt.alloc(), "match|member='c'|F", text)?;
-        let line = format!(in rt.alloc(); "dbusfan: message {name}\n")?;
-        assert_eq!(rt; said.output.as_str(), "", "at {name}");
-        assert_eq!(rt; said.error.as_str(), line.as_str(), "at {name}");
-        assert_eq!(rt; said.status, 2, "at {name}");
+    for (place, digits, name) in [
+        (0, "78", "Order"),
+        (1, "00", "Kind"),
+        (1, "02", "FieldMissing"),
+        (3, "02", "Version"),
+        (8, "00", "Serial"),
+        (12, "2b", "ArrayLength"),
+        (16, "02", "FieldType"),
+        (24, "78", "BadName"),
+        (27, "01", "Padding"),
+        (63, "01", "Padding"),
+        (32, "01", "FieldTwice"),
+        (48, "00", "FieldCode"),
+    ] {
+        let mut text = String::new(rt.alloc());
+        text.push_str(S1.get(..2 * place).unwrap_or(""))?;
+        text.push_str(digits)?;
+        text.push_str(S1.get(2 * place + 2..).unwrap_or(""))?;
+        let error = format!(in rt.alloc(); "dbusfan: message {name}\n")?;
+        assert_says(&rt, rt.alloc(), "match||F", text.as_bytes(), "", error.as_str(), 2)?;
     }
+    Ok(())
+}
+
+// A front of S1, and S1 with one byte more.
+#[test]
+fn s1_of_other_lengths(rt: HostRuntime) -> Result<(), Fail> {
+    for len in 0..64 {
+        let text = S1.get(..2 * len).unwrap_or("");
+        assert_says(&rt, rt.alloc(), "match||F", text.as_bytes(), "", "dbusfan: message Short\n", 2)?;
+    }
+    let longer = format!(in rt.alloc(); "{S1}00")?;
+    assert_says(&rt, rt.alloc(), "match||F", longer.as_bytes(), "", "dbusfan: message Trailing\n", 2)?;
     Ok(())
 }

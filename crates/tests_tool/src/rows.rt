@@ -1,7 +1,8 @@
 // The words of the command line.
 
-use crate::given::{say, say_words};
+use crate::given::{OneFile, assert_helps, assert_says};
 use crate::messages::S1;
+use dbusfan_tool::{Output, tool};
 use std::test::Fail;
 
 #[test]
@@ -16,10 +17,7 @@ fn rows(rt: HostRuntime) -> Result<(), Fail> {
         "match||F|--",
         "match|--owns|--||F",
     ] {
-        let said = say(rt.alloc(), line, S1)?;
-        assert_eq!(rt; said.output.as_str(), "match\n", "at {line}");
-        assert_eq!(rt; said.error.as_str(), "", "at {line}");
-        assert_eq!(rt; said.status, 0, "at {line}");
+        assert_says(&rt, rt.alloc(), line, S1.as_bytes(), "match\n", "", 0)?;
     }
     Ok(())
 }
@@ -34,10 +32,7 @@ fn rules_like_options(rt: HostRuntime) -> Result<(), Fail> {
         "match|--|--|F",
         "match|--owns|--|--help|F",
     ] {
-        let said = say(rt.alloc(), line, S1)?;
-        assert_eq!(rt; said.output.as_str(), "", "at {line}");
-        assert_eq!(rt; said.error.as_str(), "dbusfan: rule UnknownKey\n", "at {line}");
-        assert_eq!(rt; said.status, 2, "at {line}");
+        assert_says(&rt, rt.alloc(), line, S1.as_bytes(), "", "dbusfan: rule UnknownKey\n", 2)?;
     }
     Ok(())
 }
@@ -68,10 +63,7 @@ fn usage(rt: HostRuntime) -> Result<(), Fail> {
         "run|F|F",
         "serve|--listen|tcp:host=127.0.0.1,port=0",
     ] {
-        let said = say(rt.alloc(), line, S1)?;
-        assert_eq!(rt; said.output.as_str(), "", "at {line}");
-        assert_eq!(rt; said.error.as_str(), "dbusfan: usage\n", "at {line}");
-        assert_eq!(rt; said.status, 3, "at {line}");
+        assert_says(&rt, rt.alloc(), line, S1.as_bytes(), "", "dbusfan: usage\n", 3)?;
     }
     Ok(())
 }
@@ -79,10 +71,7 @@ fn usage(rt: HostRuntime) -> Result<(), Fail> {
 #[test]
 fn version(rt: HostRuntime) -> Result<(), Fail> {
     for line in ["--version", "-V"] {
-        let said = say(rt.alloc(), line, b"")?;
-        assert_eq!(rt; said.output.as_str(), "dbusfan 0.1.0\n", "at {line}");
-        assert_eq!(rt; said.error.as_str(), "", "at {line}");
-        assert_eq!(rt; said.status, 0, "at {line}");
+        assert_says(&rt, rt.alloc(), line, S1.as_bytes(), "dbusfan 0.1.0\n", "", 0)?;
     }
     Ok(())
 }
@@ -98,19 +87,21 @@ fn help(rt: HostRuntime) -> Result<(), Fail> {
         "match|-h",
         "match||F|--help",
     ] {
-        let said = say(rt.alloc(), line, S1)?;
-        assert!(rt; said.output.as_str().contains("Usage: dbusfan"), "at {line}");
-        assert_eq!(rt; said.error.as_str(), "", "at {line}");
-        assert_eq!(rt; said.status, 0, "at {line}");
+        assert_helps(&rt, rt.alloc(), line)?;
     }
     Ok(())
 }
 
 #[test]
-fn no_words(rt: HostRuntime) -> Result<(), Fail> {
-    let said = say_words(rt.alloc(), &[], b"")?;
-    assert_eq!(rt; said.output.as_str(), "");
-    assert_eq!(rt; said.error.as_str(), "dbusfan: usage\n");
-    assert_eq!(rt; said.status, 3);
-    Ok(())
+fn no_words(rt: HostRuntime) {
+    let mut out = Output::new(Vec::new(rt.alloc()));
+    let mut err = Output::new(Vec::new(rt.alloc()));
+    let files = OneFile {
+        name: "F",
+        bytes: b"",
+    };
+    let answered = tool(rt.alloc(), &[], &files, &mut out, &mut err);
+    assert!(rt; out.writer.is_empty());
+    assert_eq!(rt; err.writer.as_slice(), b"dbusfan: usage\n".as_slice());
+    assert_eq!(rt; answered, 3);
 }

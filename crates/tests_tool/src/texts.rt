@@ -1,6 +1,6 @@
 // Hexadecimal texts and files.
 
-use crate::given::say;
+use crate::given::assert_says;
 use crate::messages::S1;
 use std::test::Fail;
 
@@ -12,10 +12,7 @@ fn first_words(rt: HostRuntime) -> Result<(), Fail> {
         // The rule's fault comes before the file's.
         ("match|member='c|G", "dbusfan: rule Unquoted\n", 2),
     ] {
-        let said = say(rt.alloc(), line, S1)?;
-        assert_eq!(rt; said.output.as_str(), "", "at {line}");
-        assert_eq!(rt; said.error.as_str(), error, "at {line}");
-        assert_eq!(rt; said.status, status, "at {line}");
+        assert_says(&rt, rt.alloc(), line, S1.as_bytes(), "", error, status)?;
     }
     Ok(())
 }
@@ -23,35 +20,26 @@ fn first_words(rt: HostRuntime) -> Result<(), Fail> {
 // Digits are of either case, and blanks and line ends count for nothing, also between the digits of a byte.
 #[test]
 fn spellings(rt: HostRuntime) -> Result<(), Fail> {
-    for text in [
-        b"6C0400010000000001000000 2A000000 01016F0002000000 2F61000000000000 0201730003000000 612E620000000000 0301730001000000 6300000000000000".as_slice(),
-        b" 6 c\t0\r\n4 0001\n00000000 01000000 2a000000 01016f00 02000000 2f610000 00000000 02017300 03000000 612e6200 00000000 03017300 01000000 63000000 0000000 0 \n\n".as_slice(),
-    ] {
-        let said = say(rt.alloc(), "match|member='c'|F", text)?;
-        assert_eq!(rt; said.output.as_str(), "match\n");
-        assert_eq!(rt; said.error.as_str(), "");
-        assert_eq!(rt; said.status, 0);
+    let upper = S1.to_ascii_uppercase(rt.alloc())?;
+    let line = format!(in rt.alloc(); "{S1}\r\n")?;
+    let mut apart = String::new(rt.alloc());
+    for digit in S1.chars() {
+        apart.push(digit)?;
+        apart.push_str(" \t\n\r")?;
+    }
+    for text in [upper.as_str(), line.as_str(), apart.as_str()] {
+        assert_says(&rt, rt.alloc(), "match|member='c'|F", text.as_bytes(), "match\n", "", 0)?;
     }
     Ok(())
 }
 
 #[test]
 fn faults(rt: HostRuntime) -> Result<(), Fail> {
-    for (text, error) in [
-        (b"6".as_slice(), "dbusfan: hex\n"),
-        (b"6c 0".as_slice(), "dbusfan: hex\n"),
-        (b"6g".as_slice(), "dbusfan: hex\n"),
-        (b"0x6c".as_slice(), "dbusfan: hex\n"),
-        (b"6c,04".as_slice(), "dbusfan: hex\n"),
-        (b"6c\x00".as_slice(), "dbusfan: hex\n"),
-        (b"6c\x0c04".as_slice(), "dbusfan: hex\n"),
-        (b"".as_slice(), "dbusfan: message Short\n"),
-        (b" \n".as_slice(), "dbusfan: message Short\n"),
-    ] {
-        let said = say(rt.alloc(), "match||F", text)?;
-        assert_eq!(rt; said.output.as_str(), "");
-        assert_eq!(rt; said.error.as_str(), error);
-        assert_eq!(rt; said.status, 2);
+    for text in ["6", "6c 0", "6g", "0x6c", "6c,04", "6c\0", "6c\u{c}04", "é"] {
+        assert_says(&rt, rt.alloc(), "match||F", text.as_bytes(), "", "dbusfan: hex\n", 2)?;
+    }
+    for text in ["", " \n"] {
+        assert_says(&rt, rt.alloc(), "match||F", text.as_bytes(), "", "dbusfan: message Short\n", 2)?;
     }
     Ok(())
 }

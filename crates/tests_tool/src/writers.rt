@@ -8,7 +8,7 @@ use dbusfan_tool::{Output, tool};
 fn full_output(rt: HostRuntime) {
     let files = OneFile {
         name: "F",
-        bytes: S1,
+        bytes: S1.as_bytes(),
     };
     for (rule, error, status) in [
         ("", "dbusfan: file\n", 4),
@@ -27,7 +27,7 @@ fn full_output(rt: HostRuntime) {
 fn full_error(rt: HostRuntime) {
     let files = OneFile {
         name: "F",
-        bytes: S1,
+        bytes: S1.as_bytes(),
     };
     let mut out = Output::new(Vec::new(rt.alloc()));
     let mut err = Output::new(Full);
