@@ -4,6 +4,7 @@ pub mod Grammars
 pub mod Labels
 pub mod Lines
 pub mod Numbers
+pub mod OneSource
 pub mod Prints
 pub mod Programs
 pub mod Statements
