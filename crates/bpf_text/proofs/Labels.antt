@@ -7,6 +7,7 @@ use Rattle.bpf_text.specs.Views.{row_view}
 use Rattle.std.proofs.lemmas.List.{map-append, append-nil}
 use Rattle.bpf_text.specs.Source.{Begins, label_at, Label, labels_at, has_name, repeats, count_row, IsLine, Line, Noted, Sketch, TakesLabels, with_line}
 use Rattle.bpf_text.specs.Rows.{Row, statement_of}
+use Rattle.bpf_text.proofs.Statements.{labels_sound, labels_complete, statement_sound, statement_complete, statement_no_label}
 
 pub begins_more : (bytes behind rest name : List ℕ) (names : List (List ℕ)) → Begins bytes names behind → label_at behind ≡ Some (name, rest) → Begins bytes (names ++ name ∷ []) rest
 begins_more bytes behind rest name [] same is = (rest, rw same is, refl)
@@ -48,7 +49,7 @@ begins_one bytes rest other (name ∷ names) (second ∷ others) (behind, here, 
 pub line_found : (bytes rest : List ℕ) (old : Sketch) (labels : List Label) (again : Bool) (row : Option Row) → TakesLabels bytes rest old.count old.labels labels again → statement_of rest ≡ Some row → (lines : List Noted) (count : ℕ) → lines ≡ old.lines ++ record { again = again; row = row } ∷ [] → count ≡ old.count + count_row row → (line : Line) × IsLine bytes line × ◌≡◌ {A = Sketch} (record { labels = labels; lines = lines; count = count }) (with_line old line)
 line_found bytes rest old labels again row taken is lines count same_lines same_count =
     let line : Line = record { labels = taken.names; row = row } in
-    let fine : IsLine bytes line = record { rest = rest; labels = taken.begins; last = taken.last; row = is } in
+    let fine : IsLine bytes line = record { rest = rest; labels = labels_sound bytes taken.names rest taken.begins; row = statement_sound rest row is } in
     let e1 : labels ≡ old.labels ++ labels_at old.count taken.names = taken.labels in
     let e2 : again ≡ repeats old.labels old.count taken.names = taken.repeated in
     (line, fine, rw (same_lines, same_count, e1, e2))
@@ -56,8 +57,9 @@ line_found bytes rest old labels again row taken is lines count same_lines same_
 -- no line, where the statement isn't of the form
 pub line_none : (bytes rest : List ℕ) (place : ℕ) (old new : List Label) (again : Bool) → TakesLabels bytes rest place old new again → statement_of rest ≡ None → (line : Line) → ¬ IsLine bytes line
 line_none bytes rest place old new again taken none line fine =
-    let same : rest ≡ fine.rest = begins_one bytes rest fine.rest taken.names line.labels taken.begins taken.last fine.labels fine.last in
-    let some : statement_of fine.rest ≡ Some line.row = fine.row in
+    let some : statement_of fine.rest ≡ Some line.row = statement_complete fine.rest line.row fine.row in
+    let last : label_at fine.rest ≡ None = statement_no_label fine.rest line.row fine.row in
+    let same : rest ≡ fine.rest = begins_one bytes rest fine.rest taken.names line.labels taken.begins taken.last (labels_complete bytes line.labels fine.rest fine.labels) last in
     none_some (statement_of rest) line.row none (rw same some)
 
 -- one label, or one line, pushed

@@ -1,6 +1,10 @@
 pub mod Faults
+pub mod Fronts
+pub mod Grammars
 pub mod Labels
 pub mod Lines
 pub mod Numbers
+pub mod OneSource
 pub mod Prints
 pub mod Programs
+pub mod Statements

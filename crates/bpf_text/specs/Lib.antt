@@ -1,3 +1,4 @@
+pub mod Grammar
 pub mod Lexis
 pub mod Mnemonics
 pub mod Operands

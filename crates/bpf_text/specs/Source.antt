@@ -1,5 +1,5 @@
 -- What an assembler text means: its lines, and the program that they name.
-use Rattle.std.specs.Prelude.{◌≡◌, ℕ, ◌+◌, ◌-◌, ◌^◌, Bool, false, ◌&&◌, ◌||◌, List, [], ◌∷◌, ◌++◌, length, map, Option, Some, None, Result, Ok, Err, if◌then◌else◌, ◌==◌, nat_lt}
+use Rattle.std.specs.Prelude.{◌≡◌, ℕ, ◌+◌, ◌-◌, ◌^◌, Bool, false, ◌&&◌, ◌||◌, List, [], ◌∷◌, ◌++◌, length, map, Option, Some, None, Result, Ok, Err, if◌then◌else◌, ◌==◌, nat_lt, true}
 use Rattle.std.specs.Option.{option_map}
 use Rattle.std.specs.List.{list_any, find, slice_split}
 use Rattle.std.specs.Str.{bytes_eq}
@@ -8,9 +8,12 @@ use Rattle.bpf_code.specs.declared.error.CodeError.{CodeError}
 use Rattle.bpf_code.specs.declared.error.CodeError.TheVariants as errors
 use Rattle.bpf_code.specs.Table.{code_of}
 use Rattle.bpf_code.specs.declared.operation.Op.{Op}
-use Rattle.bpf_text.specs.Lexis.{◌>>=◌, word_at, sign_at}
-use Rattle.bpf_text.specs.Operands.{One, Both}
-use Rattle.bpf_text.specs.Rows.{Row, Jumps, Stays, Goes, Parts, statement_of}
+use Rattle.bpf_text.specs.Grammar.{Word, Sign, IsToken, Front, AreTokens, tokens_of}
+use Rattle.bpf_text.specs.Lexis.{◌>>=◌, word_at, sign_at, is_over, begins_blank}
+use Rattle.bpf_text.specs.Mnemonics.{mnemonic_of}
+use Rattle.bpf_text.specs.declared.mnemonic.Mnemonic.{Mnemonic}
+use Rattle.bpf_text.specs.Operands.{Operands, One, Both}
+use Rattle.bpf_text.specs.Rows.{Row, Jumps, Stays, Goes, Parts, is_absent, row_of}
 
 -- ---- lines
 
@@ -21,7 +24,7 @@ label_at bytes = do
   rest ← sign_at 58 word.1
   Some (word.0, rest)
 
--- bytes begin with these labels, and the rest follows
+-- these labels are read from bytes one after another, and the rest follows
 abbrev pub Begins : List ℕ → List (List ℕ) → List ℕ → Type 0
 Begins bytes [] rest = bytes ≡ rest
 Begins bytes (label ∷ labels) rest = (behind : List ℕ) × (label_at bytes ≡ Some (label, behind)) × Begins behind labels rest
@@ -31,12 +34,33 @@ pub record Line : Type 0 where
   pub labels : List (List ℕ)
   pub row : Option Row
 
+-- bytes begin with these labels, each a word and a colon, and the rest follows
+abbrev pub HasLabels : List ℕ → List (List ℕ) → List ℕ → Type 0
+HasLabels bytes [] rest = bytes ≡ rest
+HasLabels bytes (label ∷ labels) rest = (behind : List ℕ) × Front (Word label ∷ Sign 58 ∷ []) bytes behind × HasLabels behind labels rest
+
+-- bytes spell an instruction: a mnemonic, a blank where operands follow, and the tokens of the operands
+pub record Spells (bytes : List ℕ) (row : Row) : Type 0 where
+  pub word : List ℕ
+  pub behind : List ℕ
+  pub mnemonic : Mnemonic
+  pub operands : Operands
+  pub begins : IsToken (Word word) bytes behind
+  pub names : mnemonic_of word ≡ Some mnemonic
+  pub apart : (is_absent operands || begins_blank behind) ≡ true
+  pub spelled : AreTokens (tokens_of operands) behind
+  pub means : row_of mnemonic operands ≡ Some row
+
+-- an instruction, or nothing but a comment
+abbrev pub IsStatement : List ℕ → Option Row → Type 0
+IsStatement bytes None = is_over bytes ≡ true
+IsStatement bytes (Some row) = Spells bytes row
+
 -- the bytes are of the form of a line: labels, then at most one instruction, and a comment
 pub record IsLine (bytes : List ℕ) (line : Line) : Type 0 where
   pub rest : List ℕ
-  pub labels : Begins bytes line.labels rest
-  pub last : label_at rest ≡ None
-  pub row : statement_of rest ≡ Some line.row
+  pub labels : HasLabels bytes line.labels rest
+  pub row : IsStatement rest line.row
 
 -- each of the bytes is of the form of a line
 abbrev pub AreLines : List (List ℕ) → List Line → Type 0

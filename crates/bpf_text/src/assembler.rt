@@ -1,4 +1,6 @@
-ghost use Rattle.std.specs.Prelude.{◌≡◌, ◌<◌, [], ◌∷◌, length, MatchOption, IfOk, IfErr};
+ghost use Rattle.std.specs.Prelude.{◌≡◌, ◌<◌, [], ◌∷◌, ℕ, List, length, MatchOption, IfOk, IfErr};
+ghost use Rattle.bpf_code.specs.declared.instruction.Ins.{Ins};
+ghost use Rattle.bpf_code.specs.declared.error.CodeError.{CodeError};
 ghost use Rattle.bpf_text.specs.Source.{lines_of, SourceText, IsTextFault};
 
 use crate::draft::Draft;
@@ -47,3 +49,9 @@ pub fn assemble(alloc: Global, text: &str) -> Result<Vec<Ins>, CodeError>
         number += 1;
     }
 }
+
+/// A text names at most one program, and a text that names one has no fault.
+pub fn one_source()
+    ensures program { (text : List ℕ) (p q : List Ins) → SourceText text p → SourceText text q → p ≡ q }
+    ensures fault { (text : List ℕ) (p : List Ins) (e : CodeError) → SourceText text p → IsTextFault text e → e ≡ CodeError.NoMemory }
+{}

@@ -13,5 +13,5 @@ mod resolve;
 mod row;
 mod spelling;
 
-pub use assembler::assemble;
+pub use assembler::{assemble, one_source};
 pub use printer::print;
