@@ -1,0 +1,9 @@
+//! Tests of rules: their texts and the messages of which they hold. Each that has a worked example is named after it.
+#![tactic(auto)]
+
+#[cfg(test)]
+mod equality;
+#[cfg(test)]
+mod messages;
+#[cfg(test)]
+mod texts;
