@@ -60,7 +60,7 @@ impl Rule {
     pub fn conditions(&self) -> &[Condition]
         ensures { result.now ≡ self.now.conditions }
     {
-        self.conditions.as_slice()
+        &self.conditions
     }
 
     /// Whether it holds of a message, whose sender is or isn't the primary owner of the rule's sender name.
