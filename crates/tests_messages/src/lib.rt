@@ -1,0 +1,18 @@
+//! Tests of names, signatures and messages. Each is named after its worked example, or after what it
+//! shows.
+#![tactic(auto)]
+
+#[cfg(test)]
+mod faults;
+#[cfg(test)]
+mod fields;
+#[cfg(test)]
+mod fixed_parts;
+#[cfg(test)]
+mod names;
+#[cfg(test)]
+mod signals;
+#[cfg(test)]
+mod signatures;
+#[cfg(test)]
+mod spelled;
