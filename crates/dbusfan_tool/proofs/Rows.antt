@@ -99,14 +99,14 @@ found (word ∷ words) front before all e =
           let is : word ≡ end_word = (bytes_eq-Decides word end_word).0 same in
           subst (λ (x : List ℕ). Found front before (x ∷ words) all) (sym is) (end_found front words before all (rw same at e))
       | inr no_end ↦ elim (cases_Bool (bytes_eq word owns_word)) [
-          | inl same ↦
-              let is : word ≡ owns_word = (bytes_eq-Decides word owns_word).0 same in
-              subst (λ (x : List ℕ). Found front before (x ∷ words) all) (sym is) (owns_found front words before all (λ front before. found words front before all) (rw (no_end, same) at e))
-          | inr no_owns ↦ elim (cases_Bool (is_option word)) [
-              | inl option ↦ let none : None ≡ Some all = rw (no_end, no_owns, option) at e in absurd (cc)
-              | inr plain ↦ name_found front word words before all plain (λ front before. found words front before all) (rw (no_end, no_owns, plain) at e)
-            ]
+        | inl same ↦
+            let is : word ≡ owns_word = (bytes_eq-Decides word owns_word).0 same in
+            subst (λ (x : List ℕ). Found front before (x ∷ words) all) (sym is) (owns_found front words before all (λ front before. found words front before all) (rw (no_end, same) at e))
+        | inr no_owns ↦ elim (cases_Bool (is_option word)) [
+          | inl option ↦ let none : None ≡ Some all = rw (no_end, no_owns, option) at e in absurd (cc)
+          | inr plain ↦ name_found front word words before all plain (λ front before. found words front before all) (rw (no_end, no_owns, plain) at e)
         ]
+      ]
     ]
 
 -- Two words behind `match` are its row.
