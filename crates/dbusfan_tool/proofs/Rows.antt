@@ -1,5 +1,5 @@
 -- The reading of a command line reads exactly its rows.
-use Rattle.std.proofs.Common.{◌≡◌, ℕ, ◌+◌, ◌<◌, ◌≤◌, Bool, true, false, ◌||◌, ◌&&◌, List, [], ◌∷◌, ◌++◌, length, Option, Some, None, nat_lt, refl, ap, sym, subst, lit≤, ◌∙◌, ◌⊎◌, inl, inr, arith, append_assoc, append-nil, length-append}
+use Rattle.std.proofs.Common.{◌≡◌, ℕ, ◌+◌, ◌≤◌, Bool, true, false, ◌||◌, ◌&&◌, List, [], ◌∷◌, ◌++◌, length, Option, Some, None, nat_lt, refl, ap, sym, subst, lit≤, ◌∙◌, inl, inr, arith, append_assoc, append-nil, length-append}
 use Rattle.std.specs.Str.{bytes_eq}
 use Rattle.std.specs.Option.{option_and_then, option_map, IfSome}
 use Rattle.dbusfan_tool.specs.declared.command_line.Row.{Row}
@@ -8,7 +8,7 @@ use Rattle.std.proofs.lemmas.Bool.{cases_Bool, false_from_ne_true}
 use Rattle.std.proofs.lemmas.Bool.Decides.{Decides-ltb}
 use Rattle.std.proofs.lemmas.Slice.Eq.{bytes_eq-Decides}
 use Rattle.dbusfan_tool.specs.Row.{match_word, owns_word, end_word, is_option, Spells, nothing, ended, named, owned, Asked, to_match, IsRow, match_row, asked_by}
-use Rattle.dbusfan_tool.specs.RowReading.{Gathering, no_words, with_name, with_owns, with_any, with_word, gathered, match_of, asked_in}
+use Rattle.dbusfan_tool.specs.RowReading.{Gathering, no_words, with_name, with_owns, gathered, match_of, asked_in}
 
 abbrev Words : Type 0
 Words = List (List ℕ)
@@ -99,14 +99,14 @@ found (word ∷ words) front before all e =
           let is : word ≡ end_word = (bytes_eq-Decides word end_word).0 same in
           subst (λ (x : List ℕ). Found front before (x ∷ words) all) (sym is) (end_found front words before all (rw same at e))
       | inr no_end ↦ elim (cases_Bool (bytes_eq word owns_word)) [
-          | inl same ↦
-              let is : word ≡ owns_word = (bytes_eq-Decides word owns_word).0 same in
-              subst (λ (x : List ℕ). Found front before (x ∷ words) all) (sym is) (owns_found front words before all (λ front before. found words front before all) (rw (no_end, same) at e))
-          | inr no_owns ↦ elim (cases_Bool (is_option word)) [
-              | inl option ↦ let none : None ≡ Some all = rw (no_end, no_owns, option) at e in absurd (cc)
-              | inr plain ↦ name_found front word words before all plain (λ front before. found words front before all) (rw (no_end, no_owns, plain) at e)
-            ]
+        | inl same ↦
+            let is : word ≡ owns_word = (bytes_eq-Decides word owns_word).0 same in
+            subst (λ (x : List ℕ). Found front before (x ∷ words) all) (sym is) (owns_found front words before all (λ front before. found words front before all) (rw (no_end, same) at e))
+        | inr no_owns ↦ elim (cases_Bool (is_option word)) [
+          | inl option ↦ let none : None ≡ Some all = rw (no_end, no_owns, option) at e in absurd (cc)
+          | inr plain ↦ name_found front word words before all plain (λ front before. found words front before all) (rw (no_end, no_owns, plain) at e)
         ]
+      ]
     ]
 
 -- Two words behind `match` are its row.

@@ -4,7 +4,7 @@ use crate::gathered::Gathered;
 
 /// What a command line asks for.
 #[derive(Clone, Copy)]
-pub enum Row<'a> {
+pub(crate) enum Row<'a> {
     /// `match RULE FILE [--owns]`: does the rule match the message in the file?
     Match {
         rule: &'a str,
@@ -20,7 +20,7 @@ impl<'a> Row<'a> {
     ghost use Rattle.dbusfan_tool.specs.RowReading.{asked_in};
 
     /// The row that some words are, if they are one.
-    pub fn read(words: &[&'a str]) -> Option<Row<'a>>
+    pub(crate) fn read(words: &[&'a str]) -> Option<Row<'a>>
         ensures found { IfSome result (λ row. IsRow (asked_by row) (texts words.now)) }
         ensures only { (asked : Asked) → IsRow asked (texts words.now) → option_map asked_by result ≡ Some asked }
     {

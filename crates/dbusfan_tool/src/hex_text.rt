@@ -9,7 +9,7 @@ use std::alloc::{AllocError, Global};
 
 /// Why a text gave no bytes.
 #[derive(Clone, Copy, Debug, PartialEq, Eq)]
-pub enum HexError {
+pub(crate) enum HexError {
     /// It has an odd number of digits, or a byte that is neither digit nor blank.
     Hex,
     Memory,
@@ -24,7 +24,7 @@ impl From<AllocError> for HexError {
 }
 
 /// The bytes that a hexadecimal text spells. Blanks and line ends are ignored wherever they stand.
-pub fn decode(alloc: Global, text: &[u8]) -> Result<Vec<u8>, HexError>
+pub(crate) fn decode(alloc: Global, text: &[u8]) -> Result<Vec<u8>, HexError>
     ensures ok { IfOk result (λ bytes. bytes_of_hex text.now ≡ Some bytes.items) }
     ensures hex { result ≡ Err HexError.Hex → bytes_of_hex text.now ≡ None }
 {

@@ -13,9 +13,7 @@ mod matching;
 mod output;
 mod usage;
 
-pub use command_line::Row;
 pub use entry::tool;
 pub use fault::Fault;
 pub use files::{FileError, Files};
-pub use hex_text::{HexError, decode};
 pub use output::Output;
