@@ -1,6 +1,6 @@
 // The basic types.
 
-ghost use Rattle.std.specs.Prelude.{◌≡◌, false, MatchOption};
+ghost use Rattle.std.specs.Prelude.{◌≡◌, false, IsTrue, MatchOption};
 ghost use Rattle.signature.specs.Code.{is_basic};
 ghost use Rattle.signature.specs.BasicType.{byte_of, basic_alignment};
 
@@ -42,6 +42,17 @@ impl BasicType {
             b'g' => Some(BasicType::Signature),
             b'h' => Some(BasicType::UnixFd),
             _ => None,
+        }
+    }
+
+    /// The basic type of a byte that stands for one.
+    pub(crate) fn of_code(byte: u8) -> BasicType
+        requires { IsTrue (is_basic byte) }
+        ensures { byte_of result ≡ byte }
+    {
+        match BasicType::of(byte) {
+            Some(basic) => basic,
+            None => unreachable!(),
         }
     }
 

@@ -88,26 +88,11 @@ impl<'a> OneType<'a> {
             b'v' => Parts::Variant,
             b'a' if text[1] == b'{' => {
                 let value = OneType::new(&text[3..text.len() - 1]);
-                Parts::Dict(basic(text[2]), value)
+                Parts::Dict(BasicType::of_code(text[2]), value)
             }
             b'a' => Parts::Array(OneType::new(&text[1..])),
             b'(' => Parts::Struct(Types::new(&text[1..text.len() - 1])),
-            code => Parts::Basic(basic(code)),
+            code => Parts::Basic(BasicType::of_code(code)),
         }
-    }
-}
-
-ghost use Rattle.std.specs.Prelude.{◌≡◌, IsTrue};
-ghost use Rattle.signature.specs.Code.{is_basic};
-ghost use Rattle.signature.specs.BasicType.{byte_of};
-
-/// The basic type of its code.
-fn basic(code: u8) -> BasicType
-    requires { IsTrue (is_basic code) }
-    ensures { byte_of result ≡ code }
-{
-    match BasicType::of(code) {
-        Some(basic) => basic,
-        None => unreachable!(),
     }
 }

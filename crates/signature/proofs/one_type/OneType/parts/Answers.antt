@@ -24,8 +24,8 @@ new-value-requires c =
     let a = dict_parts c.self.invariant.0 c.self.inside.text.now c.self.invariant.1 c.in-97.is c.if-text-eq123.true in
     (a.parts.0, a.parts.2)
 
-pub basic-requires : goal.basic-requires
-basic-requires c =
+pub of_code-requires : goal.of_code-requires
+of_code-requires c =
     (dict_parts c.self.invariant.0 c.self.inside.text.now c.self.invariant.1 c.in-97.is c.if-text-eq123.true).key
 
 pub new-requires : goal.new-requires
@@ -44,8 +44,8 @@ new-requires-in-40 c =
     let a = struct_parts c.self.invariant.0 c.self.inside.text.now c.self.invariant.1 c.in-40.is in
     members_fault (one_more a.first a.others) _ a.members a.fit
 
-pub basic-requires-in_default : goal.basic-requires-in_default
-basic-requires-in_default c =
+pub of_code-requires-in_default : goal.of_code-requires-in_default
+of_code-requires-in_default c =
     let is = basic_parts c.self.invariant.0 c.self.inside.text.now c.self.invariant.1 (λ e. omega arith) (λ e. omega arith) (λ e. omega arith) in
     is_basic_code c.self.invariant.0 _ c.self.invariant.1.fits is
 
@@ -58,7 +58,7 @@ pub returns-in-97-clause-parts : goal.returns-in-97-clause-parts
 returns-in-97-clause-parts c = λ t is.
     let here = subst (TypeText t) (sym c.self.view_is) is in
     let a = (dict_parts t c.self.inside.text.now here c.in-97.is c.if-text-eq123.true).parts in
-    (a.0, a.1 ∙ ap (λ k. dict k a.0) (sym c.basic.ensures), subst (TypeText a.0) (sym c.new-value.ensures) a.2)
+    (a.0, a.1 ∙ ap (λ k. dict k a.0) (sym c.of_code.ensures), subst (TypeText a.0) (sym c.new-value.ensures) a.2)
 
 pub returns-in-97-2-clause-parts : goal.returns-in-97-2-clause-parts
 returns-in-97-2-clause-parts c = λ t is.
@@ -85,4 +85,4 @@ returns-in-40-clause-shorter c =
 pub returns-in_default-clause-parts : goal.returns-in_default-clause-parts
 returns-in_default-clause-parts c = λ t is.
     let here = subst (TypeText t) (sym c.self.view_is) is in
-    basic_parts t c.self.inside.text.now here (λ e. omega arith) (λ e. omega arith) (λ e. omega arith) ∙ ap basic (sym c.basic-in_default.ensures)
+    basic_parts t c.self.inside.text.now here (λ e. omega arith) (λ e. omega arith) (λ e. omega arith) ∙ ap basic (sym c.of_code-in_default.ensures)
