@@ -1,12 +1,10 @@
 -- The bytes of an object path are ASCII.
-use Rattle.std.proofs.Common.{◌≡◌, ℕ, zero, suc, ◌+◌, ◌<◌, ◌≤◌, get_or, Bool, true, false, cond, eqb, List, [], ◌∷◌, refl, sym, ◌∙◌, arith, zero-add}
-use Rattle.std.specs.Prelude.{◌&&◌, ◌||◌, nat_le}
+use Rattle.std.proofs.Common.{◌≡◌, ℕ, zero, suc, ◌+◌, ◌<◌, Bool, true, false, cond, eqb, List, [], ◌∷◌, refl, sym, ◌∙◌, arith, zero-add}
+use Rattle.std.specs.Prelude.{◌&&◌}
 use Rattle.std.specs.Str.{IsAscii}
-use Rattle.std.proofs.lemmas.Bool.{eq-eqb}
-use Rattle.std.proofs.lemmas.Grind.{common_steps}
 use Rattle.std.proofs.lemmas.Bool.Decides.{nat_tests}
 use Rattle.signature.specs.Name.{is_letter, is_digit, may_begin, may_follow, path_form, are_elements, is_path}
-use Rattle.signature.proofs.Elements.{rest_are, step, rest_are-cons}
+use Rattle.signature.proofs.Elements.{rest_are, rest_are-cons}
 
 letter_low : (b : ℕ) → is_letter b ≡ true → b < 128
 letter_low b h = grind (arith, nat_tests)
