@@ -58,7 +58,7 @@ fields_again (suc turns) order front (field ∷ fields) place are le =
     let m = AreFields-middle front field fields are in
     let grouped : (front ++ field ∷ []) ++ fields ≡ front ++ field ∷ fields = append_assoc front (field ∷ []) fields in
     rw (some, field_again order front field place rest m.0 m.1)
-      (fields_again turns order (front ++ field ∷ []) fields (place + length first) (rw grouped are) (omega (arith, len, pos)) ∙ ap (λ (x : List Field). Ok x) grouped)
+    (fields_again turns order (front ++ field ∷ []) fields (place + length first) (rw grouped are) (omega (arith, len, pos)) ∙ ap (λ (x : List Field). Ok x) grouped)
 
 -- what is behind those in front
 pub record Follow (order : Order) (front : List Field) (a : At) (fields : List Field) : Type 0 where
@@ -85,8 +85,8 @@ fields_take zero order front a fields are fits le e = none_follow order front a 
 fields_take (suc turns) order front a fields are fits le e =
     go (eqb (length a.rest) 0) refl e
     (λ (field : Field × At) was later.
-      let r = field_takes order front a field fits was in
-      one_more order front a fields field r (fields_take turns order (front ++ field.0 ∷ []) field.1 fields (AreFields-push front field.0 are r.is r.once) (r.takes.fits fits) (omega (arith, field_shorter order front a field was)) later))
+    let r = field_takes order front a field fits was in
+    one_more order front a fields field r (fields_take turns order (front ++ field.0 ∷ []) field.1 fields (AreFields-push front field.0 are r.is r.once) (r.takes.fits fits) (omega (arith, field_shorter order front a field was)) later))
   where
     go : (b : Bool) → eqb (length a.rest) 0 ≡ b → cond b (Ok front) (field_at order front a >>= λ field. fields_from turns order (front ++ field.0 ∷ []) field.1) ≡ Ok fields
         → ((field : Field × At) → field_at order front a ≡ Ok field → fields_from turns order (front ++ field.0 ∷ []) field.1 ≡ Ok fields → Follow order front a fields) → Follow order front a fields

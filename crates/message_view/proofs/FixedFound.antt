@@ -64,18 +64,20 @@ fixed_found bytes fixed long order kind flags version body serial some fields fe
       serial = positive (serial_in bytes) (λ e. some (serial_is ∙ e));
       fields = few_is;
       whole = fits;
-    } in
-    (framing_again bytes sound, record {
-      whole = long;
-      order = sym order_is;
-      kind = kind;
-      flags = flags;
-      body = body_is;
-      serial = serial_is;
-      fields = fields_is;
-      array_fits = few_is;
-      fits = fits;
-    })
+    } in (
+      framing_again bytes sound,
+      record {
+        whole = long;
+        order = sym order_is;
+        kind = kind;
+        flags = flags;
+        body = body_is;
+        serial = serial_is;
+        fields = fields_is;
+        array_fits = few_is;
+        fits = fits;
+      },
+    )
   where
     positive : (n : ℕ) → (n ≡ 0 → ⊥) → 0 < n
     positive n h = omega arith

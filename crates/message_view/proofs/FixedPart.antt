@@ -54,6 +54,7 @@ kind_byte-kind_of byte kind e = go (eqb byte 0) e
   where
     named : (k : Kind) → cond (eqb byte 1) (Some kinds.MethodCall) (cond (eqb byte 2) (Some kinds.MethodReturn) (cond (eqb byte 3) (Some kinds.Error) (cond (eqb byte 4) (Some kinds.Signal) (Some (kinds.Other byte))))) ≡ Some k → kind_byte k ≡ byte
     named = row byte 1 kinds.MethodCall _ refl (row byte 2 kinds.MethodReturn _ refl (row byte 3 kinds.Error _ refl (row byte 4 kinds.Signal _ refl (λ k h. ap kind_byte (sym (some_is (kinds.Other byte) k h))))))
+
     go : (b : Bool) → cond b None (cond (eqb byte 1) (Some kinds.MethodCall) (cond (eqb byte 2) (Some kinds.MethodReturn) (cond (eqb byte 3) (Some kinds.Error) (cond (eqb byte 4) (Some kinds.Signal) (Some (kinds.Other byte)))))) ≡ Some kind → kind_byte kind ≡ byte
     go true e = absurd cc
     go false e = named kind e
@@ -121,6 +122,7 @@ no_check_again bytes f =
     skip : (a : Bool) (fails : Bool) (fault : MsgError) (o : Option MsgError) → fails ≡ false → cond (a && fails) (Some fault) o ≡ o
     skip true fails fault o e = rw e refl
     skip false fails fault o e = refl
+
     by_fails : (have : ℕ) (a b c d e f : Bool) → a ≡ false → b ≡ false → c ≡ false → d ≡ false → e ≡ false → f ≡ false
         → first_failing have (check 1 a faults.Order ∷ check 2 b faults.Kind ∷ check 4 c faults.Version ∷ check 12 d faults.Serial ∷ check 16 e faults.ArrayLength ∷ check 16 f faults.TooLarge ∷ []) ≡ None
     by_fails have a b c d e f pa pb pc pd pe pf =

@@ -50,10 +50,13 @@ slots_more front code value none = go code own other
   where
     field : Field
     field = record { code = code_byte code; type = basic (type_code code); value = value }
+
     own : field_with (code_byte code) (front ++ field ∷ []) ≡ Some value
     own = more_fields (code_byte code) front field ∙ rw (none, eq-eqb (code_byte code) (code_byte code) refl) refl
+
     other : (k : ℕ) → (code_byte code == k) ≡ false → field_with k (front ++ field ∷ []) ≡ field_with k front
     other k differ = more_fields k front field ∙ rw differ (or_none (field_with k front))
+
     go : (c : FieldCode) → field_with (code_byte c) (front ++ field ∷ []) ≡ Some value → ((k : ℕ) → (code_byte c == k) ≡ false → field_with k (front ++ field ∷ []) ≡ field_with k front)
         → slice_set (slots_of front) (slot_of c) (Some value) ≡ slots_of (front ++ field ∷ [])
     go codes.Path own other = cc (own, other 2 refl, other 3 refl, other 4 refl, other 5 refl, other 6 refl, other 7 refl, other 8 refl, other 9 refl)
@@ -71,10 +74,11 @@ pub kept_next : (order : Order) (front : List Field) (old behind : At) (middle :
     → code_at front old ≡ Ok (code, middle) → content_at order code middle ≡ Ok (value, behind)
     → (field : Field) × (field_at order front old ≡ Ok (field, behind)) × (kept ≡ slots_of (front ++ field ∷ []))
 unfolding field_at
-kept_next order front old behind middle code value slots kept is put coded valued =
-    (record { code = code_byte code; type = basic (type_code code); value = value },
-      rw (coded, valued) refl,
-      put ∙ rw is (slots_more front code value (code_takes front old (code, middle) coded).1))
+kept_next order front old behind middle code value slots kept is put coded valued = (
+  record { code = code_byte code; type = basic (type_code code); value = value },
+  rw (coded, valued) refl,
+  put ∙ rw is (slots_more front code value (code_takes front old (code, middle) coded).1),
+)
 
 pub no_code : (order : Order) (front : List Field) (old : At) (fault : MsgError) → code_at front old ≡ Err fault → field_at order front old ≡ Err fault
 unfolding field_at

@@ -27,8 +27,8 @@ use Rattle.message_view.proofs.PartPlaces.{laid, Lies, laid_lies, lies_laid, wor
 fields_of_is : (bytes : List ℕ) (len : ℕ) (order : Order) (text : List ℕ) → fields_len bytes ≡ len → order_in bytes ≡ order → take len (drop fixed_len bytes) ≡ text → fields_of bytes ≡ fields_from len order [] (at fixed_len text)
 fields_of_is bytes len order text is_len is_order is_text =
     ap (λ (k : ℕ). fields_from k (order_in bytes) [] (at fixed_len (take k (drop fixed_len bytes)))) is_len
-      ∙ ap (λ (o : Order). fields_from len o [] (at fixed_len (take len (drop fixed_len bytes)))) is_order
-      ∙ ap (λ (t : List ℕ). fields_from len order [] (at fixed_len t)) is_text
+    ∙ ap (λ (o : Order). fields_from len o [] (at fixed_len (take len (drop fixed_len bytes)))) is_order
+    ∙ ap (λ (t : List ℕ). fields_from len order [] (at fixed_len t)) is_text
 
 abbrev message_like : Kind → List Field → Order → ℕ → ℕ → DataTypes → Values → Message
 message_like kind fields order flags serial types arguments =
@@ -37,10 +37,10 @@ message_like kind fields order flags serial types arguments =
 same_message : (m : Message) (order : Order) (flags serial : ℕ) (types : DataTypes) (arguments : Values) → order ≡ m.order → flags ≡ m.flags → serial ≡ m.serial → types ≡ m.types → arguments ≡ m.arguments → message_like m.kind m.fields order flags serial types arguments ≡ m
 same_message m order flags serial types arguments o f s t a =
     ap (λ (x : Order). message_like m.kind m.fields x flags serial types arguments) o
-      ∙ ap (λ (x : ℕ). message_like m.kind m.fields m.order x serial types arguments) f
-      ∙ ap (λ (x : ℕ). message_like m.kind m.fields m.order m.flags x types arguments) s
-      ∙ ap (λ (x : DataTypes). message_like m.kind m.fields m.order m.flags m.serial x arguments) t
-      ∙ ap (λ (x : Values). message_like m.kind m.fields m.order m.flags m.serial m.types x) a
+    ∙ ap (λ (x : ℕ). message_like m.kind m.fields m.order x serial types arguments) f
+    ∙ ap (λ (x : ℕ). message_like m.kind m.fields m.order m.flags x types arguments) s
+    ∙ ap (λ (x : DataTypes). message_like m.kind m.fields m.order m.flags m.serial x arguments) t
+    ∙ ap (λ (x : Values). message_like m.kind m.fields m.order m.flags m.serial m.types x) a
 
 -- where the parts of a valid message lie
 pub valid_lies : (bytes : List ℕ) (m : Message) → Valid bytes m → Lies bytes m.order m.serial (fields_bytes m.order fixed_len m.fields)
@@ -52,9 +52,9 @@ valid_lies bytes m v =
 pub lies_whole : (bytes : List ℕ) (order : Order) (serial : ℕ) (fields : List ℕ) → Lies bytes order serial fields → whole_len bytes ≡ length bytes
 lies_whole bytes order serial fields l =
     ap (λ (k : ℕ). fixed_len + k + padding 8 k + body_len bytes) l.is_len
-      ∙ ap (λ (b : ℕ). fixed_len + length fields + padding 8 (length fields) + b) l.is_body
-      ∙ add-zero (fixed_len + length fields + padding 8 (length fields))
-      ∙ sym l.is_whole
+    ∙ ap (λ (b : ℕ). fixed_len + length fields + padding 8 (length fields) + b) l.is_body
+    ∙ add-zero (fixed_len + length fields + padding 8 (length fields))
+    ∙ sym l.is_whole
 
 pub valid_fixed : (bytes : List ℕ) (m : Message) → Valid bytes m → IsFixed bytes
 valid_fixed bytes m v =

@@ -91,6 +91,7 @@ type_takes code a found e =
     let both = Takes-then a (n.0.0 ∷ []) n.0.1 b.0.0 b.0.1 (byte_takes a n.0 n.1).0 t.0 in
     let takes : Takes a (1 ∷ code ∷ 0 ∷ []) b.0.1 = subst (λ (x : List ℕ). Takes a (1 ∷ x) b.0.1) are (subst (λ (k : ℕ). Takes a (k ∷ b.0.0) b.0.1) one both) in
     subst (λ (f : At). Takes a (signature_bytes (basic code)) f) p.1 takes
+
 pub type_again : (code place : ℕ) (rest : List ℕ) → type_at code (at place (signature_bytes (basic code) ++ rest)) ≡ Ok (at (place + 1 + 2) rest)
 unfolding type_at
 type_again code place rest =
@@ -190,7 +191,7 @@ field_of_again order front code value place rest shaped allowed once =
     let grouped : field_bytes order place (field_of code value) ++ rest ≡ zeros (padding 8 place) ++ (code_byte code ∷ (bytes ++ rest)) = ap (λ (x : List ℕ). x ++ rest) (sym spelled) ∙ append_assoc (zeros (padding 8 place)) (code_byte code ∷ bytes) rest in
     let end : start + 1 + length bytes ≡ place + length (field_bytes order place (field_of code value)) = omega (arith, ap (λ (x : List ℕ). length x) spelled, length-append (zeros (padding 8 place)) (code_byte code ∷ bytes), length-zeros (padding 8 place)) in
     ap (λ (x : List ℕ). field_at order front (at place x)) grouped
-      ∙ rw (code_again front code place (bytes ++ rest) once, content_again order code (start + 1) value rest shaped allowed) (ap (λ (k : ℕ). Ok (field_of code value, at k rest)) end)
+    ∙ rw (code_again front code place (bytes ++ rest) once, content_again order code (start + 1) value rest shaped allowed) (ap (λ (k : ℕ). Ok (field_of code value, at k rest)) end)
 
 abbrev field_like : Field → ℕ → DataType → Field
 field_like field code type = record { code = code; type = type; value = field.value }

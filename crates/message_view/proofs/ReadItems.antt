@@ -122,4 +122,4 @@ unfolding number_at
 number_again order place n rest lt =
     let regrouped : number_bytes order place n ++ rest ≡ zeros (padding 4 place) ++ (word_bytes order n ++ rest) = append_assoc (zeros (padding 4 place)) (word_bytes order n) rest in
     ap (λ (x : List ℕ). number_at order (at place x)) regrouped
-      ∙ rw (aligned_again 4 place (word_bytes order n ++ rest), item_again 4 (place + padding 4 place) (word_bytes order n) rest (length-word_bytes order n), word_of-word_bytes order n lt) refl
+    ∙ rw (aligned_again 4 place (word_bytes order n ++ rest), item_again 4 (place + padding 4 place) (word_bytes order n) rest (length-word_bytes order n), word_of-word_bytes order n lt) refl

@@ -80,7 +80,7 @@ unfolding text_value_at
 text_value_again order code place bytes rest is lt =
     let grouped : text_bytes order place bytes ++ rest ≡ number_bytes order place (length bytes) ++ ((bytes ++ 0 ∷ []) ++ rest) = simp append_assoc in
     ap (λ (x : List ℕ). text_value_at order code (at place x)) grouped
-      ∙ rw (number_again order place (length bytes) ((bytes ++ 0 ∷ []) ++ rest) lt, text_again code (place + padding 4 place + 4) bytes rest is) refl
+    ∙ rw (number_again order place (length bytes) ((bytes ++ 0 ∷ []) ++ rest) lt, text_again code (place + padding 4 place + 4) bytes rest is) refl
 
 -- ---- `g`
 

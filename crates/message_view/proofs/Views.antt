@@ -62,6 +62,7 @@ kept_is bytes now m kept keeps same valid =
   where
     done : Kept → Result Kept MsgError
     done x = Ok x
+
     ok_kept : (x y : Kept) → done x ≡ done y → x ≡ y
     ok_kept x y e = cc
 

@@ -12,6 +12,7 @@ use crate::text::TextType;
 use signature::{check_bus_name, check_interface, check_member};
 
 const LOCAL_PATH: &str = "/org/freedesktop/DBus/Local";
+
 const LOCAL_INTERFACE: &str = "org.freedesktop.DBus.Local";
 
 /// The header fields that have a meaning (D-Bus Specification, "Header Fields").
@@ -94,10 +95,8 @@ impl FieldCode {
             FieldCode::Interface | FieldCode::ErrorName => check_interface(text),
             FieldCode::Member => check_member(text),
             FieldCode::Destination | FieldCode::Sender => check_bus_name(text),
-            FieldCode::Path
-            | FieldCode::ReplySerial
-            | FieldCode::Signature
-            | FieldCode::UnixFds => true,
+            FieldCode::Path | FieldCode::ReplySerial | FieldCode::Signature | FieldCode::UnixFds =>
+                true,
         }
     }
 

@@ -11,7 +11,9 @@ use crate::order::Order;
 pub(crate) const FIXED_LEN: usize = 16;
 
 const VERSION: u8 = 1;
+
 const MAX_ARRAY_LEN: u32 = 67_108_864;
+
 const MAX_MESSAGE_LEN: u64 = 134_217_728;
 
 /// The first 16 bytes of a message.

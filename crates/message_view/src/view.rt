@@ -18,12 +18,7 @@ use crate::order::Order;
 use std::marker::Model;
 
 /// What there is to say behind the fields of a message.
-fn ending_fault(
-    kind: Kind,
-    fields: &Fields<'_>,
-    skipped: &[u8],
-    body_len: u32,
-) -> Option<MsgError>
+fn ending_fault(kind: Kind, fields: &Fields<'_>, skipped: &[u8], body_len: u32) -> Option<MsgError>
     ensures { (front : List Field) → shown fields.now ≡ slots_of front → result ≡ ending_of kind skipped.now body_len front }
 {
     if !fields.has_required(kind) {
@@ -237,5 +232,4 @@ impl<'a> View<'a> {
 /// Bytes spell at most one message.
 pub fn one_message()
     ensures { (bytes : List ℕ) (m n : Message) → Valid bytes m → Valid bytes n → m ≡ n }
-{
-}
+{}

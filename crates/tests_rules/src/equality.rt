@@ -17,7 +17,10 @@ fn are_equal(alloc: Global, text: &str, other: &str) -> Option<bool> {
 fn two_spellings_one_rule(rt: HostRuntime) {
     for (text, other) in [
         ("member='abc',path='/a'", " path=/a,\tmember='a'b'c',"),
-        ("type='signal',member='c',interface='a.b'", "interface=a.b,type=signal,member=c"),
+        (
+            "type='signal',member='c',interface='a.b'",
+            "interface=a.b,type=signal,member=c",
+        ),
         ("", " \n"),
         ("member=''abc''", "member=abc"),
     ] {
@@ -36,13 +39,19 @@ fn other_rules(rt: HostRuntime) {
         ("", "member='c'"),
         ("member='c',path='/'", "member='c',path='/a'"),
     ] {
-        assert_eq!(rt; are_equal(rt.alloc(), text, other), Some(false), "at {text}");
+        assert_eq!(rt;
+            are_equal(rt.alloc(), text, other),
+            Some(false),
+            "at {text}"
+        );
     }
 }
 
 #[test]
 fn equal_to_itself(rt: HostRuntime) -> Result<(), Fail> {
-    let rule = Rule::read(rt.alloc(), "member='c',type='signal'").ok().ok_or("refused")?;
+    let rule = Rule::read(rt.alloc(), "member='c',type='signal'")
+        .ok()
+        .ok_or("refused")?;
     let same = rule == rule;
     assert!(rt; same);
     Ok(())

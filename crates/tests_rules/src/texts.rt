@@ -89,7 +89,11 @@ fn keys_to_come(rt: HostRuntime) {
         "arg0path='/'",
         "arg0namespace='a'",
     ] {
-        assert_eq!(rt; fault(rt.alloc(), text), Some(RuleError::UnknownKey), "at {text}");
+        assert_eq!(rt;
+            fault(rt.alloc(), text),
+            Some(RuleError::UnknownKey),
+            "at {text}"
+        );
     }
 }
 
@@ -124,7 +128,11 @@ fn quoting(rt: HostRuntime) {
         "member=a\\b",
         "path='/a'\\'''",
     ] {
-        assert_eq!(rt; fault(rt.alloc(), text), Some(RuleError::BadValue), "at {text}");
+        assert_eq!(rt;
+            fault(rt.alloc(), text),
+            Some(RuleError::BadValue),
+            "at {text}"
+        );
     }
 }
 
@@ -135,13 +143,22 @@ fn longest_rule(rt: HostRuntime) -> Result<(), Fail> {
     let rule = Rule::read(rt.alloc(), path.as_str()).ok().ok_or("refused")?;
     assert_eq!(rt; rule.weight(), 8 + 24 + 1017);
     let longer = long(rt.alloc(), "path='/", 1017, "'")?;
-    assert_eq!(rt; fault(rt.alloc(), longer.as_str()), Some(RuleError::TooLong));
+    assert_eq!(rt;
+        fault(rt.alloc(), longer.as_str()),
+        Some(RuleError::TooLong)
+    );
     let member = long(rt.alloc(), "member='", 1015, "'")?;
     assert_eq!(rt; member.len(), 1024);
-    assert_eq!(rt; fault(rt.alloc(), member.as_str()), Some(RuleError::BadValue));
+    assert_eq!(rt;
+        fault(rt.alloc(), member.as_str()),
+        Some(RuleError::BadValue)
+    );
     let unknown = long(rt.alloc(), "foo='", 1019, "'")?;
     assert_eq!(rt; unknown.len(), 1025);
-    assert_eq!(rt; fault(rt.alloc(), unknown.as_str()), Some(RuleError::TooLong));
+    assert_eq!(rt;
+        fault(rt.alloc(), unknown.as_str()),
+        Some(RuleError::TooLong)
+    );
     Ok(())
 }
 
@@ -175,7 +192,9 @@ fn faults(rt: HostRuntime) -> Result<(), Fail> {
 
 #[test]
 fn parts_of_a_rule(rt: HostRuntime) -> Result<(), Fail> {
-    let rule = Rule::read(rt.alloc(), "path=/a,type='signal',").ok().ok_or("refused")?;
+    let rule = Rule::read(rt.alloc(), "path=/a,type='signal',")
+        .ok()
+        .ok_or("refused")?;
     assert_eq!(rt; rule.conditions().len(), 2);
     assert!(rt; rule.conditions()[0].key() == Key::Path);
     assert_eq!(rt; rule.conditions()[0].value(), "/a");

@@ -35,9 +35,10 @@ invariant_of-result c =
     let fixed = rw c.in-Some.is at c.in_ok-fixed.ensures in
     let len = len_is c.in-Some.fixed c.args.bytes.now _ fixed.1 c.whole_len-len.ensures in
     let same = whole_framed c.args.bytes.now _ fixed.0 len c.if-bytes-len.false c.if-bytes-len-2.false in
-    let found = c.in_ok-fields.ensures.fields in
-    (nothing_behind c.args.bytes.now _ _ c.in_ok-fields.ensures.body c.if-bytes-len-2.false c.if-bytes-len.false,
-      kept_first c.in-Some.fixed c.in_ok-fields.fields c.args.bytes.now fixed.1 (found.0, same ∙ found.1, found.2))
+    let found = c.in_ok-fields.ensures.fields in (
+      nothing_behind c.args.bytes.now _ _ c.in_ok-fields.ensures.body c.if-bytes-len-2.false c.if-bytes-len.false,
+      kept_first c.in-Some.fixed c.in_ok-fields.fields c.args.bytes.now fixed.1 (found.0, same ∙ found.1, found.2),
+    )
 
 pub returns : goal.returns
 returns c =
