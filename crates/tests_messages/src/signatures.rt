@@ -29,11 +29,10 @@ fn signatures_and_depth(rt: HostRuntime) -> Result<(), Fail> {
 }
 
 #[test]
-fn longest_signature(rt: HostRuntime) -> Result<(), Fail> {
+fn longest_signature(rt: HostRuntime) {
     let text = [b'y'; 256];
     assert_eq!(rt; Signature::read(&text).err(), Some(SigError::TooLong));
-    assert_eq!(rt; Signature::read(&text[1..])?.types().count(), 255);
-    Ok(())
+    assert_eq!(rt; Signature::read(&text[1..]).err(), None);
 }
 
 #[test]
