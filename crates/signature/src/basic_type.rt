@@ -58,7 +58,8 @@ impl BasicType {
 
     /// Its byte in a signature.
     pub fn code(self) -> u8
-        ensures { result ≡ byte_of self }
+        ensures code { result ≡ byte_of self }
+        ensures basic { IsTrue (is_basic result) }
     {
         match self {
             BasicType::Byte => b'y',
