@@ -1,8 +1,20 @@
 -- What words get that are no row of the command line.
-use Rattle.std.specs.Prelude.{◌≡◌, ◌⊎◌, ℕ, List, []}
+use Rattle.std.specs.Prelude.{◌≡◌, ◌⊎◌, ◌||◌, ℕ, Bool, true, List, [], codes}
+use Rattle.std.specs.List.{list_any}
+use Rattle.std.specs.Str.{bytes_eq}
+use Rattle.std.specs.Borrow.{Bor}
 use Rattle.dbusfan_tool.specs.declared.fault.Fault.TheVariants.{Usage}
 use Rattle.dbusfan_tool.specs.Answer.{Said, failing}
 
--- a text that they ask for, on standard output alone, or that they are no row
-abbrev pub SaysUsage : Said → Type 0
-SaysUsage said = ((text : List ℕ) × (said ≡ record { output = text; error = []; status = 0 })) ⊎ (said ≡ failing Usage)
+-- a word that asks for help or the version
+abbrev pub is_request : List ℕ → Bool
+is_request word =
+    bytes_eq word (codes "--help") || bytes_eq word (codes "-h") || bytes_eq word (codes "help") || bytes_eq word (codes "--version") || bytes_eq word (codes "-V")
+
+-- some word does
+abbrev pub asks_for_text : List (Bor (List ℕ)) → Bool
+asks_for_text words = list_any (λ (word : Bor (List ℕ)). is_request word.now) words
+
+-- a text on standard output alone, where some word asks for one, or that the words are no row
+abbrev pub SaysUsage : List (Bor (List ℕ)) → Said → Type 0
+SaysUsage words said = ((text : List ℕ) × (asks_for_text words ≡ true) × (said ≡ record { output = text; error = []; status = 0 })) ⊎ (said ≡ failing Usage)

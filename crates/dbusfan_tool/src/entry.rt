@@ -31,7 +31,7 @@ pub fn tool<'a, F: Files, O: Write, E: Write>(
         (O.contents out.old.writer) (O.contents out.new.writer)
         (E.contents err.old.writer) (E.contents err.new.writer) result) }
     ensures no_row { ((asked : Asked) → ¬ IsRow asked (texts words.entry.now))
-        → Says SaysUsage (λ said. Tells said out.new.has_failed err.new.has_failed
+        → Says (SaysUsage words.entry.now) (λ said. Tells said out.new.has_failed err.new.has_failed
         (O.contents out.old.writer) (O.contents out.new.writer)
         (E.contents err.old.writer) (E.contents err.new.writer) result) }
 {
@@ -42,7 +42,7 @@ fn answer<'a, F: Files>(alloc: Global, words: &'a [&'a str], files: &F) -> Answe
     ensures row { (asked : Asked) → IsRow asked (texts words.entry.now)
         → Tool (F.may_give files.now) asked (said_by result) ⊎ (said_by result ≡ failing Fault.Memory) }
     ensures no_row { ((asked : Asked) → ¬ IsRow asked (texts words.entry.now))
-        → SaysUsage (said_by result) ⊎ (said_by result ≡ failing Fault.Memory) }
+        → SaysUsage words.entry.now (said_by result) ⊎ (said_by result ≡ failing Fault.Memory) }
 {
     match Row::read(words) {
         Some(Row::Match { rule, file, owns }) => matching::answer(alloc, rule, file, owns, files),

@@ -1,8 +1,8 @@
 // Words that are no row of the command line.
 
-ghost use Rattle.std.specs.Prelude.{◌≡◌, ◌⊎◌};
+ghost use Rattle.std.specs.Prelude.{◌≡◌, ◌⊎◌, ℕ, List, []};
 ghost use Rattle.dbusfan_tool.specs.Answer.{said_by, failing};
-ghost use Rattle.dbusfan_tool.specs.Usage.{SaysUsage};
+ghost use Rattle.dbusfan_tool.specs.Usage.{SaysUsage, asks_for_text, is_request};
 
 use crate::answer::Answer;
 use crate::fault::Fault;
@@ -12,8 +12,11 @@ use std::alloc::{AllocError, Global};
 
 /// Help or the version, where the words ask for it. Else the words are at fault.
 pub(crate) fn answer<'a>(alloc: Global, words: &'a [&'a str]) -> Answer
-    ensures { SaysUsage (said_by result) ⊎ (said_by result ≡ failing Fault.Memory) }
+    ensures { SaysUsage words.entry.now (said_by result) ⊎ (said_by result ≡ failing Fault.Memory) }
 {
+    if !asks_for_text(words) {
+        return Answer::Fault(Fault::Usage);
+    }
     let Err(error) = parse(alloc, words) else {
         return Answer::Fault(Fault::Usage);
     };
@@ -24,8 +27,20 @@ pub(crate) fn answer<'a>(alloc: Global, words: &'a [&'a str]) -> Answer
     }
 }
 
+fn asks_for_text(words: &[&str]) -> bool
+    ensures { result ≡ asks_for_text words.now }
+{
+    words.iter().any(|word| is_request(word))
+}
+
+fn is_request(word: &str) -> bool
+    ensures { result ≡ is_request word.now }
+{
+    word == "--help" || word == "-h" || word == "help" || word == "--version" || word == "-V"
+}
+
 fn shown(alloc: Global, error: &Error) -> Answer
-    ensures { SaysUsage (said_by result) ⊎ (said_by result ≡ failing Fault.Memory) }
+    ensures { ((text : List ℕ) × (said_by result ≡ record { output = text; error = []; status = 0 })) ⊎ (said_by result ≡ failing Fault.Memory) }
 {
     match error.to_string(alloc) {
         Ok(text) => Answer::Text(text),
