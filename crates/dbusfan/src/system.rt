@@ -4,11 +4,10 @@ ghost use Rattle.std.specs.Prelude.{⊤};
 
 use dbusfan_tool::{FileError, Files};
 use std::alloc::Global;
-use std::fs;
 use std::fs::OpenFile;
-use std::io;
 use std::io::{ErrorKind, Input, Read};
 use std::rt::Runtime;
+use std::{fs, io};
 
 /// The files of the system by their paths, and standard input as `-`.
 #[derive(Drop)]

@@ -32,7 +32,15 @@ fn rules_like_options(rt: HostRuntime) -> Result<(), Fail> {
         "match|--|--|F",
         "match|--owns|--|--help|F",
     ] {
-        assert_says(&rt, rt.alloc(), line, S1.as_bytes(), "", "dbusfan: rule UnknownKey\n", 2)?;
+        assert_says(
+            &rt,
+            rt.alloc(),
+            line,
+            S1.as_bytes(),
+            "",
+            "dbusfan: rule UnknownKey\n",
+            2,
+        )?;
     }
     Ok(())
 }
@@ -63,7 +71,15 @@ fn usage(rt: HostRuntime) -> Result<(), Fail> {
         "run|F|F",
         "serve|--listen|tcp:host=127.0.0.1,port=0",
     ] {
-        assert_says(&rt, rt.alloc(), line, S1.as_bytes(), "", "dbusfan: usage\n", 3)?;
+        assert_says(
+            &rt,
+            rt.alloc(),
+            line,
+            S1.as_bytes(),
+            "",
+            "dbusfan: usage\n",
+            3,
+        )?;
     }
     Ok(())
 }
@@ -71,7 +87,15 @@ fn usage(rt: HostRuntime) -> Result<(), Fail> {
 #[test]
 fn version(rt: HostRuntime) -> Result<(), Fail> {
     for line in ["--version", "-V"] {
-        assert_says(&rt, rt.alloc(), line, S1.as_bytes(), "dbusfan 0.1.0\n", "", 0)?;
+        assert_says(
+            &rt,
+            rt.alloc(),
+            line,
+            S1.as_bytes(),
+            "dbusfan 0.1.0\n",
+            "",
+            0,
+        )?;
     }
     Ok(())
 }
