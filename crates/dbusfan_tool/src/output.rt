@@ -37,6 +37,7 @@ impl<W: Write> Output<W> {
             self.has_failed = true;
         }
     }
+
     /// Writes the line of a fault.
     pub fn put_fault(&mut self, fault: Fault)
         ensures { Puts self.old.has_failed self.new.has_failed (W.contents self.old.writer) (W.contents self.new.writer) (fault_line fault) }
