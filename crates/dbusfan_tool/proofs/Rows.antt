@@ -99,14 +99,14 @@ found (word ∷ words) front before all e =
           let is : word ≡ end_word = (bytes_eq-Decides word end_word).0 same in
           subst (λ (x : List ℕ). Found front before (x ∷ words) all) (sym is) (end_found front words before all (rw same at e))
       | inr no_end ↦ elim (cases_Bool (bytes_eq word owns_word)) [
-          | inl same ↦
-              let is : word ≡ owns_word = (bytes_eq-Decides word owns_word).0 same in
-              subst (λ (x : List ℕ). Found front before (x ∷ words) all) (sym is) (owns_found front words before all (λ front before. found words front before all) (rw (no_end, same) at e))
-          | inr no_owns ↦ elim (cases_Bool (is_option word)) [
-              | inl option ↦ let none : None ≡ Some all = rw (no_end, no_owns, option) at e in absurd (cc)
-              | inr plain ↦ name_found front word words before all plain (λ front before. found words front before all) (rw (no_end, no_owns, plain) at e)
-            ]
+        | inl same ↦
+            let is : word ≡ owns_word = (bytes_eq-Decides word owns_word).0 same in
+            subst (λ (x : List ℕ). Found front before (x ∷ words) all) (sym is) (owns_found front words before all (λ front before. found words front before all) (rw (no_end, same) at e))
+        | inr no_owns ↦ elim (cases_Bool (is_option word)) [
+          | inl option ↦ let none : None ≡ Some all = rw (no_end, no_owns, option) at e in absurd (cc)
+          | inr plain ↦ name_found front word words before all plain (λ front before. found words front before all) (rw (no_end, no_owns, plain) at e)
         ]
+      ]
     ]
 
 -- Two words behind `match` are its row.
@@ -149,16 +149,16 @@ row_of_asked asked command words all found e =
           let is : command ≡ match_word = (bytes_eq-Decides command match_word).0 same in
           subst (λ (x : List ℕ). IsRow asked (x ∷ words)) (sym is) (row_of_found asked words all found (rw same at e))
       | inr no_match ↦ elim (cases_Bool (bytes_eq command asm_word)) [
+        | inl same ↦
+            let is : command ≡ asm_word = (bytes_eq-Decides command asm_word).0 same in
+            subst (λ (x : List ℕ). IsRow asked (x ∷ words)) (sym is) (row_of_one to_asm asm_word asked words all (λ file spells. asm_row spells) found (rw (no_match, same) at e))
+        | inr no_asm ↦ elim (cases_Bool (bytes_eq command check_word)) [
           | inl same ↦
-              let is : command ≡ asm_word = (bytes_eq-Decides command asm_word).0 same in
-              subst (λ (x : List ℕ). IsRow asked (x ∷ words)) (sym is) (row_of_one to_asm asm_word asked words all (λ file spells. asm_row spells) found (rw (no_match, same) at e))
-          | inr no_asm ↦ elim (cases_Bool (bytes_eq command check_word)) [
-              | inl same ↦
-                  let is : command ≡ check_word = (bytes_eq-Decides command check_word).0 same in
-                  subst (λ (x : List ℕ). IsRow asked (x ∷ words)) (sym is) (row_of_one to_check check_word asked words all (λ file spells. check_row spells) found (rw (no_match, no_asm, same) at e))
-              | inr other ↦ let none : None ≡ Some asked = rw (no_match, no_asm, other) at e in absurd (cc)
-            ]
+              let is : command ≡ check_word = (bytes_eq-Decides command check_word).0 same in
+              subst (λ (x : List ℕ). IsRow asked (x ∷ words)) (sym is) (row_of_one to_check check_word asked words all (λ file spells. check_row spells) found (rw (no_match, no_asm, same) at e))
+          | inr other ↦ let none : None ≡ Some asked = rw (no_match, no_asm, other) at e in absurd (cc)
         ]
+      ]
     ]
 
 row_of_gathered : (asked : Asked) (command : List ℕ) (words : Words) (all : Option Gathering) → gathered no_words words ≡ all → option_and_then (asked_of command) all ≡ Some asked → IsRow asked (command ∷ words)

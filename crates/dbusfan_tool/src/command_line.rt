@@ -12,9 +12,13 @@ pub enum Row<'a> {
         owns: bool,
     },
     /// `asm FILE`: the byte form of the program in the file.
-    Asm { file: &'a str },
+    Asm {
+        file: &'a str,
+    },
     /// `check FILE`: is the program in the file accepted?
-    Check { file: &'a str },
+    Check {
+        file: &'a str,
+    },
 }
 
 impl<'a> Row<'a> {

@@ -28,12 +28,12 @@ pub fn tool<'a, F: Files, O: Write, E: Write>(
 ) -> u8
     ensures row { (asked : Asked) → IsRow asked (texts words.entry.now)
         → Says (Tool (F.may_give files.now) asked) (λ said. Tells said out.new.has_failed err.new.has_failed
-            (O.contents out.old.writer) (O.contents out.new.writer)
-            (E.contents err.old.writer) (E.contents err.new.writer) result) }
+        (O.contents out.old.writer) (O.contents out.new.writer)
+        (E.contents err.old.writer) (E.contents err.new.writer) result) }
     ensures no_row { ((asked : Asked) → ¬ IsRow asked (texts words.entry.now))
         → Says SaysUsage (λ said. Tells said out.new.has_failed err.new.has_failed
-            (O.contents out.old.writer) (O.contents out.new.writer)
-            (E.contents err.old.writer) (E.contents err.new.writer) result) }
+        (O.contents out.old.writer) (O.contents out.new.writer)
+        (E.contents err.old.writer) (E.contents err.new.writer) result) }
 {
     answer(alloc, words, files).tell(out, err)
 }

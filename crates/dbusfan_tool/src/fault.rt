@@ -39,11 +39,8 @@ impl Fault {
         ensures { result ≡ fault_status self }
     {
         match self {
-            Fault::Rule(_)
-            | Fault::Message(_)
-            | Fault::Hex
-            | Fault::Code(_)
-            | Fault::Program(_) => 2,
+            Fault::Rule(_) | Fault::Message(_) | Fault::Hex | Fault::Code(_) | Fault::Program(_) =>
+                2,
             Fault::Usage => 3,
             Fault::File => 4,
             Fault::Memory => 5,
