@@ -59,8 +59,16 @@ pub fn assert_says(
     let mut out = Output::new(Vec::new(alloc));
     let mut err = Output::new(Vec::new(alloc));
     let answered = tool(alloc, words.as_slice(), &files, &mut out, &mut err);
-    assert_eq!(rt; out.writer.as_slice(), output.as_bytes(), "on standard output at {line}");
-    assert_eq!(rt; err.writer.as_slice(), error.as_bytes(), "on standard error at {line}");
+    assert_eq!(rt;
+        out.writer.as_slice(),
+        output.as_bytes(),
+        "on standard output at {line}"
+    );
+    assert_eq!(rt;
+        err.writer.as_slice(),
+        error.as_bytes(),
+        "on standard error at {line}"
+    );
     assert_eq!(rt; answered, status, "at {line}");
     Ok(())
 }

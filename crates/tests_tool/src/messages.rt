@@ -4,9 +4,11 @@ use crate::given::assert_says;
 use std::test::Fail;
 
 /// A signal with path `/a`, interface `a.b` and member `c`, without its line's end.
-pub const S1: &str = "6c04000100000000010000002a00000001016f00020000002f610000000000000201730003000000612e62000000000003017300010000006300000000000000";
+pub const S1: &str =
+    "6c04000100000000010000002a00000001016f00020000002f610000000000000201730003000000612e62000000000003017300010000006300000000000000";
 
-const S1_BIG_ENDIAN: &str = "420400010000000000000001 0000002a 01016f00 00000002 2f610000 00000000 02017300 00000003 612e6200 00000000 03017300 00000001 63000000 00000000";
+const S1_BIG_ENDIAN: &str =
+    "420400010000000000000001 0000002a 01016f00 00000002 2f610000 00000000 02017300 00000003 612e6200 00000000 03017300 00000001 63000000 00000000";
 
 #[test]
 fn s1(rt: HostRuntime) -> Result<(), Fail> {
@@ -29,10 +31,26 @@ fn rules_on_s1(rt: HostRuntime) -> Result<(), Fail> {
 #[test]
 fn s1_big_endian(rt: HostRuntime) -> Result<(), Fail> {
     for line in ["match||F", "match|type='signal',member='c'|F"] {
-        assert_says(&rt, rt.alloc(), line, S1_BIG_ENDIAN.as_bytes(), "match\n", "", 0)?;
+        assert_says(
+            &rt,
+            rt.alloc(),
+            line,
+            S1_BIG_ENDIAN.as_bytes(),
+            "match\n",
+            "",
+            0,
+        )?;
     }
     let line = "match|interface='a.c'|F";
-    assert_says(&rt, rt.alloc(), line, S1_BIG_ENDIAN.as_bytes(), "no match\n", "", 1)?;
+    assert_says(
+        &rt,
+        rt.alloc(),
+        line,
+        S1_BIG_ENDIAN.as_bytes(),
+        "no match\n",
+        "",
+        1,
+    )?;
     Ok(())
 }
 
@@ -58,7 +76,15 @@ fn s1_damaged(rt: HostRuntime) -> Result<(), Fail> {
         text.push_str(digits)?;
         text.push_str(S1.get(2 * place + 2..).unwrap_or(""))?;
         let error = format!(in rt.alloc(); "dbusfan: message {name}\n")?;
-        assert_says(&rt, rt.alloc(), "match||F", text.as_bytes(), "", error.as_str(), 2)?;
+        assert_says(
+            &rt,
+            rt.alloc(),
+            "match||F",
+            text.as_bytes(),
+            "",
+            error.as_str(),
+            2,
+        )?;
     }
     Ok(())
 }
@@ -68,9 +94,25 @@ fn s1_damaged(rt: HostRuntime) -> Result<(), Fail> {
 fn s1_of_other_lengths(rt: HostRuntime) -> Result<(), Fail> {
     for len in 0..64 {
         let text = S1.get(..2 * len).unwrap_or("");
-        assert_says(&rt, rt.alloc(), "match||F", text.as_bytes(), "", "dbusfan: message Short\n", 2)?;
+        assert_says(
+            &rt,
+            rt.alloc(),
+            "match||F",
+            text.as_bytes(),
+            "",
+            "dbusfan: message Short\n",
+            2,
+        )?;
     }
     let longer = format!(in rt.alloc(); "{S1}00")?;
-    assert_says(&rt, rt.alloc(), "match||F", longer.as_bytes(), "", "dbusfan: message Trailing\n", 2)?;
+    assert_says(
+        &rt,
+        rt.alloc(),
+        "match||F",
+        longer.as_bytes(),
+        "",
+        "dbusfan: message Trailing\n",
+        2,
+    )?;
     Ok(())
 }

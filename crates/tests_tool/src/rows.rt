@@ -19,6 +19,9 @@ fn rows(rt: HostRuntime) -> Result<(), Fail> {
     ] {
         assert_says(&rt, rt.alloc(), line, S1.as_bytes(), "match\n", "", 0)?;
     }
+    for line in ["check|F", "check|--|F", "check|F|--"] {
+        assert_says(&rt, rt.alloc(), line, b"ret #1", "ok 1\n", "", 0)?;
+    }
     Ok(())
 }
 
@@ -32,7 +35,15 @@ fn rules_like_options(rt: HostRuntime) -> Result<(), Fail> {
         "match|--|--|F",
         "match|--owns|--|--help|F",
     ] {
-        assert_says(&rt, rt.alloc(), line, S1.as_bytes(), "", "dbusfan: rule UnknownKey\n", 2)?;
+        assert_says(
+            &rt,
+            rt.alloc(),
+            line,
+            S1.as_bytes(),
+            "",
+            "dbusfan: rule UnknownKey\n",
+            2,
+        )?;
     }
     Ok(())
 }
@@ -58,12 +69,23 @@ fn usage(rt: HostRuntime) -> Result<(), Fail> {
         "--owns|match||F",
         "--|match||F",
         "compile|member='c'",
-        "asm|F",
-        "check|F",
+        "asm",
+        "asm|F|F",
+        "asm|F|--owns",
+        "check",
+        "check|--edition|F",
         "run|F|F",
         "serve|--listen|tcp:host=127.0.0.1,port=0",
     ] {
-        assert_says(&rt, rt.alloc(), line, S1.as_bytes(), "", "dbusfan: usage\n", 3)?;
+        assert_says(
+            &rt,
+            rt.alloc(),
+            line,
+            S1.as_bytes(),
+            "",
+            "dbusfan: usage\n",
+            3,
+        )?;
     }
     Ok(())
 }
@@ -71,7 +93,15 @@ fn usage(rt: HostRuntime) -> Result<(), Fail> {
 #[test]
 fn version(rt: HostRuntime) -> Result<(), Fail> {
     for line in ["--version", "-V"] {
-        assert_says(&rt, rt.alloc(), line, S1.as_bytes(), "dbusfan 0.1.0\n", "", 0)?;
+        assert_says(
+            &rt,
+            rt.alloc(),
+            line,
+            S1.as_bytes(),
+            "dbusfan 0.1.0\n",
+            "",
+            0,
+        )?;
     }
     Ok(())
 }
@@ -86,6 +116,8 @@ fn help(rt: HostRuntime) -> Result<(), Fail> {
         "match|--help",
         "match|-h",
         "match||F|--help",
+        "asm|--help",
+        "help|check",
     ] {
         assert_helps(&rt, rt.alloc(), line)?;
     }

@@ -28,7 +28,15 @@ fn spellings(rt: HostRuntime) -> Result<(), Fail> {
         apart.push_str(" \t\n\r")?;
     }
     for text in [upper.as_str(), line.as_str(), apart.as_str()] {
-        assert_says(&rt, rt.alloc(), "match|member='c'|F", text.as_bytes(), "match\n", "", 0)?;
+        assert_says(
+            &rt,
+            rt.alloc(),
+            "match|member='c'|F",
+            text.as_bytes(),
+            "match\n",
+            "",
+            0,
+        )?;
     }
     Ok(())
 }
@@ -36,10 +44,26 @@ fn spellings(rt: HostRuntime) -> Result<(), Fail> {
 #[test]
 fn faults(rt: HostRuntime) -> Result<(), Fail> {
     for text in ["6", "6c 0", "6g", "0x6c", "6c,04", "6c\0", "6c\u{c}04", "é"] {
-        assert_says(&rt, rt.alloc(), "match||F", text.as_bytes(), "", "dbusfan: hex\n", 2)?;
+        assert_says(
+            &rt,
+            rt.alloc(),
+            "match||F",
+            text.as_bytes(),
+            "",
+            "dbusfan: hex\n",
+            2,
+        )?;
     }
     for text in ["", " \n"] {
-        assert_says(&rt, rt.alloc(), "match||F", text.as_bytes(), "", "dbusfan: message Short\n", 2)?;
+        assert_says(
+            &rt,
+            rt.alloc(),
+            "match||F",
+            text.as_bytes(),
+            "",
+            "dbusfan: message Short\n",
+            2,
+        )?;
     }
     Ok(())
 }

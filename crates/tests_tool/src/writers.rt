@@ -17,7 +17,13 @@ fn full_output(rt: HostRuntime) {
     ] {
         let mut out = Output::new(Full);
         let mut err = Output::new(Vec::new(rt.alloc()));
-        let answered = tool(rt.alloc(), ["match", rule, "F"].as_slice(), &files, &mut out, &mut err);
+        let answered = tool(
+            rt.alloc(),
+            ["match", rule, "F"].as_slice(),
+            &files,
+            &mut out,
+            &mut err,
+        );
         assert_eq!(rt; err.writer.as_slice(), error.as_bytes());
         assert_eq!(rt; answered, status);
     }
@@ -31,7 +37,13 @@ fn full_error(rt: HostRuntime) {
     };
     let mut out = Output::new(Vec::new(rt.alloc()));
     let mut err = Output::new(Full);
-    let answered = tool(rt.alloc(), ["match", "", "G"].as_slice(), &files, &mut out, &mut err);
+    let answered = tool(
+        rt.alloc(),
+        ["match", "", "G"].as_slice(),
+        &files,
+        &mut out,
+        &mut err,
+    );
     assert!(rt; out.writer.is_empty());
     assert_eq!(rt; answered, 4);
 }
