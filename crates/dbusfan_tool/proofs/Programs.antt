@@ -1,5 +1,5 @@
 -- What the file of a program comes to, from what the steps answer.
-use Rattle.std.proofs.Common.{◌≡◌, ◌≢◌, ◌⊎◌, ℕ, List, Option, Some, Result, Ok, Err, length, refl, sym, ap, subst, inl, inr, ◌∙◌}
+use Rattle.std.proofs.Common.{◌≡◌, ◌⊎◌, ℕ, List, Option, Some, Result, Ok, Err, length, refl, sym, ap, subst, inl, inr, ◌∙◌}
 use Rattle.std.specs.Result.{IsErrAnd, IfErr}
 use Rattle.bpf_code.specs.declared.instruction.Ins.{Ins}
 use Rattle.bpf_code.specs.declared.error.CodeError.{CodeError}

@@ -1,5 +1,5 @@
 -- The reading of a command line reads exactly its rows.
-use Rattle.std.proofs.Common.{◌≡◌, ℕ, ◌+◌, ◌<◌, ◌≤◌, Bool, true, false, ◌||◌, ◌&&◌, List, [], ◌∷◌, ◌++◌, length, Option, Some, None, nat_lt, refl, ap, sym, subst, lit≤, ◌∙◌, ◌⊎◌, inl, inr, arith, append_assoc, append-nil, length-append}
+use Rattle.std.proofs.Common.{◌≡◌, ℕ, ◌+◌, ◌≤◌, Bool, true, false, ◌||◌, ◌&&◌, List, [], ◌∷◌, ◌++◌, length, Option, Some, None, nat_lt, refl, ap, sym, subst, lit≤, ◌∙◌, inl, inr, arith, append_assoc, append-nil, length-append}
 use Rattle.std.specs.Str.{bytes_eq}
 use Rattle.std.specs.Option.{option_and_then, option_map, IfSome}
 use Rattle.dbusfan_tool.specs.declared.command_line.Row.{Row}
@@ -8,7 +8,7 @@ use Rattle.std.proofs.lemmas.Bool.{cases_Bool, false_from_ne_true}
 use Rattle.std.proofs.lemmas.Bool.Decides.{Decides-ltb}
 use Rattle.std.proofs.lemmas.Slice.Eq.{bytes_eq-Decides}
 use Rattle.dbusfan_tool.specs.Row.{match_word, asm_word, check_word, owns_word, end_word, is_option, Spells, nothing, ended, named, owned, Asked, to_match, to_asm, to_check, IsRow, match_row, asm_row, check_row, asked_by}
-use Rattle.dbusfan_tool.specs.RowReading.{Gathering, no_words, with_name, with_owns, with_any, with_word, gathered, match_of, file_of, asked_of, asked_in}
+use Rattle.dbusfan_tool.specs.RowReading.{Gathering, no_words, with_name, with_owns, gathered, match_of, file_of, asked_of, asked_in}
 
 abbrev Words : Type 0
 Words = List (List ℕ)

@@ -2,7 +2,6 @@
 use Rattle.std.specs.Prelude.{ℕ, List, [], ◌∷◌, ◌++◌, codes}
 use Rattle.dbusfan_tool.specs.declared.fault.Fault.{Fault}
 use Rattle.dbusfan_tool.specs.declared.fault.Fault.TheVariants.{Rule, Message, Hex, Code, Program, Usage, File, Memory}
-use Rattle.message_view.specs.declared.fault.MsgError.{MsgError}
 use Rattle.message_view.specs.Fault.{name_of as message_name}
 use Rattle.match_rule.specs.declared.fault.RuleError.{RuleError}
 use Rattle.match_rule.specs.declared.fault.RuleError.TheVariants.{NoMemory}
@@ -10,7 +9,6 @@ use Rattle.match_rule.specs.Fault.{name_of as rule_name}
 use Rattle.bpf_code.specs.declared.error.CodeError.{CodeError}
 use Rattle.bpf_code.specs.declared.error.CodeError.TheVariants as of_code
 use Rattle.bpf_code.specs.Numbers.{code_error_text}
-use Rattle.bpf_verify.specs.declared.error.VerifyError.{VerifyError}
 use Rattle.bpf_verify.specs.Numbers.{verify_error_text}
 use Rattle.dbusfan_tool.specs.declared.files.FileError.{FileError}
 use Rattle.dbusfan_tool.specs.declared.files.FileError.TheVariants as of_file

@@ -1,5 +1,5 @@
 -- What a write does to what a place has been given.
-use Rattle.std.specs.Prelude.{◌≡◌, ℕ, Bool, true, false, List, Option}
+use Rattle.std.specs.Prelude.{◌≡◌, ℕ, Bool, false, List, Option}
 use Rattle.std.specs.Io.KnownBytes.{Appends}
 
 -- Where the place has not failed by then, it had not failed before, and has been given these bytes.

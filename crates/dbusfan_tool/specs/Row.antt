@@ -1,5 +1,5 @@
 -- The rows of the command line, and the words that spell them. A word is its bytes.
-use Rattle.std.specs.Prelude.{◌≡◌, ℕ, ◌<◌, nat_lt, ◌==◌, ◌&&◌, Bool, true, false, List, [], ◌∷◌, length, map, slice_index, codes}
+use Rattle.std.specs.Prelude.{◌≡◌, ℕ, nat_lt, ◌==◌, ◌&&◌, Bool, true, false, List, [], ◌∷◌, length, map, slice_index, codes}
 use Rattle.std.specs.Borrow.{Bor}
 use Rattle.dbusfan_tool.specs.declared.command_line.Row.{Row}
 use Rattle.dbusfan_tool.specs.declared.command_line.Row.TheVariants.{Match, Asm, Check}
