@@ -18,8 +18,8 @@ fn ins_of(bytes: [u8; 8]) -> Ins
     }
 }
 
-/// The eight bytes of an instruction.
-fn bytes_of(ins: &Ins) -> [u8; 8]
+/// The eight bytes of an instruction: code, jt, jf and k, each with its lowest byte first.
+pub fn bytes_of(ins: &Ins) -> [u8; 8]
     ensures { result ≡ ins_bytes ins.now }
 {
     let [code_low, code_high] = ins.code.to_le_bytes();

@@ -1,6 +1,6 @@
 //! Instructions of the classic packet filter: what each code does, and their byte form. What a program
 //! means stands in `specs/`: `Step` and `Ends` for its runs, `WellFormed` for the programs that are accepted.
-//! The layers above use that `Op::of` is the table of codes, and that `decode` and `encode` mean the same list.
+//! The layers above use that `Op::of` is the table of codes, and that `decode` and `encode` mean the same list; what an error is called is `code_error_text`.
 #![tactic(auto)]
 
 mod byte_form;
@@ -8,7 +8,7 @@ mod error;
 mod instruction;
 mod operation;
 
-pub use byte_form::{decode, encode};
+pub use byte_form::{bytes_of, decode, encode};
 pub use error::CodeError;
 pub use instruction::Ins;
 pub use operation::{Arithmetic, Op, Operand, Test, Width};

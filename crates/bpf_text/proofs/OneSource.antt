@@ -1,10 +1,10 @@
 -- A text names at most one program, and then it has no fault.
-use Rattle.std.proofs.Common.{◌≡◌, ℕ, ◌+◌, List, [], ◌∷◌, ◌++◌, length, Option, Some, None, Result, Ok, Err, refl, sym, ap, subst, ◌∙◌, arith, length-append}
+use Rattle.std.proofs.Common.{◌≡◌, ℕ, List, [], ◌∷◌, ◌++◌, Option, Some, None, Result, Ok, Err, refl, sym, ap, ◌∙◌}
 use Rattle.bpf_code.specs.declared.instruction.Ins.{Ins}
 use Rattle.bpf_code.specs.declared.error.CodeError.{CodeError}
 use Rattle.bpf_code.specs.declared.error.CodeError.TheVariants as errors
 use Rattle.bpf_text.specs.Rows.{Row, statement_of}
-use Rattle.bpf_text.specs.Source.{label_at, Begins, IsLine, Line, AreLines, lines_of, program_of, SourceText, IsBadLine, IsTextFault}
+use Rattle.bpf_text.specs.Source.{label_at, Begins, IsLine, Line, AreLines, lines_of, program_of, SourceText, IsTextFault}
 use Rattle.bpf_text.proofs.Statements.{labels_complete, statement_complete, statement_no_label}
 
 some_one : {T : Type 0} (o : Option T) (x y : T) → o ≡ Some x → o ≡ Some y → x ≡ y

@@ -32,12 +32,21 @@ pub fn assemble(alloc: Global, text: &str) -> Result<Vec<Ins>, CodeError>
     ensures found { IfOk result (λ program. SourceText text.now program.items) }
     ensures fault { IfErr result (IsTextFault text.now) }
 {
+    assemble_bytes(alloc, text.as_bytes())
+}
+
+/// The program that bytes name as a text, which need not be UTF-8: a line with a byte that isn't ASCII isn't
+/// of the form. Its errors are those of `assemble`.
+pub fn assemble_bytes(alloc: Global, text: &[u8]) -> Result<Vec<Ins>, CodeError>
+    ensures found { IfOk result (λ program. SourceText text.now program.items) }
+    ensures fault { IfErr result (IsTextFault text.now) }
+{
     let mut draft = Draft {
         labels: Vec::new(alloc),
         lines: Vec::new(alloc),
         count: 0,
     };
-    let mut rest = text.as_bytes();
+    let mut rest = text;
     let mut number = 1;
     'lines: loop {
         let (line, behind) = split_line(rest);

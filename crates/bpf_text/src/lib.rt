@@ -1,5 +1,5 @@
-//! Programs of the packet filter as text, one instruction a line. The layers above use that `assemble` is
-//! `SourceText`, else the first fault, and that `print` gives the text `text_of`, else the lowest fault.
+//! Programs of the packet filter as text, one instruction a line. The layers above use that `assemble` and
+//! `assemble_bytes` are `SourceText`, else the first fault, and that `print` gives the text `text_of`, else the lowest fault.
 #![tactic(auto)]
 
 mod assembler;
@@ -13,5 +13,5 @@ mod resolve;
 mod row;
 mod spelling;
 
-pub use assembler::{assemble, one_source};
+pub use assembler::{assemble, assemble_bytes, one_source};
 pub use printer::print;

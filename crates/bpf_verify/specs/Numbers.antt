@@ -1,5 +1,6 @@
--- The numbers of the faults.
-use Rattle.std.specs.Prelude.{ℕ}
+-- The numbers and the names of the faults.
+use Rattle.std.specs.Prelude.{ℕ, List, Option, Some, None, codes}
+use Rattle.bpf_code.specs.Numbers.{text_at}
 use Rattle.bpf_verify.specs.declared.error.VerifyError.{VerifyError}
 use Rattle.bpf_verify.specs.declared.error.VerifyError.TheVariants.{Empty, TooMany, Code, ZeroDivisor, Shift, Scratch, Jump, Last, Unset, Ancillary, NoMemory}
 
@@ -16,3 +17,33 @@ verify_error_number (Last place) = 8
 verify_error_number (Unset place) = 9
 verify_error_number (Ancillary place) = 10
 verify_error_number NoMemory = 11
+
+abbrev pub verify_error_name : VerifyError → List ℕ
+verify_error_name Empty = codes "Empty"
+verify_error_name TooMany = codes "TooMany"
+verify_error_name (Code place) = codes "Code"
+verify_error_name (ZeroDivisor place) = codes "ZeroDivisor"
+verify_error_name (Shift place) = codes "Shift"
+verify_error_name (Scratch place) = codes "Scratch"
+verify_error_name (Jump place) = codes "Jump"
+verify_error_name (Last place) = codes "Last"
+verify_error_name (Unset place) = codes "Unset"
+verify_error_name (Ancillary place) = codes "Ancillary"
+verify_error_name NoMemory = codes "NoMemory"
+
+-- the place of the instruction that is at fault
+abbrev pub verify_error_place : VerifyError → Option ℕ
+verify_error_place Empty = None
+verify_error_place TooMany = None
+verify_error_place (Code place) = Some place
+verify_error_place (ZeroDivisor place) = Some place
+verify_error_place (Shift place) = Some place
+verify_error_place (Scratch place) = Some place
+verify_error_place (Jump place) = Some place
+verify_error_place (Last place) = Some place
+verify_error_place (Unset place) = Some place
+verify_error_place (Ancillary place) = Some place
+verify_error_place NoMemory = None
+
+abbrev pub verify_error_text : VerifyError → List ℕ
+verify_error_text error = text_at (verify_error_name error) (verify_error_place error)

@@ -1,5 +1,7 @@
-ghost use Rattle.std.specs.Prelude.{◌≡◌};
-ghost use Rattle.bpf_verify.specs.Numbers.{verify_error_number};
+ghost use Rattle.std.specs.Prelude.{◌≡◌, Some};
+ghost use Rattle.bpf_verify.specs.Numbers.{verify_error_number, verify_error_name, verify_error_place, verify_error_text};
+
+use std::fmt;
 
 /// Why a program is refused, with the place of the instruction, from 0.
 #[derive(Clone, Copy, Debug, PartialEq, Eq)]
@@ -45,6 +47,55 @@ impl VerifyError {
             VerifyError::Unset(_) => 9,
             VerifyError::Ancillary(_) => 10,
             VerifyError::NoMemory => 11,
+        }
+    }
+
+    /// The error's name.
+    pub fn name(self) -> &'static str
+        ensures { result.now ≡ verify_error_name self }
+    {
+        match self {
+            VerifyError::Empty => "Empty",
+            VerifyError::TooMany => "TooMany",
+            VerifyError::Code(_) => "Code",
+            VerifyError::ZeroDivisor(_) => "ZeroDivisor",
+            VerifyError::Shift(_) => "Shift",
+            VerifyError::Scratch(_) => "Scratch",
+            VerifyError::Jump(_) => "Jump",
+            VerifyError::Last(_) => "Last",
+            VerifyError::Unset(_) => "Unset",
+            VerifyError::Ancillary(_) => "Ancillary",
+            VerifyError::NoMemory => "NoMemory",
+        }
+    }
+
+    /// The place of the instruction that is at fault, where the error has one.
+    pub fn place(self) -> Option<usize>
+        ensures { result ≡ verify_error_place self }
+    {
+        match self {
+            VerifyError::Code(place)
+            | VerifyError::ZeroDivisor(place)
+            | VerifyError::Shift(place)
+            | VerifyError::Scratch(place)
+            | VerifyError::Jump(place)
+            | VerifyError::Last(place)
+            | VerifyError::Unset(place)
+            | VerifyError::Ancillary(place) => Some(place),
+            VerifyError::Empty | VerifyError::TooMany | VerifyError::NoMemory => None,
+        }
+    }
+}
+
+/// Its name, and ` at ` with its place where it has one.
+impl fmt::Display for VerifyError {
+    ghost output = { λ error. Some (verify_error_text error) };
+
+    fn fmt<W: fmt::Write>(&self, f: &mut fmt::Formatter<W>) -> fmt::Result {
+        let name = self.name();
+        match self.place() {
+            Some(place) => write!(f, "{name} at {place}"),
+            None => f.write_str(name),
         }
     }
 }

@@ -7,8 +7,8 @@ use Rattle.std.proofs.Math.Bool.{or-false}
 use Rattle.std.proofs.lemmas.Bool.{cases_Bool, false_from_ne_true}
 use Rattle.std.proofs.lemmas.Bool.Decides.{Decides-ltb}
 use Rattle.std.proofs.lemmas.Slice.Eq.{bytes_eq-Decides}
-use Rattle.dbusfan_tool.specs.Row.{match_word, owns_word, end_word, is_option, Spells, nothing, ended, named, owned, Asked, to_match, IsRow, match_row, asked_by}
-use Rattle.dbusfan_tool.specs.RowReading.{Gathering, no_words, with_name, with_owns, gathered, match_of, asked_in}
+use Rattle.dbusfan_tool.specs.Row.{match_word, asm_word, check_word, owns_word, end_word, is_option, Spells, nothing, ended, named, owned, Asked, to_match, to_asm, to_check, IsRow, match_row, asm_row, check_row, asked_by}
+use Rattle.dbusfan_tool.specs.RowReading.{Gathering, no_words, with_name, with_owns, gathered, match_of, file_of, asked_of, asked_in}
 
 abbrev Words : Type 0
 Words = List (List ℕ)
@@ -122,24 +122,63 @@ row_of_found : (asked : Asked) (words : Words) (all : Gathering) → Found [] fa
 row_of_found asked words all found e =
     row_of_names asked found.names words found.owns found.spells (rw (found.all_names, found.all_owns) at e)
 
-row_of_gathered : (asked : Asked) (words : Words) (all : Option Gathering) → gathered no_words words ≡ all → option_and_then (λ all. match_of all.names all.owns) all ≡ Some asked → IsRow asked (match_word ∷ words)
-row_of_gathered asked words None is e = absurd (cc)
-row_of_gathered asked words (Some all) is e = row_of_found asked words all (found words [] false all is) e
+-- One word behind `asm` or `check` is its row.
+file_of_names : (file : List ℕ) (names words : Words) (owns : Bool) → Spells owns names words → file_of names owns ≡ Some file → Spells false (file ∷ []) words
+file_of_names file [] words owns spells e = absurd (cc)
+file_of_names file (name ∷ []) words true spells e = absurd (cc)
+file_of_names file (name ∷ []) words false spells e =
+    let is : name ≡ file = cc in
+    subst (λ (x : List ℕ). Spells false (x ∷ []) words) is spells
+file_of_names file (name ∷ other ∷ names) words owns spells e = absurd (cc)
+
+row_of_file : (make : List ℕ → Asked) (command : List ℕ) (asked : Asked) (names words : Words) (owns : Bool) (file : Option (List ℕ)) → ((file : List ℕ) → Spells false (file ∷ []) words → IsRow (make file) (command ∷ words)) → Spells owns names words → file_of names owns ≡ file → option_map make file ≡ Some asked → IsRow asked (command ∷ words)
+row_of_file make command asked names words owns None row spells is e = absurd (cc)
+row_of_file make command asked names words owns (Some file) row spells is e =
+    let made : make file ≡ asked = cc in
+    subst (λ (x : Asked). IsRow x (command ∷ words)) made (row file (file_of_names file names words owns spells is))
+
+row_of_one : (make : List ℕ → Asked) (command : List ℕ) (asked : Asked) (words : Words) (all : Gathering) → ((file : List ℕ) → Spells false (file ∷ []) words → IsRow (make file) (command ∷ words)) → Found [] false words all → option_map make (file_of all.names all.owns) ≡ Some asked → IsRow asked (command ∷ words)
+row_of_one make command asked words all row found e =
+    row_of_file make command asked found.names words found.owns (file_of found.names found.owns) row found.spells refl (rw (found.all_names, found.all_owns) at e)
+
+-- What is asked behind a command is its row.
+row_of_asked : (asked : Asked) (command : List ℕ) (words : Words) (all : Gathering) → Found [] false words all → asked_of command all ≡ Some asked → IsRow asked (command ∷ words)
+row_of_asked asked command words all found e =
+    elim (cases_Bool (bytes_eq command match_word)) [
+      | inl same ↦
+          let is : command ≡ match_word = (bytes_eq-Decides command match_word).0 same in
+          subst (λ (x : List ℕ). IsRow asked (x ∷ words)) (sym is) (row_of_found asked words all found (rw same at e))
+      | inr no_match ↦ elim (cases_Bool (bytes_eq command asm_word)) [
+        | inl same ↦
+            let is : command ≡ asm_word = (bytes_eq-Decides command asm_word).0 same in
+            subst (λ (x : List ℕ). IsRow asked (x ∷ words)) (sym is) (row_of_one to_asm asm_word asked words all (λ file spells. asm_row spells) found (rw (no_match, same) at e))
+        | inr no_asm ↦ elim (cases_Bool (bytes_eq command check_word)) [
+          | inl same ↦
+              let is : command ≡ check_word = (bytes_eq-Decides command check_word).0 same in
+              subst (λ (x : List ℕ). IsRow asked (x ∷ words)) (sym is) (row_of_one to_check check_word asked words all (λ file spells. check_row spells) found (rw (no_match, no_asm, same) at e))
+          | inr other ↦ let none : None ≡ Some asked = rw (no_match, no_asm, other) at e in absurd (cc)
+        ]
+      ]
+    ]
+
+row_of_gathered : (asked : Asked) (command : List ℕ) (words : Words) (all : Option Gathering) → gathered no_words words ≡ all → option_and_then (asked_of command) all ≡ Some asked → IsRow asked (command ∷ words)
+row_of_gathered asked command words None is e = absurd (cc)
+row_of_gathered asked command words (Some all) is e = row_of_asked asked command words all (found words [] false all is) e
 
 -- What is read is a row.
 pub row_of_read : (asked : Asked) (words : Words) → asked_in words ≡ Some asked → IsRow asked words
 row_of_read asked [] e = absurd (cc)
-row_of_read asked (word ∷ words) e =
-    elim (cases_Bool (bytes_eq word match_word)) [
-      | inl same ↦
-          let is : word ≡ match_word = (bytes_eq-Decides word match_word).0 same in
-          subst (λ (x : List ℕ). IsRow asked (x ∷ words)) (sym is) (row_of_gathered asked words (gathered no_words words) refl (rw same at e))
-      | inr other ↦ let none : None ≡ Some asked = rw other at e in absurd (cc)
-    ]
+row_of_read asked (word ∷ words) e = row_of_gathered asked word words (gathered no_words words) refl e
 
 -- A row is read.
 pub read_of_row : (asked : Asked) (words : Words) → IsRow asked words → asked_in words ≡ Some asked
 read_of_row asked words (match_row {words = behind} spells) =
+    let read = spelled spells [] false (lit≤ tt) refl in
+    rw read.1 refl
+read_of_row asked words (asm_row {words = behind} spells) =
+    let read = spelled spells [] false (lit≤ tt) refl in
+    rw read.1 refl
+read_of_row asked words (check_row {words = behind} spells) =
     let read = spelled spells [] false (lit≤ tt) refl in
     rw read.1 refl
 

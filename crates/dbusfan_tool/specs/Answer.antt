@@ -1,9 +1,11 @@
 -- What a command has to say, and how it is said.
-use Rattle.std.specs.Prelude.{◌≡◌, ℕ, Bool, true, false, List, [], ◌++◌, codes, Option, Result, Ok, Err, string_bytes}
+use Rattle.std.specs.Prelude.{◌≡◌, ℕ, Bool, true, false, List, [], ◌++◌, codes, decimal, Option, Result, Ok, Err, string_bytes}
 use Rattle.std.specs.Io.KnownBytes.{Appends}
+use Rattle.bpf_code.specs.declared.instruction.Ins.{Ins}
 use Rattle.dbusfan_tool.specs.declared.fault.Fault.{Fault}
 use Rattle.dbusfan_tool.specs.declared.fault.Fault.TheVariants.{File}
 use Rattle.dbusfan_tool.specs.Fault.{line_end, fault_line, fault_status}
+use Rattle.dbusfan_tool.specs.Listing.{listing_of}
 use Rattle.dbusfan_tool.specs.declared.answer.Answer.{Answer}
 use Rattle.dbusfan_tool.specs.declared.answer.Answer.TheVariants.{Verdict, Text, Fault as Fails}
 
@@ -21,15 +23,27 @@ abbrev pub said_of_match : Bool → Said
 said_of_match true = record { output = codes "match" ++ line_end; error = []; status = 0 }
 said_of_match false = record { output = codes "no match" ++ line_end; error = []; status = 1 }
 
+-- a text on standard output
+abbrev pub saying : List ℕ → Said
+saying text = record { output = text; error = []; status = 0 }
+
+-- the byte form of a program
+abbrev pub said_of_asm : List Ins → Said
+said_of_asm program = saying (listing_of program)
+
+-- how many instructions a program has that is accepted
+abbrev pub said_of_check : ℕ → Said
+said_of_check count = saying (codes "ok " ++ decimal count ++ line_end)
+
 -- how what was found is said
-abbrev pub said_of : Result Bool Fault → Said
-said_of (Ok matches) = said_of_match matches
-said_of (Err fault) = failing fault
+abbrev pub said_of : {A : Type 0} → (A → Said) → Result A Fault → Said
+said_of say (Ok found) = say found
+said_of say (Err fault) = failing fault
 
 -- how an answer is said
 abbrev pub said_by : Answer → Said
 said_by (Verdict matches) = said_of_match matches
-said_by (Text text) = record { output = string_bytes text; error = []; status = 0 }
+said_by (Text text) = saying (string_bytes text)
 said_by (Fails fault) = failing fault
 
 -- What is said has been written, where `out` and `err` did not fail; where `out` failed, that is the fault.

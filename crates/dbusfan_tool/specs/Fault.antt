@@ -1,11 +1,15 @@
 -- How a fault is named.
 use Rattle.std.specs.Prelude.{ℕ, List, [], ◌∷◌, ◌++◌, codes}
 use Rattle.dbusfan_tool.specs.declared.fault.Fault.{Fault}
-use Rattle.dbusfan_tool.specs.declared.fault.Fault.TheVariants.{Rule, Message, Hex, Usage, File, Memory}
+use Rattle.dbusfan_tool.specs.declared.fault.Fault.TheVariants.{Rule, Message, Hex, Code, Program, Usage, File, Memory}
 use Rattle.message_view.specs.Fault.{name_of as message_name}
 use Rattle.match_rule.specs.declared.fault.RuleError.{RuleError}
 use Rattle.match_rule.specs.declared.fault.RuleError.TheVariants.{NoMemory}
 use Rattle.match_rule.specs.Fault.{name_of as rule_name}
+use Rattle.bpf_code.specs.declared.error.CodeError.{CodeError}
+use Rattle.bpf_code.specs.declared.error.CodeError.TheVariants as of_code
+use Rattle.bpf_code.specs.Numbers.{code_error_text}
+use Rattle.bpf_verify.specs.Numbers.{verify_error_text}
 use Rattle.dbusfan_tool.specs.declared.files.FileError.{FileError}
 use Rattle.dbusfan_tool.specs.declared.files.FileError.TheVariants as of_file
 use Rattle.dbusfan_tool.specs.declared.hex_text.HexError.{HexError}
@@ -15,11 +19,13 @@ use Rattle.dbusfan_tool.specs.declared.hex_text.HexError.TheVariants as of_hex
 abbrev pub line_end : List ℕ
 line_end = 10 ∷ []
 
--- the word that is at fault, and the name of what is wrong with it, where there is one
+-- the word that is at fault, and the name of what is wrong with it, with its line or place, where there is one
 abbrev pub fault_text : Fault → List ℕ
 fault_text (Rule fault) = codes "rule " ++ rule_name fault
 fault_text (Message fault) = codes "message " ++ message_name fault
 fault_text Hex = codes "hex"
+fault_text (Code fault) = codes "code " ++ code_error_text fault
+fault_text (Program fault) = codes "program " ++ verify_error_text fault
 fault_text Usage = codes "usage"
 fault_text File = codes "file"
 fault_text Memory = codes "memory"
@@ -32,6 +38,8 @@ abbrev pub fault_status : Fault → ℕ
 fault_status (Rule fault) = 2
 fault_status (Message fault) = 2
 fault_status Hex = 2
+fault_status (Code fault) = 2
+fault_status (Program fault) = 2
 fault_status Usage = 3
 fault_status File = 4
 fault_status Memory = 5
@@ -40,6 +48,11 @@ fault_status Memory = 5
 abbrev pub fault_of_rule : RuleError → Fault
 fault_of_rule NoMemory = Memory
 fault_of_rule fault = Rule fault
+
+-- what it means for a command that a text names no program
+abbrev pub fault_of_code : CodeError → Fault
+fault_of_code of_code.NoMemory = Memory
+fault_of_code fault = Code fault
 
 -- what it means for a command that a file gave no bytes
 abbrev pub fault_of_file : FileError → Fault

@@ -5,6 +5,8 @@ pub mod HexText
 pub mod Files
 pub mod Output
 pub mod Fault
+pub mod Listing
+pub mod Program
 pub mod Answer
 pub mod Usage
 pub mod Tool

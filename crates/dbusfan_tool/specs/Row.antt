@@ -2,7 +2,7 @@
 use Rattle.std.specs.Prelude.{◌≡◌, ℕ, nat_lt, ◌==◌, ◌&&◌, Bool, true, false, List, [], ◌∷◌, length, map, slice_index, codes}
 use Rattle.std.specs.Borrow.{Bor}
 use Rattle.dbusfan_tool.specs.declared.command_line.Row.{Row}
-use Rattle.dbusfan_tool.specs.declared.command_line.Row.TheVariants.{Match}
+use Rattle.dbusfan_tool.specs.declared.command_line.Row.TheVariants.{Match, Asm, Check}
 
 -- what words are
 abbrev pub texts : List (Bor (List ℕ)) → List (List ℕ)
@@ -11,6 +11,14 @@ texts words = map (λ (word : Bor (List ℕ)). word.now) words
 -- `match`
 abbrev pub match_word : List ℕ
 match_word = codes "match"
+
+-- `asm`
+abbrev pub asm_word : List ℕ
+asm_word = codes "asm"
+
+-- `check`
+abbrev pub check_word : List ℕ
+check_word = codes "check"
 
 -- `--owns`: the sender owns the rule's well-known name
 abbrev pub owns_word : List ℕ
@@ -35,11 +43,17 @@ pub data Spells : Bool → List (List ℕ) → List (List ℕ) → Type 0 where
 -- what a row of the command line asks for
 pub data Asked : Type 0 where
   to_match : (rule file : List ℕ) (owns : Bool) → Asked
+  to_asm : (file : List ℕ) → Asked
+  to_check : (file : List ℕ) → Asked
 
--- `match RULE FILE [--owns]`
+-- `match RULE FILE [--owns]`, `asm FILE`, `check FILE`
 pub data IsRow : Asked → List (List ℕ) → Type 0 where
   match_row : {rule file : List ℕ} {owns : Bool} {words : List (List ℕ)} → Spells owns (rule ∷ file ∷ []) words → IsRow (to_match rule file owns) (match_word ∷ words)
+  asm_row : {file : List ℕ} {words : List (List ℕ)} → Spells false (file ∷ []) words → IsRow (to_asm file) (asm_word ∷ words)
+  check_row : {file : List ℕ} {words : List (List ℕ)} → Spells false (file ∷ []) words → IsRow (to_check file) (check_word ∷ words)
 
 -- a row of the code as what it asks for
 abbrev pub asked_by : Row → Asked
 asked_by (Match rule file owns) = to_match rule.now file.now owns
+asked_by (Asm file) = to_asm file.now
+asked_by (Check file) = to_check file.now

@@ -1,7 +1,8 @@
 -- Reading the words of a command line from left to right.
 use Rattle.std.specs.Prelude.{ℕ, nat_lt, Bool, true, false, List, [], ◌∷◌, ◌++◌, length, Option, Some, None, option_and_then, if◌then◌else◌}
+use Rattle.std.specs.Option.{option_map}
 use Rattle.std.specs.Str.{bytes_eq}
-use Rattle.dbusfan_tool.specs.Row.{match_word, owns_word, end_word, is_option, Asked, to_match}
+use Rattle.dbusfan_tool.specs.Row.{match_word, asm_word, check_word, owns_word, end_word, is_option, Asked, to_match, to_asm, to_check}
 
 -- What has been read so far: at most two words that are no options, `--owns`, and `--`.
 pub record Gathering : Type 0 where
@@ -42,8 +43,20 @@ abbrev pub match_of : List (List ℕ) → Bool → Option Asked
 match_of (rule ∷ file ∷ []) owns = Some (to_match rule file owns)
 match_of _ owns = None
 
+-- the file that one word names
+abbrev pub file_of : List (List ℕ) → Bool → Option (List ℕ)
+file_of (file ∷ []) false = Some file
+file_of _ owns = None
+
+-- what a command and what is gathered behind it ask for
+abbrev pub asked_of : List ℕ → Gathering → Option Asked
+asked_of command all =
+    if bytes_eq command match_word then match_of all.names all.owns
+    else if bytes_eq command asm_word then option_map to_asm (file_of all.names all.owns)
+    else if bytes_eq command check_word then option_map to_check (file_of all.names all.owns)
+    else None
+
 -- what some words ask for, if they are a row
 abbrev pub asked_in : List (List ℕ) → Option Asked
 asked_in [] = None
-asked_in (word ∷ words) =
-    if bytes_eq word match_word then option_and_then (λ all. match_of all.names all.owns) (gathered no_words words) else None
+asked_in (word ∷ words) = option_and_then (asked_of word) (gathered no_words words)

@@ -12,8 +12,10 @@ use Rattle.match_rule.specs.Grammar.{ReadsAs}
 use Rattle.match_rule.specs.Reading.{rule_at}
 use Rattle.match_rule.specs.Holds.{Holds}
 use Rattle.dbusfan_tool.specs.HexText.{bytes_of_hex}
-use Rattle.dbusfan_tool.specs.Row.{Asked, to_match}
-use Rattle.dbusfan_tool.specs.Answer.{Said, said_of, failing}
+use Rattle.bpf_code.specs.declared.instruction.Ins.{Ins}
+use Rattle.dbusfan_tool.specs.Program.{Assembles, Checks}
+use Rattle.dbusfan_tool.specs.Row.{Asked, to_match, to_asm, to_check}
+use Rattle.dbusfan_tool.specs.Answer.{Said, said_of, said_of_match, said_of_asm, said_of_check, failing}
 
 -- What `match` finds for a rule's text, what its file may give, and whether the sender owns the rule's name.
 -- The rule's fault comes before those of the file: that it can't be read, that it is no hexadecimal text, and
@@ -27,7 +29,9 @@ pub data Judges (rule : List ℕ) (may_give : Option (List ℕ) → Type 0) (own
 
 -- what is said to a row, where a file of a name may give these bytes, or nothing
 abbrev pub Tool : (List ℕ → Option (List ℕ) → Type 0) → Asked → Said → Type 0
-Tool may_give (to_match rule file owns) said = (found : Result Bool Fault) × Judges rule (may_give file) owns found × (said ≡ said_of found)
+Tool may_give (to_match rule file owns) said = (found : Result Bool Fault) × Judges rule (may_give file) owns found × (said ≡ said_of said_of_match found)
+Tool may_give (to_asm file) said = (found : Result (List Ins) Fault) × Assembles (may_give file) found × (said ≡ said_of said_of_asm found)
+Tool may_give (to_check file) said = (found : Result ℕ Fault) × Checks (may_give file) found × (said ≡ said_of said_of_check found)
 
 -- what the words allow is said, or that memory was short
 abbrev pub Says : (Said → Type 0) → (Said → Type 0) → Type 0

@@ -11,6 +11,14 @@ pub(crate) enum Row<'a> {
         file: &'a str,
         owns: bool,
     },
+    /// `asm FILE`: the byte form of the program in the file.
+    Asm {
+        file: &'a str,
+    },
+    /// `check FILE`: is the program in the file accepted?
+    Check {
+        file: &'a str,
+    },
 }
 
 impl<'a> Row<'a> {
@@ -31,9 +39,16 @@ impl<'a> Row<'a> {
         ensures { option_map asked_by result ≡ asked_in (texts words.now) }
     {
         let (command, words) = words.split_first()?;
-        if *command != "match" {
-            return None;
+        let gathered = Gathered::read(words)?;
+        match *command {
+            "match" => gathered.to_match(),
+            "asm" => Some(Row::Asm {
+                file: gathered.to_file()?,
+            }),
+            "check" => Some(Row::Check {
+                file: gathered.to_file()?,
+            }),
+            _ => None,
         }
-        Gathered::read(words)?.to_match()
     }
 }

@@ -11,7 +11,7 @@ use crate::command_line::Row;
 use crate::fault::Fault;
 use crate::files::Files;
 use crate::output::Output;
-use crate::{matching, usage};
+use crate::{assembling, checking, matching, usage};
 use std::alloc::Global;
 use std::io::Write;
 
@@ -46,6 +46,8 @@ fn answer<'a, F: Files>(alloc: Global, words: &'a [&'a str], files: &F) -> Answe
 {
     match Row::read(words) {
         Some(Row::Match { rule, file, owns }) => matching::answer(alloc, rule, file, owns, files),
+        Some(Row::Asm { file }) => assembling::answer(alloc, file, files),
+        Some(Row::Check { file }) => checking::answer(alloc, file, files),
         None => usage::answer(alloc, words),
     }
 }

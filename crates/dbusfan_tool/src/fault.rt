@@ -1,13 +1,16 @@
 // What a command line is refused for.
 
 ghost use Rattle.std.specs.Prelude.{◌≡◌, Some};
-ghost use Rattle.dbusfan_tool.specs.Fault.{fault_text, fault_status, fault_of_rule, fault_of_file, fault_of_hex};
-ghost use Rattle.dbusfan_tool.specs.declared.fault.Fault.TheVariants.{Message};
+ghost use Rattle.dbusfan_tool.specs.Fault.{fault_text, fault_status, fault_of_rule, fault_of_code, fault_of_file, fault_of_hex};
+ghost use Rattle.dbusfan_tool.specs.declared.fault.Fault.TheVariants.{Memory, Message};
 
 use crate::files::FileError;
 use crate::hex_text::HexError;
+use bpf_code::CodeError;
+use bpf_verify::VerifyError;
 use match_rule::RuleError;
 use message_view::MsgError;
+use std::alloc::AllocError;
 use std::fmt;
 
 /// What a command line is refused for.
@@ -19,6 +22,10 @@ pub enum Fault {
     Message(MsgError),
     /// The text of the message's file is no hexadecimal text.
     Hex,
+    /// The text of the program's file names no program.
+    Code(CodeError),
+    /// The program is refused.
+    Program(VerifyError),
     /// The words are no row of the command line.
     Usage,
     /// A file can't be read, or standard output can't be written.
@@ -32,7 +39,8 @@ impl Fault {
         ensures { result ≡ fault_status self }
     {
         match self {
-            Fault::Rule(_) | Fault::Message(_) | Fault::Hex => 2,
+            Fault::Rule(_) | Fault::Message(_) | Fault::Hex | Fault::Code(_) | Fault::Program(_) =>
+                2,
             Fault::Usage => 3,
             Fault::File => 4,
             Fault::Memory => 5,
@@ -48,6 +56,8 @@ impl fmt::Display for Fault {
             Fault::Rule(fault) => write!(f, "rule {fault}"),
             Fault::Message(fault) => write!(f, "message {fault}"),
             Fault::Hex => f.write_str("hex"),
+            Fault::Code(fault) => write!(f, "code {fault}"),
+            Fault::Program(fault) => write!(f, "program {fault}"),
             Fault::Usage => f.write_str("usage"),
             Fault::File => f.write_str("file"),
             Fault::Memory => f.write_str("memory"),
@@ -71,6 +81,25 @@ impl From<MsgError> for Fault {
 
     fn from(error: MsgError) -> Fault {
         Fault::Message(error)
+    }
+}
+
+impl From<CodeError> for Fault {
+    ghost from_gives = { λ error fault. fault ≡ fault_of_code error };
+
+    fn from(error: CodeError) -> Fault {
+        match error {
+            CodeError::NoMemory => Fault::Memory,
+            fault => Fault::Code(fault),
+        }
+    }
+}
+
+impl From<AllocError> for Fault {
+    ghost from_gives = { λ _ fault. fault ≡ Memory };
+
+    fn from(_refused: AllocError) -> Fault {
+        Fault::Memory
     }
 }
 

@@ -24,7 +24,7 @@ impl<'a> Gathered<'a> {
     ghost use Rattle.std.specs.Prelude.{◌≡◌, map};
     ghost use Rattle.std.specs.Option.{option_map};
     ghost use Rattle.dbusfan_tool.specs.Row.{asked_by};
-    ghost use Rattle.dbusfan_tool.specs.RowReading.{no_words, with_name, with_owns, with_any, with_word, gathered, match_of};
+    ghost use Rattle.dbusfan_tool.specs.RowReading.{no_words, with_name, with_owns, with_any, with_word, gathered, match_of, file_of};
     ghost use Rattle.dbusfan_tool.specs.Gathered.{names_of, gathering_of};
 
     fn nothing() -> Gathered<'a>
@@ -95,6 +95,16 @@ impl<'a> Gathered<'a> {
                 file,
                 owns: self.owns,
             }),
+            _ => None,
+        }
+    }
+
+    /// The file that these words name, if they are one word and no option.
+    pub(crate) fn to_file(self) -> Option<&'a str>
+        ensures { option_map (λ file. file.now) result ≡ file_of (names_of self.entry.names) self.entry.owns }
+    {
+        match self.names {
+            Names::One(file) if !self.owns => Some(file),
             _ => None,
         }
     }

@@ -3,6 +3,8 @@
 #![tactic(auto)]
 
 mod answer;
+mod assembling;
+mod checking;
 mod command_line;
 mod entry;
 mod fault;
@@ -11,6 +13,7 @@ mod gathered;
 mod hex_text;
 mod matching;
 mod output;
+mod program;
 mod usage;
 
 pub use entry::tool;

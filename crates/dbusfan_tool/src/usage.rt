@@ -62,7 +62,9 @@ fn dbusfan<'a>(alloc: Global) -> Result<Command<'a>, AllocError> {
         .no_binary_name(true)
         .bin_name("dbusfan")?
         .subcommand_required(true)
-        .subcommand(matching(alloc)?)
+        .subcommand(matching(alloc)?)?
+        .subcommand(assembling(alloc)?)?
+        .subcommand(checking(alloc)?)
 }
 
 fn matching<'a>(alloc: Global) -> Result<Command<'a>, AllocError> {
@@ -81,4 +83,22 @@ fn matching<'a>(alloc: Global) -> Result<Command<'a>, AllocError> {
         .arg(rule)?
         .arg(file)?
         .arg(owns)
+}
+
+fn assembling<'a>(alloc: Global) -> Result<Command<'a>, AllocError> {
+    Command::new(alloc, "asm")
+        .about("Prints the bytes of a program, one instruction a line")
+        .arg(program(alloc))
+}
+
+fn checking<'a>(alloc: Global) -> Result<Command<'a>, AllocError> {
+    Command::new(alloc, "check")
+        .about("Says whether a program is accepted")
+        .arg(program(alloc))
+}
+
+fn program<'a>(alloc: Global) -> Arg<'a> {
+    Arg::new(alloc, "FILE")
+        .required(true)
+        .help("A file that has a program as assembler text")
 }

@@ -6,6 +6,8 @@ mod given;
 #[cfg(test)]
 mod messages;
 #[cfg(test)]
+mod programs;
+#[cfg(test)]
 mod rows;
 #[cfg(test)]
 mod texts;

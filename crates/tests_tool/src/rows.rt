@@ -19,6 +19,9 @@ fn rows(rt: HostRuntime) -> Result<(), Fail> {
     ] {
         assert_says(&rt, rt.alloc(), line, S1.as_bytes(), "match\n", "", 0)?;
     }
+    for line in ["check|F", "check|--|F", "check|F|--"] {
+        assert_says(&rt, rt.alloc(), line, b"ret #1", "ok 1\n", "", 0)?;
+    }
     Ok(())
 }
 
@@ -66,8 +69,11 @@ fn usage(rt: HostRuntime) -> Result<(), Fail> {
         "--owns|match||F",
         "--|match||F",
         "compile|member='c'",
-        "asm|F",
-        "check|F",
+        "asm",
+        "asm|F|F",
+        "asm|F|--owns",
+        "check",
+        "check|--edition|F",
         "run|F|F",
         "serve|--listen|tcp:host=127.0.0.1,port=0",
     ] {
@@ -110,6 +116,8 @@ fn help(rt: HostRuntime) -> Result<(), Fail> {
         "match|--help",
         "match|-h",
         "match||F|--help",
+        "asm|--help",
+        "help|check",
     ] {
         assert_helps(&rt, rt.alloc(), line)?;
     }

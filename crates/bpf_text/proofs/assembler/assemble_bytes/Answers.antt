@@ -4,10 +4,10 @@ use Rattle.bpf_text.specs.Source.{lines_of, Line, AreLines, sketch_of, program_i
 use Rattle.bpf_text.specs.Views.{sketch_view}
 use Rattle.bpf_text.proofs.Lines.{read_none, read_more, read_all}
 use Rattle.bpf_text.proofs.Faults.{text_fault}
-use Rattle.bpf_text.proofs.assembler.assemble.Goals as goal
+use Rattle.bpf_text.proofs.assembler.assemble_bytes.Goals as goal
 
 pub lines-init : goal.lines-init
-lines-init c = rw (c.as_bytes-rest.ensures.value, c.new.ensures.items, c.new-2.ensures.items) (read_none c.args.text.now)
+lines-init c = rw (c.new.ensures.items, c.new-2.ensures.items) (read_none c.args.text.now)
 
 pub returns-in_default-clause-found : goal.returns-in_default-clause-found
 returns-in_default-clause-found c =

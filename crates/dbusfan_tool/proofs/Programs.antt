@@ -1,0 +1,48 @@
+-- What the file of a program comes to, from what the steps answer.
+use Rattle.std.proofs.Common.{◌≡◌, ◌⊎◌, ℕ, List, Option, Some, Result, Ok, Err, length, refl, sym, ap, subst, inl, inr, ◌∙◌}
+use Rattle.std.specs.Result.{IsErrAnd, IfErr}
+use Rattle.bpf_code.specs.declared.instruction.Ins.{Ins}
+use Rattle.bpf_code.specs.declared.error.CodeError.{CodeError}
+use Rattle.bpf_code.specs.declared.error.CodeError.TheVariants.{Length, Code as NoRow, Line, Label, FarJump, NoMemory}
+use Rattle.bpf_code.specs.Program.{WellFormed}
+use Rattle.bpf_text.specs.Source.{IsTextFault}
+use Rattle.dbusfan_tool.specs.declared.fault.Fault.{Fault}
+use Rattle.dbusfan_tool.specs.declared.fault.Fault.TheVariants.{Memory}
+use Rattle.dbusfan_tool.specs.declared.files.FileError.{FileError}
+use Rattle.dbusfan_tool.specs.declared.files.FileError.TheVariants as of_file
+use Rattle.dbusfan_tool.specs.Fault.{fault_of_code, fault_of_file}
+use Rattle.dbusfan_tool.specs.Files.{ReadsFile}
+use Rattle.dbusfan_tool.specs.Program.{Assembles, no_file, no_code, Checks, no_program, accepted}
+
+module _ (may_give : Option (List ℕ) → Type 0) where
+  abbrev Fails : Fault → Type 0
+  Fails fault = Assembles may_give (Err fault) ⊎ (fault ≡ Memory)
+
+  -- the fault of a file
+  pub of_file_fault : (error : FileError) → ReadsFile may_give (Err error) → Fails (fault_of_file error)
+  of_file_fault of_file.File gives = inl (no_file gives)
+  of_file_fault of_file.Memory gives = inr refl
+
+  -- the fault of a text
+  pub of_text_fault : (text : List ℕ) (error : CodeError) → may_give (Some text) → IsTextFault text error → Fails (fault_of_code error)
+  of_text_fault text Length gives is = absurd is
+  of_text_fault text (NoRow place) gives is = absurd is
+  of_text_fault text (Line line) gives is = inl (no_code gives (λ e. cc) is)
+  of_text_fault text (Label line) gives is = inl (no_code gives (λ e. cc) is)
+  of_text_fault text (FarJump line) gives is = inl (no_code gives (λ e. cc) is)
+  of_text_fault text NoMemory gives is = inr refl
+
+  -- a step's fault is handed on
+  pub fails : {A : Type 0} (found : Result A Fault) (fault : Fault) → IsErrAnd found (λ f. f ≡ fault) → Fails fault → IfErr found Fails
+  fails (Ok a) fault is none = absurd is
+  fails (Err f) fault is none = subst Fails (sym is) none
+
+  pub check_fails : (found : Result ℕ Fault) (fault : Fault) → IsErrAnd found (λ f. f ≡ fault) → Fails fault → Checks may_give found ⊎ (found ≡ Err Memory)
+  check_fails (Ok count) fault is none = absurd is
+  check_fails (Err f) fault is (inl none) = inl (no_program (subst (λ (f : Fault). Assembles may_give (Err f)) (sym is) none))
+  check_fails (Err f) fault is (inr short) = inr (ap Err (is ∙ short))
+
+  -- the code that was accepted is the program
+  pub check_accepts : (code verified program : List Ins) → Assembles may_give (Ok program) → code ≡ verified → WellFormed verified → verified ≡ program → Checks may_give (Ok (length code))
+  check_accepts code verified program reads lent fine same =
+      subst (λ (code : List Ins). Checks may_give (Ok (length code))) (sym (lent ∙ same)) (accepted reads (subst WellFormed same fine))

@@ -1,0 +1,57 @@
+// `asm FILE`.
+
+ghost use Rattle.std.specs.Prelude.{◌≡◌, ◌⊎◌, ◌++◌, ℕ, List, Ok, Err, IfOk, IfErr, OnOk, string_bytes};
+ghost use Rattle.dbusfan_tool.specs.Listing.{listing_line, listing_of};
+ghost use Rattle.dbusfan_tool.specs.Program.{Assembles};
+ghost use Rattle.dbusfan_tool.specs.Tool.{Tool};
+ghost use Rattle.dbusfan_tool.specs.Row.{to_asm};
+ghost use Rattle.dbusfan_tool.specs.Answer.{said_by, failing};
+
+use crate::answer::Answer;
+use crate::fault::Fault;
+use crate::files::Files;
+use crate::program;
+use bpf_code::{Ins, bytes_of};
+use std::alloc::{AllocError, Global};
+
+/// The byte form of the program in the file, or the first fault.
+pub(crate) fn answer<F: Files>(alloc: Global, file: &str, files: &F) -> Answer
+    ensures { Tool (F.may_give files.now) (to_asm file.now) (said_by result)
+        ⊎ (said_by result ≡ failing Fault.Memory) }
+{
+    match assembled(alloc, file, files) {
+        Ok(text) => Answer::Text(text),
+        Err(fault) => Answer::Fault(fault),
+    }
+}
+
+fn assembled<F: Files>(alloc: Global, file: &str, files: &F) -> Result<String, Fault>
+    ensures found { IfOk result (λ text. (program : List Ins) × Assembles (F.may_give files.now file.now) (Ok program) × (string_bytes text ≡ listing_of program)) }
+    ensures fault { IfErr result (λ fault. Assembles (F.may_give files.now file.now) (Err fault) ⊎ (fault ≡ Fault.Memory)) }
+{
+    let program = program::read(alloc, file, files)?;
+    let text = listing(alloc, &program)?;
+    Ok(text)
+}
+
+/// One instruction a line.
+fn listing(alloc: Global, program: &[Ins]) -> Result<String, AllocError>
+    ensures { IfOk result (λ text. string_bytes text ≡ listing_of program.now) }
+{
+    let mut text = String::new(alloc);
+    for ins in program {
+        put_line(alloc, &mut text, ins)?;
+    }
+    Ok(text)
+}
+
+/// Writes the line of an instruction at the end.
+fn put_line(alloc: Global, text: &mut String, ins: &Ins) -> Result<(), AllocError>
+    ensures { OnOk result (string_bytes text.new ≡ string_bytes text.old ++ listing_line ins.now) }
+{
+    let bytes = bytes_of(ins);
+    let digits = hex::encode(alloc, bytes.as_slice())?;
+    text.push_str(digits.as_str())?;
+    text.push_str("\n")?;
+    Ok(())
+}

@@ -1,0 +1,39 @@
+// `check FILE`.
+
+ghost use Rattle.std.specs.Prelude.{◌≡◌, ◌⊎◌, Err};
+ghost use Rattle.dbusfan_tool.specs.Program.{Checks};
+ghost use Rattle.dbusfan_tool.specs.Tool.{Tool};
+ghost use Rattle.dbusfan_tool.specs.Row.{to_check};
+ghost use Rattle.dbusfan_tool.specs.Answer.{said_by, failing};
+
+use crate::answer::Answer;
+use crate::fault::Fault;
+use crate::files::Files;
+use crate::program;
+use bpf_verify::verify;
+use std::alloc::Global;
+
+/// How many instructions the program in the file has, if it is accepted, or the first fault.
+pub(crate) fn answer<F: Files>(alloc: Global, file: &str, files: &F) -> Answer
+    ensures { Tool (F.may_give files.now) (to_check file.now) (said_by result)
+        ⊎ (said_by result ≡ failing Fault.Memory) }
+{
+    let count = match accepted(alloc, file, files) {
+        Ok(count) => count,
+        Err(fault) => return Answer::Fault(fault),
+    };
+    match format!(in alloc; "ok {count}\n") {
+        Ok(text) => Answer::Text(text),
+        Err(_) => Answer::Fault(Fault::Memory),
+    }
+}
+
+fn accepted<F: Files>(alloc: Global, file: &str, files: &F) -> Result<usize, Fault>
+    ensures { Checks (F.may_give files.now file.now) result ⊎ (result ≡ Err Fault.Memory) }
+{
+    let program = program::read(alloc, file, files)?;
+    match verify(program) {
+        Ok(verified) => Ok(verified.code().len()),
+        Err((fault, _)) => Err(Fault::Program(fault)),
+    }
+}

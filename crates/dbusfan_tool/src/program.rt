@@ -1,0 +1,20 @@
+// The file of a program.
+
+ghost use Rattle.std.specs.Prelude.{◌≡◌, ◌⊎◌, Ok, Err, IfOk, IfErr};
+ghost use Rattle.dbusfan_tool.specs.Program.{Assembles};
+
+use crate::fault::Fault;
+use crate::files::Files;
+use bpf_code::Ins;
+use bpf_text::assemble_bytes;
+use std::alloc::Global;
+
+/// The program that a file's text names, or the first fault.
+pub(crate) fn read<F: Files>(alloc: Global, file: &str, files: &F) -> Result<Vec<Ins>, Fault>
+    ensures found { IfOk result (λ program. Assembles (F.may_give files.now file.now) (Ok program.items)) }
+    ensures fault { IfErr result (λ fault. Assembles (F.may_give files.now file.now) (Err fault) ⊎ (fault ≡ Fault.Memory)) }
+{
+    let text = files.read(alloc, file)?;
+    let program = assemble_bytes(alloc, &text)?;
+    Ok(program)
+}
