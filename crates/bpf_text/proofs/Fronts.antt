@@ -16,19 +16,19 @@ pub not_true : (b : Bool) → (b ≡ true → ⊥) → b ≡ false
 not_true true h = absurd (h refl)
 not_true false h = refl
 
-or_left : (a b : Bool) → (a || b) ≡ false → a ≡ false
+pub or_left : (a b : Bool) → (a || b) ≡ false → a ≡ false
 or_left true b h = h
 or_left false b h = refl
 
-or_right : (a b : Bool) → (a || b) ≡ false → b ≡ false
+pub or_right : (a b : Bool) → (a || b) ≡ false → b ≡ false
 or_right true b h = absurd (cc)
 or_right false b h = h
 
-and_left : (a b : Bool) → (a && b) ≡ true → a ≡ true
+pub and_left : (a b : Bool) → (a && b) ≡ true → a ≡ true
 and_left true b h = refl
 and_left false b h = h
 
-and_right : (a b : Bool) → (a && b) ≡ true → b ≡ true
+pub and_right : (a b : Bool) → (a && b) ≡ true → b ≡ true
 and_right true b h = h
 and_right false b h = absurd (cc)
 
@@ -58,7 +58,7 @@ sign_some c bytes rest h =
     negated true h = absurd (cc)
     negated false h = refl
 
-some_length : (b : ℕ) (u : List ℕ) → length (b ∷ u) == 0 ≡ false
+pub some_length : (b : ℕ) (u : List ℕ) → length (b ∷ u) == 0 ≡ false
 some_length b u = not_true (length (b ∷ u) == 0) (λ e. let none : length (b ∷ u) ≡ 0 = eqb-true (length (b ∷ u)) 0 e in omega arith)
 
 -- ---- a word
@@ -139,7 +139,7 @@ pub over_first : (bytes : List ℕ) → is_over bytes ≡ true → (length (unbl
 unfolding is_over
 over_first bytes h = elim (over_by (length (unblanked bytes) == 0) (first bytes == 59) (list_all (λ b. nat_lt b 128) (unblanked bytes)) h) [ inl none ↦ inl none | inr here ↦ inr (eqb-true (first bytes) 59 here) ]
 
-both_ways : (b : Bool) → b ≡ true → b ≡ false → ⊥
+pub both_ways : (b : Bool) → b ≡ true → b ≡ false → ⊥
 both_ways b p q = cc
 
 -- ---- no other token

@@ -5,6 +5,7 @@ pub mod Labels
 pub mod Lines
 pub mod Numbers
 pub mod OneSource
+pub mod PrintedTokens
 pub mod Prints
 pub mod Programs
 pub mod Statements
