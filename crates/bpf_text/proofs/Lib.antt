@@ -5,6 +5,10 @@ pub mod Labels
 pub mod Lines
 pub mod Numbers
 pub mod OneSource
+pub mod PrintedLines
+pub mod PrintedOperands
+pub mod PrintedRows
+pub mod PrintedTexts
 pub mod PrintedTokens
 pub mod Prints
 pub mod Programs

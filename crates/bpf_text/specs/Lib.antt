@@ -5,4 +5,5 @@ pub mod Operands
 pub mod Printing
 pub mod Rows
 pub mod Source
+pub mod Used
 pub mod Views
