@@ -1,3 +1,4 @@
+pub mod CodesBack
 pub mod Faults
 pub mod Fronts
 pub mod Grammars
@@ -5,8 +6,10 @@ pub mod Labels
 pub mod Lines
 pub mod Numbers
 pub mod OneSource
+pub mod PrintedLabels
 pub mod PrintedLines
 pub mod PrintedOperands
+pub mod PrintedPrograms
 pub mod PrintedRows
 pub mod PrintedTexts
 pub mod PrintedTokens

@@ -19,7 +19,7 @@ Stops rest = is_name_byte (slice_index rest 0) ≡ false
 abbrev pub IsRun : List ℕ → Type 0
 IsRun run = list_all is_name_byte run ≡ true
 
-one_more : (n : ℕ) → 1 + n ≡ suc n
+pub one_more : (n : ℕ) → 1 + n ≡ suc n
 one_more n = omega arith
 
 run_len : (run rest : List ℕ) → IsRun run → Stops rest → prefix_len is_name_byte (run ++ rest) ≡ length run
