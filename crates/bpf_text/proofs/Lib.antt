@@ -16,3 +16,4 @@ pub mod PrintedTokens
 pub mod Prints
 pub mod Programs
 pub mod Statements
+pub mod Widths

@@ -1,14 +1,14 @@
 -- The labels of a printed text: each target's stands once, at its place.
-use Rattle.std.proofs.Common.{◌≡◌, ℕ, suc, ◌+◌, ◌<◌, ◌≤◌, ◌^◌, Bool, true, false, ◌||◌, List, [], ◌∷◌, ◌++◌, length, map, Option, Some, None, refl, sym, ap, ◌∙◌, subst, arith, decimal, bytes_eq, ◌⊎◌, inl, inr, eq-or-lt_of_le}
+use Rattle.std.proofs.Common.{◌≡◌, ℕ, ◌+◌, ◌<◌, ◌≤◌, ◌^◌, Bool, true, false, List, [], ◌∷◌, ◌++◌, length, map, Some, refl, ap, ◌∙◌, subst, arith, decimal, bytes_eq, ◌⊎◌, inl, inr, eq-or-lt_of_le}
 use Rattle.std.proofs.lemmas.Fmt.{decimal_injective}
 use Rattle.std.proofs.lemmas.Slice.Eq.{bytes_eq-Decides}
 use Rattle.bpf_code.specs.declared.instruction.Ins.{Ins}
 use Rattle.bpf_text.specs.Printing.{is_target}
 use Rattle.bpf_text.specs.Source.{Line, Label, count_of, labels_at, labels_from, has_name, repeats, Noted, noted_from, defined}
-use Rattle.bpf_text.proofs.Fronts.{not_true, both_ways}
+use Rattle.bpf_text.proofs.Fronts.{not_true}
 use Rattle.bpf_text.proofs.PrintedTokens.{label_name, one_more}
 use Rattle.bpf_text.proofs.PrintedLines.{labels_for}
-use Rattle.bpf_text.proofs.PrintedTexts.{printed_line, printed_lines}
+use Rattle.bpf_text.proofs.PrintedTexts.{printed_lines}
 
 -- ---- names
 

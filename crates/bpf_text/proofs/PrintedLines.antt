@@ -1,7 +1,7 @@
 -- A printed line is of the form of a line, and the lines of a printed text are the printed lines.
-use Rattle.std.proofs.Common.{◌≡◌, ℕ, ◌+◌, ◌<◌, ◌≤◌, ◌^◌, Bool, true, false, ◌&&◌, ◌||◌, not, cond, List, [], ◌∷◌, ◌++◌, length, Option, Some, None, Result, Ok, Err, refl, sym, ap, ◌∙◌, subst, arith, append_assoc, append-nil, codes, decimal, All}
+use Rattle.std.proofs.Common.{◌≡◌, ℕ, ◌+◌, ◌<◌, ◌^◌, Bool, true, false, not, List, [], ◌∷◌, ◌++◌, Some, None, refl, ap, ◌∙◌, arith, append_assoc, codes, decimal}
 use Rattle.std.specs.Prelude.{◌==◌}
-use Rattle.std.specs.List.{list_all, slice_split}
+use Rattle.std.specs.List.{list_all}
 use Rattle.std.specs.Char.{digit_value}
 use Rattle.std.specs.Str.Parse.{AllDigits}
 use Rattle.std.proofs.lemmas.Bool.Decides.{nat_tests}
@@ -20,7 +20,7 @@ use Rattle.bpf_code.specs.declared.operation.Test.TheVariants.{Equal, Above, AtL
 use Rattle.bpf_text.specs.Lexis.{unblanked, is_over}
 use Rattle.bpf_text.specs.Grammar.{Word, Sign, Front}
 use Rattle.bpf_text.specs.Printing.{load_word, arithmetic_word, test_word, word_of, operand_text, targets_text, label_text, line_text}
-use Rattle.bpf_text.specs.Source.{HasLabels, Spells, Line, IsLine, lines_of}
+use Rattle.bpf_text.specs.Source.{Line, IsLine, lines_of}
 use Rattle.bpf_text.proofs.Fronts.{and_left, and_right}
 use Rattle.bpf_text.proofs.PrintedTokens.{sign_here, label_name, name_printed}
 use Rattle.bpf_text.proofs.PrintedOperands.{row_for, IsNear, behind_word}

@@ -1,27 +1,19 @@
 -- The printed operands of an instruction are its operands, and with its mnemonic they name its row.
-use Rattle.std.proofs.Common.{◌≡◌, ℕ, ◌+◌, ◌<◌, ◌^◌, Bool, true, false, ◌||◌, List, [], ◌∷◌, ◌++◌, Option, Some, None, refl, sym, ap, ◌∙◌, subst, arith, append-nil, append_assoc, codes, decimal}
-use Rattle.std.specs.Prelude.{slice_index}
+use Rattle.std.proofs.Common.{◌≡◌, ℕ, ◌+◌, ◌<◌, ◌^◌, true, false, List, [], ◌∷◌, ◌++◌, Some, refl, append-nil, append_assoc, codes, decimal}
 use Rattle.bpf_code.specs.declared.instruction.Ins.{Ins}
 use Rattle.bpf_code.specs.declared.operation.Op.{Op}
 use Rattle.bpf_code.specs.declared.operation.Op.TheVariants.{LoadConstant, LoadImage, LoadIndexed, LoadScratch, LoadLength, IndexConstant, IndexScratch, IndexLength, IndexHeader, StoreA, StoreX, Compute, Negate, Jump, Branch, ReturnConstant, ReturnA, IndexFromA, LoadFromX}
-use Rattle.bpf_code.specs.declared.operation.Width.{Width}
-use Rattle.bpf_code.specs.declared.operation.Width.TheVariants.{Word as WordWidth, Half, Byte}
+use Rattle.bpf_code.specs.declared.operation.Width.TheVariants.{Word as WordWidth}
 use Rattle.bpf_code.specs.declared.operation.Operand.TheVariants.{Constant, Index}
-use Rattle.bpf_code.specs.declared.operation.Arithmetic.{Arithmetic}
-use Rattle.bpf_code.specs.declared.operation.Arithmetic.TheVariants.{Add, Sub, Mul, Div, Or, And, ShiftLeft, ShiftRight, Mod, Xor}
-use Rattle.bpf_code.specs.declared.operation.Test.{Test}
-use Rattle.bpf_code.specs.declared.operation.Test.TheVariants.{Equal, Above, AtLeast, SharesBit}
 use Rattle.bpf_text.specs.declared.mnemonic.Mnemonic.{Mnemonic}
 use Rattle.bpf_text.specs.declared.mnemonic.Mnemonic.TheVariants as mnemonic
-use Rattle.bpf_text.specs.Lexis.{is_blank, is_digit, is_name_byte, unblanked, run_of, after_run, number_in, number_of, word_at, number_at, sign_at, is_over, begins_blank}
-use Rattle.bpf_text.specs.Grammar.{Token, Word, Value, Sign, IsToken, Front, AreTokens, targets_tokens, tokens_of}
-use Rattle.bpf_text.specs.Mnemonics.{mnemonic_of}
-use Rattle.bpf_text.specs.Operands.{Operands, Absent, Number, Length, Place, Indexed, Scratch, Header, Name, NumberTo, NameTo, Targets, One, Both}
-use Rattle.bpf_text.specs.Printing.{load_word, arithmetic_word, test_word, word_of, operand_text, targets_text}
-use Rattle.bpf_text.specs.Rows.{Row, Jumps, Stays, Goes, Parts, is_absent, row_of}
-use Rattle.bpf_text.specs.Source.{Spells}
+use Rattle.bpf_text.specs.Lexis.{is_blank, is_digit, is_name_byte, unblanked, number_in, number_of, word_at, number_at, sign_at, is_over}
+use Rattle.bpf_text.specs.Grammar.{Token, Word, Value, Sign, Front, AreTokens, targets_tokens, tokens_of}
+use Rattle.bpf_text.specs.Operands.{Operands, Absent, Number, Length, Place, Indexed, Scratch, Header, Name, NumberTo, NameTo, Targets, Both}
+use Rattle.bpf_text.specs.Printing.{operand_text, targets_text}
+use Rattle.bpf_text.specs.Rows.{Row, Jumps, Stays, Goes, Parts}
 use Rattle.bpf_text.specs.Used.{used_k}
-use Rattle.bpf_text.proofs.PrintedTokens.{Stops, IsRun, token_behind, sign_here, word_here, number_here, number_printed, label_name, name_printed}
+use Rattle.bpf_text.proofs.PrintedTokens.{Stops, token_behind, sign_here, word_here, number_here, number_printed, label_name, name_printed}
 
 -- ---- what an instruction is printed as
 
@@ -160,16 +152,39 @@ header_tokens : (k : ℕ) → k < 2 ^ 32 → AreTokens (tokens_of (Header k)) (3
 header_tokens k low =
     let mask : List ℕ = 48 ∷ 120 ∷ 102 ∷ 41 ∷ [] in
     let rest : List ℕ = decimal k ++ 93 ∷ 38 ∷ mask in
-    ended (tokens_of (Header k)) (32 ∷ 52 ∷ 42 ∷ 40 ∷ 91 ∷ rest)
-    (42 ∷ 40 ∷ 91 ∷ rest, token_behind (Value 4) (52 ∷ 42 ∷ 40 ∷ 91 ∷ rest) (42 ∷ 40 ∷ 91 ∷ rest) (four (42 ∷ 40 ∷ 91 ∷ rest) refl),
-    (40 ∷ 91 ∷ rest, sign_here 42 (40 ∷ 91 ∷ rest) refl,
-    (91 ∷ rest, sign_here 40 (91 ∷ rest) refl,
-    (rest, sign_here 91 rest refl,
-    (93 ∷ 38 ∷ mask, number_printed k (93 ∷ 38 ∷ mask) low refl,
-    (38 ∷ mask, sign_here 93 (38 ∷ mask) refl,
-    (mask, sign_here 38 mask refl,
-    (41 ∷ [], fifteen,
-    ([], sign_here 41 [] refl, refl)))))))))
+    ended (tokens_of (Header k)) (32 ∷ 52 ∷ 42 ∷ 40 ∷ 91 ∷ rest) (
+      42 ∷ 40 ∷ 91 ∷ rest,
+      token_behind (Value 4) (52 ∷ 42 ∷ 40 ∷ 91 ∷ rest) (42 ∷ 40 ∷ 91 ∷ rest) (four (42 ∷ 40 ∷ 91 ∷ rest) refl),
+      (
+        40 ∷ 91 ∷ rest,
+        sign_here 42 (40 ∷ 91 ∷ rest) refl,
+        (
+          91 ∷ rest,
+          sign_here 40 (91 ∷ rest) refl,
+          (
+            rest,
+            sign_here 91 rest refl,
+            (
+              93 ∷ 38 ∷ mask,
+              number_printed k (93 ∷ 38 ∷ mask) low refl,
+              (
+                38 ∷ mask,
+                sign_here 93 (38 ∷ mask) refl,
+                (
+                  mask,
+                  sign_here 38 mask refl,
+                  (
+                    41 ∷ [],
+                    fifteen,
+                    ([], sign_here 41 [] refl, refl),
+                  ),
+                ),
+              ),
+            ),
+          ),
+        ),
+      ),
+    )
 
 length_tokens : AreTokens (tokens_of Length) (32 ∷ 35 ∷ 108 ∷ 101 ∷ 110 ∷ [])
 length_tokens =
@@ -196,11 +211,19 @@ targets_front : (first second : ℕ) → first < 2 ^ 64 → second < 2 ^ 64 → 
 targets_front first second low high =
     let last : List ℕ = 32 ∷ 76 ∷ decimal second in
     let at : word_at (32 ∷ 76 ∷ decimal second) ≡ Some (label_name second, []) = rw (append-nil (decimal second)) at (label_behind second [] high refl) in
-    let front : Front (Sign 44 ∷ targets_tokens (Both (label_name first) (label_name second))) (44 ∷ 32 ∷ 76 ∷ (decimal first ++ 44 ∷ last)) [] =
-    (32 ∷ 76 ∷ (decimal first ++ 44 ∷ last), sign_here 44 (32 ∷ 76 ∷ (decimal first ++ 44 ∷ last)) refl,
-    (44 ∷ last, label_behind first (44 ∷ last) low refl,
-    (last, sign_here 44 last refl,
-    ([], at, refl)))) in
+    let front : Front (Sign 44 ∷ targets_tokens (Both (label_name first) (label_name second))) (44 ∷ 32 ∷ 76 ∷ (decimal first ++ 44 ∷ last)) [] = (
+      32 ∷ 76 ∷ (decimal first ++ 44 ∷ last),
+      sign_here 44 (32 ∷ 76 ∷ (decimal first ++ 44 ∷ last)) refl,
+      (
+        44 ∷ last,
+        label_behind first (44 ∷ last) low refl,
+        (
+          last,
+          sign_here 44 last refl,
+          ([], at, refl),
+        ),
+      ),
+    ) in
     let same : both_text first second ≡ 44 ∷ 32 ∷ 76 ∷ (decimal first ++ 44 ∷ last) = append_assoc (codes ", L" ++ decimal first) (codes ", L") (decimal second) in
     rw same front
 

@@ -1,5 +1,5 @@
 -- A printed text names the program that it was printed from, with 0 in each field that isn't used.
-use Rattle.std.proofs.Common.{◌≡◌, ℕ, suc, ◌+◌, ◌-◌, ◌<◌, ◌≤◌, ◌^◌, Bool, true, false, ◌&&◌, ◌||◌, cond, List, [], ◌∷◌, ◌++◌, length, map, Option, Some, None, Result, Ok, Err, refl, sym, ap, ◌∙◌, subst, arith, lt-ltb}
+use Rattle.std.proofs.Common.{◌≡◌, ℕ, ◌+◌, ◌-◌, ◌<◌, ◌^◌, Bool, true, false, ◌||◌, List, [], ◌∷◌, length, map, Some, Result, Ok, Err, refl, sym, ap, ◌∙◌, subst, arith, lt-ltb, All, ◌↔◌, IfOk, OnOk, String, string_bytes}
 use Rattle.std.specs.Prelude.{◌==◌, nat_lt}
 use Rattle.std.specs.List.{AllByRecursion}
 use Rattle.bpf_code.specs.declared.instruction.Ins.{Ins}
@@ -10,13 +10,14 @@ use Rattle.bpf_code.specs.declared.operation.Operand.TheVariants.{Constant, Inde
 use Rattle.bpf_code.specs.Table.{op_of, code_of}
 use Rattle.bpf_code.specs.Program.{IsJumpFine}
 use Rattle.bpf_text.specs.Printing.{jumps_by, is_target, text_from, text_of}
-use Rattle.bpf_text.specs.Rows.{Row}
-use Rattle.bpf_text.specs.Source.{Line, Label, labels_from, count_of, noted_from, defined, distance, goes_by, parts_by, resolve, with_ins, with_row, program_from, program_of, SourceText}
+use Rattle.bpf_text.specs.Source.{Label, labels_from, count_of, noted_from, defined, distance, parts_by, resolve, with_ins, program_from, program_of, SourceText}
 use Rattle.bpf_text.specs.Used.{used_of, with_unused_zero_in, with_unused_zero, IsInRange}
+use Rattle.std.proofs.lemmas.List.Elements.{All-head, All-tail}
+use Rattle.bpf_text.proofs.OneSource.{one_program}
 use Rattle.bpf_text.proofs.CodesBack.{code_back}
 use Rattle.bpf_text.proofs.PrintedTokens.{same_number, label_name}
 use Rattle.bpf_text.proofs.PrintedOperands.{row_for}
-use Rattle.bpf_text.proofs.PrintedTexts.{known_op, known_is, printed_line, printed_lines, HasLine, has_line, jump_fine, are_lines}
+use Rattle.bpf_text.proofs.PrintedTexts.{known_op, known_is, printed_lines, HasLine, has_line, jump_fine, are_lines}
 use Rattle.bpf_text.proofs.PrintedLabels.{quiet, noted_printed, target_defined, count_printed}
 
 -- ---- one instruction
@@ -129,6 +130,29 @@ program_is program text fits low h =
     let knows : Knows labels (length program) 0 program = λ to inside target. target_defined program 0 program to (omega arith) (omega arith) (omega arith) target in
     rw (count, quiets) (named program labels 0 1 program text fits knows h)
 
-pub source_printed : (program : List Ins) (text : List ℕ) → AllByRecursion IsInRange program → length program < 2 ^ 64 → text_of program ≡ Ok text → SourceText text (with_unused_zero program)
+source_printed : (program : List Ins) (text : List ℕ) → AllByRecursion IsInRange program → length program < 2 ^ 64 → text_of program ≡ Ok text → SourceText text (with_unused_zero program)
 source_printed program text fits low h =
     (printed_lines program 0 program, are_lines program 0 program text fits (zero_plus (length program)) low h, program_is program text fits low h)
+
+-- ---- the law
+
+by_recursion : (program : List Ins) → All IsInRange program → AllByRecursion IsInRange program
+by_recursion [] fits = tt
+by_recursion (ins ∷ more) fits = (All-head IsInRange ins more fits, by_recursion more (All-tail IsInRange ins more fits))
+
+pub names_itself : (program : List Ins) (text : List ℕ) → All IsInRange program → length program < 2 ^ 64 → text_of program ≡ Ok text → SourceText text (with_unused_zero program)
+names_itself program text fits low h = source_printed program text (by_recursion program fits) low h
+
+pub names_one : (program other : List Ins) (text : List ℕ) → All IsInRange program → length program < 2 ^ 64 → text_of program ≡ Ok text → (SourceText text other ↔ (other ≡ with_unused_zero program))
+names_one program other text fits low h =
+    let named : SourceText text (with_unused_zero program) = names_itself program text fits low h in
+    (λ (source : SourceText text other). one_program text other (with_unused_zero program) source named, λ (same : other ≡ with_unused_zero program). subst (SourceText text) (sym same) named)
+
+pub names_same : (program other : List Ins) (text : List ℕ) → All IsInRange program → length program < 2 ^ 64 → with_unused_zero program ≡ program → text_of program ≡ Ok text → (SourceText text other ↔ (other ≡ program))
+names_same program other text fits low zero_there h =
+    let named : SourceText text program = subst (SourceText text) zero_there (names_itself program text fits low h) in
+    (λ (source : SourceText text other). one_program text other program source named, λ (same : other ≡ program). subst (SourceText text) (sym same) named)
+
+pub source_of : {A : Type 0} (program : List Ins) (result : Result (String A) CodeError) → length program < 2 ^ 64 → OnOk result (All IsInRange program) → IfOk result (λ text. text_of program ≡ Ok (string_bytes text)) → IfOk result (λ text. SourceText (string_bytes text) (with_unused_zero program))
+source_of program (Ok text) few widths found = names_itself program (string_bytes text) widths few found
+source_of program (Err e) few widths found = found

@@ -1,6 +1,5 @@
 -- A printed instruction spells its row.
-use Rattle.std.proofs.Common.{◌≡◌, ℕ, ◌+◌, ◌<◌, ◌^◌, Bool, true, false, ◌||◌, List, [], ◌∷◌, ◌++◌, Option, Some, None, refl, sym, ap, ◌∙◌, subst, arith, append-nil, codes, decimal, drop}
-use Rattle.std.specs.Prelude.{slice_index}
+use Rattle.std.proofs.Common.{◌≡◌, ℕ, ◌<◌, ◌^◌, Bool, true, false, ◌||◌, List, [], ◌∷◌, ◌++◌, Some, refl, drop}
 use Rattle.bpf_code.specs.declared.instruction.Ins.{Ins}
 use Rattle.bpf_code.specs.declared.operation.Op.{Op}
 use Rattle.bpf_code.specs.declared.operation.Op.TheVariants.{LoadConstant, LoadImage, LoadIndexed, LoadScratch, LoadLength, IndexConstant, IndexScratch, IndexLength, IndexHeader, StoreA, StoreX, Compute, Negate, Jump, Branch, ReturnConstant, ReturnA, IndexFromA, LoadFromX}
@@ -11,20 +10,17 @@ use Rattle.bpf_code.specs.declared.operation.Arithmetic.{Arithmetic}
 use Rattle.bpf_code.specs.declared.operation.Arithmetic.TheVariants.{Add, Sub, Mul, Div, Or, And, ShiftLeft, ShiftRight, Mod, Xor}
 use Rattle.bpf_code.specs.declared.operation.Test.{Test}
 use Rattle.bpf_code.specs.declared.operation.Test.TheVariants.{Equal, Above, AtLeast, SharesBit}
-use Rattle.bpf_text.specs.declared.mnemonic.Mnemonic.{Mnemonic}
 use Rattle.bpf_text.specs.declared.mnemonic.Mnemonic.TheVariants as mnemonic
-use Rattle.bpf_text.specs.Lexis.{is_blank, is_digit, is_name_byte, unblanked, run_of, after_run, number_in, number_of, word_at, number_at, sign_at, is_over, begins_blank}
-use Rattle.bpf_text.specs.Grammar.{Token, Word, Value, Sign, IsToken, Front, AreTokens, targets_tokens, tokens_of}
+use Rattle.bpf_text.specs.Lexis.{word_at, begins_blank}
+use Rattle.bpf_text.specs.Grammar.{Word}
 use Rattle.bpf_text.specs.Mnemonics.{mnemonic_of}
-use Rattle.bpf_text.specs.Operands.{Operands, Absent, Number, Length, Place, Indexed, Scratch, Header, Name, NumberTo, NameTo, Targets, One, Both}
-use Rattle.bpf_text.specs.Printing.{load_word, arithmetic_word, test_word, word_of, operand_text, targets_text}
-use Rattle.bpf_text.specs.Rows.{Row, Jumps, Stays, Goes, Parts, is_absent, row_of}
+use Rattle.bpf_text.specs.Operands.{Operands}
+use Rattle.bpf_text.specs.Printing.{load_word, arithmetic_word, test_word, word_of}
+use Rattle.bpf_text.specs.Rows.{Row, is_absent, row_of}
 use Rattle.bpf_text.specs.Source.{Spells}
-use Rattle.bpf_text.specs.Used.{used_k}
 use Rattle.bpf_text.proofs.Fronts.{some_length}
-use Rattle.bpf_text.proofs.PrintedTokens.{Stops, token_behind, word_here, label_name}
-use Rattle.bpf_text.proofs.PrintedOperands.{operands_for, mnemonic_for, jumps_for, row_for, IsNear, behind_word, operands_printed}
-
+use Rattle.bpf_text.proofs.PrintedTokens.{Stops, token_behind, word_here}
+use Rattle.bpf_text.proofs.PrintedOperands.{operands_for, mnemonic_for, row_for, IsNear, behind_word, operands_printed}
 
 -- ---- mnemonics
 

@@ -1,5 +1,5 @@
 -- The lines of a printed text are those of its instructions.
-use Rattle.std.proofs.Common.{◌≡◌, ℕ, ◌+◌, ◌<◌, ◌≤◌, ◌^◌, Bool, true, false, ◌&&◌, ◌||◌, not, cond, List, [], ◌∷◌, ◌++◌, length, Option, Some, None, Result, Ok, Err, refl, sym, ap, ◌∙◌, subst, arith}
+use Rattle.std.proofs.Common.{◌≡◌, ℕ, ◌+◌, ◌<◌, ◌^◌, Bool, true, false, ◌&&◌, not, cond, List, [], ◌∷◌, ◌++◌, length, Option, Some, None, Result, Ok, Err, refl, sym, ap, ◌∙◌, subst, arith}
 use Rattle.std.specs.Prelude.{nat_lt}
 use Rattle.std.specs.List.{AllByRecursion}
 use Rattle.std.proofs.lemmas.Bool.Decides.{nat_tests}
@@ -11,7 +11,7 @@ use Rattle.bpf_code.specs.declared.operation.Op.TheVariants.{LoadConstant, LoadI
 use Rattle.bpf_code.specs.Table.{op_of}
 use Rattle.bpf_code.specs.Program.{IsJumpFine}
 use Rattle.bpf_text.specs.Printing.{is_target, line_text, leaves, then_text, line_by, text_from}
-use Rattle.bpf_text.specs.Source.{Line, IsLine, AreLines, lines_of}
+use Rattle.bpf_text.specs.Source.{Line, AreLines, lines_of}
 use Rattle.bpf_text.specs.Used.{IsInRange}
 use Rattle.bpf_text.proofs.PrintedOperands.{IsNear}
 use Rattle.bpf_text.proofs.PrintedLines.{body_text, line_for, line_printed, empty_line, lines_printed}

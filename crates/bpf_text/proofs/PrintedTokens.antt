@@ -1,5 +1,5 @@
 -- A printed token is the token that is read.
-use Rattle.std.proofs.Common.{◌≡◌, ℕ, suc, ◌+◌, ◌<◌, ◌≤◌, ◌^◌, Bool, true, false, ◌&&◌, ◌||◌, not, cond, List, [], ◌∷◌, ◌++◌, length, take, drop, Option, Some, None, refl, sym, ap, ◌∙◌, arith, append-nil, eq-eqb, lt-ltb}
+use Rattle.std.proofs.Common.{◌≡◌, ℕ, suc, ◌+◌, ◌<◌, ◌^◌, true, false, ◌&&◌, List, [], ◌∷◌, ◌++◌, length, take, drop, Some, refl, ap, ◌∙◌, arith, lt-ltb}
 use Rattle.std.specs.Prelude.{◌==◌, nat_lt, slice_index, decimal, codes}
 use Rattle.std.specs.Char.{digit_value}
 use Rattle.std.specs.List.{prefix_len, list_all}
@@ -7,8 +7,8 @@ use Rattle.std.specs.Str.Parse.{AllDigits, IsNumeral, digits_value}
 use Rattle.std.proofs.lemmas.Bool.{and_right as and_no}
 use Rattle.std.proofs.lemmas.Bool.Decides.{nat_tests}
 use Rattle.std.proofs.lemmas.Fmt.{decimal_is_IsNumeral}
-use Rattle.bpf_text.specs.Lexis.{is_blank, is_digit, is_name_byte, unblanked, run_of, after_run, number_in, number_of, word_at, number_at, sign_at, is_over}
-use Rattle.bpf_text.specs.Grammar.{Token, Word, Value, Sign, IsToken, Front}
+use Rattle.bpf_text.specs.Lexis.{is_blank, is_digit, is_name_byte, unblanked, run_of, after_run, number_in, number_of, word_at, number_at, sign_at}
+use Rattle.bpf_text.specs.Grammar.{Token, Word, Value, Sign, IsToken}
 use Rattle.bpf_text.proofs.Fronts.{and_left, and_right, some_length}
 
 -- no byte of a word or a number stands first

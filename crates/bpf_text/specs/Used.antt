@@ -2,8 +2,8 @@
 use Rattle.std.specs.Prelude.{ℕ, ◌<◌, ◌^◌, List, map, Option, Some, None}
 use Rattle.bpf_code.specs.declared.instruction.Ins.{Ins}
 use Rattle.bpf_code.specs.declared.operation.Op.{Op}
-use Rattle.bpf_code.specs.declared.operation.Op.TheVariants.{LoadLength, IndexLength, Compute, Negate, Jump, Branch, ReturnA, IndexFromA, LoadFromX}
-use Rattle.bpf_code.specs.declared.operation.Operand.TheVariants.{Constant, Index}
+use Rattle.bpf_code.specs.declared.operation.Op.TheVariants.{LoadLength, IndexLength, Compute, Negate, Branch, ReturnA, IndexFromA, LoadFromX}
+use Rattle.bpf_code.specs.declared.operation.Operand.TheVariants.{Index}
 use Rattle.bpf_code.specs.Table.{op_of}
 
 -- k, or 0 where the row doesn't name it

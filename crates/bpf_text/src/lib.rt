@@ -1,5 +1,6 @@
 //! Programs of the packet filter as text, one instruction a line. The layers above use that `assemble` and
-//! `assemble_bytes` are `SourceText`, else the first fault, and that `print` gives the text `text_of`, else the lowest fault.
+//! `assemble_bytes` are `SourceText`, else the first fault, and that `print` gives the text `text_of`,
+//! which names the program, else the lowest fault.
 #![tactic(auto)]
 
 mod assembler;
@@ -14,4 +15,4 @@ mod row;
 mod spelling;
 
 pub use assembler::{assemble, assemble_bytes, one_source};
-pub use printer::print;
+pub use printer::{print, reads_back};
