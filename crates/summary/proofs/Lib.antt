@@ -1,0 +1,2 @@
+pub mod SlotBits
+pub mod WordPlaces
