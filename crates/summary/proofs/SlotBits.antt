@@ -1,10 +1,9 @@
 -- The bits of sets of slots.
-use Rattle.std.proofs.Common.{◌≡◌, ℕ, ◌+◌, ◌*◌, ◌/◌, ◌%◌, ◌^◌, ◌<◌, ◌≢◌, Bool, true, false, ◌||◌, eqb, List, length, get_or, set, replicate, inl, inr, refl, sym, ap, ◌∙◌, arith, bit_or, w32}
+use Rattle.std.proofs.Common.{◌≡◌, ℕ, ◌*◌, ◌/◌, ◌%◌, ◌^◌, ◌<◌, ◌≢◌, true, false, ◌||◌, eqb, List, length, get_or, set, replicate, inl, inr, refl, arith, bit_or, w32}
 use Rattle.std.proofs.lemmas.Bool.{eq-eqb, ne_eqb, cases_eq, cases_lt}
 use Rattle.std.proofs.lemmas.List.{get_or-set_same, get_or-set_other, get_or-replicate, get_or_past}
 use Rattle.std.proofs.lemmas.Nat.Bits.{bit_at_set_same, bit_at_set_other, bit_at-zero}
 use Rattle.std.proofs.Math.ListN.{length-replicate}
-use Rattle.std.specs.Int.{bit_at}
 use Rattle.summary.specs.Sets.{has_slot}
 
 zero_at : (n i : ℕ) → ◌≡◌ {A = ℕ} (get_or (replicate n 0) i 0) 0

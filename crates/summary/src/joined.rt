@@ -76,18 +76,18 @@ pub fn byte(front: &[u8], back: &[u8], at: u64) -> Option<u32>
 /// The two bytes from a place on.
 #[inline(always)]
 pub fn half(front: &[u8], back: &[u8], at: u64) -> Option<u32>
+    requires { 2 ≤ length front.now }
     ensures { result ≡ load_half (front.now ++ back.now) at }
 {
     let seam = front.len() as u64;
     if at >= seam {
         let place = at - seam;
-        let len = back.len() as u64;
-        if len >= 2 && place <= len - 2 {
+        if place + 2 <= back.len() as u64 {
             Some(half_of(back, place as usize))
         } else {
             None
         }
-    } else if seam - at >= 2 {
+    } else if at + 2 <= seam {
         Some(half_of(front, at as usize))
     } else {
         half_across(front, back, at)
@@ -97,18 +97,18 @@ pub fn half(front: &[u8], back: &[u8], at: u64) -> Option<u32>
 /// The four bytes from a place on.
 #[inline(always)]
 pub fn word(front: &[u8], back: &[u8], at: u64) -> Option<u32>
+    requires { 4 ≤ length front.now }
     ensures { result ≡ load_word (front.now ++ back.now) at }
 {
     let seam = front.len() as u64;
     if at >= seam {
         let place = at - seam;
-        let len = back.len() as u64;
-        if len >= 4 && place <= len - 4 {
+        if place + 4 <= back.len() as u64 {
             Some(word_of(back, place as usize))
         } else {
             None
         }
-    } else if seam - at >= 4 {
+    } else if at + 4 <= seam {
         Some(word_of(front, at as usize))
     } else {
         word_across(front, back, at)

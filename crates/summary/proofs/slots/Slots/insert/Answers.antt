@@ -1,4 +1,4 @@
-use Rattle.std.proofs.Common.{arith, ◌<◌, ◌/◌, length}
+use Rattle.std.proofs.Common.{arith}
 use Rattle.summary.proofs.SlotBits.{one_more}
 use Rattle.summary.proofs.slots.Slots.insert.Goals as goal
 
