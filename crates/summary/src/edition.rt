@@ -1,0 +1,23 @@
+ghost use Rattle.std.specs.Prelude.{◌≡◌};
+ghost use Rattle.summary.specs.Layout.{size_of};
+
+/// How much of a message a summary tells.
+#[derive(Clone, Copy, Debug, PartialEq, Eq)]
+pub enum Edition {
+    /// 904 bytes, with the slots below 512.
+    One,
+    /// 976 bytes, with all slots and the serials.
+    Two,
+}
+
+impl Edition {
+    /// The number of a summary's bytes.
+    pub(crate) fn size(self) -> usize
+        ensures { result ≡ size_of self }
+    {
+        match self {
+            Edition::One => 904,
+            Edition::Two => 976,
+        }
+    }
+}

@@ -1,0 +1,63 @@
+ghost use Rattle.std.specs.Prelude.{◌≡◌, ◌+◌, ◌<◌, ◌≤◌, ◌^◌, ◌++◌, length};
+ghost use Rattle.bpf_code.specs.Loads.{load_byte, load_half, load_word};
+
+use crate::joined;
+use crate::summary_bytes::Summary;
+use std::marker::Model;
+
+/// What a program reads: a summary and a message's bytes, side by side.
+#[derive(Drop)]
+pub struct Image<'a> {
+    summary: Summary,
+    message: &'a [u8],
+}
+
+impl<'a> Model for Image<'a> {
+    ghost use Rattle.std.specs.Prelude.{ℕ, List, ◌++◌, length, ◌≤◌, ◌^◌};
+
+    ghost Value = { List ℕ };
+
+    ghost view = { λ i. i.summary ++ i.message.now };
+
+    ghost invariant = { λ i. (length i.summary ≤ 976) × (length i.message.now ≤ 2 ^ 27) };
+}
+
+impl<'a> Image<'a> {
+    /// A summary, and a message behind it.
+    pub(crate) fn joined(summary: Summary, message: &'a [u8]) -> Image<'a>
+        requires { length message.now ≤ 2 ^ 27 }
+        ensures { result ≡ summary ++ message.now }
+    {
+        let _ = summary.bytes();
+        Image { summary, message }
+    }
+
+    /// The number of bytes.
+    pub fn len(&self) -> u64
+        ensures value { result ≡ length self.now }
+        ensures small { result ≤ 976 + 2 ^ 27 }
+    {
+        self.summary.bytes().len() as u64 + self.message.len() as u64
+    }
+
+    /// The byte at a place, none outside.
+    pub fn byte(&self, at: u64) -> Option<u32>
+        ensures { result ≡ load_byte self.now at }
+    {
+        joined::byte(self.summary.bytes(), self.message, at)
+    }
+
+    /// The two bytes from a place on, the highest first, none where one lies outside.
+    pub fn half(&self, at: u64) -> Option<u32>
+        ensures { result ≡ load_half self.now at }
+    {
+        joined::half(self.summary.bytes(), self.message, at)
+    }
+
+    /// The four bytes from a place on, the highest first, none where one lies outside.
+    pub fn word(&self, at: u64) -> Option<u32>
+        ensures { result ≡ load_word self.now at }
+    {
+        joined::word(self.summary.bytes(), self.message, at)
+    }
+}

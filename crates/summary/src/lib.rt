@@ -1,0 +1,14 @@
+//! The image of a message, which programs read: a summary, then the message's bytes. The layers above use that
+//! the loads of an `Image` are the loads of the joined bytes, and that `Slots` is a set.
+#![tactic(auto)]
+
+mod edition;
+mod image;
+mod joined;
+mod slots;
+mod summary_bytes;
+
+pub use edition::Edition;
+pub use image::Image;
+pub use slots::Slots;
+pub use summary_bytes::Summary;

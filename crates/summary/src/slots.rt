@@ -1,0 +1,44 @@
+ghost use Rattle.std.specs.Prelude.{◌≡◌, ◌<◌, ℕ, false, ◌||◌, ◌==◌};
+ghost use Rattle.summary.specs.Sets.{has_slot};
+
+use std::marker::Model;
+
+/// A set of the slots 0 to 1,023.
+#[derive(Clone, Copy, Debug, PartialEq, Eq)]
+pub struct Slots {
+    words: [u32; 32],
+}
+
+impl Model for Slots {
+    ghost use Rattle.std.specs.Prelude.{ℕ, List};
+
+    ghost Value = { List ℕ };
+
+    ghost view = { λ s. s.words };
+
+    ghost inverse = { λ words. record { words = words } };
+}
+
+impl Slots {
+    /// No slot.
+    pub fn empty() -> Slots
+        ensures { (slot : ℕ) → has_slot result slot ≡ false }
+    {
+        Slots { words: [0; 32] }
+    }
+
+    /// The slot, and those that were there.
+    pub fn insert(&mut self, slot: u16)
+        requires { slot < 1024 }
+        ensures { (other : ℕ) → has_slot self.new other ≡ ((other == slot) || has_slot self.old other) }
+    {
+        self.words[slot as usize / 32] |= 1 << (slot % 32);
+    }
+
+    /// Whether the slot is in the set.
+    pub fn contains(&self, slot: u16) -> bool
+        ensures { result ≡ has_slot self.now slot }
+    {
+        slot < 1024 && (self.words[slot as usize / 32] >> (slot % 32)) & 1 == 1
+    }
+}
