@@ -29,6 +29,10 @@ limit_of code = if code == 98 then 2 else 2 ^ (8 * number_len code)
 abbrev pub max_array_len : ℕ
 max_array_len = 67108864
 
+-- the deepest nesting of values
+abbrev pub max_levels : ℕ
+max_levels = 64
+
 -- a variant's type
 abbrev pub IsOneType : DataType → Type 0
 IsOneType type = TypeText type (spelling type) × (length (spelling type) ≤ 255)

@@ -1,5 +1,6 @@
 -- Words that the contracts of the readers use.
-use Rattle.std.specs.Prelude.{◌≡◌, ℕ, Bool, true, false, List, Option, Some, None, Result, Ok, Err}
+use Rattle.std.specs.Prelude.{◌≡◌, ℕ, Bool, true, false, List, length, ◌≤◌, Option, Some, None, Result, Ok, Err}
+use Rattle.signature.specs.DataType.{DataType, TypeText}
 use Rattle.message_value.specs.declared.fault.MsgError.{MsgError}
 use Rattle.message_value.specs.declared.text.TextType.{TextType}
 use Rattle.message_value.specs.declared.text.TextType.TheVariants as texts
@@ -19,6 +20,11 @@ Skips (Err fault) behind read = read ≡ Err fault
 abbrev pub Checks : {X Y : Type 0} → Result X MsgError → At → Result (Y × At) MsgError → Type 0
 Checks (Ok x) behind read = (y : _) × (read ≡ Ok (y, behind))
 Checks (Err fault) behind read = read ≡ Err fault
+
+-- the same of a type's text
+abbrev pub ReadsType : Result (List ℕ) MsgError → At → Result (DataType × At) MsgError → Type 0
+ReadsType (Ok text) behind read = (type : DataType) × TypeText type text × (length text ≤ 255) × (read ≡ Ok (type, behind))
+ReadsType (Err fault) behind read = read ≡ Err fault
 
 -- What a call returned is what reading gives, seen by a view of each.
 abbrev pub Gives : {X Y Z : Type 0} → (X → Z) → (Y → Z) → Result X MsgError → Result Y MsgError → Type 0

@@ -8,6 +8,7 @@ use Rattle.message_value.specs.declared.fault.MsgError.{MsgError}
 use Rattle.message_value.specs.declared.fault.MsgError.TheVariants as faults
 use Rattle.message_value.specs.Value.{Value, Values, number, text}
 use Rattle.message_value.specs.Spelling.{padding}
+use Rattle.message_value.specs.Fits.{max_levels}
 use Rattle.message_value.specs.Reading.{◌>>=◌, At, inside, aligned_at, byte_at, signature_at, value_at, members_at}
 use Rattle.message_view.specs.declared.kind.Kind.{Kind}
 use Rattle.message_view.specs.declared.field.FieldCode.{FieldCode}
@@ -15,7 +16,7 @@ use Rattle.message_view.specs.declared.field.FieldCode.TheVariants.{ReplySerial}
 use Rattle.message_view.specs.Header.{kind_of, code_of, type_code, is_named_well, is_reserved, is_number_allowed, has_required}
 use Rattle.message_view.specs.Message.{Field, field_with, signature_in, Message}
 use Rattle.message_view.specs.Spelling.{field_alignment, fixed_len, body_place}
-use Rattle.message_view.specs.Valid.{max_levels, levels_in_field}
+use Rattle.message_view.specs.Valid.{levels_in_field}
 use Rattle.message_view.specs.Fixed.{order_in, serial_in, fields_len, body_len, framing}
 
 -- ---- fields

@@ -3,15 +3,11 @@ use Rattle.std.specs.Prelude.{◌≡◌, ℕ, ◌+◌, ◌^◌, ◌<◌, ◌≤�
 use Rattle.signature.specs.DataType.{basic, SigText}
 use Rattle.message_value.specs.declared.order.Order.{Order}
 use Rattle.message_value.specs.Value.{Value, number, text}
-use Rattle.message_value.specs.Fits.{max_array_len, IsOneType, ValueFits, MembersFit}
+use Rattle.message_value.specs.Fits.{max_levels, max_array_len, IsOneType, ValueFits, MembersFit}
 use Rattle.message_view.specs.declared.field.FieldCode.{FieldCode}
 use Rattle.message_view.specs.Header.{kind_byte, kind_of, code_of, type_code, is_named_well, is_reserved, is_number_allowed, has_required}
 use Rattle.message_view.specs.Message.{Field, field_with, signature_in, Message}
 use Rattle.message_view.specs.Spelling.{fixed_len, field_value_place, field_bytes, header_bytes, body_place, message_bytes}
-
--- the deepest nesting of values
-abbrev pub max_levels : ℕ
-max_levels = 64
 
 -- how many levels are left inside the variant of a field
 abbrev pub levels_in_field : ℕ
