@@ -110,9 +110,33 @@ fn numbers(rt: HostRuntime) -> Result<(), Fail> {
             "05017500 07000000 05017500 07000000",
             Some(MsgError::FieldTwice),
         ),
-        // the code 0; the code 10, which for now is refused
+        // the code 0
         ("00017500 01000000", Some(MsgError::FieldCode)),
-        ("0a017500 01000000", Some(MsgError::FieldCode)),
+    ];
+    for (words, fault) in cases {
+        let bytes = message(rt.alloc(), 5, &[words])?;
+        assert_eq!(rt; View::read(bytes.as_slice()).err(), fault, "{words}");
+    }
+    Ok(())
+}
+
+#[test]
+fn fields_without_a_meaning(rt: HostRuntime) -> Result<(), Fail> {
+    let cases = [
+        ("0a017500 01000000", None),
+        // they may come twice, and have any type
+        ("0a017500 01000000 0a017500 01000000", None),
+        ("ff037b61 00000000", Some(MsgError::BadSignature)),
+        ("ff046128 79290000 00000000", Some(MsgError::ArrayLength)),
+        ("ff046128 79290000 00000000 00000000", None),
+        ("ff046128 79290100 00000000 00000000", Some(MsgError::BadText)),
+        ("ff046179 7600", Some(MsgError::ArrayLength)),
+        ("0a026179 00000000 02000000 0102", None),
+        ("0a026179 00000000 03000000 0102", Some(MsgError::ArrayLength)),
+        ("0a016200 02000000", Some(MsgError::BadBool)),
+        ("0a016f00 01000000 6100", Some(MsgError::BadName)),
+        ("0a017600 01790007", None),
+        ("0a017600 01790107", Some(MsgError::BadText)),
     ];
     for (words, fault) in cases {
         let bytes = message(rt.alloc(), 5, &[words])?;
@@ -159,6 +183,8 @@ fn signatures_of_bodies(rt: HostRuntime) -> Result<(), Fail> {
         // `r`, and with an end that is not zero
         ("08016700 017200", Some(MsgError::BadSignature)),
         ("08016700 017201", Some(MsgError::BadSignature)),
+        // `s`, which the empty body has not
+        ("08016700 017300", Some(MsgError::Short)),
     ];
     for (words, fault) in cases {
         let bytes = message(rt.alloc(), 5, &[words])?;

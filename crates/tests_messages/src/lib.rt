@@ -3,6 +3,12 @@
 #![tactic(auto)]
 
 #[cfg(test)]
+mod arguments;
+#[cfg(test)]
+mod bodies;
+#[cfg(test)]
+mod depths;
+#[cfg(test)]
 mod faults;
 #[cfg(test)]
 mod fields;

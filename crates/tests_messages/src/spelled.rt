@@ -36,3 +36,38 @@ pub(crate) fn message(alloc: Global, kind: u8, fields: &[&str]) -> Result<Vec<u8
     bytes.extend_from_slice(array.as_slice())?;
     Ok(bytes)
 }
+
+/// The header fields of the signal with path `/a`, interface `a.b` and member `c`, then a SIGNATURE.
+pub(crate) fn fields_with(alloc: Global, signature: &str) -> Result<Vec<u8>, Fail> {
+    let mut array = Vec::new(alloc);
+    for field in [PATH, INTERFACE, MEMBER] {
+        array.extend_from_slice(bytes_of(alloc, field)?.as_slice())?;
+        array.resize(array.len().next_multiple_of(8), 0)?;
+    }
+    let len = u8::try_from(signature.len())?;
+    array.extend_from_slice(&[8, 1, b'g', 0, len])?;
+    array.extend_from_slice(signature.as_bytes())?;
+    array.push(0)?;
+    Ok(array)
+}
+
+/// A little-endian signal with a body.
+pub(crate) fn with_body(alloc: Global, signature: &str, body: &[u8]) -> Result<Vec<u8>, Fail> {
+    let mut array = fields_with(alloc, signature)?;
+    let len = u32::try_from(array.len())?;
+    array.resize(array.len().next_multiple_of(8), 0)?;
+    let mut bytes = Vec::new(alloc);
+    bytes.extend_from_slice(&[b'l', 4, 0, 1])?;
+    bytes.extend_from_slice(&u32::try_from(body.len())?.to_le_bytes())?;
+    bytes.extend_from_slice(&1u32.to_le_bytes())?;
+    bytes.extend_from_slice(&len.to_le_bytes())?;
+    bytes.extend_from_slice(array.as_slice())?;
+    bytes.extend_from_slice(body)?;
+    Ok(bytes)
+}
+
+/// The same of hexadecimal digits.
+pub(crate) fn body(alloc: Global, signature: &str, digits: &str) -> Result<Vec<u8>, Fail> {
+    let body = hex::decode(alloc, digits)?;
+    with_body(alloc, signature, body.as_slice())
+}

@@ -116,3 +116,32 @@ fn s1_of_other_lengths(rt: HostRuntime) -> Result<(), Fail> {
     )?;
     Ok(())
 }
+
+/// The same signal with the argument `hi`.
+const S2: &str =
+    "6c0400010700000001000000 37000000 01016f00 02000000 2f610000 00000000 02017300 03000000 612e6200 00000000 03017300 01000000 63000000 00000000 08016700 01730000 02000000 686900";
+
+#[test]
+fn s2(rt: HostRuntime) -> Result<(), Fail> {
+    for line in ["match||F", "match|arg0='hi'|F", "match|arg0path='hi',member=c|F"] {
+        assert_says(&rt, rt.alloc(), line, S2.as_bytes(), "match\n", "", 0)?;
+    }
+    for line in ["match|arg0='ho'|F", "match|arg1='hi'|F"] {
+        assert_says(&rt, rt.alloc(), line, S2.as_bytes(), "no match\n", "", 1)?;
+    }
+    Ok(())
+}
+
+// A well-known sender is decided by what the sender owns.
+#[test]
+fn owners(rt: HostRuntime) -> Result<(), Fail> {
+    for (line, output, status) in [
+        ("match|sender='com.example.A'|F", "no match\n", 1),
+        ("match|sender='com.example.A'|F|--owns", "match\n", 0),
+        ("match|sender=':1.1'|F|--owns", "no match\n", 1),
+        ("match|member='c'|F|--owns", "match\n", 0),
+    ] {
+        assert_says(&rt, rt.alloc(), line, S1.as_bytes(), output, "", status)?;
+    }
+    Ok(())
+}

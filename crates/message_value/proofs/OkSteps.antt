@@ -1,7 +1,7 @@
 -- Steps that may fail: what an Ok of several says of each.
 use Rattle.std.proofs.Common.{◌≡◌, Bool, true, false, cond, is_some, Option, Some, None, Result, Ok, Err, refl}
-use Rattle.message_view.specs.declared.fault.MsgError.{MsgError}
-use Rattle.message_view.specs.Reading.{◌>>=◌, or_fault}
+use Rattle.message_value.specs.declared.fault.MsgError.{MsgError}
+use Rattle.message_value.specs.Reading.{◌>>=◌}
 
 -- the value of a step that did not fail
 pub bind_ok : {A B : Type 0} (r : Result A MsgError) (f : A → Result B MsgError) (y : B) → (r >>= f) ≡ Ok y → (x : A) × (r ≡ Ok x) × (f x ≡ Ok y)
@@ -42,7 +42,3 @@ found_none false x o e = (refl, e)
 pub nothing_is : {A : Type 0} (o : Option A) → is_some o ≡ false → o ≡ None
 nothing_is None e = refl
 nothing_is (Some x) e = absurd cc
-
-pub or_fault_ok : {A : Type 0} (o : Option MsgError) (x y : A) → or_fault o x ≡ Ok y → (o ≡ None) × (x ≡ y)
-or_fault_ok (Some d) x y e = absurd cc
-or_fault_ok None x y e = (refl, cc)

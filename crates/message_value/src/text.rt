@@ -2,20 +2,20 @@
 
 ghost use Rattle.std.specs.Prelude.{◌≡◌, ◌<◌, ◌^◌, ◌==◌, option_map};
 ghost use Rattle.std.specs.List.{list_any};
-ghost use Rattle.message_view.specs.Valid.{is_text_of};
-ghost use Rattle.message_view.specs.Reading.{text_fault, text_at, text_value_at, signature_value_at, value_at};
-ghost use Rattle.message_view.specs.Words.{Reads, LendsText, text_code};
-ghost use Rattle.message_view.specs.Message.{text};
+ghost use Rattle.message_value.specs.Fits.{is_text_of};
+ghost use Rattle.message_value.specs.Reading.{text_fault, text_at, long_text_at, short_text_at, text_value_at};
+ghost use Rattle.message_value.specs.Words.{Reads, LendsText, text_code};
+ghost use Rattle.message_value.specs.Value.{text};
 
 use crate::cursor::Cursor;
 use crate::fault::MsgError;
 use crate::order::Order;
 use memchr::memchr;
-use signature::check_path;
+use signature::{Signature, check_path};
 
 /// A basic type whose values are texts.
 #[derive(Clone, Copy, Debug)]
-pub(crate) enum TextType {
+pub enum TextType {
     String,
     ObjectPath,
     Signature,
@@ -47,16 +47,18 @@ fn path_text(bytes: &[u8]) -> Option<&str>
     }
 }
 
-/// For now the only signature in a header is the empty one.
 fn signature_text(bytes: &[u8]) -> Option<&str>
     ensures { LendsText (is_text_of 103 bytes.now) bytes.now (option_map (λ text. text.now) result) }
 {
-    if bytes.is_empty() { Some("") } else { None }
+    match Signature::read(bytes) {
+        Err(_) => None,
+        Ok(_) => std::str::from_utf8(bytes).ok(),
+    }
 }
 
 impl TextType {
     /// The basic code of the type.
-    pub(crate) fn code(self) -> u8
+    pub fn code(self) -> u8
         ensures { result ≡ text_code self }
     {
         match self {
@@ -102,34 +104,28 @@ impl TextType {
         Ok(text)
     }
 
-    /// A text whose length is a number.
-    #[tactic(auto, unfolding(crate::specs::Reading::text_value_at))]
+    /// A text whose length is a number of four bytes.
+    #[tactic(auto, unfolding(crate::specs::Reading::long_text_at))]
     fn read_long<'a>(self, cursor: &mut Cursor<'a>, order: Order) -> Result<&'a str, MsgError>
-        ensures { Reads (λ t. text t.now) result cursor.new (text_value_at order (text_code self) cursor.old) }
+        ensures { Reads (λ text. text.now) result cursor.new (long_text_at order (text_code self) cursor.old) }
     {
-        let len = cursor.number(order)?;
-        let found = self.read(cursor, len as usize)?;
-        Ok(found)
+        let len = cursor.word(order)?;
+        self.read(cursor, len as usize)
     }
 
     /// A signature, whose length is a byte.
-    #[tactic(auto, unfolding(crate::specs::Reading::signature_value_at))]
+    #[tactic(auto, unfolding(crate::specs::Reading::short_text_at))]
     fn read_short<'a>(cursor: &mut Cursor<'a>) -> Result<&'a str, MsgError>
-        ensures { Reads (λ t. text t.now) result cursor.new (signature_value_at cursor.old) }
+        ensures { Reads (λ text. text.now) result cursor.new (short_text_at cursor.old) }
     {
         let len = cursor.byte()?;
-        let found = TextType::Signature.read(cursor, usize::from(len))?;
-        Ok(found)
+        TextType::Signature.read(cursor, usize::from(len))
     }
 
-    /// A value of this type at the cursor.
-    #[tactic(auto, unfolding(crate::specs::Reading::value_at))]
-    pub(crate) fn read_value<'a>(
-        self,
-        cursor: &mut Cursor<'a>,
-        order: Order,
-    ) -> Result<&'a str, MsgError>
-        ensures { Reads (λ t. text t.now) result cursor.new (value_at order (text_code self) cursor.old) }
+    /// A value of this type behind its padding.
+    #[tactic(auto, unfolding(crate::specs::Reading::text_value_at))]
+    pub fn read_value<'a>(self, cursor: &mut Cursor<'a>, order: Order) -> Result<&'a str, MsgError>
+        ensures { Reads (λ t. text t.now) result cursor.new (text_value_at order (text_code self) cursor.old) }
     {
         match self {
             TextType::Signature => TextType::read_short(cursor),

@@ -1,7 +1,7 @@
 use Rattle.std.proofs.Common.{sym, ap, ◌∙◌}
 use Rattle.std.proofs.lemmas.Str.{is_utf8-from_IsUtf8}
-use Rattle.message_view.proofs.PlainTexts.{no_text, plain, not_plain}
-use Rattle.message_view.proofs.text.plain_text.Goals as goal
+use Rattle.message_value.proofs.PlainTexts.{no_text, plain, not_plain}
+use Rattle.message_value.proofs.text.plain_text.Goals as goal
 
 pub returns-in-Err : goal.returns-in-Err
 returns-in-Err c = not_plain _ _ (no_text c.args.bytes.now c.in-Err.ensures.cases.0)

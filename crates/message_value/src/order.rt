@@ -1,7 +1,7 @@
 // The byte order of a message.
 
 ghost use Rattle.std.specs.Prelude.{◌≡◌, length};
-ghost use Rattle.message_view.specs.Order.{order_byte, order_of, word_of};
+ghost use Rattle.message_value.specs.Order.{order_byte, order_of, word_of};
 
 /// The order of the bytes of each number of a message (D-Bus Specification, "Marshaling").
 #[derive(Clone, Copy, Debug, PartialEq, Eq)]
@@ -12,7 +12,7 @@ pub enum Order {
 
 impl Order {
     /// The order that a message's first byte names: `l` or `B`.
-    pub(crate) fn of(byte: u8) -> Option<Self>
+    pub fn of(byte: u8) -> Option<Self>
         ensures { result ≡ order_of byte }
     {
         match byte {
@@ -23,7 +23,7 @@ impl Order {
     }
 
     /// The number of four bytes.
-    pub(crate) fn word(self, bytes: [u8; 4]) -> u32
+    pub fn word(self, bytes: [u8; 4]) -> u32
         ensures { result ≡ word_of self bytes }
     {
         match self {

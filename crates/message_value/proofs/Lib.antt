@@ -1,0 +1,3 @@
+pub mod OkSteps
+pub mod PlainTexts
+pub mod SmallValues
