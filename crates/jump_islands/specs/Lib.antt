@@ -1,0 +1,4 @@
+pub mod Draft
+pub mod PlainLength
+pub mod WellMade
+pub mod Lowering
