@@ -1,6 +1,7 @@
 -- Drafts of programs, whose jumps name labels at any distance ahead.
-use Rattle.std.specs.Prelude.{◌≡◌, ℕ, ◌+◌, ◌-◌, ◌<◌, ◌≤◌, ◌×◌, Bool, List, [], ◌∷◌, length, Option, Some, None, slice_get, if◌then◌else◌, is_some, ◌&&◌, nat_lt}
-use Rattle.std.specs.Option.{IsSomeAnd, option_map_or}
+use Rattle.std.specs.Prelude.{ℕ, ◌+◌, ◌-◌, ◌<◌, Bool, true, false, List, [], ◌∷◌, Option, Some, None, slice_get, IfSome}
+use Rattle.std.specs.Option.{IsSomeAnd, option_map_or, option_flatten}
+use Rattle.std.specs.List.{list_all}
 use Rattle.bpf_code.specs.declared.instruction.Ins.{Ins}
 use Rattle.bpf_code.specs.declared.operation.Op.{Op}
 use Rattle.bpf_code.specs.declared.operation.Op.TheVariants.{Jump, Branch}
@@ -23,7 +24,7 @@ is_plain_op _ = true
 
 -- the place to which a label is bound
 abbrev pub place_of : DraftTree → Label → Option ℕ
-place_of draft label = option_join (slice_get draft.bound label.number)
+place_of draft label = option_flatten (slice_get draft.bound label.number)
 
 -- how many instructions a jump at a place goes over; the labels of a closed draft are bound ahead
 abbrev pub distance : DraftTree → ℕ → Label → ℕ
@@ -32,8 +33,8 @@ distance draft place label = option_map_or (λ to. to - (place + 1)) (place_of d
 -- the instruction of a line, with its distances, however far
 abbrev pub ins_of : DraftTree → ℕ → Line → Ins
 ins_of draft place (Plain ins) = ins
-ins_of draft place (Jumps test operand k yes no) =
-    record { code = code_of (Branch test operand); jt = distance draft place yes; jf = distance draft place no; k = k }
+ins_of draft place (Jumps test operand k hit miss) =
+    record { code = code_of (Branch test operand); jt = distance draft place hit; jf = distance draft place miss; k = k }
 ins_of draft place (Goes to) = record { code = code_of Jump; jt = 0; jf = 0; k = distance draft place to }
 
 abbrev pub instructions_from : DraftTree → ℕ → List Line → List Ins
@@ -55,9 +56,18 @@ IsAhead draft place label = IsSomeAnd (place_of draft label) (λ to. place < to)
 -- each label that a line uses is bound ahead of it
 abbrev pub LabelsAhead : DraftTree → ℕ → Line → Type 0
 LabelsAhead draft place (Plain ins) = Unit {0}
-LabelsAhead draft place (Jumps test operand k yes no) = IsAhead draft place yes × IsAhead draft place no
+LabelsAhead draft place (Jumps test operand k hit miss) = IsAhead draft place hit × IsAhead draft place miss
 LabelsAhead draft place (Goes to) = IsAhead draft place to
 
 -- each used label is bound ahead of its uses
 abbrev pub IsClosed : DraftTree → Type 0
-IsClosed draft = (place : ℕ) → IsAllOf (slice_get draft.lines place) (LabelsAhead draft place)
+IsClosed draft = (place : ℕ) → IfSome (slice_get draft.lines place) (LabelsAhead draft place)
+
+-- an instruction of a line is no jump
+abbrev pub is_plain_line : Line → Bool
+is_plain_line (Plain ins) = is_plain_op (op_of ins.code)
+is_plain_line _ = true
+
+-- the lines' instructions are no jumps
+abbrev pub are_plain : List Line → Bool
+are_plain lines = list_all is_plain_line lines
