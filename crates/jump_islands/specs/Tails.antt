@@ -1,5 +1,5 @@
 -- The last lines of a draft, lowered: what each step of `lower` adds. Places count from the draft's end.
-use Rattle.std.specs.Prelude.{ℕ, ◌+◌, ◌-◌, Bool, not, ◌&&◌, ◌||◌, List, [], ◌∷◌, ◌++◌, length, slice_index, slice_set, if◌then◌else◌, nat_le}
+use Rattle.std.specs.Prelude.{ℕ, ◌+◌, ◌-◌, ◌<◌, ◌≤◌, Bool, not, ◌&&◌, ◌||◌, List, [], ◌∷◌, ◌++◌, length, slice_index, slice_set, if◌then◌else◌, nat_le}
 use Rattle.std.specs.Option.{option_map_or}
 use Rattle.bpf_code.specs.declared.instruction.Ins.{Ins}
 use Rattle.bpf_code.specs.declared.operation.Op.TheVariants.{Jump, Branch}
@@ -90,3 +90,9 @@ with_line_ins draft (Goes to) t = with_ins (jump_to (back_of draft to) t) t
 -- one more line
 abbrev pub with_line : DraftTree → Line → TailTree → TailTree
 with_line draft line t = with_place (with_line_ins draft line t)
+
+-- a place that the tail has
+pub record IsPlace (t : TailTree) (place : ℕ) : Type 0 where
+  pub within : place < length t.heights
+  pub reached : place < length t.reaches
+  pub behind : height t place ≤ len t

@@ -1,5 +1,5 @@
-ghost use Rattle.std.specs.Prelude.{◌≡◌, ◌<◌, ◌≤◌, ◌+◌, ◌-◌, Err, IfOk, IfErr, OnOk, length};
-ghost use Rattle.jump_islands.specs.Tails.{TailTree, no_tail, len, height, reach, with_ins, with_place, with_island, with_islands, with_first, with_second, with_branch, jump_to, is_near, is_first_far};
+ghost use Rattle.std.specs.Prelude.{◌≡◌, ◌<◌, ◌≤◌, ◌+◌, ◌-◌, Err, IfOk, IfErr, OnOk, IsTrue, length};
+ghost use Rattle.jump_islands.specs.Tails.{TailTree, no_tail, len, height, reach, with_ins, with_place, with_island, with_islands, with_first, with_second, with_branch, jump_to, is_near, is_first_far, IsPlace};
 
 use crate::error::LowerError;
 use bpf_code::{Ins, Op, Operand, Test};
@@ -117,5 +117,66 @@ impl Tail {
         ensures { result ≡ is_near place ahead self.now }
     {
         ahead.saturating_sub(self.reaches[place]) <= MAX_DISTANCE
+    }
+
+    /// How far the nearest instruction is that leads to a place.
+    fn distance(&self, place: usize) -> usize
+        requires { place < length self.now.reaches }
+        ensures { result ≡ len self.now - reach self.now place }
+    {
+        self.program.len().saturating_sub(self.reaches[place])
+    }
+
+    /// Puts an island of the first place in front, where the jump needs one.
+    fn add_first(&mut self, yes: usize, no: usize) -> Result<(), LowerError>
+        requires yes { IsPlace self.old yes }
+        requires no { IsPlace self.old no }
+        requires few { len self.old ≤ 4096 }
+        ensures added { OnOk result (self.new ≡ with_first yes no self.old) }
+        ensures few { OnOk result (len self.new ≤ 4096) }
+        ensures many { result ≡ Err LowerError.TooMany → 4096 ≤ len self.old }
+    {
+        let len = self.len();
+        if !self.is_near(yes, len) || !self.is_near(no, len) && !self.is_near(yes, len + 1) {
+            self.add_island(yes)?;
+        }
+        Ok(())
+    }
+
+    /// Puts an island of the second place in front, where the jump needs one.
+    fn add_second(&mut self, no: usize) -> Result<(), LowerError>
+        requires no { IsPlace self.old no }
+        requires few { len self.old ≤ 4096 }
+        ensures added { OnOk result (self.new ≡ with_second no self.old) }
+        ensures few { OnOk result (len self.new ≤ 4096) }
+        ensures many { result ≡ Err LowerError.TooMany → 4096 ≤ len self.old }
+    {
+        if !self.is_near(no, self.len()) {
+            self.add_island(no)?;
+        }
+        Ok(())
+    }
+
+    /// Puts a conditional jump to two near places in front.
+    fn put_branch(
+        &mut self,
+        test: Test,
+        operand: Operand,
+        k: u32,
+        yes: usize,
+        no: usize,
+    ) -> Result<(), LowerError>
+        requires yes { yes < length self.old.reaches }
+        requires no { no < length self.old.reaches }
+        requires near_yes { IsTrue (is_near yes (len self.old) self.old) }
+        requires near_no { IsTrue (is_near no (len self.old) self.old) }
+        ensures put { OnOk result (self.new ≡ with_branch test operand k yes no self.old) }
+        ensures few { OnOk result (len self.old < 4096) }
+        ensures many { result ≡ Err LowerError.TooMany → 4096 ≤ len self.old }
+    {
+        let jt = self.distance(yes) as u8;
+        let jf = self.distance(no) as u8;
+        let code = Op::Branch(test, operand).code();
+        self.put(Ins { code, jt, jf, k })
     }
 }
