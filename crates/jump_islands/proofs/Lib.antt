@@ -1,0 +1,2 @@
+pub mod ListPlaces
+pub mod TailFacts
