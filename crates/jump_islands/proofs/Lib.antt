@@ -1,2 +1,3 @@
 pub mod ListPlaces
 pub mod TailFacts
+pub mod TailSteps

@@ -137,12 +137,12 @@ put_on t u e (Some Jump) ins i small p = jump_on t u e ins i small p
 put_on t u e (Some (Branch test operand)) ins i small p = branch_on t u e ins i small p
 put_on t u e _ ins i small p = plain_on t u e ins i small p
 
-lowered_on : (t u : TailTree) → Extends t u → (draft : List Ins) → length draft < length t.heights → AreLowered t draft → AreLowered u draft
+pub lowered_on : (t u : TailTree) → Extends t u → (draft : List Ins) → length draft < length t.heights → AreLowered t draft → AreLowered u draft
 lowered_on t u e [] small h = tt
 lowered_on t u e (ins ∷ more) small h =
     (put_on t u e (op_of ins.code) ins (length more) (omega arith) h.0, lowered_on t u e more (omega arith) h.1)
 
-from_on : (W : Type 0) (t u : TailTree) → Extends t u → (draft all : List Ins) (j : ℕ) → length draft < length t.heights → length draft ≤ length all → From W draft t j → From W all u j
+pub from_on : (W : Type 0) (t u : TailTree) → Extends t u → (draft all : List Ins) (j : ℕ) → length draft < length t.heights → length draft ≤ length all → From W draft t j → From W all u j
 from_on W t u e draft all j small more (inl (i, inside, h)) =
     inl (i, omega arith, e.same (i + 1) (omega arith) ∙ h)
 from_on W t u e draft all j small more (inr (i, k, inside, is, at, well)) =
