@@ -1,3 +1,5 @@
 pub mod ListPlaces
 pub mod TailFacts
 pub mod TailSteps
+pub mod NearPlaces
+pub mod TailLines

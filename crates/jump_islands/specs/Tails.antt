@@ -96,3 +96,4 @@ pub record IsPlace (t : TailTree) (place : ℕ) : Type 0 where
   pub within : place < length t.heights
   pub reached : place < length t.reaches
   pub behind : height t place ≤ len t
+  pub kept : reach t place ≤ len t
