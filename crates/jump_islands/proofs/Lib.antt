@@ -3,3 +3,4 @@ pub mod TailFacts
 pub mod TailSteps
 pub mod NearPlaces
 pub mod TailLines
+pub mod DraftRuns
