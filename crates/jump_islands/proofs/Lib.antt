@@ -4,3 +4,4 @@ pub mod TailSteps
 pub mod NearPlaces
 pub mod TailLines
 pub mod DraftRuns
+pub mod DraftPaths
