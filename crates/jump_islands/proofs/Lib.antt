@@ -5,3 +5,4 @@ pub mod NearPlaces
 pub mod TailLines
 pub mod DraftRuns
 pub mod DraftPaths
+pub mod DraftLines

@@ -133,3 +133,19 @@ both_near hit miss t h m =
     let u = with_first hit miss t in
     let p = still_place hit miss miss t h m in
     near_both hit miss u (is_near miss (len u) u) refl (kept_first hit miss t (is_first_far hit miss t) refl h.reached) p.reached p.kept
+
+pub len-le-first : (hit miss : ℕ) (t : TailTree) → len t ≤ len (with_first hit miss t)
+len-le-first hit miss t = omega (arith, len-first hit t (is_first_far hit miss t))
+
+pub len-le-second : (miss : ℕ) (t : TailTree) → len t ≤ len (with_second miss t)
+len-le-second miss t = omega (arith, len-second miss t (is_near miss (len t) t))
+
+pub len-le-islands : (hit miss : ℕ) (t : TailTree) → len t ≤ len (with_islands hit miss t)
+len-le-islands hit miss t = omega (arith, len-le-first hit miss t, len-le-second miss (with_first hit miss t))
+
+pub reached_first : (hit miss i : ℕ) (t : TailTree) → IsPlace t hit → IsPlace t i → i < length (with_islands hit miss t).reaches
+reached_first hit miss i t h p = reached_second miss i (with_first hit miss t) (is_near miss (len (with_first hit miss t)) (with_first hit miss t)) (still_place hit miss i t h p).reached
+  where
+    reached_second : (miss i : ℕ) (u : TailTree) (b : Bool) → i < length u.reaches → i < length (cond b u (with_island miss u)).reaches
+    reached_second miss i u true h = h
+    reached_second miss i u false h = rw (length-set u.reaches miss (len u + 1)) h

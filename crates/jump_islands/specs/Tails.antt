@@ -97,3 +97,9 @@ pub record IsPlace (t : TailTree) (place : ℕ) : Type 0 where
   pub reached : place < length t.reaches
   pub behind : height t place ≤ len t
   pub kept : reach t place ≤ len t
+
+-- the places of a line's labels are places of the tail
+abbrev pub FitsLine : DraftTree → Line → TailTree → Type 0
+FitsLine draft (Plain ins) t = Unit {0}
+FitsLine draft (Jumps test operand k hit miss) t = IsPlace t (back_of draft hit) × IsPlace t (back_of draft miss)
+FitsLine draft (Goes to) t = IsPlace t (back_of draft to)

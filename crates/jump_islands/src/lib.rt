@@ -7,9 +7,11 @@ mod draft;
 mod error;
 mod label;
 mod line;
+mod lowering;
 mod tail;
 
 pub use draft::Draft;
 pub use error::LowerError;
 pub use label::Label;
 pub use line::Line;
+pub use lowering::lower;

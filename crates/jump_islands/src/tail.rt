@@ -1,7 +1,9 @@
-ghost use Rattle.std.specs.Prelude.{◌≡◌, ◌<◌, ◌≤◌, ◌+◌, ◌-◌, Err, IfOk, IfErr, OnOk, IsTrue, length};
-ghost use Rattle.jump_islands.specs.Tails.{TailTree, no_tail, len, height, reach, with_ins, with_place, with_island, with_islands, with_first, with_second, with_branch, jump_to, is_near, is_first_far, IsPlace};
+ghost use Rattle.std.specs.Prelude.{◌≡◌, ◌<◌, ◌≤◌, ◌+◌, ◌-◌, Err, IfOk, IfErr, OnOk, IsTrue, length, reverse};
+ghost use Rattle.jump_islands.specs.Tails.{TailTree, no_tail, len, height, reach, with_ins, with_place, with_island, with_islands, with_first, with_second, with_branch, jump_to, is_near, with_line_ins, with_line, IsPlace, FitsLine};
 
+use crate::draft::Draft;
 use crate::error::LowerError;
+use crate::line::Line;
 use bpf_code::{Ins, Op, Operand, Test};
 use std::alloc::Global;
 use std::marker::Model;
@@ -178,5 +180,76 @@ impl Tail {
         let jf = self.distance(no) as u8;
         let code = Op::Branch(test, operand).code();
         self.put(Ins { code, jt, jf, k })
+    }
+
+    /// Adds a conditional jump, with the islands that it needs.
+    fn add_branch(
+        &mut self,
+        test: Test,
+        operand: Operand,
+        k: u32,
+        yes: usize,
+        no: usize,
+    ) -> Result<(), LowerError>
+        requires yes { IsPlace self.old yes }
+        requires no { IsPlace self.old no }
+        requires few { len self.old ≤ 4096 }
+        ensures added { OnOk result (self.new ≡ with_branch test operand k yes no (with_islands yes no self.old)) }
+        ensures few { OnOk result (len self.new ≤ 4096) }
+        ensures many { result ≡ Err LowerError.TooMany → 4096 ≤ len (with_islands yes no self.old) }
+    {
+        self.add_first(yes, no)?;
+        self.add_second(no)?;
+        self.put_branch(test, operand, k, yes, no)
+    }
+
+    /// Adds a jump.
+    fn add_jump(&mut self, to: usize) -> Result<(), LowerError>
+        requires to { IsPlace self.old to }
+        requires few { len self.old ≤ 4096 }
+        ensures added { OnOk result (self.new ≡ with_ins (jump_to to self.old) self.old) }
+        ensures few { OnOk result (len self.new ≤ 4096) }
+        ensures many { result ≡ Err LowerError.TooMany → 4096 ≤ len self.old }
+    {
+        let jump = self.jump_to(to);
+        self.put(jump)
+    }
+
+    /// Adds the instructions of a line.
+    fn add_ins(&mut self, draft: &Draft, line: &Line) -> Result<(), LowerError>
+        requires fits { FitsLine draft.now line.now self.old }
+        requires few { len self.old ≤ 4096 }
+        ensures added { OnOk result (self.new ≡ with_line_ins draft.now line.now self.old) }
+        ensures few { OnOk result (len self.new ≤ 4096) }
+        ensures many { result ≡ Err LowerError.TooMany → 4096 < len (with_line draft.now line.now self.old) }
+    {
+        match *line {
+            Line::Plain(ins) => self.put(ins),
+            Line::Jumps(test, operand, k, yes, no) => {
+                self.add_branch(test, operand, k, draft.back_of(yes), draft.back_of(no))
+            }
+            Line::Goes(to) => self.add_jump(draft.back_of(to)),
+        }
+    }
+
+    /// Adds a line.
+    pub(crate) fn add_line(&mut self, draft: &Draft, line: &Line) -> Result<(), LowerError>
+        requires fits { FitsLine draft.now line.now self.old }
+        requires few { len self.old ≤ 4096 }
+        ensures added { OnOk result (self.new ≡ with_line draft.now line.now self.old) }
+        ensures few { OnOk result (len self.new ≤ 4096) }
+        ensures many { result ≡ Err LowerError.TooMany → 4096 < len (with_line draft.now line.now self.old) }
+    {
+        self.add_ins(draft, line)?;
+        self.end_line()
+    }
+
+    /// The program.
+    pub(crate) fn finish(self) -> Vec<Ins>
+        ensures { result.items ≡ reverse self.program }
+    {
+        let mut program = self.program;
+        program.reverse();
+        program
     }
 }
