@@ -21,7 +21,9 @@ use Rattle.jump_islands.specs.declared.line.Line.TheVariants.{Plain, Jumps, Goes
 use Rattle.jump_islands.specs.declared.label.Label.{Label}
 use Rattle.jump_islands.specs.Draft.{DraftTree, place_of, distance, ins_of, instructions_from, instructions_of, DraftEnds, IsAhead, LabelsAhead, IsClosed, is_plain_line, are_plain}
 use Rattle.jump_islands.specs.PlainLength.{span, size_of, sizes_of, plain_length}
-use Rattle.jump_islands.specs.Lowering.{IsLowered, max_len}
+use Rattle.jump_islands.specs.Lowering.{IsLowered, IsRefusal, max_len}
+use Rattle.jump_islands.specs.declared.error.LowerError.{LowerError}
+use Rattle.jump_islands.specs.declared.error.LowerError.TheVariants.{TooMany, NoMemory}
 use Rattle.jump_islands.specs.WellMade.{AreWellMade, IsWellMade}
 use Rattle.jump_islands.specs.Tails.{TailTree, len, height, reach, no_tail, back_of, jump_to, with_ins, with_place, with_islands, with_branch, with_line, IsPlace, FitsLine}
 use Rattle.jump_islands.proofs.TailFacts.{Holds, IsTail, reached_below}
@@ -77,7 +79,7 @@ line_tail draft place (Jumps test operand k hit miss) done t tail e at plain ahe
     let ins : Ins = ins_of draft place (Jumps test operand k hit miss) in
     let F : ℕ → ℕ → Type 0 = λ x y. IsTail (IsWellMade draft) (ins ∷ done) (with_place (with_branch test operand k x y (with_islands x y t))) in
     let r : F (length done - distance draft place hit) (length done - distance draft place miss) =
-        branch_tail (IsWellMade draft) done t test operand k (distance draft place hit) (distance draft place miss) tail (λ well. (inside draft place (length done) test operand k hit miss e at well).0) (λ well. (inside draft place (length done) test operand k hit miss e at well).1) in
+    branch_tail (IsWellMade draft) done t test operand k (distance draft place hit) (distance draft place miss) tail (λ well. (inside draft place (length done) test operand k hit miss e at well).0) (λ well. (inside draft place (length done) test operand k hit miss e at well).1) in
     subst (F (back_of draft hit)) b (subst (λ (x : ℕ). F x (length done - distance draft place miss)) a r)
 line_tail draft place (Goes to) done t tail e at plain ahead =
     let a = back_is draft (length done) place to e ahead in
@@ -192,3 +194,7 @@ refused draft done t tail many =
     let a = plain_from (IsWellMade draft) (last_of draft done) t tail in
     let b = plain_more draft 0 (length draft.lines - done) (length draft.lines - done) draft.lines (omega arith) in
     omega (arith, a, b)
+
+pub refusal : (draft : DraftTree) (e : LowerError) → (e ≡ TooMany → max_len < plain_length draft) → IsRefusal draft e
+refusal draft TooMany h = h refl
+refusal draft NoMemory h = tt

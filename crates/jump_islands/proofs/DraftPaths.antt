@@ -118,19 +118,19 @@ way_op draft t b q i earlier ins (Some (Branch test operand)) w tied e at row pu
     let to : (q ≡ b + 1 + put.jt) ⊎ (q ≡ b + 1 + put.jf) = At_out (program_of t) b x (Branch test operand) (Leads b q) (slice_get-reverse t.program put.at b x put.is here) row follows in
     elim to [
       | inl is ↦ record {
-          place = w.place + 1 + ins.jt;
-          before = w.place ∷ w.before;
-          path = (At_in draft w.place ins (Branch test operand) (Leads w.place (w.place + 1 + ins.jt)) at row (inl refl), w.path);
-          kept = λ k h. quiet draft (program_of t) k w.place b w.before earlier (stores_row draft w.place ins (Branch test operand) k at row) (w.kept k) h;
-          near = side_near (length draft) t w.place b q i put.at ins.jt put.jt put.hit e here put.hit_leads put.hit_at is;
-        }
+        place = w.place + 1 + ins.jt;
+        before = w.place ∷ w.before;
+        path = (At_in draft w.place ins (Branch test operand) (Leads w.place (w.place + 1 + ins.jt)) at row (inl refl), w.path);
+        kept = λ k h. quiet draft (program_of t) k w.place b w.before earlier (stores_row draft w.place ins (Branch test operand) k at row) (w.kept k) h;
+        near = side_near (length draft) t w.place b q i put.at ins.jt put.jt put.hit e here put.hit_leads put.hit_at is;
+      }
       | inr is ↦ record {
-          place = w.place + 1 + ins.jf;
-          before = w.place ∷ w.before;
-          path = (At_in draft w.place ins (Branch test operand) (Leads w.place (w.place + 1 + ins.jf)) at row (inr refl), w.path);
-          kept = λ k h. quiet draft (program_of t) k w.place b w.before earlier (stores_row draft w.place ins (Branch test operand) k at row) (w.kept k) h;
-          near = side_near (length draft) t w.place b q i put.at ins.jf put.jf put.miss e here put.miss_leads put.miss_at is;
-        }
+        place = w.place + 1 + ins.jf;
+        before = w.place ∷ w.before;
+        path = (At_in draft w.place ins (Branch test operand) (Leads w.place (w.place + 1 + ins.jf)) at row (inr refl), w.path);
+        kept = λ k h. quiet draft (program_of t) k w.place b w.before earlier (stores_row draft w.place ins (Branch test operand) k at row) (w.kept k) h;
+        near = side_near (length draft) t w.place b q i put.at ins.jf put.jf put.miss e here put.miss_leads put.miss_at is;
+      }
     ]
 way_op draft t b q i earlier ins (Some op) w tied e at row put follows =
     let p : PlainPut t ins i = put in

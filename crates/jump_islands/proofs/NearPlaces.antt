@@ -39,11 +39,13 @@ kept_first hit miss t true far inside =
     (omega arith, λ h. omega arith)
 kept_first hit miss t false far inside =
     let p = or_parts _ _ far in
-    let a : is_near hit (len t) t ≡ true = not-false _ p.0 in
-    (near_at t hit (len t) a, λ h. elim (and_cases _ _ p.1) [
-      | inl q ↦ absurd (false≢true (sym h ∙ not-false _ q))
-      | inr q ↦ near_at t hit (len t + 1) (not-false _ q)
-    ])
+    let a : is_near hit (len t) t ≡ true = not-false _ p.0 in (
+      near_at t hit (len t) a,
+      λ h. elim (and_cases _ _ p.1) [
+        | inl q ↦ absurd (false≢true (sym h ∙ not-false _ q))
+        | inr q ↦ near_at t hit (len t + 1) (not-false _ q)
+      ],
+    )
 
 near_both : (hit miss : ℕ) (t : TailTree) (b : Bool) → is_near miss (len t) t ≡ b → Kept hit miss t → miss < length t.reaches → reach t miss ≤ len t → let u = cond b t (with_island miss t) in (is_near hit (len u) u ≡ true) × (is_near miss (len u) u ≡ true)
 near_both hit miss t true near kept inside small = (near_from t hit (len t) kept.0, near)
