@@ -1,5 +1,5 @@
 -- The lines of a draft, from the last one on.
-use Rattle.std.proofs.Common.{◌≡◌, ℕ, zero, suc, ◌+◌, ◌-◌, ◌<◌, ◌≤◌, Bool, true, false, List, [], ◌∷◌, length, get_or, drop, reverse, Option, Some, None, IfSome, refl, sym, ap, ◌∙◌, arith, subst, length-drop}
+use Rattle.std.proofs.Common.{◌≡◌, ℕ, zero, suc, ◌+◌, ◌-◌, ◌<◌, ◌≤◌, Bool, true, List, [], ◌∷◌, length, get_or, drop, reverse, Option, Some, None, refl, ap, arith, subst, length-drop}
 use Rattle.std.proofs.lemmas.List.{drop_more, drop_all}
 use Rattle.std.proofs.lemmas.Bool.{and_parts}
 use Rattle.std.proofs.lemmas.List.Sums.{sum_by-take-le, sum_by-cons}
@@ -13,23 +13,23 @@ use Rattle.bpf_code.specs.declared.operation.Op.TheVariants.{Branch}
 use Rattle.bpf_code.specs.declared.operation.Test.{Test}
 use Rattle.bpf_code.specs.declared.operation.Operand.{Operand}
 use Rattle.bpf_code.specs.Flow.{At}
-use Rattle.bpf_code.specs.Program.{IsFine, IsJumpFine}
-use Rattle.bpf_code.specs.Steps.{Ends, start}
-use Rattle.bpf_code.specs.Table.{op_of, code_of}
+use Rattle.bpf_code.specs.Program.{IsFine}
+use Rattle.bpf_code.specs.Steps.{start}
+use Rattle.bpf_code.specs.Table.{op_of}
 use Rattle.jump_islands.specs.declared.line.Line.{Line}
 use Rattle.jump_islands.specs.declared.line.Line.TheVariants.{Plain, Jumps, Goes}
 use Rattle.jump_islands.specs.declared.label.Label.{Label}
-use Rattle.jump_islands.specs.Draft.{DraftTree, place_of, distance, ins_of, instructions_from, instructions_of, DraftEnds, IsAhead, LabelsAhead, IsClosed, is_plain_line, are_plain}
-use Rattle.jump_islands.specs.PlainLength.{span, size_of, sizes_of, plain_length}
+use Rattle.jump_islands.specs.Draft.{DraftTree, place_of, distance, ins_of, instructions_from, instructions_of, IsAhead, LabelsAhead, IsClosed, is_plain_line, are_plain}
+use Rattle.jump_islands.specs.PlainLength.{size_of, sizes_of, plain_length}
 use Rattle.jump_islands.specs.Lowering.{IsLowered, IsRefusal, max_len}
 use Rattle.jump_islands.specs.declared.error.LowerError.{LowerError}
 use Rattle.jump_islands.specs.declared.error.LowerError.TheVariants.{TooMany, NoMemory}
-use Rattle.jump_islands.specs.WellMade.{AreWellMade, IsWellMade}
+use Rattle.jump_islands.specs.WellMade.{IsWellMade}
 use Rattle.jump_islands.specs.Tails.{TailTree, len, height, reach, no_tail, back_of, jump_to, with_ins, with_place, with_islands, with_branch, with_line, IsPlace, FitsLine}
-use Rattle.jump_islands.proofs.TailFacts.{Holds, IsTail, reached_below}
+use Rattle.jump_islands.proofs.TailFacts.{IsTail, reached_below}
 use Rattle.jump_islands.proofs.TailSteps.{tail_start}
 use Rattle.jump_islands.proofs.TailLines.{plain_tail, jump_tail, branch_tail, branch_op}
-use Rattle.jump_islands.proofs.DraftRuns.{Lowers, Tied, program_of, tied_start, ends_on, only_on}
+use Rattle.jump_islands.proofs.DraftRuns.{Lowers, tied_start, ends_on, only_on}
 use Rattle.jump_islands.proofs.DraftPaths.{well_formed}
 
 -- ---- labels, from the end

@@ -1,6 +1,6 @@
 -- A lowered draft is accepted where the draft is well made.
-use Rattle.std.proofs.Common.{◌≡◌, ℕ, zero, suc, ◌+◌, ◌-◌, ◌<◌, ◌≤◌, Bool, true, false, ◌||◌, List, [], ◌∷◌, length, reverse, Option, Some, None, ◌⊎◌, inl, inr, refl, sym, ap, ◌∙◌, arith, subst, IsTrue}
-use Rattle.std.proofs.lemmas.Bool.{or_right, false≢true}
+use Rattle.std.proofs.Common.{◌≡◌, ℕ, ◌+◌, ◌-◌, ◌<◌, ◌≤◌, Bool, true, false, List, [], ◌∷◌, length, Option, Some, None, ◌⊎◌, inl, inr, refl, arith, subst}
+use Rattle.std.proofs.lemmas.Bool.{or_right}
 use Rattle.std.proofs.lemmas.Option.{slice_get_cases, slice_get_within}
 use Rattle.std.proofs.Math.ListN.{length-reverse}
 use Rattle.std.specs.Option.{IsSomeAnd}
@@ -10,12 +10,12 @@ use Rattle.bpf_code.specs.declared.operation.Op.{Op}
 use Rattle.bpf_code.specs.declared.operation.Op.TheVariants.{Jump, Branch, ReturnConstant, ReturnA}
 use Rattle.bpf_code.specs.Table.{op_of}
 use Rattle.bpf_code.specs.Flow.{At, Leads, Follows, IsPath, Reads, stores, stores_at, stored_on}
-use Rattle.bpf_code.specs.Program.{IsConstantFine, IsScratchFine, IsJumpFine, IsLoadFine, IsFine, IsReturn, WellFormed}
+use Rattle.bpf_code.specs.Program.{IsJumpFine, IsFine, IsReturn, WellFormed}
 use Rattle.jump_islands.specs.Draft.{is_plain_op}
 use Rattle.jump_islands.specs.WellMade.{AreWellMade}
 use Rattle.jump_islands.specs.Tails.{TailTree, len, height, jump_over}
 use Rattle.jump_islands.proofs.ListPlaces.{slice_get-reverse}
-use Rattle.jump_islands.proofs.TailFacts.{Reached, PlainPut, JumpPut, BranchPut, IsPut, AreLowered, From, Holds, IsTail, positive, reached_above}
+use Rattle.jump_islands.proofs.TailFacts.{Reached, PlainPut, IsPut, AreLowered, From, IsTail, positive, reached_above}
 use Rattle.jump_islands.proofs.DraftRuns.{Lowers, Tied, program_of, put_at, tied_above, tied_to, tied_next, tied_start, tied_past, some_out}
 
 -- ---- the instruction at a place

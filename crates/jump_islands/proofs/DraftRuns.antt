@@ -1,5 +1,5 @@
 -- A lowered draft runs as the draft does.
-use Rattle.std.proofs.Common.{◌≡◌, ℕ, zero, suc, ◌+◌, ◌-◌, ◌<◌, ◌≤◌, Bool, true, false, cond, List, [], ◌∷◌, length, reverse, Option, Some, None, ◌⊎◌, inl, inr, refl, sym, ap, ◌∙◌, arith, subst}
+use Rattle.std.proofs.Common.{◌≡◌, ℕ, zero, suc, ◌+◌, ◌-◌, ◌<◌, ◌≤◌, Bool, true, false, List, [], ◌∷◌, length, reverse, Option, Some, None, ◌⊎◌, inl, inr, refl, sym, ◌∙◌, arith, subst}
 use Rattle.std.proofs.lemmas.Option.{slice_get_past, slice_get_cases}
 use Rattle.std.proofs.Math.ListN.{length-reverse}
 use Rattle.std.specs.Option.{IsSomeAnd, option_map, option_and_then}
@@ -16,7 +16,7 @@ use Rattle.bpf_code.specs.Steps.{State, Next, Goes, Stops, after, step_of, Arriv
 use Rattle.jump_islands.specs.Draft.{is_plain_op}
 use Rattle.jump_islands.specs.Tails.{TailTree, len, height, jump_over}
 use Rattle.jump_islands.proofs.ListPlaces.{slice_get-reverse}
-use Rattle.jump_islands.proofs.TailFacts.{Reached, PlainPut, JumpPut, BranchPut, IsPut, AreLowered}
+use Rattle.jump_islands.proofs.TailFacts.{Reached, PlainPut, JumpPut, IsPut, AreLowered}
 
 -- ---- places
 

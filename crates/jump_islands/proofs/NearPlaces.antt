@@ -1,6 +1,6 @@
 -- Which places are near, and how many islands a conditional jump gets.
-use Rattle.std.proofs.Common.{◌≡◌, ℕ, ◌+◌, ◌-◌, ◌<◌, ◌≤◌, Bool, true, false, not, ◌&&◌, ◌||◌, cond, leb, ltb, List, [], ◌∷◌, ◌++◌, length, get_or, ◌⊎◌, inl, inr, refl, sym, ap, ◌∙◌, arith, subst, length-append}
-use Rattle.std.proofs.lemmas.Bool.{cases_eq, cases_Bool, leb-true, leb-false, lt-ltb, le-leb, not-true, not-false, or_cases, or_parts, or_left, or_right, and_parts, and_cases, and_from, not_from_true, not_from_false, false≢true}
+use Rattle.std.proofs.Common.{◌≡◌, ℕ, ◌+◌, ◌-◌, ◌<◌, ◌≤◌, Bool, true, false, not, cond, length, inl, inr, refl, sym, ap, ◌∙◌, arith}
+use Rattle.std.proofs.lemmas.Bool.{cases_eq, leb-true, leb-false, lt-ltb, le-leb, not-true, not-false, or_cases, or_parts, or_left, or_right, and_parts, and_cases, and_from, false≢true}
 use Rattle.std.proofs.lemmas.List.{get_or-set_same, get_or-set_other}
 use Rattle.std.proofs.Math.ListN.{length-set}
 use Rattle.jump_islands.specs.PlainLength.{is_far, count}

@@ -1,8 +1,7 @@
 -- What each line of a draft adds to a tail.
-use Rattle.std.proofs.Common.{◌≡◌, ℕ, zero, suc, ◌+◌, ◌-◌, ◌<◌, ◌≤◌, Bool, true, false, not, cond, List, [], ◌∷◌, ◌++◌, length, take, get_or, Option, Some, None, ◌⊎◌, inl, inr, refl, sym, ap, ◌∙◌, arith, subst}
+use Rattle.std.proofs.Common.{◌≡◌, ℕ, zero, suc, ◌+◌, ◌-◌, ◌<◌, ◌≤◌, Bool, true, false, not, cond, List, ◌∷◌, length, take, get_or, Option, Some, refl, sym, ap, ◌∙◌, arith, subst}
 use Rattle.std.proofs.lemmas.List.Sums.{sum_by-cons}
 use Rattle.std.proofs.lemmas.Bool.{not-true}
-use Rattle.std.specs.List.{slice_get}
 use Rattle.bpf_code.specs.declared.instruction.Ins.{Ins}
 use Rattle.bpf_code.specs.declared.operation.Op.{Op}
 use Rattle.bpf_code.specs.declared.operation.Op.TheVariants.{Jump, Branch}
@@ -13,10 +12,10 @@ use Rattle.bpf_code.specs.declared.operation.Operand.TheVariants.{Constant, Inde
 use Rattle.bpf_code.specs.Table.{op_of, code_of}
 use Rattle.jump_islands.specs.Draft.{is_plain_op}
 use Rattle.jump_islands.specs.PlainLength.{is_far, count, span, size_of, sizes_of}
-use Rattle.jump_islands.specs.Tails.{TailTree, len, height, reach, jump_over, jump_to, branch_to, with_ins, with_place, with_island, is_near, is_first_far, with_first, with_second, with_islands, with_branch}
+use Rattle.jump_islands.specs.Tails.{TailTree, len, height, reach, jump_over, jump_to, branch_to, with_ins, with_place, with_island, is_near, is_first_far, with_first, with_islands, with_branch}
 use Rattle.jump_islands.proofs.ListPlaces.{slice_get-seam}
-use Rattle.jump_islands.proofs.TailFacts.{Reached, PlainPut, JumpPut, BranchPut, IsPut, Holds, IsTail, put_extends, reached_on, reached_above, reached_below}
-use Rattle.jump_islands.proofs.TailSteps.{island_holds, put_holds, put_top, put_behind, len-put, len-island}
+use Rattle.jump_islands.proofs.TailFacts.{PlainPut, JumpPut, BranchPut, IsPut, Holds, IsTail, put_extends, reached_on, reached_above, reached_below}
+use Rattle.jump_islands.proofs.TailSteps.{island_holds, put_holds, put_top, put_behind, len-put}
 use Rattle.jump_islands.proofs.NearPlaces.{count-le, len-first, len-second, Spans, first_far, second_far}
 
 -- ---- the length

@@ -1,16 +1,14 @@
 -- What each step of `lower` keeps of a tail.
-use Rattle.std.proofs.Common.{◌≡◌, ℕ, zero, suc, ◌+◌, ◌-◌, ◌<◌, ◌≤◌, Bool, true, false, List, [], ◌∷◌, ◌++◌, length, get_or, set, Option, Some, None, ◌⊎◌, inl, inr, refl, sym, ap, ◌∙◌, arith, subst, length-append}
+use Rattle.std.proofs.Common.{◌≡◌, ℕ, zero, suc, ◌+◌, ◌-◌, ◌<◌, ◌≤◌, List, [], ◌∷◌, ◌++◌, length, Some, inl, inr, refl, sym, ◌∙◌, arith, subst, length-append}
 use Rattle.std.proofs.lemmas.Bool.{cases_eq, cases_lt}
 use Rattle.std.proofs.lemmas.List.{get_or_append_left, get_or_push, get_or-set_same, get_or-set_other}
 use Rattle.std.proofs.Math.ListN.{length-set}
 use Rattle.std.specs.List.{slice_get}
 use Rattle.bpf_code.specs.declared.instruction.Ins.{Ins}
-use Rattle.bpf_code.specs.declared.operation.Op.{Op}
-use Rattle.bpf_code.specs.declared.operation.Op.TheVariants.{Jump, Branch}
 use Rattle.bpf_code.specs.Table.{op_of}
-use Rattle.jump_islands.specs.Tails.{TailTree, len, height, reach, no_tail, jump_over, jump_to, with_ins, with_place, with_island}
+use Rattle.jump_islands.specs.Tails.{TailTree, len, height, reach, no_tail, jump_to, with_ins, with_place, with_island}
 use Rattle.jump_islands.proofs.ListPlaces.{slice_get-seam}
-use Rattle.jump_islands.proofs.TailFacts.{Reached, Island, IsPut, AreLowered, From, Holds, IsTail, Extends, island_extends, put_extends, reached_on, lowered_on, from_on, positive}
+use Rattle.jump_islands.proofs.TailFacts.{Reached, IsPut, From, Holds, IsTail, island_extends, put_extends, reached_on, lowered_on, from_on, positive}
 
 -- ---- no line
 

@@ -1,5 +1,5 @@
 -- Drafts of programs, whose jumps name labels at any distance ahead.
-use Rattle.std.specs.Prelude.{ℕ, ◌+◌, ◌-◌, ◌<◌, Bool, true, false, List, [], ◌∷◌, Option, Some, None, slice_get, IfSome}
+use Rattle.std.specs.Prelude.{ℕ, ◌+◌, ◌-◌, ◌<◌, Bool, true, false, List, [], ◌∷◌, Option, Some, slice_get, IfSome}
 use Rattle.std.specs.Option.{IsSomeAnd, option_map_or, option_flatten}
 use Rattle.std.specs.List.{list_all}
 use Rattle.bpf_code.specs.declared.instruction.Ins.{Ins}

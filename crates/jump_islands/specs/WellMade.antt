@@ -1,5 +1,5 @@
 -- Drafts that become accepted programs.
-use Rattle.std.specs.Prelude.{◌<◌, ◌-◌, ◌≤◌, ℕ, List, length, IsTrue}
+use Rattle.std.specs.Prelude.{◌<◌, ◌-◌, ℕ, List, length, IsTrue}
 use Rattle.bpf_code.specs.declared.instruction.Ins.{Ins}
 use Rattle.bpf_code.specs.Flow.{At, IsPath, Reads, stored_on}
 use Rattle.bpf_code.specs.Program.{IsFine, IsReturn}
