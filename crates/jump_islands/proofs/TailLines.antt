@@ -1,0 +1,194 @@
+-- What each line of a draft adds to a tail.
+use Rattle.std.proofs.Common.{◌≡◌, ℕ, zero, suc, ◌+◌, ◌-◌, ◌<◌, ◌≤◌, Bool, true, false, not, cond, List, ◌∷◌, length, take, get_or, Option, Some, refl, sym, ap, ◌∙◌, arith, subst}
+use Rattle.std.proofs.lemmas.List.Sums.{sum_by-cons}
+use Rattle.std.proofs.lemmas.Bool.{not-true}
+use Rattle.bpf_code.specs.declared.instruction.Ins.{Ins}
+use Rattle.bpf_code.specs.declared.operation.Op.{Op}
+use Rattle.bpf_code.specs.declared.operation.Op.TheVariants.{Jump, Branch}
+use Rattle.bpf_code.specs.declared.operation.Test.{Test}
+use Rattle.bpf_code.specs.declared.operation.Test.TheVariants.{Equal, Above, AtLeast, SharesBit}
+use Rattle.bpf_code.specs.declared.operation.Operand.{Operand}
+use Rattle.bpf_code.specs.declared.operation.Operand.TheVariants.{Constant, Index}
+use Rattle.bpf_code.specs.Table.{op_of, code_of}
+use Rattle.jump_islands.specs.Draft.{is_plain_op}
+use Rattle.jump_islands.specs.PlainLength.{is_far, count, span, size_of, sizes_of}
+use Rattle.jump_islands.specs.Tails.{TailTree, len, height, reach, jump_over, jump_to, branch_to, with_ins, with_place, with_island, is_near, is_first_far, with_first, with_islands, with_branch}
+use Rattle.jump_islands.proofs.ListPlaces.{slice_get-seam}
+use Rattle.jump_islands.proofs.TailFacts.{PlainPut, JumpPut, BranchPut, IsPut, Holds, IsTail, put_extends, reached_on, reached_above, reached_below}
+use Rattle.jump_islands.proofs.TailSteps.{island_holds, put_holds, put_top, put_behind, len-put}
+use Rattle.jump_islands.proofs.NearPlaces.{count-le, len-first, len-second, Spans, first_far, second_far}
+
+-- ---- the length
+
+-- a line that is no longer than without sharing
+short_on : (W : Type 0) (draft : List Ins) (t m : TailTree) (ins x : Ins) → IsTail W draft t → Holds W draft m → m.heights ≡ t.heights → len m + 1 ≤ size_of (op_of ins.code) ins (sizes_of draft) + len t → (d i : ℕ) → i ≡ length draft + 1 - d → len (with_place (with_ins x m)) ≤ span d (sizes_of (ins ∷ draft)) + height (with_place (with_ins x m)) i
+short_on W draft t m ins x tail h same size zero i e =
+    let f : i ≡ length draft + 1 = omega arith in
+    let top : height (with_place (with_ins x m)) i ≡ len m + 1 = rw f (put_top W draft m h x) in
+    omega (arith, len-put x m)
+short_on W draft t m ins x tail h same size (suc d) i e =
+    let f : i ≡ length draft - d = omega arith in
+    let below : height (with_place (with_ins x m)) i ≡ height m i = put_behind W draft m h x i (omega arith) in
+    let back : height m i ≡ height t (length draft - d) = ap (λ (hs : List ℕ). get_or hs i 0) same ∙ ap (height t) f in
+    let more : span (suc d) (sizes_of (ins ∷ draft)) ≡ size_of (op_of ins.code) ins (sizes_of draft) + span d (sizes_of draft) = sum_by-cons (λ (size : ℕ). size) _ (take d (sizes_of draft)) in
+    let s = tail.short d in
+    omega (arith, len-put x m)
+
+tail_with : (W : Type 0) (draft : List Ins) (t m : TailTree) (ins x : Ins) → IsTail W draft t → Holds W draft m → m.heights ≡ t.heights → len m + 1 ≤ size_of (op_of ins.code) ins (sizes_of draft) + len t → IsPut (with_place (with_ins x m)) (op_of ins.code) ins (length draft) → IsTail W (ins ∷ draft) (with_place (with_ins x m))
+tail_with W draft t m ins x tail h same size put = record {
+  holds = put_holds W draft m h ins x put;
+  top = (let e : length (ins ∷ draft) ≡ length draft + 1 = omega arith in rw e (put_top W draft m h x)) ∙ sym (len-put x m);
+  short = λ d. short_on W draft t m ins x tail h same size d (length (ins ∷ draft) - d) (omega arith);
+}
+
+-- ---- an instruction that is no jump
+
+plain_put : (t : TailTree) (o : Option Op) (ins : Ins) (i : ℕ) → is_plain_op o ≡ true → PlainPut t ins i → IsPut t o ins i
+plain_put t (Some Jump) ins i plain p = cc
+plain_put t (Some (Branch test operand)) ins i plain p = cc
+plain_put t _ ins i plain p = p
+
+size_some : (o : Option Op) (ins : Ins) (later : List ℕ) → 1 ≤ size_of o ins later
+size_some (Some (Branch test operand)) ins later = omega arith
+size_some _ ins later = omega arith
+
+pub plain_tail : (W : Type 0) (draft : List Ins) (t : TailTree) (ins : Ins) → IsTail W draft t → is_plain_op (op_of ins.code) ≡ true → IsTail W (ins ∷ draft) (with_place (with_ins ins t))
+plain_tail W draft t ins tail plain =
+    let u = with_place (with_ins ins t) in
+    let behind : height u (length draft) ≡ len t = put_behind W draft t tail.holds ins (length draft) (omega arith) ∙ tail.top in
+    tail_with W draft t t ins ins tail tail.holds refl (let s = size_some (op_of ins.code) ins (sizes_of draft) in omega arith) (plain_put u (op_of ins.code) ins (length draft) plain (record {
+      above = put_top W draft t tail.holds ins ∙ ap (λ (h : ℕ). h + 1) (sym behind);
+      is = rw behind (slice_get-seam t.program ins);
+    }))
+
+-- ---- a jump
+
+pub jump_tail : (W : Type 0) (draft : List Ins) (t : TailTree) (k : ℕ) → IsTail W draft t → IsTail W (jump_over k ∷ draft) (with_place (with_ins (jump_to (length draft - k) t) t))
+jump_tail W draft t k tail =
+    let x = jump_to (length draft - k) t in
+    let u = with_place (with_ins x t) in
+    let small = tail.holds.below (length draft - k) (omega arith) in
+    let behind = put_behind W draft t tail.holds x (length draft - k) (omega arith) in
+    let put : JumpPut u (jump_over k) (length draft) = record {
+      at = len t;
+      above = put_top W draft t tail.holds x;
+      over = len t - height t (length draft - k);
+      is = slice_get-seam t.program x;
+      to = omega (arith, behind, small);
+    } in
+    tail_with W draft t t (jump_over k) x tail tail.holds refl (let s = size_some (op_of 5) (jump_over k) (sizes_of draft) in omega arith) put
+
+-- ---- a conditional jump
+
+pub branch_op : (test : Test) (operand : Operand) → op_of (code_of (Branch test operand)) ≡ Some (Branch test operand)
+branch_op Equal Constant = refl
+branch_op Equal Index = refl
+branch_op Above Constant = refl
+branch_op Above Index = refl
+branch_op AtLeast Constant = refl
+branch_op AtLeast Index = refl
+branch_op SharesBit Constant = refl
+branch_op SharesBit Index = refl
+
+first_holds : (W : Type 0) (draft : List Ins) (t : TailTree) (place : ℕ) (b : Bool) → Holds W draft t → place ≤ length draft → (W → 0 < place) → Holds W draft (cond b (with_island place t) t)
+first_holds W draft t place true h inside well = island_holds W draft t h place inside well
+first_holds W draft t place false h inside well = h
+
+second_holds : (W : Type 0) (draft : List Ins) (t : TailTree) (place : ℕ) (b : Bool) → Holds W draft t → place ≤ length draft → (W → 0 < place) → Holds W draft (cond b t (with_island place t))
+second_holds W draft t place true h inside well = h
+second_holds W draft t place false h inside well = island_holds W draft t h place inside well
+
+first_heights : (t : TailTree) (place : ℕ) (b : Bool) → (cond b (with_island place t) t).heights ≡ t.heights
+first_heights t place true = refl
+first_heights t place false = refl
+
+second_heights : (t : TailTree) (place : ℕ) (b : Bool) → (cond b t (with_island place t)).heights ≡ t.heights
+second_heights t place true = refl
+second_heights t place false = refl
+
+branch_size : (o : Option Op) (test : Test) (operand : Operand) (ins : Ins) (later : List ℕ) → o ≡ Some (Branch test operand) → size_of o ins later ≡ 1 + count (is_far (span ins.jt later) (span ins.jf later)) + count (is_far (span ins.jf later) (span ins.jt later))
+branch_size o test operand ins later e = rw e refl
+
+islands_few : (t : TailTree) (hit miss to_hit to_miss : ℕ) → Spans t hit miss to_hit to_miss → hit < length t.reaches → reach t hit ≤ len t → len (with_islands hit miss t) ≤ len t + count (is_far to_hit to_miss) + count (is_far to_miss to_hit)
+islands_few t hit miss to_hit to_miss s inside small =
+    let u = with_first hit miss t in
+    let first = len-first hit t (is_first_far hit miss t) in
+    let second = len-second miss u (is_near miss (len u) u) in
+    let a = count-le (is_first_far hit miss t) (is_far to_hit to_miss) (first_far t hit miss to_hit to_miss s) in
+    let b = count-le (not (is_near miss (len u) u)) (is_far to_miss to_hit) (λ e. second_far t hit miss to_hit to_miss s inside small (is_first_far hit miss t) refl (not-true _ e)) in
+    omega arith
+
+pub branch_tail : (W : Type 0) (draft : List Ins) (t : TailTree) (test : Test) (operand : Operand) (k jt jf : ℕ) → IsTail W draft t → (W → 0 < length draft - jt) → (W → 0 < length draft - jf) → IsTail W (record { code = code_of (Branch test operand); jt = jt; jf = jf; k = k } ∷ draft) (with_place (with_branch test operand k (length draft - jt) (length draft - jf) (with_islands (length draft - jt) (length draft - jf) t)))
+branch_tail W draft t test operand k jt jf tail hit_well miss_well =
+    tail_with W draft t m ins x tail h heights size (subst (λ (o : Option Op). IsPut u o ins (length draft)) (sym (branch_op test operand)) put)
+  where
+    hit : ℕ
+    hit = length draft - jt
+
+    miss : ℕ
+    miss = length draft - jf
+
+    hit_in : hit ≤ length draft
+    hit_in = omega arith
+
+    miss_in : miss ≤ length draft
+    miss_in = omega arith
+
+    first : TailTree
+    first = with_first hit miss t
+
+    m : TailTree
+    m = with_islands hit miss t
+
+    first_h : Holds W draft first
+    first_h = first_holds W draft t hit (is_first_far hit miss t) tail.holds hit_in hit_well
+
+    h : Holds W draft m
+    h = second_holds W draft first miss (is_near miss (len first) first) first_h miss_in miss_well
+
+    heights : m.heights ≡ t.heights
+    heights = second_heights first miss (is_near miss (len first) first) ∙ first_heights t hit (is_first_far hit miss t)
+
+    ins : Ins
+    ins = record { code = code_of (Branch test operand); jt = jt; jf = jf; k = k }
+
+    x : Ins
+    x = branch_to test operand k hit miss m
+
+    u : TailTree
+    u = with_place (with_ins x m)
+
+    spans : Spans t hit miss (span jt (sizes_of draft)) (span jf (sizes_of draft))
+    spans = record {
+      hit_kept = reached_above t hit (reach t hit) (tail.holds.reaches hit hit_in);
+      miss_kept = reached_above t miss (reach t miss) (tail.holds.reaches miss miss_in);
+      hit_far = tail.short jt;
+      miss_far = tail.short jf;
+    }
+
+    size : len m + 1 ≤ size_of (op_of ins.code) ins (sizes_of draft) + len t
+    size =
+        let few = islands_few t hit miss (span jt (sizes_of draft)) (span jf (sizes_of draft)) spans (omega (arith, tail.holds.reached)) (reached_below t hit (reach t hit) (tail.holds.below hit hit_in) (tail.holds.reaches hit hit_in)) in
+        let e = branch_size (op_of ins.code) test operand ins (sizes_of draft) (branch_op test operand) in
+        omega arith
+
+    hit_small : reach m hit ≤ len m
+    hit_small = reached_below m hit (reach m hit) (h.below hit hit_in) (h.reaches hit hit_in)
+
+    miss_small : reach m miss ≤ len m
+    miss_small = reached_below m miss (reach m miss) (h.below miss miss_in) (h.reaches miss miss_in)
+
+    put : BranchPut u ins (length draft)
+    put = record {
+      at = len m;
+      above = put_top W draft m h x;
+      jt = len m - reach m hit;
+      jf = len m - reach m miss;
+      is = slice_get-seam m.program x;
+      hit = reach m hit;
+      hit_leads = reached_on m u (put_extends m x) hit (reach m hit) (omega (arith, h.long)) (h.reaches hit hit_in);
+      hit_at = omega (arith, hit_small);
+      miss = reach m miss;
+      miss_leads = reached_on m u (put_extends m x) miss (reach m miss) (omega (arith, h.long)) (h.reaches miss miss_in);
+      miss_at = omega (arith, miss_small);
+    }
