@@ -2,7 +2,7 @@
 use Rattle.std.specs.Prelude.{ℕ, List, [], ◌∷◌, ◌++◌, codes}
 use Rattle.dbusfan_tool.specs.declared.fault.Fault.{Fault}
 use Rattle.dbusfan_tool.specs.declared.fault.Fault.TheVariants.{Rule, Message, Hex, Code, Program, Usage, File, Memory}
-use Rattle.message_view.specs.Fault.{name_of as message_name}
+use Rattle.message_value.specs.FaultName.{name_of as message_name}
 use Rattle.match_rule.specs.declared.fault.RuleError.{RuleError}
 use Rattle.match_rule.specs.declared.fault.RuleError.TheVariants.{NoMemory}
 use Rattle.match_rule.specs.Fault.{name_of as rule_name}
