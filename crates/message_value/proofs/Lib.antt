@@ -1,3 +1,10 @@
 pub mod OkSteps
 pub mod PlainTexts
+pub mod SignatureTexts
+pub mod SignatureRead
+pub mod ReadShorter
+pub mod ValueSteps
+pub mod ArrayTurns
+pub mod NumberArrays
+pub mod MemberTurns
 pub mod SmallValues
