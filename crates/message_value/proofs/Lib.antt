@@ -3,5 +3,7 @@ pub mod WordBytes
 pub mod ReadItems
 pub mod ReadTexts
 pub mod ReadArrays
+pub mod ValueSizes
+pub mod ReadValues
 pub mod PlainTexts
 pub mod SmallValues

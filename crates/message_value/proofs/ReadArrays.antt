@@ -1,5 +1,5 @@
 -- What is read again and again up to the end: what is read is spelled so, and what is spelled so is read again.
-use Rattle.std.proofs.Common.{◌≡◌, ℕ, zero, suc, ◌+◌, ◌^◌, ◌<◌, ◌≤◌, Bool, true, false, cond, eqb, ltb, List, [], ◌∷◌, ◌++◌, length, Result, Ok, Err, refl, sym, ap, subst, ◌∙◌, append_assoc, arith}
+use Rattle.std.proofs.Common.{◌≡◌, ℕ, zero, suc, ◌+◌, ◌<◌, ◌≤◌, Bool, true, false, cond, eqb, ltb, List, [], ◌∷◌, ◌++◌, length, Result, Ok, refl, sym, ap, subst, ◌∙◌, append_assoc, arith}
 use Rattle.std.proofs.lemmas.Bool.{eqb-true, ne_eqb, ltb-false, le-ltb}
 use Rattle.std.proofs.lemmas.List.{nil_from_length, length-append}
 use Rattle.message_value.specs.declared.order.Order.{Order}
@@ -82,6 +82,16 @@ pub record Extends (order : Order) (alignment : ℕ) (a : At) (first behind : At
   pub short : length first.rest ≤ max_array_len
   pub fits : IsBytes first.rest
 
+extent_of : (order : Order) (alignment len : ℕ) (a w s : At) (bytes : List ℕ) (b : At) → Takes a (word_bytes order len) w → Takes w (zeros (padding alignment w.place)) s → s.place ≡ aligned alignment w.place → Takes s bytes b → length bytes ≡ len → len ≤ max_array_len → IsBytes bytes
+    → Extends order alignment a (inside s.place bytes) b
+extent_of order alignment len a w s bytes b first skipped start item is short are =
+    let after : w.place ≡ a.place + 4 = first.place ∙ ap (λ (k : ℕ). a.place + k) (length-word_bytes order len) in
+    let here : Takes w (zeros (padding alignment (a.place + 4))) s = subst (λ (k : ℕ). Takes w (zeros (padding alignment k)) s) after skipped in
+    let two = Takes-then w (zeros (padding alignment (a.place + 4))) s bytes b here item in
+    let three = Takes-then a (word_bytes order len) w (zeros (padding alignment (a.place + 4)) ++ bytes) b first two in
+    let takes : Takes a (array_bytes order alignment a.place bytes) b = subst (λ (k : ℕ). Takes a (word_bytes order k ++ (zeros (padding alignment (a.place + 4)) ++ bytes)) b) (sym is) three in
+    record { takes = takes; place = start ∙ ap (λ (k : ℕ). aligned alignment k) after; short = omega (arith, is); fits = are }
+
 pub extent_takes : (order : Order) (alignment : ℕ) (a : At) (found : At × At) → IsBytes a.rest → extent_at order alignment a ≡ Ok found → Extends order alignment a found.0 found.1
 unfolding extent_at
 extent_takes order alignment a found fits e =
@@ -89,19 +99,12 @@ extent_takes order alignment a found fits e =
     let w = bind_ok (within_limit n.0.0 n.0.1) (λ behind. aligned_at alignment behind >>= λ start. item_at n.0.0 start >>= λ bytes. Ok (inside start.place bytes.0, bytes.1)) found n.2 in
     let s = bind_ok (aligned_at alignment w.0) (λ start. item_at n.0.0 start >>= λ bytes. Ok (inside start.place bytes.0, bytes.1)) found w.2 in
     let b = bind_ok (item_at n.0.0 s.0) (λ bytes. Ok (inside s.0.place bytes.0, bytes.1)) found s.2 in
-    let number = word_takes order a n.0 fits n.1 in
     let limit = guard_ok (ltb max_array_len n.0.0) faults.ArrayLength n.0.1 w.0 w.1 in
-    let zero_bytes = aligned_takes alignment w.0 s.0 s.1 in
+    let first = Takes-as a (word_bytes order n.0.0) (word_bytes order n.0.0) n.0.1 w.0 (word_takes order a n.0 fits n.1).0 refl limit.1 in
+    let skipped = aligned_takes alignment w.0 s.0 s.1 in
     let item = item_takes n.0.0 s.0 b.0 b.1 in
-    let first : Takes a (word_bytes order n.0.0) w.0 = subst (λ (x : At). Takes a (word_bytes order n.0.0) x) limit.1 number.0 in
-    let after : w.0.place ≡ a.place + 4 = first.place ∙ ap (λ (k : ℕ). a.place + k) (length-word_bytes order n.0.0) in
-    let skipped : Takes w.0 (zeros (padding alignment (a.place + 4))) s.0 = subst (λ (k : ℕ). Takes w.0 (zeros (padding alignment k)) s.0) after zero_bytes.0 in
-    let two = Takes-then w.0 (zeros (padding alignment (a.place + 4))) s.0 b.0.0 b.0.1 skipped item.0 in
-    let three = Takes-then a (word_bytes order n.0.0) w.0 (zeros (padding alignment (a.place + 4)) ++ b.0.0) b.0.1 first two in
-    let takes : Takes a (array_bytes order alignment a.place b.0.0) b.0.1 = subst (λ (k : ℕ). Takes a (word_bytes order k ++ (zeros (padding alignment (a.place + 4)) ++ b.0.0)) b.0.1) (sym {a = length b.0.0} item.1) three in
-    let start : s.0.place ≡ elements_place alignment a.place = zero_bytes.1 ∙ ap (λ (k : ℕ). aligned alignment k) after in
     let made : At × At = (inside s.0.place b.0.0, b.0.1) in
-    subst (λ (f : At × At). Extends order alignment a f.0 f.1) {x = made} (ok_is made found b.2) (record { takes = takes; place = start; short = omega (arith, ltb-false _ _ limit.0, item.1); fits = item.2 (skipped.fits (first.fits fits)) })
+    subst (λ (f : At × At). Extends order alignment a f.0 f.1) {x = made} (ok_is made found b.2) (extent_of order alignment n.0.0 a w.0 s.0 b.0.0 b.0.1 first skipped.0 skipped.1 item.0 item.1 (ltb-false _ _ limit.0) (item.2 (skipped.0.fits (first.fits fits))))
 
 pub length-array_bytes : (order : Order) (alignment place : ℕ) (bytes : List ℕ) → place + length (array_bytes order alignment place bytes) ≡ elements_place alignment place + length bytes
 length-array_bytes order alignment place bytes =
@@ -116,4 +119,4 @@ extent_again order alignment place outside bytes rest le =
     let within : ltb max_array_len (length bytes) ≡ false = le-ltb _ _ le in
     ap (λ (x : List ℕ). extent_at order alignment (at place x outside)) grouped
     ∙ rw (word_again order place (length bytes) outside (skipped ++ (bytes ++ rest)) (omega arith), within, aligned_again alignment (place + 4) outside (bytes ++ rest), item_again (length bytes) (elements_place alignment place) outside bytes rest refl)
-      (ap (λ (k : ℕ). Ok (inside (elements_place alignment place) bytes, at k rest outside)) (sym (length-array_bytes order alignment place bytes)))
+    (ap (λ (k : ℕ). Ok (inside (elements_place alignment place) bytes, at k rest outside)) (sym (length-array_bytes order alignment place bytes)))

@@ -1,11 +1,11 @@
 -- Texts, signatures and numbers: what is read is spelled so and has the form, and what is spelled so is read again.
-use Rattle.std.proofs.Common.{◌≡◌, ℕ, ◌+◌, ◌*◌, ◌^◌, ◌<◌, ◌≤◌, Bool, true, false, not, cond, eqb, ltb, List, [], ◌∷◌, ◌++◌, length, get_or, take, Option, Some, None, Result, Ok, Err, refl, sym, ap, subst, ◌∙◌, append_assoc, inl, inr, arith}
+use Rattle.std.proofs.Common.{◌≡◌, ℕ, ◌+◌, ◌*◌, ◌^◌, ◌<◌, Bool, true, false, not, cond, eqb, ltb, List, [], ◌∷◌, ◌++◌, length, get_or, take, Option, Some, None, Result, Ok, Err, refl, sym, ap, subst, ◌∙◌, append_assoc, arith}
 use Rattle.std.specs.Prelude.{◌||◌, ◌&&◌, is_some}
 use Rattle.std.specs.List.{list_any}
 use Rattle.std.specs.Str.{is_utf8}
-use Rattle.std.proofs.lemmas.Bool.{eqb-true, eq-eqb, not-false, cases_Bool, ltb-false, le-ltb}
+use Rattle.std.proofs.lemmas.Bool.{eqb-true, not-false, ltb-false, le-ltb}
 use Rattle.std.proofs.lemmas.List.{take_at, get_or_at, take_more, take_all, length-append, length-take-le}
-use Rattle.signature.specs.DataType.{DataType, TypeText, basic, spelling}
+use Rattle.signature.specs.DataType.{DataType, basic, spelling}
 use Rattle.signature.specs.Trees.{types_of, type_of}
 use Rattle.signature.specs.Name.{is_path}
 use Rattle.signature.proofs.TreesOfTexts.{tree_spelled, type_of-TypeText}
