@@ -3,7 +3,9 @@ pub mod WordBytes
 pub mod ReadItems
 pub mod ReadTexts
 pub mod ReadArrays
+pub mod EachTurns
 pub mod ValueSizes
 pub mod ReadValues
 pub mod PlainTexts
 pub mod SmallValues
+pub mod FaultOrder
