@@ -23,17 +23,20 @@ abbrev pub EachFits : {X : Type 0} → (ℕ → X → List ℕ) → (ℕ → X �
 EachFits bytes Fits place [] = Unit {0}
 EachFits bytes Fits place (x ∷ xs) = Fits place x × EachFits bytes Fits (place + length (bytes place x)) xs
 
--- what a reader of an item takes, which isn't nothing
+-- what is read is spelled so and fits
 abbrev pub ItemTakes : {X : Type 0} → (At → Result (X × At) MsgError) → (ℕ → X → List ℕ) → (ℕ → X → Type 0) → Type 0
 ItemTakes {X = X} reader bytes Fits = (a : At) (found : X × At) → IsBytes a.rest → reader a ≡ Ok found → Takes a (bytes a.place found.0) found.1 × Fits a.place found.0
 
+-- what fits is read again where it is spelled
 abbrev pub ItemAgain : {X : Type 0} → (At → Result (X × At) MsgError) → (ℕ → X → List ℕ) → (ℕ → X → Type 0) → Type 0
 ItemAgain {X = X} reader bytes Fits = (place : ℕ) (outside : MsgError) (x : X) (rest : List ℕ) → Fits place x → reader (at place (bytes place x ++ rest) outside) ≡ Ok (x, at (place + length (bytes place x)) rest outside)
 
+-- what fits has a byte
 abbrev pub ItemPos : {X : Type 0} → (ℕ → X → List ℕ) → (ℕ → X → Type 0) → Type 0
 ItemPos {X = X} bytes Fits = (place : ℕ) (x : X) → Fits place x → 0 < length (bytes place x)
 
-abbrev Whole : {X : Type 0} → (ℕ → X → List ℕ) → (ℕ → X → Type 0) → At → List X → Type 0
+-- the items are all that is left
+abbrev pub Whole : {X : Type 0} → (ℕ → X → List ℕ) → (ℕ → X → Type 0) → At → List X → Type 0
 Whole bytes Fits a xs = (a.rest ≡ each_bytes bytes a.place xs) × EachFits bytes Fits a.place xs
 
 none_left : {X : Type 0} (bytes : ℕ → X → List ℕ) (Fits : ℕ → X → Type 0) (a : At) (xs : List X) → length a.rest ≡ 0 → [] ≡ xs → Whole bytes Fits a xs

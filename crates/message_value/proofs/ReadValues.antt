@@ -30,7 +30,7 @@ ReaderAgain levels order reader = (type : DataType) (place : ℕ) (outside : Msg
 
 -- ---- members
 
-abbrev TypesTakes : ℕ → Order → Reader → DataTypes → Type 0
+abbrev pub TypesTakes : ℕ → Order → Reader → DataTypes → Type 0
 TypesTakes levels order reader types = (a : At) (found : Values × At) → IsBytes a.rest → members_at reader types a ≡ Ok found → Takes a (members_bytes order a.place types found.0) found.1 × MembersFit order levels a.place types found.0
 
 pub types_take : (levels : ℕ) (order : Order) (reader : Reader) → ReaderTakes levels order reader → (types : DataTypes) → TypesTakes levels order reader types
