@@ -1,3 +1,11 @@
 pub mod OkSteps
+pub mod WordBytes
+pub mod ReadItems
+pub mod ReadTexts
+pub mod ReadArrays
+pub mod EachTurns
+pub mod ValueSizes
+pub mod ReadValues
 pub mod PlainTexts
 pub mod SmallValues
+pub mod FaultOrder
