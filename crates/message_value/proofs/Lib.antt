@@ -1,4 +1,11 @@
 pub mod OkSteps
+pub mod WordBytes
+pub mod ReadItems
+pub mod ReadTexts
+pub mod ReadArrays
+pub mod EachTurns
+pub mod ValueSizes
+pub mod ReadValues
 pub mod PlainTexts
 pub mod SignatureTexts
 pub mod SignatureRead
@@ -8,3 +15,4 @@ pub mod ArrayTurns
 pub mod NumberArrays
 pub mod MemberTurns
 pub mod SmallValues
+pub mod FaultOrder

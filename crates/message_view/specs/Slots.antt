@@ -1,11 +1,12 @@
 -- The known fields in the order of their codes.
 use Rattle.std.specs.Prelude.{ℕ, List, [], ◌∷◌, map, Option, None, Result, Ok, Err}
-use Rattle.message_view.specs.declared.order.Order.{Order}
+use Rattle.message_value.specs.declared.order.Order.{Order}
 use Rattle.message_view.specs.declared.kind.Kind.{Kind}
 use Rattle.message_view.specs.declared.field.FieldCode.{FieldCode}
 use Rattle.message_view.specs.declared.field.FieldCode.TheVariants.{Path, Interface, Member, ErrorName, ReplySerial, Destination, Sender, Signature, UnixFds}
-use Rattle.message_view.specs.declared.fault.MsgError.{MsgError}
-use Rattle.message_view.specs.Message.{Value, Field, field_with, text_in, number_in, Message}
+use Rattle.message_value.specs.declared.fault.MsgError.{MsgError}
+use Rattle.message_value.specs.Value.{Value}
+use Rattle.message_view.specs.Message.{Field, field_with, text_in, number_in, Message}
 
 -- where a field's value is kept
 abbrev pub slot_of : FieldCode → ℕ

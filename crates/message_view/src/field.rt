@@ -7,8 +7,8 @@ ghost use Rattle.message_view.specs.Slots.{slot_of};
 ghost use Rattle.message_view.specs.Words.{type_of, value_of};
 
 use crate::content::Content;
-use crate::fault::MsgError;
-use crate::text::TextType;
+use message_value::MsgError;
+use message_value::TextType;
 use signature::{check_bus_name, check_interface, check_member};
 
 const LOCAL_PATH: &str = "/org/freedesktop/DBus/Local";

@@ -2,18 +2,17 @@
 
 ghost use Rattle.std.specs.Prelude.{◌≡◌, ℕ, ◌+◌, ◌<◌, ◌≤◌, List, [], length, Some, None, option_map, is_some, slice_index_or, slice_set};
 ghost use Rattle.signature.specs.DataType.{basic};
-ghost use Rattle.message_view.specs.Message.{Value, Field, text_in, number_in, field_with};
+ghost use Rattle.message_value.specs.Value.{Value};
+ghost use Rattle.message_view.specs.Message.{Field, text_in, number_in, field_with};
 ghost use Rattle.message_view.specs.Header.{code_byte, type_code, has_required};
 ghost use Rattle.message_view.specs.Slots.{slot_of, slots_of, no_slots};
 ghost use Rattle.message_view.specs.Reading.{At, type_at, value_at, content_at, code_at, field_at, fields_from};
 ghost use Rattle.message_view.specs.Words.{Reads, Skips, Gives, value_of, type_code_of, shown, KeepsNext};
 
 use crate::content::Content;
-use crate::cursor::Cursor;
-use crate::fault::MsgError;
 use crate::field::{FieldCode, FieldType};
 use crate::kind::Kind;
-use crate::order::Order;
+use message_value::{Cursor, MsgError, Order};
 
 /// What each known field of a header holds, if it is there.
 #[derive(Drop)]

@@ -3,7 +3,7 @@
 ghost use Rattle.std.specs.Prelude.{◌≡◌};
 ghost use Rattle.message_view.specs.Fixed.{framing};
 
-use crate::fault::MsgError;
+use message_value::MsgError;
 use crate::fixed::Fixed;
 
 /// The length in bytes of the whole message that begins with these bytes, by the fixed part of its

@@ -8,13 +8,14 @@ ghost use Rattle.message_view.specs.Reading.{message_at, framed_message, ending_
 ghost use Rattle.message_view.specs.Slots.{kept_of_reading, slots_of};
 ghost use Rattle.message_view.specs.Words.{ReadsFixed, ReadsFramed, shown};
 
-use crate::cursor::are_zeros;
-use crate::fault::MsgError;
+use message_value::are_zeros;
+use message_value::MsgError;
 use crate::field::FieldCode;
 use crate::fields::Fields;
-use crate::fixed::{FIXED_LEN, Fixed, padding};
+use crate::fixed::{FIXED_LEN, Fixed};
+use message_value::padding;
 use crate::kind::Kind;
-use crate::order::Order;
+use message_value::Order;
 use std::marker::Model;
 
 /// What there is to say behind the fields of a message.
