@@ -14,5 +14,7 @@ pub mod ValueSteps
 pub mod ArrayTurns
 pub mod NumberArrays
 pub mod MemberTurns
+pub mod SkipTexts
+pub mod SkipValues
 pub mod SmallValues
 pub mod FaultOrder

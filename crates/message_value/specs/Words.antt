@@ -77,3 +77,15 @@ AreNumbers len _ = ⊥
 abbrev pub Divides : {X : Type 0} → Bool → Result X MsgError → Type 0
 Divides multiple (Ok x) = multiple ≡ true
 Divides multiple (Err fault) = (multiple ≡ false) × (fault ≡ faults.ArrayLength)
+
+-- reading gives something
+abbrev pub IsRead : {Y : Type 0} → Result (Y × At) MsgError → Type 0
+IsRead read = (found : _) × (read ≡ Ok found)
+
+-- the same where only the place changes
+abbrev pub IsGone : Result At MsgError → Type 0
+IsGone read = (behind : At) × (read ≡ Ok behind)
+
+-- a place is the one behind what reading gives, where it gives something
+abbrev pub Reaches : {Y : Type 0} → At → Result (Y × At) MsgError → Type 0
+Reaches behind read = (found : _) → read ≡ Ok found → behind ≡ found.1

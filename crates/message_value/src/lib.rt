@@ -7,6 +7,8 @@ mod cursor;
 mod fault;
 mod fixed_len;
 mod order;
+mod skip;
+mod skip_text;
 mod text;
 mod value;
 
