@@ -16,5 +16,7 @@ pub mod NumberArrays
 pub mod MemberTurns
 pub mod SkipTexts
 pub mod SkipValues
+pub mod ShownSteps
+pub mod ArgumentTurns
 pub mod SmallValues
 pub mod FaultOrder

@@ -81,6 +81,7 @@ text_utf8 code bytes form = go (code == 115) (code == 111) (code == 103) form
     tree : (found : Option DataTypes) → types_of bytes ≡ found → is_some found ≡ true → IsUtf8 bytes
     tree None e h = absurd cc
     tree (Some types) e h = signature_utf8 types bytes e
+
     go : (s o g : Bool) → cond s (is_utf8 bytes && not (list_any (λ byte. byte == 0) bytes)) (cond o (is_path bytes) (cond g (is_some (types_of bytes)) false)) ≡ true → IsUtf8 bytes
     go true o g h = IsUtf8-from_is_utf8 bytes (and_parts (is_utf8 bytes) (not (list_any (λ byte. byte == 0) bytes)) h).0
     go false true g h = IsUtf8-from_ascii bytes (path_ascii bytes h)

@@ -242,8 +242,8 @@ next_ahead texts front more reader at behind ahead is = go ahead.types (sym is �
           spelled = record { spelled = cc; fits = fit.0 };
           read = (s.0, s.1);
           on = λ middle h.
-            let here : middle ≡ s.0.1 = h s.0 s.1 in
-            record { types = ts; spelled = cc; fit = fit.1; values = m.0.0; read = ap (members_at reader ts) here ∙ m.1 ∙ ap (λ (x : At). Ok (m.0.0, x)) end }
+              let here : middle ≡ s.0.1 = h s.0 s.1 in
+              record { types = ts; spelled = cc; fit = fit.1; values = m.0.0; read = ap (members_at reader ts) here ∙ m.1 ∙ ap (λ (x : At). Ok (m.0.0, x)) end };
         }
 
 pub all_ahead : (texts : List (List ℕ)) (reader : Reader) (at : At) (types : DataTypes) (found : Values × At) → texts ≡ slices types → AllFit 0 0 types → members_at reader types at ≡ Ok found → MembersAhead texts reader at found.1

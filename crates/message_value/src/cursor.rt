@@ -4,7 +4,7 @@ ghost use Rattle.std.specs.Prelude.{◌≡◌, ◌+◌, ◌<◌, ◌≤◌, ◌=
 ghost use Rattle.std.specs.List.{list_all};
 ghost use Rattle.message_value.specs.Reading.{At, item_at, aligned_at, byte_at, word_at, signature_at, extent_at};
 ghost use Rattle.message_value.specs.Spelling.{padding};
-ghost use Rattle.message_value.specs.Words.{Reads, Skips, ReadsType, IsGone};
+ghost use Rattle.message_value.specs.Words.{Reads, Skips, ReadsType, IsGone, AreBytes};
 
 use crate::fault::MsgError;
 use crate::order::Order;
@@ -26,12 +26,13 @@ pub struct Cursor<'a> {
 impl<'a> Model for Cursor<'a> {
     ghost use Rattle.std.specs.Prelude.{◌+◌, ◌≤◌, length};
     ghost use Rattle.message_value.specs.Reading.{At};
+    ghost use Rattle.message_value.specs.Words.{AreBytes};
 
     ghost Value = { At };
 
     ghost view = { λ c. record { place = c.place; rest = c.rest.now; outside = c.outside } };
 
-    ghost invariant = { λ c. c.place + length c.rest.now ≤ 134217728 };
+    ghost invariant = { λ c. (c.place + length c.rest.now ≤ 134217728) × AreBytes c.rest.now };
 }
 
 /// How many bytes lie before the next multiple.
@@ -86,7 +87,9 @@ impl<'a> Cursor<'a> {
 
     /// The bytes that are left.
     pub(crate) fn rest(&self) -> &'a [u8]
-        ensures { result.now ≡ self.now.rest }
+        ensures rest { result.now ≡ self.now.rest }
+        ensures bound { length result.now ≤ 134217728 }
+        ensures bytes { AreBytes result.now }
     {
         self.rest
     }
@@ -192,7 +195,8 @@ impl<'a> Cursor<'a> {
     pub(crate) fn skip_padding(&mut self, alignment: usize)
         requires some { 0 < alignment }
         requires read { IsGone (aligned_at alignment self.old) }
-        ensures { aligned_at alignment self.old ≡ Ok self.new }
+        ensures gone { aligned_at alignment self.old ≡ Ok self.new }
+        ensures bytes { AreBytes self.old.rest }
     {
         self.skip(padding(alignment, self.place));
     }

@@ -22,10 +22,13 @@ skip_members-skip_value-requires t c =
     (omega (arith, c.decreases), (n.type, n.spelled, n.read))
 
 pub skip_members-loop-member-preserved : goal.skip_members-loop-member-preserved
-skip_members-loop-member-preserved t c =
-    (tt, tt, λ types found is fit e.
-    let n = next_ahead c.loop-member.member-iterator c.in-Some.member c.next.new.self (value_at c.args.levels c.args.order) c.loop-member.cursor found.1 (c.loop-member.invariant.2 types found is fit e) c.in-Some.ensures.steps in
-    n.on c.skip_value.new.cursor (c.skip_value.ensures n.type n.spelled))
+skip_members-loop-member-preserved t c = (
+  tt,
+  tt,
+  λ types found is fit e.
+      let n = next_ahead c.loop-member.member-iterator c.in-Some.member c.next.new.self (value_at c.args.levels c.args.order) c.loop-member.cursor found.1 (c.loop-member.invariant.2 types found is fit e) c.in-Some.ensures.steps in
+      n.on c.skip_value.new.cursor (c.skip_value.ensures n.type n.spelled),
+)
 
 pub skip_members-returns : goal.skip_members-returns
 skip_members-returns t c = λ types is fit found e.
@@ -80,7 +83,7 @@ skip_value-skip_padding-requires-clause-read t c =
 pub skip_value-skip_array-requires-clause-read : goal.skip_value-skip_array-requires-clause-read
 skip_value-skip_array-requires-clause-read t c =
     let a = c.in-Array.ensures.parts c.requires.0 c.requires.1 in
-    let o = opened c.args.levels c.args.order c.requires.0 (array a.0) c.args.cursor.now c.skip_padding.new.self a.1 tt c.skip_padding.ensures c.requires.2 in
+    let o = opened c.args.levels c.args.order c.requires.0 (array a.0) c.args.cursor.now c.skip_padding.new.self a.1 tt c.skip_padding.ensures.gone c.requires.2 in
     let reader = value_at (c.args.levels - 1) c.args.order in
     let extent = array_extent reader c.args.order a.0 c.skip_padding.new.self (read_same (array_at reader c.args.order a.0 c.skip_padding.new.self) (value_at c.args.levels c.args.order c.requires.0 c.args.cursor.now) o.1 c.requires.2) in
     subst (λ (n : ℕ). IsRead (extent_at c.args.order n c.skip_padding.new.self)) (sym (c.alignment.ensures a.0 a.2)) extent
@@ -88,7 +91,7 @@ skip_value-skip_array-requires-clause-read t c =
 pub skip_value-returns-in-Array : goal.skip_value-returns-in-Array
 skip_value-returns-in-Array t c = λ type is found e.
     let a = c.in-Array.ensures.parts type is in
-    let o = opened c.args.levels c.args.order type (array a.0) c.args.cursor.now c.skip_padding.new.self a.1 tt c.skip_padding.ensures (found, e) in
+    let o = opened c.args.levels c.args.order type (array a.0) c.args.cursor.now c.skip_padding.new.self a.1 tt c.skip_padding.ensures.gone (found, e) in
     let extent = subst (λ (n : ℕ). Reaches c.skip_array.new.cursor (extent_at c.args.order n c.skip_padding.new.self)) (c.alignment.ensures a.0 a.2) c.skip_array.ensures in
     array_end c.skip_array.new.cursor (value_at (c.args.levels - 1) c.args.order) c.args.order a.0 c.skip_padding.new.self extent found (sym o.1 ∙ e)
 
@@ -101,7 +104,7 @@ pub skip_value-skip_array-requires-in-Dict-clause-read : goal.skip_value-skip_ar
 skip_value-skip_array-requires-in-Dict-clause-read t c =
     let a = c.in-Dict.ensures.parts c.requires.0 c.requires.1 in
     let k = byte_of c.in-Dict.field-0 in
-    let o = opened c.args.levels c.args.order c.requires.0 (dict k a.0) c.args.cursor.now c.skip_padding-in-Dict.new.self a.1 tt c.skip_padding-in-Dict.ensures c.requires.2 in
+    let o = opened c.args.levels c.args.order c.requires.0 (dict k a.0) c.args.cursor.now c.skip_padding-in-Dict.new.self a.1 tt c.skip_padding-in-Dict.ensures.gone c.requires.2 in
     let reader = value_at (c.args.levels - 1) c.args.order in
     dict_extent reader c.args.order k a.0 c.skip_padding-in-Dict.new.self (read_same (dict_at reader c.args.order k a.0 c.skip_padding-in-Dict.new.self) (value_at c.args.levels c.args.order c.requires.0 c.args.cursor.now) o.1 c.requires.2)
 
@@ -109,7 +112,7 @@ pub skip_value-returns-in-Dict : goal.skip_value-returns-in-Dict
 skip_value-returns-in-Dict t c = λ type is found e.
     let a = c.in-Dict.ensures.parts type is in
     let k = byte_of c.in-Dict.field-0 in
-    let o = opened c.args.levels c.args.order type (dict k a.0) c.args.cursor.now c.skip_padding-in-Dict.new.self a.1 tt c.skip_padding-in-Dict.ensures (found, e) in
+    let o = opened c.args.levels c.args.order type (dict k a.0) c.args.cursor.now c.skip_padding-in-Dict.new.self a.1 tt c.skip_padding-in-Dict.ensures.gone (found, e) in
     dict_end c.skip_array-in-Dict.new.cursor (value_at (c.args.levels - 1) c.args.order) c.args.order k a.0 c.skip_padding-in-Dict.new.self c.skip_array-in-Dict.ensures found (sym o.1 ∙ e)
 
 pub skip_value-skip_padding-requires-in-Struct-clause-read : goal.skip_value-skip_padding-requires-in-Struct-clause-read
@@ -120,12 +123,12 @@ skip_value-skip_padding-requires-in-Struct-clause-read t c =
 pub skip_value-overflow_sub-levels-in-Struct : goal.skip_value-overflow_sub-levels-in-Struct
 skip_value-overflow_sub-levels-in-Struct t c =
     let a = c.in-Struct.ensures.parts c.requires.0 c.requires.1 in
-    (opened c.args.levels c.args.order c.requires.0 (struct a.0 a.1) c.args.cursor.now c.skip_padding-in-Struct.new.self a.2 tt c.skip_padding-in-Struct.ensures c.requires.2).0
+    (opened c.args.levels c.args.order c.requires.0 (struct a.0 a.1) c.args.cursor.now c.skip_padding-in-Struct.new.self a.2 tt c.skip_padding-in-Struct.ensures.gone c.requires.2).0
 
 pub skip_value-skip_members-requires : goal.skip_value-skip_members-requires
 skip_value-skip_members-requires t c =
     let a = c.in-Struct.ensures.parts c.requires.0 c.requires.1 in
-    let o = opened c.args.levels c.args.order c.requires.0 (struct a.0 a.1) c.args.cursor.now c.skip_padding-in-Struct.new.self a.2 tt c.skip_padding-in-Struct.ensures c.requires.2 in
+    let o = opened c.args.levels c.args.order c.requires.0 (struct a.0 a.1) c.args.cursor.now c.skip_padding-in-Struct.new.self a.2 tt c.skip_padding-in-Struct.ensures.gone c.requires.2 in
     let reader = value_at (c.args.levels - 1) c.args.order in
     let read = struct_read reader a.0 a.1 c.skip_padding-in-Struct.new.self (read_same (struct_at reader a.0 a.1 c.skip_padding-in-Struct.new.self) (value_at c.args.levels c.args.order c.requires.0 c.args.cursor.now) o.1 c.requires.2) in
     (omega (arith, c.decreases, o.0), (one_more a.0 a.1, a.3, a.4, read))
@@ -133,5 +136,5 @@ skip_value-skip_members-requires t c =
 pub skip_value-returns-in-Struct : goal.skip_value-returns-in-Struct
 skip_value-returns-in-Struct t c = λ type is found e.
     let a = c.in-Struct.ensures.parts type is in
-    let o = opened c.args.levels c.args.order type (struct a.0 a.1) c.args.cursor.now c.skip_padding-in-Struct.new.self a.2 tt c.skip_padding-in-Struct.ensures (found, e) in
+    let o = opened c.args.levels c.args.order type (struct a.0 a.1) c.args.cursor.now c.skip_padding-in-Struct.new.self a.2 tt c.skip_padding-in-Struct.ensures.gone (found, e) in
     struct_end c.skip_members.new.cursor (value_at (c.args.levels - 1) c.args.order) a.0 a.1 c.skip_padding-in-Struct.new.self (c.skip_members.ensures (one_more a.0 a.1) a.3 a.4) found (sym o.1 ∙ e)
