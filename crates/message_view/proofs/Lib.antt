@@ -12,3 +12,4 @@ pub mod FieldContents
 pub mod Loop
 pub mod Framed
 pub mod Views
+pub mod Examples
