@@ -210,9 +210,21 @@ made bytes kind fields arguments fits fixed whole is_kind required read =
       spelled = lies_laid bytes order (serial_in bytes) text body fits first fixed.version read.lies ∙ ap (λ (b : ℕ). laid order b (get_or bytes 2 0) (serial_in bytes) text body) (sym byte);
     }
 
-framed_valid : (bytes : List ℕ) (m : Message) → IsBytes bytes → IsFixed bytes → length bytes ≡ whole_len bytes → framed_message bytes ≡ Ok m → Valid bytes m
+-- a message behind its fixed part, by what was read of it
+pub record AreParts (bytes : List ℕ) (m : Message) : Type 0 where
+  pub kind : Kind
+  pub front : List Field
+  pub arguments : Values
+  pub is_kind : kind_of (get_or bytes 1 0) ≡ Some kind
+  pub fields : fields_of bytes ≡ Ok front
+  pub required : has_required kind front ≡ true
+  pub padded : list_all (λ byte. eqb byte 0) (header_padding bytes) ≡ true
+  pub found : arguments_at (order_in bytes) (types_in front) (body_at bytes) ≡ Ok arguments
+  pub is : message_of bytes kind front arguments ≡ m
+
+framed_parts : (bytes : List ℕ) (m : Message) → framed_message bytes ≡ Ok m → AreParts bytes m
 unfolding framed_message
-framed_valid bytes m fits fixed whole e =
+framed_parts bytes m e =
     let order = order_in bytes in
     let k = bind_ok (or_kind (kind_of (get_or bytes 1 0))) (λ kind. fields_of bytes >>= λ fields. or_fault (header_fault kind (header_padding bytes) fields) fields >>= λ known. arguments_at order (types_in known) (body_at bytes) >>= λ arguments. Ok (message_of bytes kind known arguments)) m e in
     let f = bind_ok (fields_of bytes) (λ fields. or_fault (header_fault k.0 (header_padding bytes) fields) fields >>= λ known. arguments_at order (types_in known) (body_at bytes) >>= λ arguments. Ok (message_of bytes k.0 known arguments)) m k.2 in
@@ -222,15 +234,32 @@ framed_valid bytes m fits fixed whole e =
     let padded = not (list_all (λ byte. eqb byte 0) (header_padding bytes)) in
     let required = found_none (not (has_required k.0 f.0)) faults.FieldMissing (cond padded (Some faults.Padding) None) g.0 in
     let zero = found_none padded faults.Padding None required.1 in
-    let kind = or_kind_ok (kind_of (get_or bytes 1 0)) k.0 k.1 in
-    let read_fields : fields_of bytes ≡ Ok h.0 = f.1 ∙ ap (λ (x : List Field). Ok x) g.1 in
-    let has : has_required k.0 h.0 ≡ true = subst (λ (x : List Field). has_required k.0 x ≡ true) g.1 (not-false _ required.0) in
-    let read = parts_lie bytes h.0 a.0 fits whole read_fields (not-false _ zero.0) a.1 in
-    subst (λ (x : Message). Valid bytes x) {x = message_of bytes k.0 h.0 a.0} (ok_is (message_of bytes k.0 h.0 a.0) m a.2) (made bytes k.0 h.0 a.0 fits fixed whole kind has read)
+    record {
+      kind = k.0;
+      front = h.0;
+      arguments = a.0;
+      is_kind = or_kind_ok (kind_of (get_or bytes 1 0)) k.0 k.1;
+      fields = f.1 ∙ ap (λ (x : List Field). Ok x) g.1;
+      required = subst (λ (x : List Field). has_required k.0 x ≡ true) g.1 (not-false _ required.0);
+      padded = not-false _ zero.0;
+      found = a.1;
+      is = ok_is (message_of bytes k.0 h.0 a.0) m a.2;
+    }
 
-pub reads_valid : (bytes : List ℕ) (m : Message) → ((i : ℕ) → get_or bytes i 0 < 256) → message_at bytes ≡ Ok m → Valid bytes m
+framed_valid : (bytes : List ℕ) (m : Message) → IsBytes bytes → IsFixed bytes → length bytes ≡ whole_len bytes → AreParts bytes m → Valid bytes m
+framed_valid bytes m fits fixed whole p =
+    let read = parts_lie bytes p.front p.arguments fits whole p.fields p.padded p.found in
+    subst (λ (x : Message). Valid bytes x) {x = message_of bytes p.kind p.front p.arguments} p.is (made bytes p.kind p.front p.arguments fits fixed whole p.is_kind p.required read)
+
+-- bytes that were read as a message
+pub record IsWhole (bytes : List ℕ) (m : Message) : Type 0 where
+  pub fixed : IsFixed bytes
+  pub whole : length bytes ≡ whole_len bytes
+  pub parts : AreParts bytes m
+
+pub message_whole : (bytes : List ℕ) (m : Message) → message_at bytes ≡ Ok m → IsWhole bytes m
 unfolding message_at
-reads_valid bytes m fits e =
+message_whole bytes m e =
     let a = bind_ok (framing bytes) (λ framed. or_short framed >>= λ len. of_len len bytes) m e in
     let b = bind_ok (or_short a.0) (λ len. of_len len bytes) m a.2 in
     let is = or_short_ok a.0 b.0 b.1 in
@@ -239,7 +268,25 @@ reads_valid bytes m fits e =
     let h = not_refused (ltb b.0 (length bytes)) faults.Trailing (framed_message bytes) m g.1 in
     let long : b.0 ≤ length bytes = ltb-false _ _ g.0 in
     let short : length bytes ≤ b.0 = ltb-false _ _ h.0 in
-    framed_valid bytes m fits f.0 (omega (arith, long, short, f.1)) h.1
+    record { fixed = f.0; whole = omega (arith, long, short, f.1); parts = framed_parts bytes m h.1 }
+
+pub reads_valid : (bytes : List ℕ) (m : Message) → ((i : ℕ) → get_or bytes i 0 < 256) → message_at bytes ≡ Ok m → Valid bytes m
+reads_valid bytes m fits e =
+    let w = message_whole bytes m e in
+    framed_valid bytes m fits w.fixed w.whole w.parts
+
+-- the arguments of bytes that were read as a message
+members_passed : (order : Order) (types : DataTypes) (a : At) (arguments : Values) → arguments_at order types a ≡ Ok arguments → (behind : At) × (members_at (value_at 64 order) types a ≡ Ok (arguments, behind))
+unfolding arguments_at
+members_passed order types a arguments e =
+    let b = bind_ok (members_at (value_at 64 order) types a) all_read arguments e in
+    let p = passed_ok (eqb (length b.0.1.rest) 0) faults.Trailing b.0.0 arguments b.2 in
+    (b.0.1, b.1 ∙ ap (λ (x : Values). Ok (x, b.0.1)) p.1)
+
+pub members_read : (bytes : List ℕ) (m : Message) → AreParts bytes m → (behind : At) × (members_at (value_at 64 m.order) m.types (body_at bytes) ≡ Ok (m.arguments, behind))
+members_read bytes m p =
+    subst (λ (x : Message). (behind : At) × (members_at (value_at 64 x.order) x.types (body_at bytes) ≡ Ok (x.arguments, behind))) {x = message_of bytes p.kind p.front p.arguments} p.is
+    (members_passed (order_in bytes) (types_in p.front) (body_at bytes) p.arguments p.found)
 
 -- ---- bytes with a fault are no message
 
