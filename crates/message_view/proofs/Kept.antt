@@ -90,8 +90,7 @@ unfolding field_at
 kept_next order front old middle behind byte code value slots kept is put named coded valued =
     let byte_is : code_byte code ≡ byte = code_byte-code_of byte code (sym named) in
     let content : content_at order (code_of byte) middle ≡ Ok ((basic (type_code code), value), behind) = rw (← named) valued in
-    let once : field_with (code_byte code) front ≡ None = ap (λ (k : ℕ). field_with k front) byte_is ∙ once_at (code_of byte) byte front code (code_takes front old (byte, middle) coded).3 (sym named) in
-    (
+    let once : field_with (code_byte code) front ≡ None = ap (λ (k : ℕ). field_with k front) byte_is ∙ once_at (code_of byte) byte front code (code_takes front old (byte, middle) coded).3 (sym named) in (
       field_of (code_byte code) (basic (type_code code)) value,
       rw (coded, content) (ap (λ (k : ℕ). Ok (field_of k (basic (type_code code)) value, behind)) (sym byte_is)),
       put ∙ rw is (slots_more front code (basic (type_code code)) value once),

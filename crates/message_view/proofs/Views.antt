@@ -3,20 +3,26 @@ use Rattle.std.proofs.Common.{◌≡◌, ℕ, ◌+◌, ◌-◌, ◌<◌, ◌≤�
 use Rattle.std.specs.Prelude.{slice_index_or, IfOk, IsOk}
 use Rattle.std.proofs.Math.ListN.{get_or-map}
 use Rattle.std.proofs.lemmas.Bool.{lt-ltb, le-ltb}
+use Rattle.std.proofs.lemmas.List.{length-drop}
 use Rattle.message_value.specs.declared.fault.MsgError.{MsgError}
 use Rattle.message_value.specs.declared.fault.MsgError.TheVariants as faults
 use Rattle.message_view.specs.declared.view.Sections.{Sections}
 use Rattle.message_view.specs.declared.fixed.Fixed.{Fixed}
 use Rattle.message_view.specs.Message.{Field, text_in, number_in, Message}
 use Rattle.message_view.specs.Valid.{Valid}
+use Rattle.message_value.specs.declared.order.Order.{Order}
+use Rattle.message_value.specs.Value.{Values}
 use Rattle.message_value.specs.Spelling.{padding}
+use Rattle.message_value.specs.Reading.{At, value_at, members_at}
+use Rattle.signature.specs.DataType.{DataTypes, SigText}
 use Rattle.message_value.proofs.OkSteps.{ok_is}
-use Rattle.message_view.specs.Spelling.{body_bytes}
-use Rattle.message_view.specs.Fixed.{framing, whole_len}
-use Rattle.message_view.specs.Reading.{message_at, framed_message, message_of}
+use Rattle.message_view.specs.Spelling.{body_place, header_bytes, body_bytes}
+use Rattle.message_view.specs.Fixed.{fields_len, whole_len, framing}
+use Rattle.message_view.specs.Reading.{in_body, body_at, message_of, framed_message, message_at}
 use Rattle.message_view.specs.Slots.{Slots, Kept, kept_of, slots_of}
 use Rattle.message_view.specs.Words.{body_of, IsFixed, IsKept, ReadsFramed, ReadsView, shown}
-use Rattle.message_view.proofs.OneMessage.{valid_lies, valid_reads, reads_valid, fault_invalid}
+use Rattle.message_view.proofs.Framed.{cursor_is}
+use Rattle.message_view.proofs.OneMessage.{valid_lies, valid_reads, reads_valid, message_whole, members_read, fault_invalid}
 
 -- ---- the length
 
@@ -92,3 +98,29 @@ reading_found bytes (Err fault) fits read = tt
 pub reading_only : (bytes : List ℕ) (result : Result (List ℕ) MsgError) (m : Message) → ReadsView result bytes (message_at bytes) → Valid bytes m → IsOk result
 reading_only bytes (Ok view) m read valid = refl
 reading_only bytes (Err fault) m read valid = absurd (fault_invalid bytes fault m read valid)
+
+-- ---- the arguments
+
+-- the body is where the code's cursor stands
+pub body_cursor : (bytes body signature : List ℕ) (kept : Kept) (place : ℕ) (cursor : At) → IsKept bytes body signature kept → place ≡ length bytes - length body → cursor ≡ in_body place body → cursor ≡ body_at bytes
+body_cursor bytes body signature kept place cursor keeps left is = cursor_is bytes body place cursor (message_whole bytes keeps.message keeps.read).whole keeps.behind left is
+
+-- it fits
+pub body_fits : (bytes body signature : List ℕ) (kept : Kept) → IsKept bytes body signature kept → (length body ≤ length bytes) × (length bytes ≤ 134217728)
+body_fits bytes body signature kept keeps =
+    let w = message_whole bytes keeps.message keeps.read in
+    let len : length body ≡ length bytes - body_place (fields_len bytes) = ap (λ (x : List ℕ). length x) keeps.behind ∙ length-drop (body_place (fields_len bytes)) bytes in
+    (omega (arith, len), omega (arith, w.whole, w.fixed.whole))
+
+-- what the arguments are read from
+pub args_found : (bytes body signature : List ℕ) (kept : Kept) (cursor : At) → IsKept bytes body signature kept → cursor ≡ body_at bytes → (types : DataTypes) × (values : Values) × SigText types signature × ((behind : At) × (members_at (value_at 64 kept.order) types cursor ≡ Ok (values, behind)))
+args_found bytes body signature kept cursor keeps place =
+    let m = keeps.message in
+    let found = members_read bytes m (message_whole bytes m keeps.read).parts in
+    let order : kept.order ≡ m.order = ap (λ (k : Kept). k.order) keeps.is in
+    (m.types, m.arguments, keeps.typed, (found.0, ap (λ (o : Order). members_at (value_at 64 o) m.types cursor) order ∙ ap (members_at (value_at 64 m.order) m.types) place ∙ found.1))
+
+-- where a valid message's arguments lie
+pub body_lies : (bytes now : List ℕ) (m : Message) (cursor : At) → bytes ≡ now → Valid now m → cursor ≡ body_at bytes → cursor.place ≡ body_place (length (header_bytes m))
+body_lies bytes now m cursor same valid place =
+    ap (λ (a : At). a.place) place ∙ ap (λ (x : List ℕ). body_place (fields_len x)) same ∙ ap body_place (valid_lies now m valid).is_len

@@ -74,7 +74,11 @@ fn framed<'a>(fixed: &Fixed, bytes: &'a [u8]) -> Result<Sections<'a>, MsgError>
     }
     let signature = fields.signature();
     let place = bytes.len() - body.len();
-    check_body(fixed.order, &signature, Cursor::new(place, body, MsgError::Short))?;
+    check_body(
+        fixed.order,
+        &signature,
+        Cursor::new(place, body, MsgError::Short),
+    )?;
     Ok(Sections {
         fields,
         signature,
@@ -111,7 +115,7 @@ impl<'a> View<'a> {
     ghost use Rattle.std.specs.Prelude.{◌≡◌, IfOk, IfErr, IsOk, Err, None, option_map, slice_index_or};
     ghost use Rattle.message_view.specs.Message.{Message, text_in, path_of, interface_of, member_of, error_name_of, destination_of, sender_of, reply_serial_of};
     ghost use Rattle.message_view.specs.Valid.{Valid};
-    ghost use Rattle.message_view.specs.Reading.{message_at};
+    ghost use Rattle.message_view.specs.Reading.{body_at, message_at};
     ghost use Rattle.message_view.specs.Slots.{slot_of, slots_of};
     ghost use Rattle.message_view.specs.Spelling.{body_bytes};
     ghost use Rattle.message_view.specs.Words.{ReadsView};
@@ -257,6 +261,14 @@ impl<'a> View<'a> {
         ensures { (m : Message) → Valid self.now m → result.now ≡ body_bytes m }
     {
         self.body
+    }
+
+    /// Before the first argument.
+    fn at_body(&self) -> Cursor<'a>
+        ensures { result ≡ body_at self.now }
+    {
+        let place = self.bytes.len() - self.body.len();
+        Cursor::new(place, self.body, MsgError::Short)
     }
 }
 
