@@ -16,7 +16,8 @@ use Rattle.message_value.specs.Spelling.{padding}
 use Rattle.message_value.specs.Reading.{At, value_at, members_at}
 use Rattle.signature.specs.DataType.{DataTypes, SigText}
 use Rattle.message_value.proofs.OkSteps.{ok_is}
-use Rattle.message_view.specs.Spelling.{body_place, header_bytes, body_bytes}
+use Rattle.message_value.specs.Arguments.{Argument, arguments_from}
+use Rattle.message_view.specs.Spelling.{body_place, header_bytes, body_bytes, arguments_of}
 use Rattle.message_view.specs.Fixed.{fields_len, whole_len, framing}
 use Rattle.message_view.specs.Reading.{in_body, body_at, message_of, framed_message, message_at}
 use Rattle.message_view.specs.Slots.{Slots, Kept, kept_of, slots_of}
@@ -113,14 +114,26 @@ body_fits bytes body signature kept keeps =
     (omega (arith, len), omega (arith, w.whole, w.fixed.whole))
 
 -- what the arguments are read from
-pub args_found : (bytes body signature : List ℕ) (kept : Kept) (cursor : At) → IsKept bytes body signature kept → cursor ≡ body_at bytes → (types : DataTypes) × (values : Values) × SigText types signature × ((behind : At) × (members_at (value_at 64 kept.order) types cursor ≡ Ok (values, behind)))
-args_found bytes body signature kept cursor keeps place =
+pub args_found : (bytes now body signature given : List ℕ) (kept : Kept) (cursor : At) → IsKept bytes body signature kept → bytes ≡ now → given ≡ signature → cursor ≡ body_at now
+    → (types : DataTypes) × SigText types given × ((values : Values) × (behind : At) × (members_at (value_at 64 kept.order) types cursor ≡ Ok (values, behind)))
+args_found bytes now body signature given kept cursor keeps same is place =
     let m = keeps.message in
     let found = members_read bytes m (message_whole bytes m keeps.read).parts in
     let order : kept.order ≡ m.order = ap (λ (k : Kept). k.order) keeps.is in
-    (m.types, m.arguments, keeps.typed, (found.0, ap (λ (o : Order). members_at (value_at 64 o) m.types cursor) order ∙ ap (members_at (value_at 64 m.order) m.types) place ∙ found.1))
+    let there : cursor ≡ body_at bytes = place ∙ ap body_at (sym same) in
+    let read : members_at (value_at 64 kept.order) m.types cursor ≡ Ok (m.arguments, found.0) = ap (λ (o : Order). members_at (value_at 64 o) m.types cursor) order ∙ ap (members_at (value_at 64 m.order) m.types) there ∙ found.1 in
+    (m.types, rw is keeps.typed, (m.arguments, found.0, read))
 
--- where a valid message's arguments lie
-pub body_lies : (bytes now : List ℕ) (m : Message) (cursor : At) → bytes ≡ now → Valid now m → cursor ≡ body_at bytes → cursor.place ≡ body_place (length (header_bytes m))
-body_lies bytes now m cursor same valid place =
-    ap (λ (a : At). a.place) place ∙ ap (λ (x : List ℕ). body_place (fields_len x)) same ∙ ap body_place (valid_lies now m valid).is_len
+-- they are those of the message that the bytes spell
+pub args_are : (bytes now body signature given : List ℕ) (m : Message) (kept : Kept) (cursor : At) (args : List Argument) → IsKept bytes body signature kept → bytes ≡ now → Valid now m → given ≡ signature → cursor ≡ body_at now
+    → ((types : DataTypes) (values : Values) (behind : At) → SigText types given → members_at (value_at 64 kept.order) types cursor ≡ Ok (values, behind) → args ≡ arguments_from kept.order cursor.place types values) → args ≡ arguments_of m
+unfolding args_found
+args_are bytes now body signature given m kept cursor args keeps same valid is place given_by =
+    let found = args_found bytes now body signature given kept cursor keeps same is place in
+    let message : keeps.message ≡ m = message_is bytes now body signature m kept keeps same valid in
+    let order : kept.order ≡ m.order = ap (λ (k : Kept). k.order) keeps.is ∙ ap (λ (x : Message). x.order) message in
+    let start : cursor.place ≡ body_place (length (header_bytes m)) = ap (λ (a : At). a.place) place ∙ ap body_place (valid_lies now m valid).is_len in
+    given_by found.0 found.2.0 found.2.1 found.1 found.2.2
+    ∙ ap (λ (x : Message). arguments_from kept.order cursor.place x.types x.arguments) message
+    ∙ ap (λ (o : Order). arguments_from o cursor.place m.types m.arguments) order
+    ∙ ap (λ (p : ℕ). arguments_from m.order p m.types m.arguments) start
