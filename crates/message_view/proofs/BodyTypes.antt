@@ -1,12 +1,12 @@
 -- The types of a body: the field SIGNATURE spells them, and none where it is absent.
-use Rattle.std.proofs.Common.{◌≡◌, ℕ, ◌+◌, Bool, true, false, cond, eqb, List, [], ◌∷◌, length, is_some, Option, Some, None, refl, sym, ap, subst, ◌∙◌}
+use Rattle.std.proofs.Common.{◌≡◌, ℕ, ◌+◌, Bool, true, false, cond, eqb, List, [], ◌∷◌, length, is_some, Option, Some, None, refl, ap, subst}
 use Rattle.std.proofs.lemmas.Bool.{eqb-true}
-use Rattle.signature.specs.DataType.{DataType, DataTypes, basic, no_types, SigText}
+use Rattle.signature.specs.DataType.{DataType, DataTypes, basic, SigText}
 use Rattle.signature.specs.Trees.{types_of}
 use Rattle.signature.proofs.TreesOfTexts.{types_of-SigText, trees_spelled}
 use Rattle.message_value.specs.declared.order.Order.{Order}
 use Rattle.message_value.specs.Value.{Value, number, text, elements, entries, members, of_type}
-use Rattle.message_value.specs.Fits.{is_text_of, ValueFits}
+use Rattle.message_value.specs.Fits.{ValueFits}
 use Rattle.message_view.specs.declared.field.FieldCode.{FieldCode}
 use Rattle.message_view.specs.declared.field.FieldCode.TheVariants.{Signature}
 use Rattle.message_view.specs.Header.{code_of}

@@ -1,27 +1,24 @@
 -- Worked examples: one signal in both orders, what each damage to it is called, and one with a body.
-use Rattle.std.proofs.Common.{◌≡◌, ℕ, suc, ◌+◌, ◌<◌, ◌≤◌, true, false, eqb, List, [], ◌∷◌, ◌++◌, length, set, take, drop, Some, None, Result, Ok, Err, refl, ap, ◌∙◌, arith}
+use Rattle.std.proofs.Common.{◌≡◌, ℕ, suc, ◌<◌, true, false, eqb, List, [], ◌∷◌, ◌++◌, length, set, take, drop, Some, None, Ok, Err, refl, ◌∙◌, arith}
 use Rattle.std.specs.Str.{is_utf8}
 use Rattle.std.proofs.lemmas.Bool.{ne_eqb}
 use Rattle.std.proofs.lemmas.Str.{IsUtf8-from_ascii, is_utf8-from_IsUtf8}
 use Rattle.std.proofs.lemmas.Str.Ascii.{IsAscii-nil, IsAscii-cons}
-use Rattle.signature.specs.DataType.{DataType, DataTypes, basic, no_types, one_more}
+use Rattle.signature.specs.DataType.{basic, no_types, one_more}
 use Rattle.signature.proofs.TreesOfTexts.{tree_spelled, trees_spelled}
 use Rattle.message_value.specs.declared.order.Order.{Order}
 use Rattle.message_value.specs.declared.order.Order.TheVariants.{Little, Big}
 use Rattle.message_value.specs.declared.fault.MsgError.{MsgError}
 use Rattle.message_value.specs.declared.fault.MsgError.TheVariants as faults
-use Rattle.message_value.specs.Value.{Values, text, no_values, one_value}
+use Rattle.message_value.specs.Value.{text, no_values, one_value}
 use Rattle.message_value.specs.Fits.{is_text_of}
-use Rattle.message_value.specs.Arguments.{Argument}
-use Rattle.message_value.specs.Reading.{◌>>=◌, At, inside, value_at, value_by, members_at, signature_at, text_value_at, long_text_at, short_text_at, text_at, number_value_at, word_at, byte_at, aligned_at, item_at}
-use Rattle.message_value.proofs.ReadItems.{at}
+use Rattle.message_value.specs.Reading.{At, inside, value_by, signature_at, text_value_at, long_text_at, short_text_at, text_at, number_value_at, word_at, byte_at, aligned_at, item_at}
 use Rattle.message_view.specs.declared.kind.Kind.TheVariants.{Signal}
-use Rattle.message_view.specs.Header.{code_of}
 use Rattle.message_view.specs.Message.{Field, Message}
 use Rattle.message_view.specs.Spelling.{fields_bytes, message_bytes, arguments_of}
-use Rattle.message_view.specs.Valid.{IsField, AreFields, Valid}
+use Rattle.message_view.specs.Valid.{IsField, Valid}
 use Rattle.message_view.specs.Fixed.{framing}
-use Rattle.message_view.specs.Reading.{fields_from, fields_of, arguments_at, content_at, code_at, field_at, framed_message, message_at}
+use Rattle.message_view.specs.Reading.{fields_from, content_at, code_at, field_at, framed_message, message_at}
 use Rattle.message_view.proofs.ReadFields.{field_again}
 use Rattle.message_view.proofs.FieldArrays.{nothing_front, fields_again}
 use Rattle.message_view.proofs.OneMessage.{valid_reads}

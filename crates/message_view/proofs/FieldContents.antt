@@ -1,5 +1,5 @@
 -- What a known field holds, as the code reads it.
-use Rattle.std.proofs.Common.{◌≡◌, ℕ, true, Option, Some, None, Result, Ok, Err, refl, sym, ap, ◌∙◌}
+use Rattle.std.proofs.Common.{◌≡◌, ℕ, true, Option, Some, Result, Ok, refl, sym, ap, ◌∙◌}
 use Rattle.signature.specs.DataType.{DataType, basic}
 use Rattle.message_value.specs.declared.order.Order.{Order}
 use Rattle.message_value.specs.declared.fault.MsgError.{MsgError}

@@ -1,10 +1,9 @@
 -- Each field takes at least a byte, so that more turns than the array has bytes change nothing.
-use Rattle.std.proofs.Common.{◌≡◌, ℕ, ◌+◌, ◌<◌, ◌≤◌, List, [], ◌∷◌, length, Option, Ok, ap, arith}
-use Rattle.std.proofs.lemmas.List.{length-append}
+use Rattle.std.proofs.Common.{◌≡◌, ◌<◌, List, length, Option, Ok, ap, arith}
 use Rattle.signature.specs.DataType.{DataType}
 use Rattle.message_value.specs.declared.order.Order.{Order}
 use Rattle.message_value.specs.Value.{Value}
-use Rattle.message_value.specs.Spelling.{padding, zeros, signature_bytes}
+use Rattle.message_value.specs.Spelling.{signature_bytes}
 use Rattle.message_value.specs.Reading.{◌>>=◌, At, signature_at, value_at}
 use Rattle.message_value.proofs.OkSteps.{bind_ok, ok_is}
 use Rattle.message_value.proofs.ReadItems.{Takes-leaves}

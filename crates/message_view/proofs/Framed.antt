@@ -1,10 +1,8 @@
 -- A message behind its fixed part, by the slices that the code reads.
-use Rattle.std.proofs.Common.{◌≡◌, ℕ, ◌+◌, ◌-◌, ◌≤◌, List, [], length, take, drop, Some, None, Result, Ok, Err, refl, sym, ap, subst, ◌∙◌, arith}
+use Rattle.std.proofs.Common.{◌≡◌, ℕ, ◌+◌, ◌-◌, List, [], length, take, drop, Some, None, Result, Ok, Err, refl, sym, ap, ◌∙◌, arith}
 use Rattle.std.proofs.lemmas.List.{drop-drop, length-drop}
-use Rattle.signature.specs.DataType.{SigText}
 use Rattle.message_value.specs.declared.order.Order.{Order}
 use Rattle.message_value.specs.declared.fault.MsgError.{MsgError}
-use Rattle.message_value.specs.declared.fault.MsgError.TheVariants as faults
 use Rattle.message_value.specs.Value.{Values}
 use Rattle.message_value.specs.Spelling.{padding}
 use Rattle.message_value.specs.Reading.{At, inside}
@@ -16,7 +14,7 @@ use Rattle.message_view.specs.Slots.{slots_of}
 use Rattle.message_view.specs.Spelling.{body_place}
 use Rattle.message_view.specs.Fixed.{order_in, fields_len, whole_len}
 use Rattle.message_view.specs.Reading.{header_fault, header_padding, types_in, arguments_at, in_body, body_at, message_of, fields_of, fields_from, framed_message}
-use Rattle.message_view.specs.Words.{body_of, IsFixed, Passes, shown}
+use Rattle.message_view.specs.Words.{body_of, IsFixed, shown}
 
 -- what a reader of the fields was given, by what it answered
 gave_fault : (fault : MsgError) (whole : Result (List Field) MsgError) → Gives {X = Fields} shown slots_of (Err fault) whole → whole ≡ Err fault

@@ -15,7 +15,7 @@ use Rattle.message_value.specs.Fits.{MembersFit}
 use Rattle.message_value.specs.Reading.{◌>>=◌, At, inside, value_at, members_at}
 use Rattle.message_value.proofs.OkSteps.{bind_ok, not_refused, found_none, passed_ok, ok_is}
 use Rattle.message_value.proofs.WordBytes.{IsBytes, IsBytes-drop, IsBytes-take}
-use Rattle.message_value.proofs.ReadItems.{at, zeros_are, zeros_again}
+use Rattle.message_value.proofs.ReadItems.{zeros_are, zeros_again}
 use Rattle.message_value.proofs.ReadValues.{members_takes, members_again}
 use Rattle.message_view.specs.declared.kind.Kind.{Kind}
 use Rattle.message_view.specs.Header.{kind_byte, kind_of, has_required}

@@ -1,9 +1,9 @@
 -- One field: what is read is spelled so and is a field, and what is spelled so is read again.
-use Rattle.std.proofs.Common.{◌≡◌, ℕ, zero, suc, ◌+◌, ◌<◌, Bool, true, false, not, cond, eqb, List, [], ◌∷◌, ◌++◌, length, is_some, Option, Some, None, Ok, Err, refl, sym, ap, subst, ◌∙◌, append_assoc, arith}
+use Rattle.std.proofs.Common.{◌≡◌, ℕ, zero, suc, ◌+◌, ◌<◌, Bool, true, false, not, cond, eqb, List, [], ◌∷◌, ◌++◌, length, is_some, Option, Some, None, Ok, refl, sym, ap, subst, ◌∙◌, append_assoc, arith}
 use Rattle.std.specs.Prelude.{◌&&◌}
 use Rattle.std.proofs.lemmas.Bool.{eqb-true, eq-eqb, ne_eqb, not-false}
 use Rattle.std.proofs.lemmas.List.{length-append}
-use Rattle.signature.specs.DataType.{DataType, DataTypes, basic, variant, array, dict, struct}
+use Rattle.signature.specs.DataType.{DataType, basic, variant, array, dict, struct}
 use Rattle.message_value.specs.declared.order.Order.{Order}
 use Rattle.message_value.specs.declared.fault.MsgError.{MsgError}
 use Rattle.message_value.specs.declared.fault.MsgError.TheVariants as faults
@@ -13,14 +13,14 @@ use Rattle.message_value.specs.Fits.{IsOneType, BareFits, ValueFits}
 use Rattle.message_value.specs.Reading.{◌>>=◌, At, aligned_at, byte_at, signature_at, value_at}
 use Rattle.message_value.proofs.OkSteps.{bind_ok, found_none, nothing_is, ok_is, some_is}
 use Rattle.message_value.proofs.WordBytes.{IsBytes}
-use Rattle.message_value.proofs.ReadItems.{at, Takes, Takes-then, Takes-as, length-zeros, byte_takes, byte_again, aligned_takes, aligned_again}
+use Rattle.message_value.proofs.ReadItems.{at, Takes, Takes-then, length-zeros, byte_takes, byte_again, aligned_takes, aligned_again}
 use Rattle.message_value.proofs.ReadTexts.{signature_takes, signature_again}
 use Rattle.message_value.proofs.ReadValues.{value_takes, value_again}
 use Rattle.message_view.specs.declared.field.FieldCode.{FieldCode}
 use Rattle.message_view.specs.declared.field.FieldCode.TheVariants.{Path, Interface, Member, ErrorName, ReplySerial, Destination, Sender, Signature, UnixFds}
 use Rattle.message_view.specs.Header.{code_byte, code_of, type_code, is_named_well, is_reserved, is_number_allowed}
 use Rattle.message_view.specs.Message.{Field, field_with}
-use Rattle.message_view.specs.Spelling.{field_front, field_value_place, field_bytes}
+use Rattle.message_view.specs.Spelling.{field_value_place, field_bytes}
 use Rattle.message_view.specs.Valid.{HasContent, IsAllowed, IsField, IsOnce}
 use Rattle.message_view.specs.Reading.{number_fault, content_fault, or_fault, is_basic_of, type_fault, known_fault, content_at, code_fault, code_at, field_at}
 

@@ -2,7 +2,6 @@
 use Rattle.std.specs.Prelude.{◌≡◌, ℕ, List, [], ◌∷◌, ◌++◌, length, drop, map, option_map, slice_index, ◌≤◌, Option, Some, None, Result, Ok, Err}
 use Rattle.signature.specs.DataType.{SigText}
 use Rattle.message_value.specs.declared.fault.MsgError.{MsgError}
-use Rattle.message_value.specs.declared.text.TextType.{TextType}
 use Rattle.message_value.specs.declared.text.TextType.TheVariants as texts
 use Rattle.message_value.specs.Value.{Value, Values, number, text}
 use Rattle.message_value.specs.Fits.{max_array_len}

@@ -1,4 +1,3 @@
-use Rattle.std.proofs.Common.{sym}
 use Rattle.std.proofs.lemmas.Result.{err_from_is_err_and}
 use Rattle.message_view.proofs.Kept.{kept_next, passed_next, no_code, no_content}
 use Rattle.message_view.proofs.fields.Fields.read_next.Goals as goal

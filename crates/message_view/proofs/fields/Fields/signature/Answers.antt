@@ -1,4 +1,4 @@
-use Rattle.std.proofs.Common.{sym, ◌∙◌}
+use Rattle.std.proofs.Common.{◌∙◌}
 use Rattle.message_view.proofs.BodyTypes.{types_found, no_types_found}
 use Rattle.message_view.proofs.fields.Fields.signature.Goals as goal
 
