@@ -14,5 +14,9 @@ pub mod ValueSteps
 pub mod ArrayTurns
 pub mod NumberArrays
 pub mod MemberTurns
+pub mod SkipTexts
+pub mod SkipValues
+pub mod ShownSteps
+pub mod ArgumentTurns
 pub mod SmallValues
 pub mod FaultOrder
