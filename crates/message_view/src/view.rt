@@ -13,7 +13,7 @@ use crate::field::FieldCode;
 use crate::fields::Fields;
 use crate::fixed::{FIXED_LEN, Fixed};
 use crate::kind::Kind;
-use message_value::{Cursor, MsgError, Order, are_zeros, check_members, padding};
+use message_value::{Args, Cursor, MsgError, Order, are_zeros, check_members, padding};
 use signature::Signature;
 use std::marker::Model;
 
@@ -117,7 +117,7 @@ impl<'a> View<'a> {
     ghost use Rattle.message_view.specs.Valid.{Valid};
     ghost use Rattle.message_view.specs.Reading.{body_at, message_at};
     ghost use Rattle.message_view.specs.Slots.{slot_of, slots_of};
-    ghost use Rattle.message_view.specs.Spelling.{body_bytes};
+    ghost use Rattle.message_view.specs.Spelling.{body_bytes, arguments_of};
     ghost use Rattle.message_view.specs.Words.{ReadsView};
 
     /// The message or the first fault, as reading gives it.
@@ -269,6 +269,13 @@ impl<'a> View<'a> {
     {
         let place = self.bytes.len() - self.body.len();
         Cursor::new(place, self.body, MsgError::Short)
+    }
+
+    /// The arguments, one after the other.
+    pub fn args(&self) -> Args<'a>
+        ensures { (m : Message) → Valid self.now m → result ≡ arguments_of m }
+    {
+        Args::new(self.order, self.signature.again(), self.at_body())
     }
 }
 
