@@ -1,3 +1,4 @@
+pub mod Bytes
 pub mod Fault
 pub mod Key
 pub mod Condition
