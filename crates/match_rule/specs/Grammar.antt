@@ -120,4 +120,4 @@ pub record ReadsAs (text : List ℕ) (rule : RuleTree) : Type 0 where
   pub ends : IsEnding parts ending
   pub said : AreParts parts terms
   pub once : HaveOwnKeys [] terms
-  pub rule : rule ≡ rule_with terms
+  pub says : rule ≡ rule_with terms

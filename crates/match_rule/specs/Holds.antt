@@ -1,5 +1,5 @@
 -- Where a rule holds of a message (D-Bus Specification, "Match Rules").
-use Rattle.std.specs.Prelude.{◌≡◌, ◌⊎◌, ℕ, Bool, true, List, [], ◌∷◌, ◌++◌, Option, Some, None, All, IfSome, slice_get, if◌then◌else◌}
+use Rattle.std.specs.Prelude.{◌≡◌, ◌⊎◌, ℕ, Bool, true, List, [], ◌∷◌, ◌++◌, Option, Some, None, All, IfSome, MatchBool, slice_get}
 use Rattle.message_value.specs.Arguments.{Argument}
 use Rattle.message_view.specs.Message.{Message, path_of, interface_of, member_of, destination_of, sender_of}
 use Rattle.message_view.specs.Spelling.{arguments_of}
@@ -37,7 +37,7 @@ HasArg m n code text =
 -- what a condition says of a message, whose sender is the primary owner of the owned names
 abbrev pub ConditionHolds : Condition → Message → (List ℕ → Bool) → Type 0
 ConditionHolds (Kind kind) m owned = m.kind ≡ kind_meant kind
-ConditionHolds (Sender name) m owned = if is_owned_name name then owned name ≡ true else (sender_of m ≡ Some name)
+ConditionHolds (Sender name) m owned = MatchBool (is_owned_name name) (owned name ≡ true) (sender_of m ≡ Some name)
 ConditionHolds (Interface name) m owned = interface_of m ≡ Some name
 ConditionHolds (Member name) m owned = member_of m ≡ Some name
 ConditionHolds (Path path) m owned = path_of m ≡ Some path

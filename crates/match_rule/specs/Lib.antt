@@ -5,5 +5,7 @@ pub mod Condition
 pub mod RuleTree
 pub mod Grammar
 pub mod Reading
+pub mod Parts
+pub mod Arguments
 pub mod Holds
 pub mod Equality
