@@ -1,8 +1,8 @@
 // What the parts of a rule's text said so far.
 
 ghost use Rattle.std.specs.Prelude.{◌≡◌, OnOk, IfErr, None, []};
-ghost use Rattle.match_rule.specs.declared.fault.RuleError.TheVariants.{NoMemory};
 ghost use Rattle.std.specs.List.{list_any};
+ghost use Rattle.match_rule.specs.declared.fault.RuleError.TheVariants.{NoMemory};
 ghost use Rattle.match_rule.specs.Key.{is_twice, is_path_twice};
 ghost use Rattle.match_rule.specs.Condition.{key_of, has_key, has_path};
 ghost use Rattle.match_rule.specs.Reading.{own_key};

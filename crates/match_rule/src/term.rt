@@ -48,46 +48,24 @@ fn asks_if(allowed: bool, condition: Condition) -> Option<Term>
 fn term_of_text(key: Key, text: String) -> Option<Term>
     ensures { result ≡ term_with key (string_bytes text) }
 {
+    let text = Text::new(text);
     match key {
-        Key::Kind => KindName::named(text.as_bytes()).map(|kind| Term::Asks(Condition::Kind(kind))),
-        Key::Sender => {
-            asks_if(
-                check_bus_name(text.as_str()),
-                Condition::Sender(Text::new(text)),
-            )
-        }
-        Key::Interface => {
-            asks_if(
-                check_interface(text.as_str()),
-                Condition::Interface(Text::new(text)),
-            )
-        }
-        Key::Member => asks_if(
-            check_member(text.as_str()),
-            Condition::Member(Text::new(text)),
+        Key::Kind => KindName::named(text.as_str().as_bytes()).map(|kind| Term::Asks(
+            Condition::Kind(kind),
+        )),
+        Key::Sender => asks_if(check_bus_name(text.as_str()), Condition::Sender(text)),
+        Key::Interface => asks_if(check_interface(text.as_str()), Condition::Interface(text)),
+        Key::Member => asks_if(check_member(text.as_str()), Condition::Member(text)),
+        Key::Path => asks_if(check_path(text.as_str()), Condition::Path(text)),
+        Key::PathNamespace => asks_if(check_path(text.as_str()), Condition::PathNamespace(text)),
+        Key::Destination => asks_if(check_bus_name(text.as_str()), Condition::Destination(text)),
+        Key::Arg(n) => Some(Term::Asks(Condition::Arg(n, text))),
+        Key::ArgPath(n) => Some(Term::Asks(Condition::ArgPath(n, text))),
+        Key::Arg0Namespace => asks_if(
+            check_namespace(text.as_str()),
+            Condition::Arg0Namespace(text),
         ),
-        Key::Path => asks_if(check_path(text.as_str()), Condition::Path(Text::new(text))),
-        Key::PathNamespace => {
-            asks_if(
-                check_path(text.as_str()),
-                Condition::PathNamespace(Text::new(text)),
-            )
-        }
-        Key::Destination => {
-            asks_if(
-                check_bus_name(text.as_str()),
-                Condition::Destination(Text::new(text)),
-            )
-        }
-        Key::Arg(n) => Some(Term::Asks(Condition::Arg(n, Text::new(text)))),
-        Key::ArgPath(n) => Some(Term::Asks(Condition::ArgPath(n, Text::new(text)))),
-        Key::Arg0Namespace => {
-            asks_if(
-                check_namespace(text.as_str()),
-                Condition::Arg0Namespace(Text::new(text)),
-            )
-        }
-        Key::Eavesdrop => flag_named(text.as_bytes()).map(|flag| Term::Eavesdrop(flag)),
+        Key::Eavesdrop => flag_named(text.as_str().as_bytes()).map(|flag| Term::Eavesdrop(flag)),
     }
 }
 
