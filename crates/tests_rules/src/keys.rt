@@ -9,6 +9,15 @@ fn fault(alloc: Global, text: &str) -> Option<RuleError> {
     Rule::read(alloc, text).err()
 }
 
+/// Whether a text is of one condition, with this key and this value.
+fn is_one(alloc: Global, text: &str, key: Key, value: &str) -> Result<bool, Fail> {
+    let rule = Rule::read(alloc, text)?;
+    match rule.conditions() {
+        [condition] => Ok(condition.key() == key && condition.value() == value),
+        _ => Ok(false),
+    }
+}
+
 /// One condition of each key, with its value.
 #[test]
 fn each_key(rt: HostRuntime) -> Result<(), Fail> {
@@ -33,10 +42,7 @@ fn each_key(rt: HostRuntime) -> Result<(), Fail> {
         ("arg0namespace=':1'", Key::Arg0Namespace, ":1"),
         ("arg0namespace='a.b.c'", Key::Arg0Namespace, "a.b.c"),
     ] {
-        let rule = Rule::read(rt.alloc(), text)?;
-        assert_eq!(rt; rule.conditions().len(), 1, "at {text}");
-        assert!(rt; rule.conditions()[0].key() == key, "at {text}");
-        assert_eq!(rt; rule.conditions()[0].value(), value);
+        assert!(rt; is_one(rt.alloc(), text, key, value)?, "at {text}");
     }
     Ok(())
 }
@@ -202,6 +208,12 @@ fn order_of_faults(rt: HostRuntime) {
     }
 }
 
+/// Whether this is the well-known name that a rule asks for as the sender.
+fn is_sender(alloc: Global, text: &str, name: Option<&str>) -> Result<bool, Fail> {
+    let rule = Rule::read(alloc, text)?;
+    Ok(rule.sender_name() == name)
+}
+
 #[test]
 fn sender_names(rt: HostRuntime) -> Result<(), Fail> {
     for (text, want) in [
@@ -219,8 +231,7 @@ fn sender_names(rt: HostRuntime) -> Result<(), Fail> {
             Some("org.freedesktop.DBus.A"),
         ),
     ] {
-        let rule = Rule::read(rt.alloc(), text)?;
-        assert_eq!(rt; rule.sender_name(), want, "at {text}");
+        assert!(rt; is_sender(rt.alloc(), text, want)?, "at {text}");
     }
     Ok(())
 }
@@ -235,22 +246,15 @@ fn filled(alloc: Global, front: &str, byte: char, count: usize) -> Result<String
     Ok(text)
 }
 
+fn weight(alloc: Global, text: &str) -> Result<u64, Fail> {
+    let rule = Rule::read(alloc, text)?;
+    Ok(rule.weight())
+}
+
 #[test]
-fn weight_limit(rt: HostRuntime) -> Result<(), Fail> {
-    let longest = filled(rt.alloc(), "arg0='", 'x', 1017)?;
-    assert_eq!(rt; longest.len(), 1024);
-    assert_eq!(rt; Rule::read(rt.alloc(), longest.as_str())?.weight(), 1049);
-    let longer = filled(rt.alloc(), "arg0='", 'x', 1018)?;
-    assert_eq!(rt;
-        fault(rt.alloc(), longer.as_str()),
-        Some(RuleError::TooLong)
-    );
-    for (count, weight) in [(0, 32), (1, 49), (239, 4095), (240, 4112), (900, 15332)] {
-        let text = filled(rt.alloc(), "arg0path='", '/', count)?;
-        let rule = Rule::read(rt.alloc(), text.as_str())?;
-        assert_eq!(rt; rule.weight(), weight);
-    }
-    for (text, weight) in [
+fn weights(rt: HostRuntime) -> Result<(), Fail> {
+    for (text, want) in [
+        ("", 8),
         ("eavesdrop='true'", 8),
         ("arg0='///'", 8 + 24 + 3),
         (
@@ -259,8 +263,27 @@ fn weight_limit(rt: HostRuntime) -> Result<(), Fail> {
         ),
         ("arg0='é'", 8 + 24 + 2),
     ] {
-        let rule = Rule::read(rt.alloc(), text)?;
-        assert_eq!(rt; rule.weight(), weight, "at {text}");
+        assert_eq!(rt; weight(rt.alloc(), text)?, want, "at {text}");
     }
+    Ok(())
+}
+
+#[test]
+fn weight_limit(rt: HostRuntime) -> Result<(), Fail> {
+    for (front, byte, count, want) in [
+        ("arg0='", 'x', 1017, 1049),
+        ("arg0path='", '/', 239, 4095),
+        ("arg0path='", '/', 240, 4112),
+        ("arg0path='", '/', 900, 15332),
+    ] {
+        let text = filled(rt.alloc(), front, byte, count)?;
+        assert_eq!(rt; weight(rt.alloc(), text.as_str())?, want);
+    }
+    let longer = filled(rt.alloc(), "arg0='", 'x', 1018)?;
+    assert_eq!(rt; longer.len(), 1025);
+    assert_eq!(rt;
+        fault(rt.alloc(), longer.as_str()),
+        Some(RuleError::TooLong)
+    );
     Ok(())
 }
