@@ -1,13 +1,15 @@
 -- The fixed part of a header: its first 16 bytes (D-Bus Specification, "Message Format").
 use Rattle.std.specs.Prelude.{ℕ, ◌+◌, Bool, not, List, [], ◌∷◌, length, take, drop, slice_index, Option, Some, None, is_none, Result, Ok, Err, nat_lt, nat_le, ◌==◌, ◌&&◌, if◌then◌else◌}
-use Rattle.message_view.specs.declared.order.Order.{Order}
-use Rattle.message_view.specs.declared.order.Order.TheVariants.{Little, Big}
-use Rattle.message_view.specs.declared.fault.MsgError.{MsgError}
-use Rattle.message_view.specs.declared.fault.MsgError.TheVariants as faults
-use Rattle.message_view.specs.Order.{order_of, word_of}
+use Rattle.message_value.specs.declared.order.Order.{Order}
+use Rattle.message_value.specs.declared.order.Order.TheVariants.{Little, Big}
+use Rattle.message_value.specs.declared.fault.MsgError.{MsgError}
+use Rattle.message_value.specs.declared.fault.MsgError.TheVariants as faults
+use Rattle.message_value.specs.Order.{order_of, word_of}
 use Rattle.message_view.specs.Header.{kind_of}
-use Rattle.message_view.specs.Spelling.{padding, fixed_len}
-use Rattle.message_view.specs.Valid.{max_array_len, max_message_len}
+use Rattle.message_value.specs.Spelling.{padding}
+use Rattle.message_value.specs.Fits.{max_array_len}
+use Rattle.message_view.specs.Spelling.{fixed_len}
+use Rattle.message_view.specs.Valid.{max_message_len}
 
 -- the order that the first byte names; of bytes without one nothing else is looked at
 abbrev pub order_in : List ℕ → Order

@@ -37,7 +37,7 @@ code_byte Sender = 7
 code_byte Signature = 8
 code_byte UnixFds = 9
 
--- For now only the codes that have a name are fields.
+-- The fields that have a meaning; of others nothing is known.
 abbrev pub code_of : ℕ → Option FieldCode
 code_of byte =
     if byte == 1 then Some Path

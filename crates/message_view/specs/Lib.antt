@@ -1,4 +1,3 @@
-pub mod Order
 pub mod Message
 pub mod Header
 pub mod Spelling
@@ -7,4 +6,3 @@ pub mod Fixed
 pub mod Reading
 pub mod Words
 pub mod Slots
-pub mod Fault

@@ -1,26 +1,9 @@
 -- Messages as trees, with none of their bytes (D-Bus Specification, "Message Protocol").
 use Rattle.std.specs.Prelude.{ℕ, List, [], ◌∷◌, Option, Some, None, ◌==◌, if◌then◌else◌}
 use Rattle.signature.specs.DataType.{DataType, DataTypes}
-use Rattle.message_view.specs.declared.order.Order.{Order}
+use Rattle.message_value.specs.declared.order.Order.{Order}
+use Rattle.message_value.specs.Value.{Value, Values, number, text}
 use Rattle.message_view.specs.declared.kind.Kind.{Kind}
-
--- a value, in the shape of its type
-mutual
-  pub data Value : Type 0 where
-    number : (bits : ℕ) → Value
-    text : (bytes : List ℕ) → Value
-    elements : Values → Value
-    entries : Entries → Value
-    members : Values → Value
-    of_type : (type : DataType) → Value → Value
-
-  pub data Values : Type 0 where
-    no_values : Values
-    one_value : Value → Values → Values
-
-  pub data Entries : Type 0 where
-    no_entries : Entries
-    one_entry : (key value : Value) → Entries → Entries
 
 -- a header field: its code, and the variant that it holds
 pub record Field : Type 0 where
@@ -70,3 +53,11 @@ destination_of m = text_in (field_with 6 m.fields)
 
 abbrev pub sender_of : Message → Option (List ℕ)
 sender_of m = text_in (field_with 7 m.fields)
+
+abbrev pub or_empty : Option (List ℕ) → List ℕ
+or_empty (Some bytes) = bytes
+or_empty None = []
+
+-- the signature of the body; absent means empty
+abbrev pub signature_in : List Field → List ℕ
+signature_in fields = or_empty (text_in (field_with 8 fields))

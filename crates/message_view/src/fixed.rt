@@ -1,12 +1,11 @@
 // The fixed part of a header.
 
 ghost use Rattle.std.specs.Prelude.{◌≡◌, ◌+◌, ◌<◌, ◌≤◌};
-ghost use Rattle.message_view.specs.Spelling.{padding};
+ghost use Rattle.message_value.specs.Spelling.{padding};
 ghost use Rattle.message_view.specs.Words.{ReadsFixed};
 
-use crate::fault::MsgError;
 use crate::kind::Kind;
-use crate::order::Order;
+use message_value::{MsgError, Order, padding};
 
 pub(crate) const FIXED_LEN: usize = 16;
 
@@ -25,14 +24,6 @@ pub(crate) struct Fixed {
     pub(crate) body_len: u32,
     pub(crate) serial: u32,
     pub(crate) fields_len: u32,
-}
-
-/// How many bytes lie before the next multiple.
-pub(crate) fn padding(alignment: usize, place: usize) -> usize
-    requires { 0 < alignment }
-    ensures { result ≡ padding alignment place }
-{
-    (alignment - place % alignment) % alignment
 }
 
 impl Fixed {

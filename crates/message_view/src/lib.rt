@@ -3,19 +3,14 @@
 #![tactic(auto)]
 
 mod content;
-mod cursor;
-mod fault;
 mod field;
 mod fields;
 mod fixed;
 mod frame;
 mod kind;
-mod order;
-mod text;
 mod view;
 
-pub use fault::MsgError;
 pub use frame::frame_len;
 pub use kind::Kind;
-pub use order::Order;
+pub use message_value::{Arg, Args, MsgError, Order};
 pub use view::{View, one_message};

@@ -1,0 +1,12 @@
+use Rattle.std.proofs.Common.{sym, ap, ◌∙◌}
+use Rattle.std.proofs.lemmas.Str.{is_utf8-from_IsUtf8}
+use Rattle.message_value.proofs.PlainTexts.{no_text, plain, not_plain}
+use Rattle.message_value.proofs.text.plain_text.Goals as goal
+
+pub returns-in-Err : goal.returns-in-Err
+returns-in-Err c = not_plain _ _ (no_text c.args.bytes.now c.in-Err.ensures.cases.0)
+
+pub returns-in-Ok-2 : goal.returns-in-Ok-2
+returns-in-Ok-2 c =
+    let found = c.in-Ok-2.ensures.cases in
+    (plain _ _ (is_utf8-from_IsUtf8 c.args.bytes.now found.1) (sym c.if-has_zero.ensures), ap (λ t. t.now) c.in-Ok-2.text-is ∙ found.0)

@@ -1,0 +1,10 @@
+pub mod Order
+pub mod Value
+pub mod Spelling
+pub mod Fits
+pub mod FaultName
+pub mod Reading
+pub mod Words
+pub mod Arguments
+pub mod ArgumentsLeft
+pub mod ShownArguments

@@ -1,0 +1,23 @@
+//! Values of D-Bus messages, in the wire format. The layer above uses that a value is read exactly where
+//! bytes spell it, and that the first fault is named otherwise.
+#![tactic(auto)]
+
+mod arg;
+mod args;
+mod basic_form;
+mod cursor;
+mod fault;
+mod fixed_len;
+mod order;
+mod skip;
+mod skip_text;
+mod text;
+mod value;
+
+pub use arg::Arg;
+pub use args::{Args, MAX_LEVELS};
+pub use cursor::{Cursor, are_zeros, padding};
+pub use fault::MsgError;
+pub use order::Order;
+pub use text::TextType;
+pub use value::{check_members, check_value};

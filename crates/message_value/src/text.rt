@@ -1,0 +1,136 @@
+// The basic types whose values are texts.
+
+ghost use Rattle.std.specs.Prelude.{◌≡◌, ◌<◌, ◌^◌, ◌==◌, option_map};
+ghost use Rattle.std.specs.List.{list_any};
+ghost use Rattle.message_value.specs.Fits.{is_text_of};
+ghost use Rattle.message_value.specs.Reading.{text_fault, text_at, long_text_at, short_text_at, text_value_at};
+ghost use Rattle.message_value.specs.Words.{Reads, LendsText, text_code};
+ghost use Rattle.message_value.specs.Value.{text};
+
+use crate::cursor::Cursor;
+use crate::fault::MsgError;
+use crate::order::Order;
+use memchr::memchr;
+use signature::{Signature, check_path};
+
+/// A basic type whose values are texts.
+#[derive(Clone, Copy, Debug)]
+pub enum TextType {
+    String,
+    ObjectPath,
+    Signature,
+}
+
+fn has_zero(bytes: &[u8]) -> bool
+    ensures { result ≡ list_any (λ byte. byte == 0) bytes.now }
+{
+    memchr(0, bytes).is_some()
+}
+
+fn plain_text(bytes: &[u8]) -> Option<&str>
+    ensures { LendsText (is_text_of 115 bytes.now) bytes.now (option_map (λ text. text.now) result) }
+{
+    match std::str::from_utf8(bytes) {
+        Err(_) => None,
+        Ok(_) if has_zero(bytes) => None,
+        Ok(text) => Some(text),
+    }
+}
+
+fn path_text(bytes: &[u8]) -> Option<&str>
+    ensures { LendsText (is_text_of 111 bytes.now) bytes.now (option_map (λ text. text.now) result) }
+{
+    match std::str::from_utf8(bytes) {
+        Err(_) => None,
+        Ok(text) if check_path(text) => Some(text),
+        Ok(_) => None,
+    }
+}
+
+fn signature_text(bytes: &[u8]) -> Option<&str>
+    ensures { LendsText (is_text_of 103 bytes.now) bytes.now (option_map (λ text. text.now) result) }
+{
+    match std::str::from_utf8(bytes) {
+        Err(_) => None,
+        Ok(text) if Signature::read(bytes).is_ok() => Some(text),
+        Ok(_) => None,
+    }
+}
+
+impl TextType {
+    /// The basic code of the type.
+    pub fn code(self) -> u8
+        ensures { result ≡ text_code self }
+    {
+        match self {
+            TextType::String => b's',
+            TextType::ObjectPath => b'o',
+            TextType::Signature => b'g',
+        }
+    }
+
+    /// The text that the bytes are, where they have this type's form.
+    fn lend(self, bytes: &[u8]) -> Option<&str>
+        ensures { LendsText (is_text_of (text_code self) bytes.now) bytes.now (option_map (λ text. text.now) result) }
+    {
+        match self {
+            TextType::String => plain_text(bytes),
+            TextType::ObjectPath => path_text(bytes),
+            TextType::Signature => signature_text(bytes),
+        }
+    }
+
+    /// What bytes of another form are.
+    fn fault(self) -> MsgError
+        ensures { result ≡ text_fault (text_code self) }
+    {
+        match self {
+            TextType::String => MsgError::BadText,
+            TextType::ObjectPath => MsgError::BadName,
+            TextType::Signature => MsgError::BadSignature,
+        }
+    }
+
+    /// A text of so many bytes with its zero byte, as one item.
+    #[tactic(auto, unfolding(crate::specs::Reading::text_at))]
+    fn read<'a>(self, cursor: &mut Cursor<'a>, len: usize) -> Result<&'a str, MsgError>
+        requires { len < 2 ^ 32 }
+        ensures { Reads (λ text. text.now) result cursor.new (text_at (text_code self) len cursor.old) }
+    {
+        let item = cursor.item(len + 1)?;
+        let text = self.lend(&item[..len]).ok_or(self.fault())?;
+        if item[len] != 0 {
+            return Err(MsgError::BadText);
+        }
+        Ok(text)
+    }
+
+    /// A text whose length is a number of four bytes.
+    #[tactic(auto, unfolding(crate::specs::Reading::long_text_at))]
+    fn read_long<'a>(self, cursor: &mut Cursor<'a>, order: Order) -> Result<&'a str, MsgError>
+        ensures { Reads (λ text. text.now) result cursor.new (long_text_at order (text_code self) cursor.old) }
+    {
+        let len = cursor.word(order)?;
+        self.read(cursor, len as usize)
+    }
+
+    /// A signature, whose length is a byte.
+    #[tactic(auto, unfolding(crate::specs::Reading::short_text_at))]
+    fn read_short<'a>(cursor: &mut Cursor<'a>) -> Result<&'a str, MsgError>
+        ensures { Reads (λ text. text.now) result cursor.new (short_text_at cursor.old) }
+    {
+        let len = cursor.byte()?;
+        TextType::Signature.read(cursor, usize::from(len))
+    }
+
+    /// A value of this type behind its padding.
+    #[tactic(auto, unfolding(crate::specs::Reading::text_value_at))]
+    pub fn read_value<'a>(self, cursor: &mut Cursor<'a>, order: Order) -> Result<&'a str, MsgError>
+        ensures { Reads (λ t. text t.now) result cursor.new (text_value_at order (text_code self) cursor.old) }
+    {
+        match self {
+            TextType::Signature => TextType::read_short(cursor),
+            TextType::String | TextType::ObjectPath => self.read_long(cursor, order),
+        }
+    }
+}

@@ -1,5 +1,0 @@
-use Rattle.message_view.proofs.PlainTexts.{no_path}
-use Rattle.message_view.proofs.text.path_text.Goals as goal
-
-pub returns-in-Err : goal.returns-in-Err
-returns-in-Err c = no_path c.args.bytes.now c.in-Err.ensures.cases.0
