@@ -5,14 +5,16 @@ use Rattle.std.specs.List.{list_all}
 use Rattle.std.proofs.lemmas.Bool.{eqb-true, ltb-false}
 use Rattle.std.proofs.lemmas.List.{append-nil}
 use Rattle.match_rule.specs.declared.fault.RuleError.TheVariants.{TooLong}
-use Rattle.match_rule.specs.declared.condition.Condition.{Condition}
+use Rattle.match_rule.specs.declared.term.Term.{Term}
 use Rattle.match_rule.specs.declared.quoting.Quoting.TheVariants.{Outside, Inside, Escaped}
 use Rattle.match_rule.specs.declared.quoting.Step.TheVariants.{End, Skip, Take}
-use Rattle.match_rule.specs.Condition.{key_of, has_key, condition_with}
+use Rattle.match_rule.specs.Bytes.{begins_with}
+use Rattle.match_rule.specs.Condition.{term_key, has_key, has_path, term_with}
 use Rattle.match_rule.specs.RuleTree.{RuleTree}
-use Rattle.match_rule.specs.Grammar.{is_blank, apostrophe, backslash, comma, equals, begins_with, Piece, quoted, escaped, plain, pieces_bytes, pieces_value, ArePieces, Part, part_bytes, IsPart, AreParts, HaveOwnKeys, parts_bytes, IsEnding, ReadsAs}
-use Rattle.match_rule.specs.Reading.{◌>>=◌, behind_blanks, after_step, value_from, with_byte, part_at, parts_from, conditions_at, rule_with, rule_at}
-use Rattle.match_rule.proofs.PartReads.{ok, bind_ok, pair_ok, guard_ok, reads_from, word_is, condition_is, part_len}
+use Rattle.match_rule.specs.Parts.{tree_at}
+use Rattle.match_rule.specs.Grammar.{is_blank, apostrophe, backslash, comma, equals, Piece, quoted, escaped, plain, pieces_bytes, pieces_value, ArePieces, Part, part_bytes, IsPart, AreParts, HaveOwnKeys, parts_bytes, IsEnding, rule_with, ReadsAs}
+use Rattle.match_rule.specs.Reading.{◌>>=◌, behind_blanks, after_step, value_from, with_byte, part_at, parts_from, terms_at, rule_at}
+use Rattle.match_rule.proofs.PartReads.{ok, bind_ok, pair_ok, guard_ok, reads_from, word_is, term_is, part_len}
 use Rattle.match_rule.proofs.Turns.{blanks_len}
 use Rattle.match_rule.proofs.Spelled.{tail_bytes, tail_rest, begins_tail, quoted_regroup, part_regroup, parts_from-nil}
 
@@ -160,19 +162,19 @@ blanks_found (b ∷ bs) = go (is_blank b) refl (blanks_found bs)
     go true is found = (b ∷ found.0, both (is_blank b) (list_all is_blank found.0) is found.1, ap (λ (x : List ℕ). b ∷ x) found.2)
     go false is found = ([], refl, refl)
 
--- conditions behind those in front are the parts of a text
-record Rest (front : List Condition) (bytes : List ℕ) (conditions : List Condition) : Type 0 where
-  pub own : List Condition
+-- terms behind those in front are the parts of a text
+record Rest (front : List Term) (bytes : List ℕ) (terms : List Term) : Type 0 where
+  pub own : List Term
   pub parts : List Part
   pub ending : List ℕ
-  pub joined : conditions ≡ front ++ own
+  pub joined : terms ≡ front ++ own
   pub spelled : bytes ≡ parts_bytes parts ending
   pub ends : IsEnding parts ending
   pub said : AreParts parts own
   pub once : HaveOwnKeys front own
 
-none_found : (front : List Condition) (bytes : List ℕ) (conditions : List Condition) → behind_blanks bytes ≡ [] → front ≡ conditions → Rest front bytes conditions
-none_found front bytes conditions none same =
+none_found : (front : List Term) (bytes : List ℕ) (terms : List Term) → behind_blanks bytes ≡ [] → front ≡ terms → Rest front bytes terms
+none_found front bytes terms none same =
     let found = blanks_found bytes in
     let blank : bytes ≡ found.0 = found.2 ∙ ap (λ (x : List ℕ). found.0 ++ x) none ∙ append-nil found.0 in
     record {
@@ -187,18 +189,19 @@ none_found front bytes conditions none same =
     }
 
 -- a part, and what is behind its value
-record First (front : List Condition) (bytes : List ℕ) (condition : Condition) (rest : List ℕ) : Type 0 where
+record First (front : List Term) (bytes : List ℕ) (term : Term) (rest : List ℕ) : Type 0 where
   pub part : Part
   pub tail : Option (List ℕ)
-  pub says : IsPart part condition
-  pub new : has_key (key_of condition) front ≡ false
+  pub says : IsPart part term
+  pub new : has_key (term_key term) front ≡ false
+  pub apart : has_path (term_key term) front ≡ false
   pub spelled : bytes ≡ part_bytes part ++ tail_bytes tail
   pub ends : rest ≡ tail_rest tail
 
-first_found : (front : List Condition) (bytes : List ℕ) (condition : Condition) (rest : List ℕ) → part_at front (behind_blanks bytes) ≡ Ok (condition, rest) → First front bytes condition rest
-first_found front bytes condition rest e =
-    let r = reads_from front (behind_blanks bytes) condition rest e in
-    let is = condition_is r.key r.value condition r.allowed in
+first_found : (front : List Term) (bytes : List ℕ) (term : Term) (rest : List ℕ) → part_at front (behind_blanks bytes) ≡ Ok (term, rest) → First front bytes term rest
+first_found front bytes term rest e =
+    let r = reads_from front (behind_blanks bytes) term rest e in
+    let is = term_is r.key r.value term r.allowed in
     let v = outside_found r.spelling r.value rest r.spelled in
     let blanks = blanks_found bytes in
     let word = word_is (behind_blanks bytes) r.word r.spelling r.has_word in
@@ -207,84 +210,85 @@ first_found front bytes condition rest e =
       tail = v.tail;
       says = record {
         blank = blanks.1;
-        known = r.known ∙ ap (λ k. Some k) (sym is.0);
+        known = r.known ∙ ap (λ k. Ok k) (sym is.0);
         spelled = v.are;
-        allowed = ap (condition_with (key_of condition)) (sym v.means) ∙ ap (λ k. condition_with k r.value) is.0 ∙ r.allowed;
+        allowed = ap (term_with (term_key term)) (sym v.means) ∙ ap (λ k. term_with k r.value) is.0 ∙ r.allowed;
       };
       new = ap (λ k. has_key k front) is.0 ∙ r.new;
+      apart = ap (λ k. has_path k front) is.0 ∙ r.apart;
       spelled = blanks.2 ∙ ap (λ (x : List ℕ). blanks.0 ++ x) (word ∙ ap (λ (x : List ℕ). r.word ++ equals ∷ x) v.spelled) ∙ sym (part_regroup blanks.0 r.word (pieces_bytes v.pieces) (tail_bytes v.tail));
       ends = v.ends;
     }
 
 -- the last part, with nothing behind it
-last_found : (front : List Condition) (bytes : List ℕ) (condition : Condition) (part : Part) (conditions : List Condition) → IsPart part condition → has_key (key_of condition) front ≡ false → bytes ≡ part_bytes part ++ [] → front ++ condition ∷ [] ≡ conditions → Rest front bytes conditions
-last_found front bytes condition part conditions says new is same = record {
-  own = condition ∷ [];
+last_found : (front : List Term) (bytes : List ℕ) (term : Term) (part : Part) (terms : List Term) → IsPart part term → has_key (term_key term) front ≡ false → has_path (term_key term) front ≡ false → bytes ≡ part_bytes part ++ [] → front ++ term ∷ [] ≡ terms → Rest front bytes terms
+last_found front bytes term part terms says new apart is same = record {
+  own = term ∷ [];
   parts = part ∷ [];
   ending = [];
   joined = sym same;
   spelled = is;
   ends = tt;
   said = (says, tt);
-  once = (new, tt);
+  once = (new, apart, tt);
 }
 
 -- a part with a comma, before what follows
-more_found : (front : List Condition) (bytes rest : List ℕ) (condition : Condition) (part : Part) (conditions : List Condition) → IsPart part condition → has_key (key_of condition) front ≡ false → bytes ≡ part_bytes part ++ comma ∷ rest → Rest (front ++ condition ∷ []) rest conditions → Rest front bytes conditions
-more_found front bytes rest condition part conditions says new is more = go more.parts more.ending more.spelled more.ends more.said
+more_found : (front : List Term) (bytes rest : List ℕ) (term : Term) (part : Part) (terms : List Term) → IsPart part term → has_key (term_key term) front ≡ false → has_path (term_key term) front ≡ false → bytes ≡ part_bytes part ++ comma ∷ rest → Rest (front ++ term ∷ []) rest terms → Rest front bytes terms
+more_found front bytes rest term part terms says new apart is more = go more.parts more.ending more.spelled more.ends more.said
   where
-    joined : conditions ≡ front ++ (condition ∷ more.own)
-    joined = more.joined ∙ append_assoc front (condition ∷ []) more.own
+    joined : terms ≡ front ++ (term ∷ more.own)
+    joined = more.joined ∙ append_assoc front (term ∷ []) more.own
 
-    go : (parts : List Part) (ending : List ℕ) → rest ≡ parts_bytes parts ending → IsEnding parts ending → AreParts parts more.own → Rest front bytes conditions
-    go [] ending spelled ends said = record { own = condition ∷ more.own; parts = part ∷ []; ending = comma ∷ ending; joined = joined; spelled = is ∙ ap (λ (x : List ℕ). part_bytes part ++ comma ∷ x) spelled; ends = (refl, ends); said = (says, said); once = (new, more.once) }
-    go (next ∷ parts) ending spelled ends said = record { own = condition ∷ more.own; parts = part ∷ next ∷ parts; ending = ending; joined = joined; spelled = is ∙ ap (λ (x : List ℕ). part_bytes part ++ comma ∷ x) spelled; ends = later ending ends; said = (says, said); once = (new, more.once) }
+    go : (parts : List Part) (ending : List ℕ) → rest ≡ parts_bytes parts ending → IsEnding parts ending → AreParts parts more.own → Rest front bytes terms
+    go [] ending spelled ends said = record { own = term ∷ more.own; parts = part ∷ []; ending = comma ∷ ending; joined = joined; spelled = is ∙ ap (λ (x : List ℕ). part_bytes part ++ comma ∷ x) spelled; ends = (refl, ends); said = (says, said); once = (new, apart, more.once) }
+    go (next ∷ parts) ending spelled ends said = record { own = term ∷ more.own; parts = part ∷ next ∷ parts; ending = ending; joined = joined; spelled = is ∙ ap (λ (x : List ℕ). part_bytes part ++ comma ∷ x) spelled; ends = later ending ends; said = (says, said); once = (new, apart, more.once) }
       where
         later : (e : List ℕ) → IsEnding (next ∷ parts) e → IsEnding (part ∷ next ∷ parts) e
         later [] is = is
         later (b ∷ bs) is = is
 
-after_first : (n : ℕ) (front : List Condition) (bytes : List ℕ) (conditions : List Condition) (condition : Condition) (rest : List ℕ) → First front bytes condition rest → parts_from n (front ++ condition ∷ []) (behind_blanks rest) ≡ Ok conditions → Rest (front ++ condition ∷ []) rest conditions → Rest front bytes conditions
-after_first n front bytes conditions condition rest first e more = go first.tail first.spelled first.ends
+after_first : (n : ℕ) (front : List Term) (bytes : List ℕ) (terms : List Term) (term : Term) (rest : List ℕ) → First front bytes term rest → parts_from n (front ++ term ∷ []) (behind_blanks rest) ≡ Ok terms → Rest (front ++ term ∷ []) rest terms → Rest front bytes terms
+after_first n front bytes terms term rest first e more = go first.tail first.spelled first.ends
   where
-    go : (tail : Option (List ℕ)) → bytes ≡ part_bytes first.part ++ tail_bytes tail → rest ≡ tail_rest tail → Rest front bytes conditions
+    go : (tail : Option (List ℕ)) → bytes ≡ part_bytes first.part ++ tail_bytes tail → rest ≡ tail_rest tail → Rest front bytes terms
     go None spelled ends =
-        let last : ok (front ++ condition ∷ []) ≡ ok conditions = sym (parts_from-nil n (front ++ condition ∷ [])) ∙ ap (λ (x : List ℕ). parts_from n (front ++ condition ∷ []) (behind_blanks x)) (sym ends) ∙ e in
-        let same : front ++ condition ∷ [] ≡ conditions = cc in
-        last_found front bytes condition first.part conditions first.says first.new spelled same
-    go (Some r) spelled ends = more_found front bytes r condition first.part conditions first.says first.new spelled (let P : List ℕ → Type 0 = λ x. Rest (front ++ condition ∷ []) x conditions in subst P ends more)
+        let last : ok (front ++ term ∷ []) ≡ ok terms = sym (parts_from-nil n (front ++ term ∷ [])) ∙ ap (λ (x : List ℕ). parts_from n (front ++ term ∷ []) (behind_blanks x)) (sym ends) ∙ e in
+        let same : front ++ term ∷ [] ≡ terms = cc in
+        last_found front bytes term first.part terms first.says first.new first.apart spelled same
+    go (Some r) spelled ends = more_found front bytes r term first.part terms first.says first.new first.apart spelled (let P : List ℕ → Type 0 = λ x. Rest (front ++ term ∷ []) x terms in subst P ends more)
 
-parts_found : (n : ℕ) (front : List Condition) (bytes : List ℕ) (conditions : List Condition) → length (behind_blanks bytes) ≤ n → parts_from n front (behind_blanks bytes) ≡ Ok conditions → Rest front bytes conditions
-parts_found zero front bytes conditions enough e = go (behind_blanks bytes) refl enough
+parts_found : (n : ℕ) (front : List Term) (bytes : List ℕ) (terms : List Term) → length (behind_blanks bytes) ≤ n → parts_from n front (behind_blanks bytes) ≡ Ok terms → Rest front bytes terms
+parts_found zero front bytes terms enough e = go (behind_blanks bytes) refl enough
   where
-    go : (text : List ℕ) → behind_blanks bytes ≡ text → length text ≤ 0 → Rest front bytes conditions
-    go [] is fits = none_found front bytes conditions is cc
+    go : (text : List ℕ) → behind_blanks bytes ≡ text → length text ≤ 0 → Rest front bytes terms
+    go [] is fits = none_found front bytes terms is cc
     go (b ∷ bs) is fits = absurd (omega arith)
-parts_found (suc n) front bytes conditions enough e = go (behind_blanks bytes) refl enough e (λ f rest. parts_found n f rest conditions)
+parts_found (suc n) front bytes terms enough e = go (behind_blanks bytes) refl enough e (λ f rest. parts_found n f rest terms)
   where
-    go : (text : List ℕ) → behind_blanks bytes ≡ text → length text ≤ suc n → parts_from (suc n) front text ≡ Ok conditions → ((f : List Condition) (rest : List ℕ) → length (behind_blanks rest) ≤ n → parts_from n f (behind_blanks rest) ≡ Ok conditions → Rest f rest conditions) → Rest front bytes conditions
-    go [] is fits e more = none_found front bytes conditions is cc
+    go : (text : List ℕ) → behind_blanks bytes ≡ text → length text ≤ suc n → parts_from (suc n) front text ≡ Ok terms → ((f : List Term) (rest : List ℕ) → length (behind_blanks rest) ≤ n → parts_from n f (behind_blanks rest) ≡ Ok terms → Rest f rest terms) → Rest front bytes terms
+    go [] is fits e more = none_found front bytes terms is cc
     go (b ∷ bs) is fits e more =
-        let p = bind_ok (part_at front (b ∷ bs)) _ conditions e in
+        let p = bind_ok (part_at front (b ∷ bs)) _ terms e in
         let shorter = part_len front (b ∷ bs) p.0.0 p.0.1 p.1 in
         let blanks = blanks_len p.0.1 in
-        after_first n front bytes conditions p.0.0 p.0.1 (first_found front bytes p.0.0 p.0.1 (ap (part_at front) is ∙ p.1)) p.2 (more (front ++ p.0.0 ∷ []) p.0.1 (omega arith) p.2)
+        after_first n front bytes terms p.0.0 p.0.1 (first_found front bytes p.0.0 p.0.1 (ap (part_at front) is ∙ p.1)) p.2 (more (front ++ p.0.0 ∷ []) p.0.1 (omega arith) p.2)
 
 -- what is read as a rule reads as it
 pub rule_found : (text : List ℕ) (rule : RuleTree) → rule_at text ≡ Ok rule → ReadsAs text rule
 rule_found text rule e =
-    let g = guard_ok (nat_lt 1024 (length text)) TooLong (conditions_at text >>= λ conditions. Ok (rule_with conditions)) rule e in
-    let f = bind_ok (conditions_at text) _ rule g.1 in
+    let g = guard_ok (nat_lt 1024 (length text)) TooLong (tree_at text) rule e in
+    let f = bind_ok (terms_at text) _ rule g.1 in
     let r = parts_found (length (behind_blanks text)) [] text f.0 (omega arith) f.1 in
-    let same : rule_with f.0 ≡ rule = cc in
-    let conditions : rule.conditions ≡ r.own = ap (λ (t : RuleTree). t.conditions) (sym same) ∙ r.joined in
+    let same : rule_with f.0 ≡ rule = let is = f.2 in cc in
     record {
       parts = r.parts;
+      terms = r.own;
       ending = r.ending;
       short = ltb-false 1024 (length text) g.0;
       spelled = r.spelled;
       ends = r.ends;
-      said = subst (AreParts r.parts) (sym conditions) r.said;
-      once = subst (HaveOwnKeys []) (sym conditions) r.once;
-      eavesdrop = ap (λ (t : RuleTree). t.eavesdrops) (sym same);
+      said = r.said;
+      once = r.once;
+      says = sym same ∙ ap rule_with r.joined;
     }

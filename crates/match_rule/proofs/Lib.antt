@@ -1,6 +1,12 @@
 pub mod Steps
 pub mod Ascii
+pub mod KeyWords
 pub mod PartReads
 pub mod Turns
+pub mod KeptParts
 pub mod Spelled
 pub mod Found
+pub mod OneSender
+pub mod ReadRules
+pub mod Namespaces
+pub mod TextArgs

@@ -4,13 +4,16 @@ use Rattle.std.specs.Prelude.{Result, Ok, Err, Option, Some, None, option_map, c
 use Rattle.std.proofs.lemmas.Bool.{eqb-true}
 use Rattle.std.specs.Str.{bytes_eq}
 use Rattle.std.proofs.lemmas.Slice.Eq.{bytes_eq-Decides}
-use Rattle.signature.specs.Name.{is_interface, is_member, is_path}
+use Rattle.std.specs.Str.{is_utf8}
+use Rattle.signature.specs.Name.{is_interface, is_member, is_path, is_bus_name, is_namespace}
 use Rattle.match_rule.specs.declared.fault.RuleError.{RuleError}
-use Rattle.match_rule.specs.declared.fault.RuleError.TheVariants.{UnknownKey, KeyTwice, BadValue}
+use Rattle.match_rule.specs.declared.fault.RuleError.TheVariants.{UnknownKey, KeyTwice, PathTwice, BadValue}
 use Rattle.match_rule.specs.declared.key.Key.{Key}
 use Rattle.match_rule.specs.declared.key.Key.TheVariants as keys
 use Rattle.match_rule.specs.declared.condition.Condition.{Condition}
 use Rattle.match_rule.specs.declared.condition.Condition.TheVariants as conditions
+use Rattle.match_rule.specs.declared.term.Term.{Term}
+use Rattle.match_rule.specs.declared.term.Term.TheVariants.{Asks, Eavesdrop}
 use Rattle.match_rule.specs.declared.kind_name.KindName.{KindName}
 use Rattle.match_rule.specs.declared.kind_name.KindName.TheVariants.{Signal, MethodCall, MethodReturn, Error}
 use Rattle.match_rule.specs.declared.quoting.Quoting.{Quoting}
@@ -18,9 +21,10 @@ use Rattle.match_rule.specs.declared.quoting.Quoting.TheVariants.{Outside, Insid
 use Rattle.match_rule.specs.declared.quoting.Step.{Step}
 use Rattle.match_rule.specs.declared.quoting.Step.TheVariants.{End, Skip, Take}
 use Rattle.match_rule.specs.Key.{key_named}
-use Rattle.match_rule.specs.Condition.{condition_with, key_of, value_of, has_key, kind_named, kind_word}
-use Rattle.match_rule.specs.Grammar.{equals, comma, apostrophe, begins_with}
-use Rattle.match_rule.specs.Reading.{◌>>=◌, step, after_step, value_from, with_byte, word_at, key_at, part_at, or_fault, ended}
+use Rattle.match_rule.specs.Condition.{term_key, term_with, asks_if, key_of, value_of, has_key, has_path, kind_named, kind_word, flag_named}
+use Rattle.match_rule.specs.Bytes.{begins_with}
+use Rattle.match_rule.specs.Grammar.{equals, comma, apostrophe}
+use Rattle.match_rule.specs.Reading.{◌>>=◌, step, after_step, value_from, with_byte, word_at, key_at, own_key, part_at, or_fault, ended}
 
 pub bind_ok : {A B : Type 0} (r : Result A RuleError) (f : A → Result B RuleError) (y : B) → (r >>= f) ≡ Ok y → (x : A) × (r ≡ Ok x) × (f x ≡ Ok y)
 bind_ok (Ok x) f y e = (x, refl, e)
@@ -43,37 +47,45 @@ pub guard_ok : {A : Type 0} (b : Bool) (fault : RuleError) (r : Result A RuleErr
 guard_ok true fault r x e = absurd cc
 guard_ok false fault r x e = (refl, e)
 
--- the part in front of the rest says the condition
-pub record Reads (front : List Condition) (bytes : List ℕ) (condition : Condition) (rest : List ℕ) : Type 0 where
+-- the part in front of the rest says the term
+pub record Reads (front : List Term) (bytes : List ℕ) (term : Term) (rest : List ℕ) : Type 0 where
   pub word : List ℕ
   pub spelling : List ℕ
   pub key : Key
   pub value : List ℕ
   pub has_word : word_at bytes ≡ Some (word, spelling)
-  pub known : key_named word ≡ Some key
+  pub known : key_named word ≡ Ok key
   pub new : has_key key front ≡ false
+  pub apart : has_path key front ≡ false
   pub spelled : value_from Outside spelling ≡ Ok (value, rest)
-  pub allowed : condition_with key value ≡ Some condition
+  pub allowed : term_with key value ≡ Some term
 
-key_reads : (bytes : List ℕ) (found : Key × List ℕ) → key_at bytes ≡ Ok found → (word : List ℕ) × (word_at bytes ≡ Some (word, found.1)) × (key_named word ≡ Some found.0)
+key_reads : (bytes : List ℕ) (found : Key × List ℕ) → key_at bytes ≡ Ok found → (word : List ℕ) × (word_at bytes ≡ Some (word, found.1)) × (key_named word ≡ Ok found.0)
 unfolding key_at
 key_reads bytes found e =
     let w = bind_ok (or_fault UnknownKey (word_at bytes)) _ found e in
-    let n = bind_ok (or_fault UnknownKey (key_named w.0.0)) _ found w.2 in
+    let n = bind_ok (key_named w.0.0) _ found w.2 in
     let word = or_fault_ok UnknownKey (word_at bytes) w.0 w.1 in
-    let named = or_fault_ok UnknownKey (key_named w.0.0) n.0 n.1 in
     let same = pair_ok (n.0, w.0.1) found n.2 in
-    (w.0.0, word ∙ ap (λ (x : List ℕ). Some (w.0.0, x)) same.1, named ∙ ap (λ k. Some k) same.0)
+    (w.0.0, word ∙ ap (λ (x : List ℕ). Some (w.0.0, x)) same.1, n.1 ∙ ap (λ k. Ok k) same.0)
 
-pub reads_from : (front : List Condition) (bytes : List ℕ) (condition : Condition) (rest : List ℕ) → part_at front bytes ≡ Ok (condition, rest) → Reads front bytes condition rest
+own_ok : (front : List Term) (key own : Key) → own_key front key ≡ Ok own → (has_key key front ≡ false) × (has_path key front ≡ false) × (key ≡ own)
+own_ok front key own e =
+    let g = guard_ok (has_key key front) KeyTwice (cond (has_path key front) (Err PathTwice) (Ok key)) own e in
+    let h = guard_ok (has_path key front) PathTwice (Ok key) own g.1 in
+    let same : key ≡ own = let is = h.1 in cc in
+    (g.0, h.0, same)
+
+pub reads_from : (front : List Term) (bytes : List ℕ) (term : Term) (rest : List ℕ) → part_at front bytes ≡ Ok (term, rest) → Reads front bytes term rest
 unfolding part_at
-reads_from front bytes condition rest e =
-    let k = bind_ok (key_at bytes) _ (condition, rest) e in
-    let v = bind_ok (cond (has_key k.0.0 front) (Err KeyTwice) (value_from Outside k.0.1)) _ (condition, rest) k.2 in
-    let c = bind_ok (or_fault BadValue (condition_with k.0.0 v.0.0)) _ (condition, rest) v.2 in
-    let g = guard_ok (has_key k.0.0 front) KeyTwice (value_from Outside k.0.1) v.0 v.1 in
+reads_from front bytes term rest e =
+    let k = bind_ok (key_at bytes) _ (term, rest) e in
+    let o = bind_ok (own_key front k.0.0) _ (term, rest) k.2 in
+    let v = bind_ok (value_from Outside k.0.1) _ (term, rest) o.2 in
+    let t = bind_ok (or_fault BadValue (term_with o.0 v.0.0)) _ (term, rest) v.2 in
+    let own = own_ok front k.0.0 o.0 o.1 in
     let w = key_reads bytes k.0 k.1 in
-    let same = pair_ok (c.0, v.0.1) (condition, rest) c.2 in
+    let same = pair_ok (t.0, v.0.1) (term, rest) t.2 in
     record {
       word = w.0;
       spelling = k.0.1;
@@ -81,14 +93,35 @@ reads_from front bytes condition rest e =
       value = v.0.0;
       has_word = w.1;
       known = w.2;
-      new = g.0;
-      spelled = g.1 ∙ ap (λ (x : List ℕ). Ok (v.0.0, x)) same.1;
-      allowed = or_fault_ok BadValue (condition_with k.0.0 v.0.0) c.0 c.1 ∙ ap (λ x. Some x) same.0;
+      new = own.0;
+      apart = own.1;
+      spelled = v.1 ∙ ap (λ (x : List ℕ). Ok (v.0.0, x)) same.1;
+      allowed = ap (λ k. term_with k v.0.0) own.2 ∙ or_fault_ok BadValue (term_with o.0 v.0.0) t.0 t.1 ∙ ap (λ x. Some x) same.0;
     }
 
-pub reads_to : (front : List Condition) (bytes : List ℕ) (condition : Condition) (rest : List ℕ) → Reads front bytes condition rest → part_at front bytes ≡ Ok (condition, rest)
+pub reads_to : (front : List Term) (bytes : List ℕ) (term : Term) (rest : List ℕ) → Reads front bytes term rest → part_at front bytes ≡ Ok (term, rest)
 unfolding part_at key_at
-reads_to front bytes condition rest r = rw (r.has_word, r.known, r.new, r.spelled, r.allowed) refl
+reads_to front bytes term rest r = rw (r.has_word, r.known, r.new, r.apart, r.spelled, r.allowed) refl
+
+own_same : (front others : List Term) (key : Key) → has_key key front ≡ has_key key others → has_path key front ≡ has_path key others → own_key front key ≡ own_key others key
+own_same front others key p q = ap (λ b. cond b (Err KeyTwice) (cond (has_path key front) (Err PathTwice) (Ok key))) p ∙ ap (λ b. cond (has_key key others) (Err KeyTwice) (cond b (Err PathTwice) (Ok key))) q
+
+-- what comes of a key that a rule may have
+abbrev behind_own : Key × List ℕ → Result Key RuleError → Result (Term × List ℕ) RuleError
+behind_own key found = do
+  own ← found
+  value ← value_from Outside key.1
+  term ← or_fault BadValue (term_with own value.0)
+  Ok (term, value.1)
+
+-- a part is read alike behind terms of the same keys
+pub part_same : (front others : List Term) (bytes : List ℕ) → ((key : Key) → has_key key front ≡ has_key key others) → ((key : Key) → has_path key front ≡ has_path key others) → part_at front bytes ≡ part_at others bytes
+unfolding part_at
+part_same front others bytes keys paths = go (key_at bytes)
+  where
+    go : (found : Result (Key × List ℕ) RuleError) → (found >>= λ key. behind_own key (own_key front key.0)) ≡ (found >>= λ key. behind_own key (own_key others key.0))
+    go (Err fault) = refl
+    go (Ok key) = ap (behind_own key) (own_same front others key.0 (keys key.0) (paths key.0))
 
 -- ---- what is read is spelled
 
@@ -123,20 +156,45 @@ kind_is word kind e =
     found_in kind_word word (codes "method_return") MethodReturn _ _ kind refl refl e (λ e.
     found_in kind_word word (codes "error") Error _ _ kind refl refl e (λ e. absurd cc))))
 
-chosen : {A : Type 0} (b : Bool) (x y : A) → cond b (Some x) None ≡ Some y → (b ≡ true) × (x ≡ y)
-chosen true x y e = (refl, cc)
-chosen false x y e = absurd cc
+-- the bytes of the value of a condition
+abbrev pub term_value : Term → List ℕ
+term_value (Asks condition) = value_of condition
+term_value (Eavesdrop flag) = []
 
--- a condition has the key and the value that it was made of
-pub condition_is : (key : Key) (value : List ℕ) (condition : Condition) → condition_with key value ≡ Some condition → (key_of condition ≡ key) × (value_of condition ≡ value)
-condition_is keys.Kind value condition e = go (kind_named value) refl e
+-- a term has the key that it was made of, and no longer a value
+abbrev IsOf : Key → List ℕ → Term → Type 0
+IsOf key value term = (term_key term ≡ key) × (length (term_value term) ≤ length value)
+
+asked : (allowed : Bool) (condition : Condition) (term : Term) → asks_if allowed condition ≡ Some term → Asks condition ≡ term
+asked true condition term e = cc
+asked false condition term e = absurd cc
+
+is_asked : (allowed : Bool) (condition : Condition) (key : Key) (value : List ℕ) (term : Term) → key_of condition ≡ key → value_of condition ≡ value → asks_if allowed condition ≡ Some term → IsOf key value term
+is_asked allowed condition key value term k v e =
+    let same = asked allowed condition term e in
+    let len : length (term_value term) ≡ length value = ap (λ t. length (term_value t)) (sym same) ∙ ap length v in
+    (ap term_key (sym same) ∙ k, omega arith)
+
+pub term_is : (key : Key) (value : List ℕ) (term : Term) → term_with key value ≡ Some term → (term_key term ≡ key) × (length (term_value term) ≤ length value)
+term_is keys.Kind value term e = go (kind_named value) refl e
   where
-    go : (o : Option KindName) → kind_named value ≡ o → option_map conditions.Kind o ≡ Some condition → (key_of condition ≡ keys.Kind) × (value_of condition ≡ value)
+    go : (o : Option KindName) → kind_named value ≡ o → option_map (λ kind. Asks (conditions.Kind kind)) o ≡ Some term → IsOf keys.Kind value term
     go None is e = absurd cc
-    go (Some kind) is e = let same : conditions.Kind kind ≡ condition = cc in (ap key_of (sym same), ap value_of (sym same) ∙ kind_is value kind is)
-condition_is keys.Interface value condition e = let h = chosen (is_interface value) (conditions.Interface value) condition e in (ap key_of (sym h.1), ap value_of (sym h.1))
-condition_is keys.Member value condition e = let h = chosen (is_member value) (conditions.Member value) condition e in (ap key_of (sym h.1), ap value_of (sym h.1))
-condition_is keys.Path value condition e = let h = chosen (is_path value) (conditions.Path value) condition e in (ap key_of (sym h.1), ap value_of (sym h.1))
+    go (Some kind) is e = is_asked true (conditions.Kind kind) keys.Kind value term refl (kind_is value kind is) e
+term_is keys.Sender value term e = is_asked (is_bus_name value) (conditions.Sender value) keys.Sender value term refl refl e
+term_is keys.Interface value term e = is_asked (is_interface value) (conditions.Interface value) keys.Interface value term refl refl e
+term_is keys.Member value term e = is_asked (is_member value) (conditions.Member value) keys.Member value term refl refl e
+term_is keys.Path value term e = is_asked (is_path value) (conditions.Path value) keys.Path value term refl refl e
+term_is keys.PathNamespace value term e = is_asked (is_path value) (conditions.PathNamespace value) keys.PathNamespace value term refl refl e
+term_is keys.Destination value term e = is_asked (is_bus_name value) (conditions.Destination value) keys.Destination value term refl refl e
+term_is (keys.Arg n) value term e = is_asked (is_utf8 value) (conditions.Arg n value) (keys.Arg n) value term refl refl e
+term_is (keys.ArgPath n) value term e = is_asked (is_utf8 value) (conditions.ArgPath n value) (keys.ArgPath n) value term refl refl e
+term_is keys.Arg0Namespace value term e = is_asked (is_namespace value) (conditions.Arg0Namespace value) keys.Arg0Namespace value term refl refl e
+term_is keys.Eavesdrop value term e = go (flag_named value) e
+  where
+    go : (o : Option Bool) → option_map Eavesdrop o ≡ Some term → IsOf keys.Eavesdrop value term
+    go None e = absurd cc
+    go (Some flag) e = let same : Eavesdrop flag ≡ term = cc in let len : length (term_value term) ≡ 0 = ap (λ t. length (term_value t)) (sym same) in (ap term_key (sym same), omega arith)
 
 -- ---- a value takes no more bytes than it has
 
@@ -160,11 +218,10 @@ value_len (b ∷ bs) q value rest e = go (step q b (begins_with apostrophe bs)) 
         let b = ap length g.1 in
         omega arith
 
-pub part_len : (front : List Condition) (bytes : List ℕ) (condition : Condition) (rest : List ℕ) → part_at front bytes ≡ Ok (condition, rest) → length (value_of condition) + length rest < length bytes
-part_len front bytes condition rest e =
-    let r = reads_from front bytes condition rest e in
+pub part_len : (front : List Term) (bytes : List ℕ) (term : Term) (rest : List ℕ) → part_at front bytes ≡ Ok (term, rest) → length (term_value term) + length rest < length bytes
+part_len front bytes term rest e =
+    let r = reads_from front bytes term rest e in
     let v = value_len r.spelling Outside r.value rest r.spelled in
-    let has = (condition_is r.key r.value condition r.allowed).1 in
+    let has = (term_is r.key r.value term r.allowed).1 in
     let whole = ap length (word_is bytes r.word r.spelling r.has_word) ∙ length-append r.word (equals ∷ r.spelling) in
-    let value = ap length has in
     omega arith

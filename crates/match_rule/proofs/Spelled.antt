@@ -1,22 +1,22 @@
 -- What is spelled is read.
 use Rattle.std.proofs.Common.{◌≡◌, ℕ, zero, suc, ◌≤◌, Bool, true, false, cond, List, [], ◌∷◌, ◌++◌, length, refl, sym, ap, ◌∙◌, append_assoc}
-use Rattle.std.specs.Prelude.{Result, Ok, Err, Option, Some, None, codes, not, ◌==◌, ◌&&◌, ◌||◌}
+use Rattle.std.specs.Prelude.{Result, Ok, Err, Option, Some, None, not, ◌==◌, ◌&&◌, ◌||◌}
 use Rattle.std.specs.List.{list_all}
 use Rattle.std.proofs.lemmas.Bool.{le-ltb}
 use Rattle.std.proofs.lemmas.List.{append-nil}
 use Rattle.match_rule.specs.declared.fault.RuleError.{RuleError}
-use Rattle.match_rule.specs.declared.key.Key.{Key}
-use Rattle.match_rule.specs.declared.key.Key.TheVariants.{Kind, Interface, Member, Path}
-use Rattle.match_rule.specs.declared.condition.Condition.{Condition}
+use Rattle.match_rule.specs.declared.term.Term.{Term}
 use Rattle.match_rule.specs.declared.quoting.Quoting.TheVariants.{Outside, Inside, Escaped}
 use Rattle.match_rule.specs.declared.quoting.Step.TheVariants.{End, Skip, Take}
-use Rattle.match_rule.specs.Key.{key_named}
-use Rattle.match_rule.specs.Condition.{key_of, has_key}
+use Rattle.match_rule.specs.Bytes.{begins_with}
+use Rattle.match_rule.specs.Condition.{term_key, has_key, has_path}
 use Rattle.match_rule.specs.RuleTree.{RuleTree}
-use Rattle.match_rule.specs.Grammar.{is_blank, apostrophe, comma, equals, begins_with, Piece, quoted, escaped, plain, pieces_bytes, pieces_value, ArePieces, Part, part_bytes, IsPart, AreParts, HaveOwnKeys, further_bytes, parts_bytes, IsEnding, ReadsAs}
-use Rattle.match_rule.specs.Reading.{◌>>=◌, behind_blanks, word_at, step, after_step, value_from, with_byte, part_at, parts_from, conditions_at, rule_with, rule_at}
+use Rattle.match_rule.specs.Parts.{tree_at}
+use Rattle.match_rule.specs.Grammar.{is_blank, apostrophe, comma, equals, Piece, quoted, escaped, plain, pieces_bytes, pieces_value, ArePieces, Part, part_bytes, IsPart, AreParts, HaveOwnKeys, further_bytes, parts_bytes, IsEnding, rule_with, ReadsAs}
+use Rattle.match_rule.specs.Reading.{◌>>=◌, behind_blanks, word_at, step, after_step, value_from, with_byte, part_at, parts_from, terms_at, rule_at}
 use Rattle.match_rule.proofs.Steps.{with_front}
-use Rattle.match_rule.proofs.PartReads.{found_in, reads_to}
+use Rattle.match_rule.proofs.KeyWords.{is_plain_word, known_plain, word_read, word_no_blank}
+use Rattle.match_rule.proofs.PartReads.{reads_to}
 use Rattle.match_rule.proofs.Turns.{turn}
 
 -- ---- values
@@ -79,32 +79,7 @@ value_spelled (plain b ∷ pieces) tail are =
     ap (λ s. after_step s b rest (λ next. value_from next rest)) is
     ∙ ap (λ read. read >>= λ found. Ok (with_byte b found)) (value_spelled pieces tail are.1)
 
--- ---- keys and blanks
-
-abbrev key_word : Key → List ℕ
-key_word Kind = codes "type"
-key_word Interface = codes "interface"
-key_word Member = codes "member"
-key_word Path = codes "path"
-
-named_is : (word : List ℕ) (key : Key) → key_named word ≡ Some key → key_word key ≡ word
-named_is word key e =
-    found_in key_word word (codes "type") Kind _ _ key refl refl e (λ e.
-    found_in key_word word (codes "interface") Interface _ _ key refl refl e (λ e.
-    found_in key_word word (codes "member") Member _ _ key refl refl e (λ e.
-    found_in key_word word (codes "path") Path _ _ key refl refl e (λ e. absurd cc))))
-
-word_read : (key : Key) (rest : List ℕ) → word_at (key_word key ++ equals ∷ rest) ≡ Some (key_word key, rest)
-word_read Kind rest = refl
-word_read Interface rest = refl
-word_read Member rest = refl
-word_read Path rest = refl
-
-word_no_blank : (key : Key) (rest : List ℕ) → behind_blanks (key_word key ++ rest) ≡ key_word key ++ rest
-word_no_blank Kind rest = refl
-word_no_blank Interface rest = refl
-word_no_blank Member rest = refl
-word_no_blank Path rest = refl
+-- ---- blanks
 
 both : (a b : Bool) → (a && b) ≡ true → (a ≡ true) × (b ≡ true)
 both true b e = (refl, e)
@@ -139,84 +114,77 @@ further_is (part ∷ parts) ending is = refl
 pub part_regroup : (blanks word pieces rest : List ℕ) → (blanks ++ (word ++ equals ∷ pieces)) ++ rest ≡ blanks ++ (word ++ equals ∷ (pieces ++ rest))
 part_regroup blanks word pieces rest = append_assoc blanks (word ++ equals ∷ pieces) rest ∙ ap (λ (x : List ℕ). blanks ++ x) (append_assoc word (equals ∷ pieces) rest)
 
-behind_part_blanks : (part : Part) (condition : Condition) (rest : List ℕ) → IsPart part condition → behind_blanks (part_bytes part ++ rest) ≡ part.word ++ equals ∷ (pieces_bytes part.pieces ++ rest)
-behind_part_blanks part condition rest is =
-    let named = named_is part.word (key_of condition) is.known in
+behind_part_blanks : (part : Part) (term : Term) (rest : List ℕ) → IsPart part term → behind_blanks (part_bytes part ++ rest) ≡ part.word ++ equals ∷ (pieces_bytes part.pieces ++ rest)
+behind_part_blanks part term rest is =
     ap behind_blanks (part_regroup part.blanks part.word (pieces_bytes part.pieces) rest)
     ∙ blanks_read part.blanks (part.word ++ equals ∷ (pieces_bytes part.pieces ++ rest)) is.blank
-    ∙ ap (λ (word : List ℕ). behind_blanks (word ++ equals ∷ (pieces_bytes part.pieces ++ rest))) (sym named)
-    ∙ word_no_blank (key_of condition) (equals ∷ (pieces_bytes part.pieces ++ rest))
-    ∙ ap (λ (word : List ℕ). word ++ equals ∷ (pieces_bytes part.pieces ++ rest)) named
+    ∙ word_no_blank part.word (equals ∷ (pieces_bytes part.pieces ++ rest)) (known_plain part.word (term_key term) is.known)
 
-part_read : (front : List Condition) (part : Part) (condition : Condition) (tail : Option (List ℕ)) → IsPart part condition → has_key (key_of condition) front ≡ false → part_at front (part.word ++ equals ∷ (pieces_bytes part.pieces ++ tail_bytes tail)) ≡ Ok (condition, tail_rest tail)
-part_read front part condition tail is new =
-    let named = named_is part.word (key_of condition) is.known in
+part_read : (front : List Term) (part : Part) (term : Term) (tail : Option (List ℕ)) → IsPart part term → has_key (term_key term) front ≡ false → has_path (term_key term) front ≡ false → part_at front (part.word ++ equals ∷ (pieces_bytes part.pieces ++ tail_bytes tail)) ≡ Ok (term, tail_rest tail)
+part_read front part term tail is new apart =
     let spelling = pieces_bytes part.pieces ++ tail_bytes tail in
-    reads_to front (part.word ++ equals ∷ spelling) condition (tail_rest tail) (record {
+    reads_to front (part.word ++ equals ∷ spelling) term (tail_rest tail) (record {
       word = part.word;
       spelling = spelling;
-      key = key_of condition;
+      key = term_key term;
       value = pieces_value part.pieces;
-      has_word = ap (λ (word : List ℕ). word_at (word ++ equals ∷ spelling)) (sym named) ∙ word_read (key_of condition) spelling ∙ ap (λ (word : List ℕ). Some (word, spelling)) named;
+      has_word = word_read part.word spelling (known_plain part.word (term_key term) is.known);
       known = is.known;
       new = new;
+      apart = apart;
       spelled = value_spelled part.pieces tail is.spelled;
       allowed = is.allowed;
     })
 
--- the parts of a text and its conditions, in as many turns as there are bytes
-abbrev parts_in : List Condition → List ℕ → Result (List Condition) RuleError
+-- the parts of a text and its terms, in as many turns as there are bytes
+abbrev parts_in : List Term → List ℕ → Result (List Term) RuleError
 parts_in front bytes = parts_from (length (behind_blanks bytes)) front (behind_blanks bytes)
 
-first_read : (front : List Condition) (part : Part) (parts : List Part) (ending : List ℕ) (condition : Condition) → IsPart part condition → IsLaterEnding ending → has_key (key_of condition) front ≡ false → parts_in front (parts_bytes (part ∷ parts) ending) ≡ parts_in (front ++ condition ∷ []) (tail_rest (tail_of parts ending))
-first_read front part parts ending condition is ends new =
+first_read : (front : List Term) (part : Part) (parts : List Part) (ending : List ℕ) (term : Term) → IsPart part term → IsLaterEnding ending → has_key (term_key term) front ≡ false → has_path (term_key term) front ≡ false → parts_in front (parts_bytes (part ∷ parts) ending) ≡ parts_in (front ++ term ∷ []) (tail_rest (tail_of parts ending))
+first_read front part parts ending term is ends new apart =
     let tail = tail_of parts ending in
     let text = part.word ++ equals ∷ (pieces_bytes part.pieces ++ tail_bytes tail) in
-    let behind : behind_blanks (parts_bytes (part ∷ parts) ending) ≡ text = ap (λ (rest : List ℕ). behind_blanks (part_bytes part ++ rest)) (further_is parts ending ends) ∙ behind_part_blanks part condition (tail_bytes tail) is in
+    let behind : behind_blanks (parts_bytes (part ∷ parts) ending) ≡ text = ap (λ (rest : List ℕ). behind_blanks (part_bytes part ++ rest)) (further_is parts ending ends) ∙ behind_part_blanks part term (tail_bytes tail) is in
     ap (λ (bytes : List ℕ). parts_from (length bytes) front bytes) behind
-    ∙ sym (turn front text condition (tail_rest tail) (part_read front part condition tail is new))
+    ∙ sym (turn front text term (tail_rest tail) (part_read front part term tail is new apart))
 
-pub parts_from-nil : (n : ℕ) (front : List Condition) → parts_from n front [] ≡ Ok front
+pub parts_from-nil : (n : ℕ) (front : List Term) → parts_from n front [] ≡ Ok front
 parts_from-nil zero front = refl
 parts_from-nil (suc n) front = refl
 
-pub parts_read : (parts : List Part) (conditions front : List Condition) (ending : List ℕ) → IsEnding parts ending → AreParts parts conditions → HaveOwnKeys front conditions → parts_in front (parts_bytes parts ending) ≡ Ok (front ++ conditions)
+pub parts_read : (parts : List Part) (terms front : List Term) (ending : List ℕ) → IsEnding parts ending → AreParts parts terms → HaveOwnKeys front terms → parts_in front (parts_bytes parts ending) ≡ Ok (front ++ terms)
 parts_read [] [] front ending ends said once =
     let blank : behind_blanks ending ≡ [] = ap behind_blanks (sym (append-nil ending)) ∙ blanks_read ending [] ends in
-    ap (λ (bytes : List ℕ). parts_from (length bytes) front bytes) blank ∙ ap (λ (cs : List Condition). Ok cs) (sym (append-nil front))
-parts_read [] (condition ∷ conditions) front ending ends said once = absurd said
+    ap (λ (bytes : List ℕ). parts_from (length bytes) front bytes) blank ∙ ap (λ (cs : List Term). Ok cs) (sym (append-nil front))
+parts_read [] (term ∷ terms) front ending ends said once = absurd said
 parts_read (part ∷ parts) [] front ending ends said once = absurd said
-parts_read (part ∷ []) (condition ∷ conditions) front [] ends said once =
-    first_read front part [] [] condition said.0 tt once.0
-    ∙ parts_read [] conditions (front ++ condition ∷ []) [] refl said.1 once.1
-    ∙ ap (λ (cs : List Condition). Ok cs) (append_assoc front (condition ∷ []) conditions)
-parts_read (part ∷ []) (condition ∷ conditions) front (b ∷ blanks) ends said once =
-    first_read front part [] (b ∷ blanks) condition said.0 ends once.0
-    ∙ parts_read [] conditions (front ++ condition ∷ []) blanks ends.1 said.1 once.1
-    ∙ ap (λ (cs : List Condition). Ok cs) (append_assoc front (condition ∷ []) conditions)
-parts_read (part ∷ next ∷ parts) (condition ∷ conditions) front ending ends said once =
+parts_read (part ∷ []) (term ∷ terms) front [] ends said once =
+    first_read front part [] [] term said.0 tt once.0 once.1
+    ∙ parts_read [] terms (front ++ term ∷ []) [] refl said.1 once.2
+    ∙ ap (λ (cs : List Term). Ok cs) (append_assoc front (term ∷ []) terms)
+parts_read (part ∷ []) (term ∷ terms) front (b ∷ blanks) ends said once =
+    first_read front part [] (b ∷ blanks) term said.0 ends once.0 once.1
+    ∙ parts_read [] terms (front ++ term ∷ []) blanks ends.1 said.1 once.2
+    ∙ ap (λ (cs : List Term). Ok cs) (append_assoc front (term ∷ []) terms)
+parts_read (part ∷ next ∷ parts) (term ∷ terms) front ending ends said once =
     let later = later_ending part (next ∷ parts) ending ends in
-    first_read front part (next ∷ parts) ending condition said.0 later once.0
-    ∙ parts_read (next ∷ parts) conditions (front ++ condition ∷ []) ending (ending_of next parts ending later) said.1 once.1
-    ∙ ap (λ (cs : List Condition). Ok cs) (append_assoc front (condition ∷ []) conditions)
+    first_read front part (next ∷ parts) ending term said.0 later once.0 once.1
+    ∙ parts_read (next ∷ parts) terms (front ++ term ∷ []) ending (ending_of next parts ending later) said.1 once.2
+    ∙ ap (λ (cs : List Term). Ok cs) (append_assoc front (term ∷ []) terms)
   where
     ending_of : (part : Part) (parts : List Part) (ending : List ℕ) → IsLaterEnding ending → IsEnding (part ∷ parts) ending
     ending_of part parts [] is = is
     ending_of part parts (b ∷ bs) is = is
 
--- a text that isn't too long has the rule of its conditions
-pub rule_at-ok : (text : List ℕ) (conditions : List Condition) → length text ≤ 1024 → conditions_at text ≡ Ok conditions → rule_at text ≡ Ok (rule_with conditions)
-rule_at-ok text conditions short e = rw (le-ltb 1024 (length text) short) (ap (λ read. read >>= λ cs. Ok (rule_with cs)) e)
-
-pub rule_at-err : (text : List ℕ) (fault : RuleError) → length text ≤ 1024 → conditions_at text ≡ Err fault → rule_at text ≡ Err fault
-rule_at-err text fault short e = rw (le-ltb 1024 (length text) short) (ap (λ read. read >>= λ cs. Ok (rule_with cs)) e)
+-- a text that isn't too long has the rule of its terms
+pub rule_at-tree : (text : List ℕ) → length text ≤ 1024 → rule_at text ≡ tree_at text
+rule_at-tree text short = rw (le-ltb 1024 (length text) short) refl
 
 -- a text that reads as a rule is read as that
 pub read_of : (text : List ℕ) (rule : RuleTree) → ReadsAs text rule → rule_at text ≡ Ok rule
 read_of text rule is =
-    let conditions : conditions_at text ≡ Ok rule.conditions = ap conditions_at is.spelled ∙ parts_read is.parts rule.conditions [] is.ending is.ends is.said is.once in
-    let same : rule_with rule.conditions ≡ rule = ap (λ b. record { conditions = rule.conditions; eavesdrops = b }) (sym is.eavesdrop) in
-    rule_at-ok text rule.conditions is.short conditions ∙ ap (λ r. Ok r) same
+    let terms : terms_at text ≡ Ok is.terms = ap terms_at is.spelled ∙ parts_read is.parts is.terms [] is.ending is.ends is.said is.once in
+    rule_at-tree text is.short ∙ ap (λ read. read >>= λ ts. Ok (rule_with ts)) terms ∙ ap (λ r. Ok r) (sym is.says)
 
 pub ReadsAs-unique : (text : List ℕ) (rule other : RuleTree) → ReadsAs text rule → ReadsAs text other → rule ≡ other
 ReadsAs-unique text rule other is also =

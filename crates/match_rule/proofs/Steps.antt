@@ -6,7 +6,8 @@ use Rattle.match_rule.specs.declared.fault.RuleError.{RuleError}
 use Rattle.match_rule.specs.declared.fault.RuleError.TheVariants.{NoMemory}
 use Rattle.match_rule.specs.declared.quoting.Quoting.{Quoting}
 use Rattle.match_rule.specs.declared.quoting.Step.TheVariants.{Skip, Take}
-use Rattle.match_rule.specs.Grammar.{begins_with, apostrophe}
+use Rattle.match_rule.specs.Bytes.{begins_with}
+use Rattle.match_rule.specs.Grammar.{apostrophe}
 use Rattle.match_rule.specs.Reading.{◌>>=◌, step, value_from, with_byte, Gives}
 
 -- what reading gives behind these bytes

@@ -1,13 +1,17 @@
 -- As many turns as there are bytes are enough.
 use Rattle.std.proofs.Common.{◌≡◌, ℕ, zero, suc, ◌+◌, ◌*◌, ◌≤◌, Bool, true, false, cond, List, [], ◌∷◌, ◌++◌, length, refl, sym, ap, ◌∙◌, arith}
 use Rattle.std.specs.Prelude.{Result, Ok, Err, sum_by, ◌==◌}
-use Rattle.std.proofs.lemmas.List.Sums.{sum_by-append}
+use Rattle.std.proofs.lemmas.List.Sums.{sum_by-append, sum_by-cons}
 use Rattle.match_rule.specs.declared.fault.RuleError.{RuleError}
 use Rattle.match_rule.specs.declared.condition.Condition.{Condition}
-use Rattle.match_rule.specs.Condition.{value_of}
+use Rattle.match_rule.specs.declared.condition.Condition.TheVariants.{Kind, Sender, Interface, Member, Path, PathNamespace, Destination, Arg, ArgPath, Arg0Namespace}
+use Rattle.match_rule.specs.declared.term.Term.{Term}
+use Rattle.match_rule.specs.declared.term.Term.TheVariants.{Asks, Eavesdrop}
+use Rattle.match_rule.specs.Condition.{value_of, conditions_in}
+use Rattle.match_rule.specs.RuleTree.{slashes, condition_weight}
 use Rattle.match_rule.specs.Grammar.{is_blank}
-use Rattle.match_rule.specs.Reading.{◌>>=◌, behind_blanks, part_at, parts_from, conditions_at}
-use Rattle.match_rule.proofs.PartReads.{part_len, bind_ok}
+use Rattle.match_rule.specs.Reading.{◌>>=◌, behind_blanks, part_at, parts_from, terms_at}
+use Rattle.match_rule.proofs.PartReads.{part_len, bind_ok, term_value}
 
 pub blanks_len : (bytes : List ℕ) → length (behind_blanks bytes) ≤ length bytes
 blanks_len [] = omega arith
@@ -17,7 +21,7 @@ blanks_len (b ∷ bs) = go (is_blank b) (blanks_len bs)
     go true h = omega arith
     go false h = omega arith
 
-pub enough_turns : (n m : ℕ) (front : List Condition) (bytes : List ℕ) → length bytes ≤ n → length bytes ≤ m → parts_from n front bytes ≡ parts_from m front bytes
+pub enough_turns : (n m : ℕ) (front : List Term) (bytes : List ℕ) → length bytes ≤ n → length bytes ≤ m → parts_from n front bytes ≡ parts_from m front bytes
 enough_turns zero zero front bytes p q = refl
 enough_turns zero (suc m) front [] p q = refl
 enough_turns zero (suc m) front (b ∷ bs) p q = absurd (omega arith)
@@ -26,7 +30,7 @@ enough_turns (suc n) zero front (b ∷ bs) p q = absurd (omega arith)
 enough_turns (suc n) (suc m) front [] p q = refl
 enough_turns (suc n) (suc m) front (b ∷ bs) p q = go (part_at front (b ∷ bs)) refl (λ f rest. enough_turns n m f rest)
   where
-    go : (found : Result (Condition × List ℕ) RuleError) → part_at front (b ∷ bs) ≡ found → ((f : List Condition) (rest : List ℕ) → length rest ≤ n → length rest ≤ m → parts_from n f rest ≡ parts_from m f rest) → (found >>= λ part. parts_from n (front ++ part.0 ∷ []) (behind_blanks part.1)) ≡ (found >>= λ part. parts_from m (front ++ part.0 ∷ []) (behind_blanks part.1))
+    go : (found : Result (Term × List ℕ) RuleError) → part_at front (b ∷ bs) ≡ found → ((f : List Term) (rest : List ℕ) → length rest ≤ n → length rest ≤ m → parts_from n f rest ≡ parts_from m f rest) → (found >>= λ part. parts_from n (front ++ part.0 ∷ []) (behind_blanks part.1)) ≡ (found >>= λ part. parts_from m (front ++ part.0 ∷ []) (behind_blanks part.1))
     go (Err fault) is more = refl
     go (Ok part) is more =
         let shorter = part_len front (b ∷ bs) part.0 part.1 is in
@@ -34,37 +38,74 @@ enough_turns (suc n) (suc m) front (b ∷ bs) p q = go (part_at front (b ∷ bs)
         more (front ++ part.0 ∷ []) (behind_blanks part.1) (omega arith) (omega arith)
 
 -- one turn
-pub turn : (front : List Condition) (bytes : List ℕ) (condition : Condition) (rest : List ℕ) → part_at front bytes ≡ Ok (condition, rest) → parts_from (length (behind_blanks rest)) (front ++ condition ∷ []) (behind_blanks rest) ≡ parts_from (length bytes) front bytes
-turn front [] condition rest e = let shorter = part_len front [] condition rest e in absurd (omega arith)
-turn front (b ∷ bs) condition rest e =
-    let shorter = part_len front (b ∷ bs) condition rest e in
+pub turn : (front : List Term) (bytes : List ℕ) (term : Term) (rest : List ℕ) → part_at front bytes ≡ Ok (term, rest) → parts_from (length (behind_blanks rest)) (front ++ term ∷ []) (behind_blanks rest) ≡ parts_from (length bytes) front bytes
+turn front [] term rest e = let shorter = part_len front [] term rest e in absurd (omega arith)
+turn front (b ∷ bs) term rest e =
+    let shorter = part_len front (b ∷ bs) term rest e in
     let blanks = blanks_len rest in
-    enough_turns (length (behind_blanks rest)) (length bs) (front ++ condition ∷ []) (behind_blanks rest) (omega arith) (omega arith)
+    enough_turns (length (behind_blanks rest)) (length bs) (front ++ term ∷ []) (behind_blanks rest) (omega arith) (omega arith)
     ∙ sym (ap (λ found. found >>= λ part. parts_from (length bs) (front ++ part.0 ∷ []) (behind_blanks part.1)) e)
 
 -- the last turn
-pub turn_err : (front : List Condition) (bytes : List ℕ) (fault : RuleError) → (length bytes == 0) ≡ false → part_at front bytes ≡ Err fault → parts_from (length bytes) front bytes ≡ Err fault
+pub turn_err : (front : List Term) (bytes : List ℕ) (fault : RuleError) → (length bytes == 0) ≡ false → part_at front bytes ≡ Err fault → parts_from (length bytes) front bytes ≡ Err fault
 turn_err front [] fault some e = absurd cc
 turn_err front (b ∷ bs) fault some e = ap (λ found. found >>= λ part. parts_from (length bs) (front ++ part.0 ∷ []) (behind_blanks part.1)) e
 
--- what conditions weigh together
-abbrev pub total : List Condition → ℕ
-total conditions = sum_by (λ c. 24 + length (value_of c)) conditions
+-- what terms weigh together
+abbrev term_weight : Term → ℕ
+term_weight (Asks condition) = condition_weight condition
+term_weight (Eavesdrop flag) = 0
 
--- each byte weighs at most 25
-parts_total : (n : ℕ) (front : List Condition) (bytes : List ℕ) (conditions : List Condition) → parts_from n front bytes ≡ Ok conditions → total conditions ≤ total front + 25 * length bytes
-parts_total zero front bytes conditions e = let same : front ≡ conditions = cc in rw (← same) (omega arith)
-parts_total (suc n) front [] conditions e = let same : front ≡ conditions = cc in rw (← same) (omega arith)
-parts_total (suc n) front (b ∷ bs) conditions e =
-    let part = bind_ok (part_at front (b ∷ bs)) _ conditions e in
-    let more = parts_total n (front ++ part.0.0 ∷ []) (behind_blanks part.0.1) conditions part.2 in
-    let joined = sum_by-append (λ c. 24 + length (value_of c)) front (part.0.0 ∷ []) in
+abbrev total : List Term → ℕ
+total terms = sum_by term_weight terms
+
+total-conditions_in : (terms : List Term) → sum_by condition_weight (conditions_in terms) ≡ total terms
+total-conditions_in [] = refl
+total-conditions_in (Asks condition ∷ terms) = sum_by-cons condition_weight condition (conditions_in terms) ∙ ap (λ n. condition_weight condition + n) (total-conditions_in terms) ∙ sym (sum_by-cons term_weight (Asks condition) terms)
+total-conditions_in (Eavesdrop flag ∷ terms) = let joined = sum_by-cons term_weight (Eavesdrop flag) terms in let rest = total-conditions_in terms in omega arith
+
+slash_weight_le : (b : Bool) → cond b 1 0 ≤ 1
+slash_weight_le true = omega arith
+slash_weight_le false = omega arith
+
+slashes_le : (text : List ℕ) → slashes text ≤ length text
+slashes_le [] = omega arith
+slashes_le (b ∷ bs) =
+    let one : cond (b == 47) 1 0 ≤ 1 = slash_weight_le (b == 47) in
+    let rest = slashes_le bs in
+    let sum = sum_by-cons (λ (byte : ℕ). cond (byte == 47) 1 0) b bs in
+    omega arith
+
+-- a byte of a value weighs at most 17
+term_weight_le : (term : Term) → term_weight term ≤ 24 + 17 * length (term_value term)
+term_weight_le (Asks (Kind kind)) = omega arith
+term_weight_le (Asks (Sender name)) = omega arith
+term_weight_le (Asks (Interface name)) = omega arith
+term_weight_le (Asks (Member name)) = omega arith
+term_weight_le (Asks (Path path)) = omega arith
+term_weight_le (Asks (PathNamespace path)) = omega arith
+term_weight_le (Asks (Destination name)) = omega arith
+term_weight_le (Asks (Arg n value)) = omega arith
+term_weight_le (Asks (ArgPath n value)) = let h = slashes_le value in omega arith
+term_weight_le (Asks (Arg0Namespace name)) = omega arith
+term_weight_le (Eavesdrop flag) = omega arith
+
+-- each byte of a text weighs at most 41
+parts_total : (n : ℕ) (front : List Term) (bytes : List ℕ) (terms : List Term) → parts_from n front bytes ≡ Ok terms → total terms ≤ total front + 41 * length bytes
+parts_total zero front bytes terms e = let same : front ≡ terms = cc in rw (← same) (omega arith)
+parts_total (suc n) front [] terms e = let same : front ≡ terms = cc in rw (← same) (omega arith)
+parts_total (suc n) front (b ∷ bs) terms e =
+    let part = bind_ok (part_at front (b ∷ bs)) _ terms e in
+    let more = parts_total n (front ++ part.0.0 ∷ []) (behind_blanks part.0.1) terms part.2 in
+    let joined = sum_by-append term_weight front (part.0.0 ∷ []) in
+    let weighs = term_weight_le part.0.0 in
     let shorter = part_len front (b ∷ bs) part.0.0 part.0.1 part.1 in
     let blanks = blanks_len part.0.1 in
     omega arith
 
-pub read_total : (text : List ℕ) (conditions : List Condition) → length text ≤ 1024 → conditions_at text ≡ Ok conditions → 8 + total conditions ≤ 25608
-read_total text conditions short e =
-    let bound = parts_total (length (behind_blanks text)) [] (behind_blanks text) conditions e in
+pub read_weight : (text : List ℕ) (terms : List Term) → length text ≤ 1024 → terms_at text ≡ Ok terms → 8 + sum_by condition_weight (conditions_in terms) ≤ 41992
+read_weight text terms short e =
+    let bound = parts_total (length (behind_blanks text)) [] (behind_blanks text) terms e in
     let blanks = blanks_len text in
+    let same = total-conditions_in terms in
     omega arith

@@ -1,17 +1,19 @@
 -- The conditions of rules (D-Bus Specification, "Match Rules").
-use Rattle.std.specs.Prelude.{ℕ, Bool, List, Option, Some, None, option_map, codes, ◌&&◌, if◌then◌else◌}
-use Rattle.std.specs.Str.{bytes_eq}
+use Rattle.std.specs.Prelude.{ℕ, Bool, true, false, not, List, [], ◌∷◌, Option, Some, None, is_some, option_map, codes, ◌&&◌, ◌||◌, ◌==◌, if◌then◌else◌}
+use Rattle.std.specs.Str.{bytes_eq, is_utf8}
 use Rattle.std.specs.List.{list_any}
-use Rattle.signature.specs.Name.{is_interface, is_member, is_path}
+use Rattle.signature.specs.Name.{is_interface, is_member, is_path, is_bus_name, is_namespace}
 use Rattle.message_view.specs.declared.kind.Kind as kinds
 use Rattle.message_view.specs.declared.kind.Kind.TheVariants as kinds_of
 use Rattle.match_rule.specs.declared.key.Key.{Key}
-use Rattle.match_rule.specs.declared.key.Key.TheVariants.{Kind as kind_key, Interface as interface_key, Member as member_key, Path as path_key}
+use Rattle.match_rule.specs.declared.key.Key.TheVariants as keys
 use Rattle.match_rule.specs.declared.kind_name.KindName.{KindName}
 use Rattle.match_rule.specs.declared.kind_name.KindName.TheVariants.{Signal, MethodCall, MethodReturn, Error}
 use Rattle.match_rule.specs.declared.condition.Condition.{Condition}
-use Rattle.match_rule.specs.declared.condition.Condition.TheVariants.{Kind, Interface, Member, Path}
-use Rattle.match_rule.specs.Key.{key_eq}
+use Rattle.match_rule.specs.declared.condition.Condition.TheVariants.{Kind, Sender, Interface, Member, Path, PathNamespace, Destination, Arg, ArgPath, Arg0Namespace}
+use Rattle.match_rule.specs.declared.term.Term.{Term}
+use Rattle.match_rule.specs.declared.term.Term.TheVariants.{Asks, Eavesdrop}
+use Rattle.match_rule.specs.Key.{key_eq, is_twice, is_path_twice}
 
 -- the words for kinds
 abbrev pub kind_word : KindName → List ℕ
@@ -35,30 +37,85 @@ kind_meant MethodCall = kinds_of.MethodCall
 kind_meant MethodReturn = kinds_of.MethodReturn
 kind_meant Error = kinds_of.Error
 
+-- `true` and `false`
+abbrev pub flag_named : List ℕ → Option Bool
+flag_named word =
+    if bytes_eq word (codes "true") then Some true
+    else if bytes_eq word (codes "false") then Some false
+    else None
+
 abbrev pub key_of : Condition → Key
-key_of (Kind kind) = kind_key
-key_of (Interface name) = interface_key
-key_of (Member name) = member_key
-key_of (Path path) = path_key
+key_of (Kind kind) = keys.Kind
+key_of (Sender name) = keys.Sender
+key_of (Interface name) = keys.Interface
+key_of (Member name) = keys.Member
+key_of (Path path) = keys.Path
+key_of (PathNamespace path) = keys.PathNamespace
+key_of (Destination name) = keys.Destination
+key_of (Arg n value) = keys.Arg n
+key_of (ArgPath n value) = keys.ArgPath n
+key_of (Arg0Namespace name) = keys.Arg0Namespace
 
 -- the bytes of its value
 abbrev pub value_of : Condition → List ℕ
 value_of (Kind kind) = kind_word kind
+value_of (Sender name) = name
 value_of (Interface name) = name
 value_of (Member name) = name
 value_of (Path path) = path
+value_of (PathNamespace path) = path
+value_of (Destination name) = name
+value_of (Arg n value) = value
+value_of (ArgPath n value) = value
+value_of (Arg0Namespace name) = name
 
--- the condition of a key and a value, where the value is allowed for the key
-abbrev pub condition_with : Key → List ℕ → Option Condition
-condition_with kind_key value = option_map Kind (kind_named value)
-condition_with interface_key value = if is_interface value then Some (Interface value) else None
-condition_with member_key value = if is_member value then Some (Member value) else None
-condition_with path_key value = if is_path value then Some (Path value) else None
+-- what a part of a rule's text says: a condition, or whether the rule eavesdrops
+abbrev pub term_key : Term → Key
+term_key (Asks condition) = key_of condition
+term_key (Eavesdrop flag) = keys.Eavesdrop
+
+-- a condition of a value that is allowed
+abbrev pub asks_if : Bool → Condition → Option Term
+asks_if true condition = Some (Asks condition)
+asks_if false condition = None
+
+-- What a key and a value say, where the value is allowed for the key. Of an argument any text is; the values
+-- of a text in UTF-8 are in UTF-8.
+abbrev pub term_with : Key → List ℕ → Option Term
+term_with keys.Kind value = option_map (λ kind. Asks (Kind kind)) (kind_named value)
+term_with keys.Sender value = asks_if (is_bus_name value) (Sender value)
+term_with keys.Interface value = asks_if (is_interface value) (Interface value)
+term_with keys.Member value = asks_if (is_member value) (Member value)
+term_with keys.Path value = asks_if (is_path value) (Path value)
+term_with keys.PathNamespace value = asks_if (is_path value) (PathNamespace value)
+term_with keys.Destination value = asks_if (is_bus_name value) (Destination value)
+term_with (keys.Arg n) value = asks_if (is_utf8 value) (Arg n value)
+term_with (keys.ArgPath n) value = asks_if (is_utf8 value) (ArgPath n value)
+term_with keys.Arg0Namespace value = asks_if (is_namespace value) (Arg0Namespace value)
+term_with keys.Eavesdrop value = option_map Eavesdrop (flag_named value)
 
 -- the same key and the same value
 abbrev pub condition_eq : Condition → Condition → Bool
 condition_eq a b = key_eq (key_of a) (key_of b) && bytes_eq (value_of a) (value_of b)
 
--- some condition has the key
-abbrev pub has_key : Key → List Condition → Bool
-has_key key conditions = list_any (λ c. key_eq (key_of c) key) conditions
+-- some term has this key, or one that a rule may not have beside it
+abbrev pub has_key : Key → List Term → Bool
+has_key key terms = list_any (λ t. is_twice (term_key t) key) terms
+
+-- a path beside the namespace of a path
+abbrev pub has_path : Key → List Term → Bool
+has_path key terms = list_any (λ t. is_path_twice (term_key t) key) terms
+
+-- the conditions among the terms
+abbrev pub conditions_in : List Term → List Condition
+conditions_in [] = []
+conditions_in (Asks condition ∷ terms) = condition ∷ conditions_in terms
+conditions_in (Eavesdrop flag ∷ terms) = conditions_in terms
+
+abbrev pub is_eavesdrop : Term → Bool
+is_eavesdrop (Eavesdrop flag) = flag
+is_eavesdrop (Asks condition) = false
+
+-- a rule with `eavesdrop='true'`
+abbrev pub eavesdrops_in : List Term → Bool
+eavesdrops_in terms = list_any is_eavesdrop terms

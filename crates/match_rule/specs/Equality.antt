@@ -1,11 +1,11 @@
 -- Equal conditions are one, and equal rules are the same set.
-use Rattle.std.specs.Prelude.{◌≡◌, ℕ, Bool, true, false, List, Contains, slice_index_or, unwrap_or, ◌==◌, ◌&&◌, if◌then◌else◌}
+use Rattle.std.specs.Prelude.{◌≡◌, ℕ, zero, suc, ◌+◌, ◌-◌, ◌*◌, Bool, true, false, List, Contains, slice_index_or, unwrap_or, ◌==◌, ◌&&◌, if◌then◌else◌}
 use Rattle.std.specs.List.{list_any}
 use Rattle.std.specs.Bool.{beq, Decides, one_answer}
 use Rattle.std.specs.Str.{bytes_eq}
 use Rattle.std.specs.Cmp.{IsPartialEquivalence, IsEquivalence, decided, equiv, partial_equiv_from_equiv}
-use Rattle.std.proofs.Common.{refl, sym, ap, ◌∙◌, subst}
-use Rattle.std.proofs.lemmas.Bool.{eqb-true, eq-eqb}
+use Rattle.std.proofs.Common.{refl, sym, ap, ◌∙◌, subst, arith}
+use Rattle.std.proofs.lemmas.Bool.{eqb-true, eq-eqb, ne_eqb}
 use Rattle.std.proofs.lemmas.Slice.Eq.{bytes_eq-Decides}
 use Rattle.std.proofs.lemmas.List.Sums.{AllPass-from_list_all, list_all-from_AllPass}
 use Rattle.std.proofs.lemmas.List.Folds.{Any-from_list_any, list_any-from_Any}
@@ -14,27 +14,78 @@ use Rattle.match_rule.specs.declared.key.Key.{Key}
 use Rattle.match_rule.specs.declared.key.Key.TheVariants as keys
 use Rattle.match_rule.specs.declared.kind_name.KindName.TheVariants.{Signal, MethodCall, MethodReturn, Error}
 use Rattle.match_rule.specs.declared.condition.Condition.{Condition}
-use Rattle.match_rule.specs.declared.condition.Condition.TheVariants.{Kind, Interface, Member, Path}
+use Rattle.match_rule.specs.declared.condition.Condition.TheVariants.{Kind, Sender, Interface, Member, Path, PathNamespace, Destination, Arg, ArgPath, Arg0Namespace}
 use Rattle.match_rule.specs.Key.{key_number, key_eq}
 use Rattle.match_rule.specs.Condition.{kind_named, key_of, value_of, condition_eq}
 use Rattle.match_rule.specs.RuleTree.{RuleTree, are_among, rule_eq, AreSame}
 
+next_arg : Key → Key
+next_arg (keys.Arg n) = keys.Arg (suc n)
+next_arg (keys.ArgPath n) = keys.ArgPath (suc n)
+next_arg key = key
+
+-- the keys of arguments, in turn
+arg_key_with : ℕ → Key
+arg_key_with zero = keys.Arg 0
+arg_key_with (suc zero) = keys.ArgPath 0
+arg_key_with (suc (suc n)) = next_arg (arg_key_with n)
+
+arg_key-even : (n : ℕ) → arg_key_with (2 * n) ≡ keys.Arg n
+unfolding arg_key_with next_arg
+arg_key-even zero = refl
+arg_key-even (suc n) = let e : 2 * suc n ≡ suc (suc (2 * n)) = omega arith in rw e (ap next_arg (arg_key-even n))
+
+arg_key-odd : (n : ℕ) → arg_key_with (suc (2 * n)) ≡ keys.ArgPath n
+unfolding arg_key_with next_arg
+arg_key-odd zero = refl
+arg_key-odd (suc n) = let e : suc (2 * suc n) ≡ suc (suc (suc (2 * n))) = omega arith in rw e (ap next_arg (arg_key-odd n))
+
 key_with : ℕ → Key
-key_with n = if n == 0 then keys.Kind else if n == 1 then keys.Interface else if n == 2 then keys.Member else keys.Path
+key_with n =
+    if n == 0 then keys.Kind
+    else if n == 1 then keys.Sender
+    else if n == 2 then keys.Interface
+    else if n == 3 then keys.Member
+    else if n == 4 then keys.Path
+    else if n == 5 then keys.PathNamespace
+    else if n == 6 then keys.Destination
+    else if n == 7 then keys.Arg0Namespace
+    else if n == 8 then keys.Eavesdrop
+    else arg_key_with (n - 9)
+
+key_with-past : (n k : ℕ) → n ≡ 9 + k → key_with n ≡ arg_key_with k
+unfolding key_with
+key_with-past n k e =
+    let rest : n - 9 ≡ k = omega arith in
+    rw (ne_eqb n 0 (λ h. omega arith), ne_eqb n 1 (λ h. omega arith), ne_eqb n 2 (λ h. omega arith), ne_eqb n 3 (λ h. omega arith), ne_eqb n 4 (λ h. omega arith), ne_eqb n 5 (λ h. omega arith), ne_eqb n 6 (λ h. omega arith), ne_eqb n 7 (λ h. omega arith), ne_eqb n 8 (λ h. omega arith), rest) refl
 
 key_with-number : (key : Key) → key_with (key_number key) ≡ key
 unfolding key_with
 key_with-number keys.Kind = refl
+key_with-number keys.Sender = refl
 key_with-number keys.Interface = refl
 key_with-number keys.Member = refl
 key_with-number keys.Path = refl
+key_with-number keys.PathNamespace = refl
+key_with-number keys.Destination = refl
+key_with-number keys.Arg0Namespace = refl
+key_with-number keys.Eavesdrop = refl
+key_with-number (keys.Arg n) = key_with-past (9 + 2 * n) (2 * n) refl ∙ arg_key-even n
+key_with-number (keys.ArgPath n) = key_with-past (10 + 2 * n) (suc (2 * n)) (omega arith) ∙ arg_key-odd n
 
--- the condition of a key and a value, allowed or not
+-- the condition of a key and a value, allowed or not; for what asks nothing any
 condition_of : Key → List ℕ → Condition
 condition_of keys.Kind value = Kind (unwrap_or (kind_named value) Signal)
+condition_of keys.Sender value = Sender value
 condition_of keys.Interface value = Interface value
 condition_of keys.Member value = Member value
 condition_of keys.Path value = Path value
+condition_of keys.PathNamespace value = PathNamespace value
+condition_of keys.Destination value = Destination value
+condition_of (keys.Arg n) value = Arg n value
+condition_of (keys.ArgPath n) value = ArgPath n value
+condition_of keys.Arg0Namespace value = Arg0Namespace value
+condition_of keys.Eavesdrop value = Kind Signal
 
 condition_of-parts : (c : Condition) → condition_of (key_of c) (value_of c) ≡ c
 unfolding condition_of
@@ -42,9 +93,15 @@ condition_of-parts (Kind Signal) = refl
 condition_of-parts (Kind MethodCall) = refl
 condition_of-parts (Kind MethodReturn) = refl
 condition_of-parts (Kind Error) = refl
+condition_of-parts (Sender name) = refl
 condition_of-parts (Interface name) = refl
 condition_of-parts (Member name) = refl
 condition_of-parts (Path path) = refl
+condition_of-parts (PathNamespace path) = refl
+condition_of-parts (Destination name) = refl
+condition_of-parts (Arg n value) = refl
+condition_of-parts (ArgPath n value) = refl
+condition_of-parts (Arg0Namespace name) = refl
 
 both : (a b : Bool) → (a && b) ≡ true → (a ≡ true) × (b ≡ true)
 both true b e = (refl, e)

@@ -1,9 +1,10 @@
 -- The texts of rules (D-Bus Specification, "Match Rules").
-use Rattle.std.specs.Prelude.{◌≡◌, ℕ, ◌≤◌, Bool, true, false, List, [], ◌∷◌, ◌++◌, length, Some, not, ◌==◌, ◌||◌, ◌&&◌}
+use Rattle.std.specs.Prelude.{◌≡◌, ℕ, ◌≤◌, Bool, true, false, List, [], ◌∷◌, ◌++◌, length, Some, Ok, not, ◌==◌, ◌||◌, ◌&&◌}
 use Rattle.std.specs.List.{list_all}
-use Rattle.match_rule.specs.declared.condition.Condition.{Condition}
+use Rattle.match_rule.specs.declared.term.Term.{Term}
+use Rattle.match_rule.specs.Bytes.{begins_with}
 use Rattle.match_rule.specs.Key.{key_named}
-use Rattle.match_rule.specs.Condition.{key_of, condition_with, has_key}
+use Rattle.match_rule.specs.Condition.{term_key, term_with, has_key, has_path, conditions_in, eavesdrops_in}
 use Rattle.match_rule.specs.RuleTree.{RuleTree}
 
 -- space, tab, CR, LF
@@ -48,10 +49,6 @@ abbrev pub pieces_value : List Piece → List ℕ
 pieces_value [] = []
 pieces_value (piece ∷ pieces) = piece_value piece ++ pieces_value pieces
 
-abbrev pub begins_with : ℕ → List ℕ → Bool
-begins_with byte [] = false
-begins_with byte (b ∷ bs) = b == byte
-
 -- Between apostrophes is no apostrophe. A byte that spells itself is no apostrophe and no comma, and a
 -- backslash only where no apostrophe follows.
 abbrev pub IsPiece : Piece → List ℕ → Type 0
@@ -72,22 +69,23 @@ pub record Part : Type 0 where
 abbrev pub part_bytes : Part → List ℕ
 part_bytes part = part.blanks ++ (part.word ++ equals ∷ pieces_bytes part.pieces)
 
--- the part says the condition: its key is known, and its value is allowed for the key
-pub record IsPart (part : Part) (condition : Condition) : Type 0 where
+-- the part says the term: its key is known, and its value is allowed for the key
+pub record IsPart (part : Part) (term : Term) : Type 0 where
   pub blank : list_all is_blank part.blanks ≡ true
-  pub known : key_named part.word ≡ Some (key_of condition)
+  pub known : key_named part.word ≡ Ok (term_key term)
   pub spelled : ArePieces part.pieces
-  pub allowed : condition_with (key_of condition) (pieces_value part.pieces) ≡ Some condition
+  pub allowed : term_with (term_key term) (pieces_value part.pieces) ≡ Some term
 
-abbrev pub AreParts : List Part → List Condition → Type 0
+abbrev pub AreParts : List Part → List Term → Type 0
 AreParts [] [] = Unit {0}
-AreParts (part ∷ parts) (condition ∷ conditions) = IsPart part condition × AreParts parts conditions
+AreParts (part ∷ parts) (term ∷ terms) = IsPart part term × AreParts parts terms
 AreParts _ _ = ⊥
 
--- each has a key that none in front of it has
-abbrev pub HaveOwnKeys : List Condition → List Condition → Type 0
+-- each has a key that may stand beside those in front of it
+abbrev pub HaveOwnKeys : List Term → List Term → Type 0
 HaveOwnKeys front [] = Unit {0}
-HaveOwnKeys front (condition ∷ conditions) = (has_key (key_of condition) front ≡ false) × HaveOwnKeys (front ++ condition ∷ []) conditions
+HaveOwnKeys front (term ∷ terms) =
+    (has_key (term_key term) front ≡ false) × (has_path (term_key term) front ≡ false) × HaveOwnKeys (front ++ term ∷ []) terms
 
 -- a comma before each
 abbrev pub further_bytes : List Part → List ℕ → List ℕ
@@ -108,13 +106,18 @@ IsEnding _ (byte ∷ blanks) = (byte ≡ comma) × (list_all is_blank blanks ≡
 abbrev pub max_len : ℕ
 max_len = 1024
 
--- the text reads as the rule; for now no rule eavesdrops
+-- the rule of terms
+abbrev pub rule_with : List Term → RuleTree
+rule_with terms = record { conditions = conditions_in terms; eavesdrops = eavesdrops_in terms }
+
+-- the text reads as the rule
 pub record ReadsAs (text : List ℕ) (rule : RuleTree) : Type 0 where
   pub parts : List Part
+  pub terms : List Term
   pub ending : List ℕ
   pub short : length text ≤ max_len
   pub spelled : text ≡ parts_bytes parts ending
   pub ends : IsEnding parts ending
-  pub said : AreParts parts rule.conditions
-  pub once : HaveOwnKeys [] rule.conditions
-  pub eavesdrop : rule.eavesdrops ≡ false
+  pub said : AreParts parts terms
+  pub once : HaveOwnKeys [] terms
+  pub says : rule ≡ rule_with terms

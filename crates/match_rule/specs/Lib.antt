@@ -1,8 +1,11 @@
+pub mod Bytes
 pub mod Fault
 pub mod Key
 pub mod Condition
 pub mod RuleTree
 pub mod Grammar
 pub mod Reading
+pub mod Parts
+pub mod Arguments
 pub mod Holds
 pub mod Equality

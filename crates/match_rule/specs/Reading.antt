@@ -1,17 +1,18 @@
 -- Reading a rule's text from left to right, with the first fault that is met.
 use Rattle.std.specs.Prelude.{◌≡◌, ◌≢◌, ℕ, zero, suc, Bool, false, List, [], ◌∷◌, ◌++◌, length, Option, Some, None, option_map, Result, Ok, Err, nat_lt, ◌==◌, if◌then◌else◌}
 use Rattle.match_rule.specs.declared.fault.RuleError.{RuleError}
-use Rattle.match_rule.specs.declared.fault.RuleError.TheVariants.{TooLong, UnknownKey, KeyTwice, BadValue, Unquoted, NoMemory}
+use Rattle.match_rule.specs.declared.fault.RuleError.TheVariants.{TooLong, UnknownKey, KeyTwice, BadValue, Unquoted, PathTwice, NoMemory}
 use Rattle.match_rule.specs.declared.key.Key.{Key}
 use Rattle.match_rule.specs.declared.quoting.Quoting.{Quoting}
 use Rattle.match_rule.specs.declared.quoting.Quoting.TheVariants.{Outside, Inside, Escaped}
 use Rattle.match_rule.specs.declared.quoting.Step.{Step}
 use Rattle.match_rule.specs.declared.quoting.Step.TheVariants.{End, Skip, Take}
-use Rattle.match_rule.specs.declared.condition.Condition.{Condition}
+use Rattle.match_rule.specs.declared.term.Term.{Term}
 use Rattle.match_rule.specs.Key.{key_named}
-use Rattle.match_rule.specs.Condition.{condition_with, has_key}
+use Rattle.match_rule.specs.Condition.{term_with, has_key, has_path}
 use Rattle.match_rule.specs.RuleTree.{RuleTree}
-use Rattle.match_rule.specs.Grammar.{is_blank, apostrophe, backslash, comma, equals, begins_with, max_len}
+use Rattle.match_rule.specs.Grammar.{is_blank, apostrophe, backslash, comma, equals, max_len, rule_with}
+use Rattle.match_rule.specs.Bytes.{begins_with}
 
 infixl 10 ◌>>=◌
 abbrev pub ◌>>=◌ : {A B : Type 0} → Result A RuleError → (A → Result B RuleError) → Result B RuleError
@@ -71,34 +72,35 @@ or_fault fault (Some x) = Ok x
 unfoldable pub key_at : List ℕ → Result (Key × List ℕ) RuleError
 key_at bytes = do
   word ← or_fault UnknownKey (word_at bytes)
-  key ← or_fault UnknownKey (key_named word.0)
+  key ← key_named word.0
   Ok (key, word.1)
 
--- a part behind these conditions, and what stands behind it and its comma
-unfoldable pub part_at : List Condition → List ℕ → Result (Condition × List ℕ) RuleError
+-- a key that a rule may not have beside those in front
+abbrev pub own_key : List Term → Key → Result Key RuleError
+own_key front key = if has_key key front then Err KeyTwice else if has_path key front then Err PathTwice else Ok key
+
+-- a part behind these terms, and what stands behind it and its comma
+unfoldable pub part_at : List Term → List ℕ → Result (Term × List ℕ) RuleError
 part_at front bytes = do
   key ← key_at bytes
-  value ← (if has_key key.0 front then Err KeyTwice else value_from Outside key.1)
-  condition ← or_fault BadValue (condition_with key.0 value.0)
-  Ok (condition, value.1)
+  own ← own_key front key.0
+  value ← value_from Outside key.1
+  term ← or_fault BadValue (term_with own value.0)
+  Ok (term, value.1)
 
--- The parts behind these conditions, from a place behind blanks. Each has at least a byte, so that as many
--- turns as there are bytes are enough.
-abbrev pub parts_from : ℕ → List Condition → List ℕ → Result (List Condition) RuleError
+-- The parts behind these terms, from a place behind blanks. Each has at least a byte, so that as many turns
+-- as there are bytes are enough.
+abbrev pub parts_from : ℕ → List Term → List ℕ → Result (List Term) RuleError
 parts_from zero front bytes = Ok front
 parts_from (suc turns) front [] = Ok front
 parts_from (suc turns) front (b ∷ bs) = part_at front (b ∷ bs) >>= λ part. parts_from turns (front ++ part.0 ∷ []) (behind_blanks part.1)
 
--- the rule of conditions; for now none eavesdrops
-abbrev pub rule_with : List Condition → RuleTree
-rule_with conditions = record { conditions = conditions; eavesdrops = false }
-
--- the conditions of a text that isn't too long
-abbrev pub conditions_at : List ℕ → Result (List Condition) RuleError
-conditions_at text = parts_from (length (behind_blanks text)) [] (behind_blanks text)
+-- the terms of a text that isn't too long
+abbrev pub terms_at : List ℕ → Result (List Term) RuleError
+terms_at text = parts_from (length (behind_blanks text)) [] (behind_blanks text)
 
 -- the rule, or the first fault
 abbrev pub rule_at : List ℕ → Result RuleTree RuleError
 rule_at text =
     if nat_lt max_len (length text) then Err TooLong
-    else (conditions_at text >>= λ conditions. Ok (rule_with conditions))
+    else (terms_at text >>= λ terms. Ok (rule_with terms))

@@ -1,8 +1,11 @@
 -- Rules, apart from their texts.
-use Rattle.std.specs.Prelude.{◌≡◌, ℕ, ◌+◌, Bool, List, Option, None, length, Contains, sum_by, ◌&&◌}
+use Rattle.std.specs.Prelude.{◌≡◌, ℕ, ◌+◌, ◌*◌, Bool, not, List, [], ◌∷◌, Option, Some, None, length, Contains, sum_by, codes, ◌==◌, ◌&&◌, if◌then◌else◌}
 use Rattle.std.specs.List.{list_all, list_any}
 use Rattle.std.specs.Bool.{beq}
+use Rattle.std.specs.Str.{bytes_eq}
 use Rattle.match_rule.specs.declared.condition.Condition.{Condition}
+use Rattle.match_rule.specs.declared.condition.Condition.TheVariants.{Sender, ArgPath}
+use Rattle.match_rule.specs.Bytes.{begins_with}
 use Rattle.match_rule.specs.Condition.{value_of, condition_eq}
 
 -- its conditions, in the order of the text, and whether it eavesdrops
@@ -10,13 +13,43 @@ pub record RuleTree : Type 0 where
   pub conditions : List Condition
   pub eavesdrops : Bool
 
--- 8, and for each condition 24 and the bytes of its value
-abbrev pub weight_of : RuleTree → ℕ
-weight_of rule = 8 + sum_by (λ c. 24 + length (value_of c)) rule.conditions
+-- how many `/` a text has
+abbrev pub slashes : List ℕ → ℕ
+slashes text = sum_by (λ byte. if byte == 47 then 1 else 0) text
 
--- the name whose owner decides whether the rule holds; for now no rule has one
+-- what a condition weighs: 24 and the bytes of its value, and for an `argNpath` 16 for each `/` of it
+abbrev pub condition_weight : Condition → ℕ
+condition_weight (ArgPath n value) = 24 + length value + 16 * slashes value
+condition_weight c = 24 + length (value_of c)
+
+-- 8, and what each condition weighs
+abbrev pub weight_of : RuleTree → ℕ
+weight_of rule = 8 + sum_by condition_weight rule.conditions
+
+-- `org.freedesktop.DBus`
+abbrev pub bus_name : List ℕ
+bus_name = codes "org.freedesktop.DBus"
+
+-- a name that a message's SENDER never is, since another connection may own it: neither a unique name nor
+-- that of the bus
+abbrev pub is_owned_name : List ℕ → Bool
+is_owned_name name = not (begins_with 58 name) && not (bytes_eq name bus_name)
+
+abbrev pub owned_name_in : Condition → Option (List ℕ)
+owned_name_in (Sender name) = if is_owned_name name then Some name else None
+owned_name_in _ = None
+
+abbrev pub or_else : Option (List ℕ) → Option (List ℕ) → Option (List ℕ)
+or_else (Some name) other = Some name
+or_else None other = other
+
+abbrev pub first_owned_name : List Condition → Option (List ℕ)
+first_owned_name [] = None
+first_owned_name (c ∷ cs) = or_else (owned_name_in c) (first_owned_name cs)
+
+-- the name whose owner decides whether the rule holds
 abbrev pub sender_name_of : RuleTree → Option (List ℕ)
-sender_name_of rule = None
+sender_name_of rule = first_owned_name rule.conditions
 
 -- each condition of the first is among those of the second
 abbrev pub are_among : List Condition → List Condition → Bool

@@ -3,15 +3,22 @@
 //! the sentence of each condition.
 #![tactic(auto)]
 
+mod arg_key;
 mod condition;
 mod fault;
+mod holding;
 mod key;
 mod kind_name;
 mod laws;
+mod namespace;
 mod part;
+mod parts;
 mod quoting;
 mod rule;
+mod sender;
+mod term;
 mod text;
+mod weight;
 mod word;
 
 pub use condition::Condition;

@@ -1,19 +1,16 @@
 // Reading the parts of a rule's text.
 
-ghost use Rattle.std.specs.Prelude.{◌≡◌, Some};
-ghost use Rattle.match_rule.specs.declared.fault.RuleError.TheVariants.{BadValue};
+ghost use Rattle.std.specs.Prelude.{◌≡◌};
 ghost use Rattle.match_rule.specs.declared.quoting.Quoting.TheVariants.{Outside};
-ghost use Rattle.match_rule.specs.Condition.{condition_with};
-ghost use Rattle.match_rule.specs.Reading.{Gives, key_at, part_at, value_from, or_fault, conditions_at};
+ghost use Rattle.match_rule.specs.Reading.{Gives, key_at, part_at, value_from};
+ghost use Rattle.match_rule.specs.Parts.{terms_of, rule_of, tree_at};
 
-use crate::condition::{Condition, has_key};
 use crate::fault::RuleError;
 use crate::key::Key;
-use crate::kind_name::KindName;
+use crate::parts::Parts;
 use crate::quoting::{Quoting, Step};
-use crate::text::Text;
+use crate::term::{Term, term_with};
 use crate::word::{begins_with_apostrophe, behind_blanks, word_at};
-use signature::{check_interface, check_member, check_path};
 use std::alloc::Global;
 
 /// A known key, and what stands behind its `=`.
@@ -22,7 +19,7 @@ fn key_at(bytes: &[u8]) -> Result<(Key, &[u8]), RuleError>
     ensures { Gives (λ x. (x.0, x.1.now)) result (key_at bytes.now) }
 {
     let (word, rest) = word_at(bytes).ok_or(RuleError::UnknownKey)?;
-    let key = Key::named(word).ok_or(RuleError::UnknownKey)?;
+    let key = Key::named(word)?;
     Ok((key, rest))
 }
 
@@ -48,55 +45,28 @@ fn value_at(alloc: Global, bytes: &[u8]) -> Result<(Vec<u8>, &[u8]), RuleError>
     }
 }
 
-/// The condition of a key and a value.
-fn condition_with(key: Key, value: Vec<u8>) -> Result<Condition, RuleError>
-    ensures { Gives (λ x. x) result (or_fault BadValue (condition_with key value.items)) }
-{
-    if let Key::Kind = key {
-        let kind = KindName::named(value.as_slice()).ok_or(RuleError::BadValue)?;
-        return Ok(Condition::Kind(kind));
-    }
-    let Ok(text) = String::from_utf8(value) else {
-        return Err(RuleError::BadValue);
-    };
-    match key {
-        Key::Interface if check_interface(text.as_str()) => Ok(Condition::Interface(Text::new(
-            text,
-        ))),
-        Key::Member if check_member(text.as_str()) => Ok(Condition::Member(Text::new(text))),
-        Key::Path if check_path(text.as_str()) => Ok(Condition::Path(Text::new(text))),
-        _ => Err(RuleError::BadValue),
-    }
-}
-
-/// A part behind these conditions, and what stands behind it and its comma.
+/// A part behind those in front, and what stands behind it and its comma.
 #[tactic(auto, unfolding(crate::specs::Reading::part_at))]
-pub(crate) fn part_at<'a>(
-    alloc: Global,
-    front: &[Condition],
-    bytes: &'a [u8],
-) -> Result<(Condition, &'a [u8]), RuleError>
-    ensures { Gives (λ x. (x.0, x.1.now)) result (part_at front.now bytes.now) }
+fn part_at<'a>(alloc: Global, front: &Parts, bytes: &'a [u8]) -> Result<(Term, &'a [u8]), RuleError>
+    ensures { Gives (λ x. (x.0, x.1.now)) result (part_at (terms_of front.now.conditions.items front.now.eavesdrop) bytes.now) }
 {
     let (key, rest) = key_at(bytes)?;
-    if has_key(key, front) {
-        return Err(RuleError::KeyTwice);
-    }
+    let own = front.own_key(key)?;
     let (value, rest) = value_at(alloc, rest)?;
-    let condition = condition_with(key, value)?;
-    Ok((condition, rest))
+    let term = term_with(own, value)?;
+    Ok((term, rest))
 }
 
-/// The conditions of a text that isn't too long.
-pub(crate) fn conditions_at(alloc: Global, text: &[u8]) -> Result<Vec<Condition>, RuleError>
-    ensures { Gives (λ v. v.items) result (conditions_at text.now) }
+/// The parts of a text that isn't too long.
+pub(crate) fn parts_at(alloc: Global, text: &[u8]) -> Result<Parts, RuleError>
+    ensures { Gives rule_of result (tree_at text.now) }
 {
-    let mut conditions = Vec::new(alloc);
+    let mut parts = Parts::new(alloc);
     let mut rest = behind_blanks(text);
     while !rest.is_empty() {
-        let (condition, behind) = part_at(alloc, conditions.as_slice(), rest)?;
-        conditions.push(condition)?;
+        let (term, behind) = part_at(alloc, &parts, rest)?;
+        parts.add(term)?;
         rest = behind_blanks(behind);
     }
-    Ok(conditions)
+    Ok(parts)
 }

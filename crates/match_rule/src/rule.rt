@@ -1,8 +1,11 @@
 // Rules.
 
-use crate::condition::{Condition, all_hold, are_among, weight_of};
+use crate::condition::{Condition, are_among};
 use crate::fault::RuleError;
-use crate::part::conditions_at;
+use crate::holding::{all_hold, is_offered};
+use crate::part::parts_at;
+use crate::sender::first_owned_name;
+use crate::weight::weight_of;
 use message_view::View;
 use std::alloc::Global;
 use std::marker::Model;
@@ -17,14 +20,15 @@ pub struct Rule {
 }
 
 impl Model for Rule {
-    ghost use Rattle.std.specs.Prelude.{◌≤◌};
+    ghost use Rattle.std.specs.Prelude.{◌≤◌, ◌≡◌, true};
     ghost use Rattle.match_rule.specs.RuleTree.{RuleTree, weight_of};
+    ghost use Rattle.match_rule.specs.Parts.{has_one_sender};
 
     ghost Value = { RuleTree };
 
     ghost view = { λ r. record { conditions = r.conditions.items; eavesdrops = r.eavesdrops } };
 
-    ghost invariant = { λ r. weight_of (record { conditions = r.conditions.items; eavesdrops = r.eavesdrops }) ≤ 25608 };
+    ghost invariant = { λ r. weight_of (record { conditions = r.conditions.items; eavesdrops = r.eavesdrops }) ≤ 41992 × (has_one_sender r.conditions.items ≡ true) };
 }
 
 impl Rule {
@@ -49,10 +53,10 @@ impl Rule {
         if text.len() > MAX_LEN {
             return Err(RuleError::TooLong);
         }
-        let conditions = conditions_at(alloc, text.as_bytes())?;
+        let parts = parts_at(alloc, text.as_bytes())?;
         Ok(Rule {
-            conditions,
-            eavesdrops: false,
+            conditions: parts.conditions,
+            eavesdrops: parts.eavesdrop.unwrap_or(false),
         })
     }
 
@@ -64,22 +68,22 @@ impl Rule {
     }
 
     /// Whether it holds of a message, whose sender is or isn't the primary owner of the rule's sender name.
-    /// For now no rule has such a name.
     pub fn holds(&self, view: &View<'_>, owns: bool) -> bool
         ensures { (m : Message) (owned : List ℕ → Bool) → Valid view.now m → Agrees self.now owned owns → (IsTrue result ↔ Holds self.now m owned) }
     {
-        (self.eavesdrops || view.destination().is_none())
-            && all_hold(self.conditions.as_slice(), view)
+        is_offered(view, self.eavesdrops) && all_hold(self.conditions.as_slice(), view, owns)
     }
 
-    /// The well-known name whose owner decides whether the rule holds. For now no rule has one.
+    /// The well-known name whose owner decides whether the rule holds, if it asks for one as the sender. That of
+    /// the bus isn't one.
     pub fn sender_name(&self) -> Option<&str>
         ensures { option_map (λ name. name.now) result ≡ sender_name_of self.now }
     {
-        None
+        first_owned_name(self.conditions.as_slice())
     }
 
-    /// How large a program for the rule may become: 8, and for each condition 24 and the bytes of its value.
+    /// How large a program for the rule may become: 8, and for each condition 24 and the bytes of its value,
+    /// and for an `argNpath` 16 for each `/` of it.
     pub fn weight(&self) -> u64
         ensures { result ≡ weight_of self.now }
     {

@@ -1,7 +1,8 @@
 // Blanks and the words of keys.
 
 ghost use Rattle.std.specs.Prelude.{◌≡◌, option_map};
-ghost use Rattle.match_rule.specs.Grammar.{is_blank, begins_with, apostrophe};
+ghost use Rattle.match_rule.specs.Bytes.{begins_with};
+ghost use Rattle.match_rule.specs.Grammar.{is_blank, apostrophe};
 ghost use Rattle.match_rule.specs.Reading.{behind_blanks, word_at};
 
 fn is_blank(byte: u8) -> bool

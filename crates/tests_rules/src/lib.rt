@@ -4,6 +4,10 @@
 #[cfg(test)]
 mod equality;
 #[cfg(test)]
+mod keys;
+#[cfg(test)]
 mod messages;
+#[cfg(test)]
+mod samples;
 #[cfg(test)]
 mod texts;

@@ -77,26 +77,6 @@ fn one_fault_each(rt: HostRuntime) {
     }
 }
 
-/// Keys of the standard that aren't known yet.
-#[test]
-fn keys_to_come(rt: HostRuntime) {
-    for text in [
-        "sender=':1.1'",
-        "destination=':1.5'",
-        "path_namespace='/'",
-        "eavesdrop='true'",
-        "arg0='x'",
-        "arg0path='/'",
-        "arg0namespace='a'",
-    ] {
-        assert_eq!(rt;
-            fault(rt.alloc(), text),
-            Some(RuleError::UnknownKey),
-            "at {text}"
-        );
-    }
-}
-
 #[test]
 fn first_of_two_faults(rt: HostRuntime) {
     for (text, want) in [

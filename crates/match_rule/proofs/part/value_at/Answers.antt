@@ -1,5 +1,6 @@
 use Rattle.std.proofs.Common.{◌+◌, get_or, sym, ◌∙◌, ap, arith}
-use Rattle.match_rule.specs.Grammar.{begins_with, apostrophe}
+use Rattle.match_rule.specs.Bytes.{begins_with}
+use Rattle.match_rule.specs.Grammar.{apostrophe}
 use Rattle.match_rule.specs.Reading.{step}
 use Rattle.match_rule.proofs.Steps.{past_skipped, past_taken, whole_rest}
 use Rattle.match_rule.proofs.part.value_at.Goals as goal

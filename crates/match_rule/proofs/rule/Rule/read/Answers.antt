@@ -1,22 +1,33 @@
-use Rattle.std.proofs.Common.{sym, ◌∙◌, ap, arith}
-use Rattle.match_rule.specs.Reading.{conditions_at}
+use Rattle.std.proofs.Common.{◌≡◌, sym, ◌∙◌, ap, arith}
+use Rattle.std.specs.Prelude.{Ok}
+use Rattle.match_rule.specs.RuleTree.{RuleTree}
+use Rattle.match_rule.specs.Parts.{rule_of, tree_at}
 use Rattle.match_rule.proofs.Steps.{gives_err}
-use Rattle.match_rule.proofs.Spelled.{read_of, rule_at-ok, rule_at-err}
+use Rattle.match_rule.proofs.Spelled.{read_of, rule_at-tree}
 use Rattle.match_rule.proofs.Found.{rule_found}
-use Rattle.match_rule.proofs.Turns.{read_total}
+use Rattle.match_rule.proofs.ReadRules.{tree_weight, one_sender}
 use Rattle.match_rule.proofs.rule.Rule.read.Goals as goal
 
-pub returns-in_err-conditions-clause-only : goal.returns-in_err-conditions-clause-only
-returns-in_err-conditions-clause-only c = λ rule is.
-    gives_err _ c.from_residual.result _ c.in_err-conditions.field-0.0 c.from_residual.ensures.1
-    (λ other. sym (read_of c.args.text.now rule is) ∙ rule_at-err c.args.text.now c.in_err-conditions.field-0.0 (omega arith) (ap conditions_at (sym c.as_bytes.ensures.value) ∙ c.in_err-conditions.ensures other))
+pub returns-in_err-parts-clause-only : goal.returns-in_err-parts-clause-only
+returns-in_err-parts-clause-only c = λ rule is.
+    gives_err _ c.from_residual.result _ c.in_err-parts.field-0.0 c.from_residual.ensures.1
+    (λ other. sym (read_of c.args.text.now rule is) ∙ rule_at-tree c.args.text.now (omega arith) ∙ ap tree_at (sym c.as_bytes.ensures.value) ∙ c.in_err-parts.ensures other)
 
 pub invariant_of-result : goal.invariant_of-result
-invariant_of-result c = read_total c.args.text.now c.in_ok-conditions.conditions.items (omega arith) (ap conditions_at (sym c.as_bytes.ensures.value) ∙ c.in_ok-conditions.ensures)
+invariant_of-result c =
+    let tree : tree_at c.args.text.now ≡ Ok (rule_of c.in_ok-parts.parts) = ap tree_at (sym c.as_bytes.ensures.value) ∙ c.in_ok-parts.ensures in (
+      tree_weight c.args.text.now (rule_of c.in_ok-parts.parts) (omega arith) tree,
+      one_sender c.args.text.now (rule_of c.in_ok-parts.parts) (omega arith) tree,
+    )
 
 pub returns-clause-found : goal.returns-clause-found
-returns-clause-found c = rule_found c.args.text.now _ (rule_at-ok c.args.text.now c.in_ok-conditions.conditions.items (omega arith) (ap conditions_at (sym c.as_bytes.ensures.value) ∙ c.in_ok-conditions.ensures))
+returns-clause-found c =
+    rule_found c.args.text.now _
+    (rule_at-tree c.args.text.now (omega arith) ∙ ap tree_at (sym c.as_bytes.ensures.value) ∙ c.in_ok-parts.ensures
+    ∙ ap (λ b. let rule : RuleTree = record { conditions = c.in_ok-parts.parts.conditions.items; eavesdrops = b } in Ok rule) (sym c.unwrap_or.ensures))
 
 pub returns-clause-only : goal.returns-clause-only
 returns-clause-only c = λ rule is.
-    sym (read_of c.args.text.now rule is) ∙ rule_at-ok c.args.text.now c.in_ok-conditions.conditions.items (omega arith) (ap conditions_at (sym c.as_bytes.ensures.value) ∙ c.in_ok-conditions.ensures)
+    sym (read_of c.args.text.now rule is)
+    ∙ rule_at-tree c.args.text.now (omega arith) ∙ ap tree_at (sym c.as_bytes.ensures.value) ∙ c.in_ok-parts.ensures
+    ∙ ap (λ b. let rule : RuleTree = record { conditions = c.in_ok-parts.parts.conditions.items; eavesdrops = b } in Ok rule) (sym c.unwrap_or.ensures)

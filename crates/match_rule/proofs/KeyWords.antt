@@ -1,0 +1,149 @@
+-- The words of keys have no blank, no `=` and no comma.
+use Rattle.std.proofs.Common.{◌≡◌, ℕ, Bool, true, false, cond, List, [], ◌∷◌, ◌++◌, drop, length, refl, sym, ap, ◌∙◌, arith}
+use Rattle.std.specs.Prelude.{Result, Ok, Err, Option, Some, None, codes, not, ◌==◌, ◌&&◌, ◌||◌}
+use Rattle.std.specs.List.{list_all}
+use Rattle.std.specs.Str.{bytes_eq}
+use Rattle.std.proofs.lemmas.Bool.{eqb-true}
+use Rattle.std.proofs.lemmas.Bool.Decides.{nat_tests}
+use Rattle.std.proofs.lemmas.List.{nil_from_length}
+use Rattle.std.proofs.lemmas.List.Folds.{list_all-append}
+use Rattle.std.proofs.lemmas.Slice.Eq.{bytes_eq-Decides}
+use Rattle.signature.specs.Name.{is_digit}
+use Rattle.match_rule.specs.declared.fault.RuleError.{RuleError}
+use Rattle.match_rule.specs.declared.fault.RuleError.TheVariants.{UnknownKey}
+use Rattle.match_rule.specs.declared.key.Key.{Key}
+use Rattle.match_rule.specs.declared.key.Key.TheVariants as keys
+use Rattle.match_rule.specs.Key.{key_named, digits_of, behind_digits, arg_number, or_bad_number, namespace_key, arg_key, is_of_arg}
+use Rattle.match_rule.specs.Grammar.{is_blank, comma, equals}
+use Rattle.match_rule.specs.Reading.{behind_blanks, word_at}
+
+-- a byte that may stand in the word of a key
+abbrev is_plain : ℕ → Bool
+is_plain b = not (b == equals) && not (b == comma) && not (is_blank b)
+
+abbrev pub is_plain_word : List ℕ → Bool
+is_plain_word [] = false
+is_plain_word (b ∷ bs) = is_plain b && list_all is_plain bs
+
+both : (a b : Bool) → (a && b) ≡ true → (a ≡ true) × (b ≡ true)
+both true b e = (refl, e)
+both false b e = absurd cc
+
+both_true : (a b : Bool) → a ≡ true → b ≡ true → (a && b) ≡ true
+both_true true b p q = q
+both_true false b p q = p
+
+plain_parts : (opens ends blank : Bool) → (not opens && not ends && not blank) ≡ true → (opens ≡ false) × (ends ≡ false) × (blank ≡ false)
+plain_parts false false false e = (refl, refl, refl)
+plain_parts false false true e = absurd cc
+plain_parts false true blank e = absurd cc
+plain_parts true ends blank e = absurd cc
+
+-- ---- words are read to their `=`
+
+front_read : (word rest : List ℕ) → list_all is_plain word ≡ true → word_at (word ++ equals ∷ rest) ≡ Some (word, rest)
+front_read [] rest e = refl
+front_read (b ∷ bs) rest e =
+    let h = both (is_plain b) (list_all is_plain bs) e in
+    let p = plain_parts (b == equals) (b == comma) (is_blank b) h.0 in
+    rw (p.0, p.1, front_read bs rest h.1) refl
+
+pub word_read : (word rest : List ℕ) → is_plain_word word ≡ true → word_at (word ++ equals ∷ rest) ≡ Some (word, rest)
+word_read [] rest e = absurd cc
+word_read (b ∷ bs) rest e = front_read (b ∷ bs) rest e
+
+pub word_no_blank : (word rest : List ℕ) → is_plain_word word ≡ true → behind_blanks (word ++ rest) ≡ word ++ rest
+word_no_blank [] rest e = absurd cc
+word_no_blank (b ∷ bs) rest e =
+    let h = both (is_plain b) (list_all is_plain bs) e in
+    let p = plain_parts (b == equals) (b == comma) (is_blank b) h.0 in
+    rw p.2 refl
+
+-- ---- the words of keys
+
+digit_plain : (b : ℕ) → is_digit b ≡ true → is_plain b ≡ true
+digit_plain b e = grind (arith, nat_tests)
+
+pub split_digits : (bytes : List ℕ) → bytes ≡ digits_of bytes ++ behind_digits bytes
+split_digits [] = refl
+split_digits (b ∷ bs) = go (is_digit b) (split_digits bs)
+  where
+    go : (d : Bool) → bs ≡ digits_of bs ++ behind_digits bs → b ∷ bs ≡ cond d (b ∷ digits_of bs) [] ++ cond d (behind_digits bs) (b ∷ bs)
+    go true e = ap (λ (x : List ℕ). b ∷ x) e
+    go false e = refl
+
+pub digits_are : (bytes : List ℕ) → list_all is_digit (digits_of bytes) ≡ true
+digits_are [] = refl
+digits_are (b ∷ bs) = go (is_digit b) refl (digits_are bs)
+  where
+    go : (d : Bool) → is_digit b ≡ d → list_all is_digit (digits_of bs) ≡ true → list_all is_digit (cond d (b ∷ digits_of bs) []) ≡ true
+    go true is e = both_true (is_digit b) (list_all is_digit (digits_of bs)) is e
+    go false is e = refl
+
+all_plain : (bytes : List ℕ) → list_all is_digit bytes ≡ true → list_all is_plain bytes ≡ true
+all_plain [] e = refl
+all_plain (b ∷ bs) e = let h = both (is_digit b) (list_all is_digit bs) e in both_true (is_plain b) (list_all is_plain bs) (digit_plain b h.0) (all_plain bs h.1)
+
+is_word : (a b : List ℕ) → bytes_eq a b ≡ true → a ≡ b
+is_word a b e = (bytes_eq-Decides a b).0 e
+
+-- what is behind the digits of a key
+suffix_plain : (digits suffix : List ℕ) (key : Key) → arg_key digits suffix ≡ Ok key → list_all is_plain suffix ≡ true
+suffix_plain digits suffix key e = go (length digits == 0) (length suffix == 0) refl (bytes_eq suffix (codes "path")) refl (bytes_eq suffix (codes "namespace")) refl e
+  where
+    go : (none bare : Bool) → (length suffix == 0) ≡ bare → (path : Bool) → bytes_eq suffix (codes "path") ≡ path → (space : Bool) → bytes_eq suffix (codes "namespace") ≡ space → cond none (Err UnknownKey) (cond bare (or_bad_number keys.Arg (arg_number digits)) (cond path (or_bad_number keys.ArgPath (arg_number digits)) (cond space (namespace_key (arg_number digits)) (Err UnknownKey)))) ≡ Ok key → list_all is_plain suffix ≡ true
+    go true bare b path p space n e = absurd cc
+    go false true b path p space n e = ap (list_all is_plain) (nil_from_length suffix (eqb-true (length suffix) 0 b))
+    go false false b true p space n e = ap (list_all is_plain) (is_word suffix (codes "path") p)
+    go false false b false p true n e = ap (list_all is_plain) (is_word suffix (codes "namespace") n)
+    go false false b false p false n e = absurd cc
+
+rest_plain : (rest : List ℕ) (key : Key) → arg_key (digits_of rest) (behind_digits rest) ≡ Ok key → list_all is_plain rest ≡ true
+rest_plain rest key e =
+    ap (list_all is_plain) (split_digits rest)
+    ∙ list_all-append is_plain (digits_of rest) (behind_digits rest)
+    ∙ both_true (list_all is_plain (digits_of rest)) (list_all is_plain (behind_digits rest)) (all_plain (digits_of rest) (digits_are rest)) (suffix_plain (digits_of rest) (behind_digits rest) key e)
+
+arg_plain : (word : List ℕ) (key : Key) → cond (is_of_arg word) (arg_key (digits_of (drop 3 word)) (behind_digits (drop 3 word))) (Err UnknownKey) ≡ Ok key → is_plain_word word ≡ true
+arg_plain [] key e = absurd cc
+arg_plain (a ∷ []) key e = absurd cc
+arg_plain (a ∷ b ∷ []) key e = absurd cc
+arg_plain (a ∷ b ∷ c ∷ rest) key e = go (a == 97) (b == 114) (c == 103) refl refl refl e
+  where
+    go : (x y z : Bool) → (a == 97) ≡ x → (b == 114) ≡ y → (c == 103) ≡ z → cond (x && y && z) (arg_key (digits_of rest) (behind_digits rest)) (Err UnknownKey) ≡ Ok key → is_plain_word (a ∷ b ∷ c ∷ rest) ≡ true
+    go true true true p q r e =
+        rw (eqb-true a 97 p, eqb-true b 114 q, eqb-true c 103 r) (rest_plain rest key e)
+    go true true false p q r e = absurd cc
+    go true false z p q r e = absurd cc
+    go false y z p q r e = absurd cc
+
+named_plain : (word name : List ℕ) (named : Key) (b : Bool) (others : Result Key RuleError) (key : Key) → bytes_eq word name ≡ b → is_plain_word name ≡ true → cond b (Ok named) others ≡ Ok key → (others ≡ Ok key → is_plain_word word ≡ true) → is_plain_word word ≡ true
+named_plain word name named true others key is plain e more = ap is_plain_word (is_word word name is) ∙ plain
+named_plain word name named false others key is plain e more = more e
+
+pub known_plain : (word : List ℕ) (key : Key) → key_named word ≡ Ok key → is_plain_word word ≡ true
+known_plain word key e =
+    named_plain word (codes "type") keys.Kind _ _ key refl refl e (λ e.
+    named_plain word (codes "sender") keys.Sender _ _ key refl refl e (λ e.
+    named_plain word (codes "interface") keys.Interface _ _ key refl refl e (λ e.
+    named_plain word (codes "member") keys.Member _ _ key refl refl e (λ e.
+    named_plain word (codes "path") keys.Path _ _ key refl refl e (λ e.
+    named_plain word (codes "path_namespace") keys.PathNamespace _ _ key refl refl e (λ e.
+    named_plain word (codes "destination") keys.Destination _ _ key refl refl e (λ e.
+    named_plain word (codes "eavesdrop") keys.Eavesdrop _ _ key refl refl e (λ e.
+    arg_plain word key e))))))))
+
+-- a word that begins with `arg`
+pub arg_named : (word rest : List ℕ) → Some rest ≡ cond (is_of_arg word) (Some (drop 3 word)) None → key_named word ≡ arg_key (digits_of rest) (behind_digits rest)
+arg_named [] rest e = absurd cc
+arg_named (a ∷ []) rest e = absurd cc
+arg_named (a ∷ b ∷ []) rest e = absurd cc
+arg_named (a ∷ b ∷ c ∷ tail) rest e = go (a == 97) (b == 114) (c == 103) refl refl refl e
+  where
+    go : (x y z : Bool) → (a == 97) ≡ x → (b == 114) ≡ y → (c == 103) ≡ z → Some rest ≡ cond (x && y && z) (Some tail) None → key_named (a ∷ b ∷ c ∷ tail) ≡ arg_key (digits_of rest) (behind_digits rest)
+    go true true true p q r e =
+        let same : rest ≡ tail = cc in
+        rw (eqb-true a 97 p, eqb-true b 114 q, eqb-true c 103 r, same) refl
+    go true true false p q r e = absurd cc
+    go true false z p q r e = absurd cc
+    go false y z p q r e = absurd cc

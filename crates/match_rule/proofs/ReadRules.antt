@@ -1,0 +1,23 @@
+-- What holds of a rule that was read.
+use Rattle.std.proofs.Common.{◌≡◌, ℕ, ◌≤◌, true, List, [], length, sym, ap, ◌∙◌, subst}
+use Rattle.std.specs.Prelude.{Ok}
+use Rattle.match_rule.specs.RuleTree.{RuleTree, weight_of}
+use Rattle.match_rule.specs.Grammar.{rule_with}
+use Rattle.match_rule.specs.Reading.{terms_at}
+use Rattle.match_rule.specs.Parts.{tree_at, has_one_sender}
+use Rattle.match_rule.proofs.PartReads.{bind_ok}
+use Rattle.match_rule.proofs.Turns.{read_weight}
+use Rattle.match_rule.proofs.Spelled.{rule_at-tree}
+use Rattle.match_rule.proofs.Found.{rule_found}
+use Rattle.match_rule.proofs.OneSender.{own_keys_one_sender}
+
+pub tree_weight : (text : List ℕ) (rule : RuleTree) → length text ≤ 1024 → tree_at text ≡ Ok rule → weight_of rule ≤ 41992
+tree_weight text rule short e =
+    let f = bind_ok (terms_at text) _ rule e in
+    let same : rule_with f.0 ≡ rule = let is = f.2 in cc in
+    subst (λ (r : RuleTree). weight_of r ≤ 41992) same (read_weight text f.0 short f.1)
+
+pub one_sender : (text : List ℕ) (rule : RuleTree) → length text ≤ 1024 → tree_at text ≡ Ok rule → has_one_sender rule.conditions ≡ true
+one_sender text rule short e =
+    let is = rule_found text rule (rule_at-tree text short ∙ e) in
+    ap (λ (r : RuleTree). has_one_sender r.conditions) is.says ∙ own_keys_one_sender [] is.terms is.once
