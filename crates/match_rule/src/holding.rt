@@ -1,6 +1,7 @@
 // Of which messages conditions hold.
 
 ghost use Rattle.std.specs.Prelude.{◌≡◌, ◌↔◌, ◌⊎◌, ℕ, Bool, true, false, List, [], ◌∷◌, ◌++◌, None, Some, IsTrue, IfSome, IsSomeAnd, All, option_map, slice_get};
+ghost use Rattle.message_value.specs.ShownArguments.{shown_arg};
 ghost use Rattle.message_view.specs.Message.{Message, destination_of};
 ghost use Rattle.message_view.specs.Spelling.{arguments_of};
 ghost use Rattle.message_view.specs.Valid.{Valid};
@@ -11,7 +12,7 @@ ghost use Rattle.match_rule.specs.Holds.{ConditionHolds, InPathNamespace, InName
 use crate::condition::Condition;
 use crate::namespace::{are_nested, is_in_namespace, is_in_path_namespace};
 use crate::sender::is_owned_name;
-use message_view::View;
+use message_view::{Arg, View};
 
 /// An argument that is a text: the code of its type, and its characters.
 #[derive(Clone, Copy)]
@@ -20,11 +21,28 @@ struct TextArg<'a> {
     text: &'a str,
 }
 
+/// An argument, where it is a text.
+fn text_of<'a>(arg: Arg<'a>) -> Option<TextArg<'a>>
+    ensures { option_map (λ a. (a.code, a.text.now)) result ≡ text_in (Some (shown_arg arg.entry)) }
+{
+    match arg.text {
+        None => None,
+        Some(text) => Some(TextArg {
+            code: arg.code,
+            text,
+        }),
+    }
+}
+
 /// Argument n of a message, where it is a text.
 fn argument<'a>(view: &View<'a>, n: u8) -> Option<TextArg<'a>>
     ensures { (m : Message) → Valid view.now m → option_map (λ a. (a.code, a.text.now)) result ≡ text_in (slice_get (arguments_of m) n) }
 {
-    None
+    let mut args = view.args();
+    match args.nth(usize::from(n)) {
+        None => None,
+        Some(arg) => text_of(arg),
+    }
 }
 
 /// Whether an argument is the string.
