@@ -1,4 +1,4 @@
-//! Tests of drafts and of how they are lowered. Each is named after its worked example.
+//! Tests of drafts and of how they are lowered.
 #![tactic(auto)]
 
 #[cfg(test)]

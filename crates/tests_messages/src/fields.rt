@@ -129,10 +129,16 @@ fn fields_without_a_meaning(rt: HostRuntime) -> Result<(), Fail> {
         ("ff037b61 00000000", Some(MsgError::BadSignature)),
         ("ff046128 79290000 00000000", Some(MsgError::ArrayLength)),
         ("ff046128 79290000 00000000 00000000", None),
-        ("ff046128 79290100 00000000 00000000", Some(MsgError::BadText)),
+        (
+            "ff046128 79290100 00000000 00000000",
+            Some(MsgError::BadText),
+        ),
         ("ff046179 7600", Some(MsgError::ArrayLength)),
         ("0a026179 00000000 02000000 0102", None),
-        ("0a026179 00000000 03000000 0102", Some(MsgError::ArrayLength)),
+        (
+            "0a026179 00000000 03000000 0102",
+            Some(MsgError::ArrayLength),
+        ),
         ("0a016200 02000000", Some(MsgError::BadBool)),
         ("0a016f00 01000000 6100", Some(MsgError::BadName)),
         ("0a017600 01790007", None),

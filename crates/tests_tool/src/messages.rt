@@ -123,7 +123,11 @@ const S2: &str =
 
 #[test]
 fn s2(rt: HostRuntime) -> Result<(), Fail> {
-    for line in ["match||F", "match|arg0='hi'|F", "match|arg0path='hi',member=c|F"] {
+    for line in [
+        "match||F",
+        "match|arg0='hi'|F",
+        "match|arg0path='hi',member=c|F",
+    ] {
         assert_says(&rt, rt.alloc(), line, S2.as_bytes(), "match\n", "", 0)?;
     }
     for line in ["match|arg0='ho'|F", "match|arg1='hi'|F"] {
