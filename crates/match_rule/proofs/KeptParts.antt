@@ -1,6 +1,6 @@
 -- What the parts in front said, and the terms that they are.
-use Rattle.std.proofs.Common.{◌≡◌, ℕ, Bool, true, false, cond, List, [], ◌∷◌, ◌++◌, map, length, refl, sym, ap, ◌∙◌}
-use Rattle.std.specs.Prelude.{Option, Some, None, unwrap_or, Result, Ok, Err, ◌||◌, ◌==◌}
+use Rattle.std.proofs.Common.{◌≡◌, ℕ, Bool, true, false, List, [], ◌∷◌, ◌++◌, map, length, refl, sym, ap, ◌∙◌}
+use Rattle.std.specs.Prelude.{Option, Some, None, unwrap_or, Ok, Err, ◌||◌, ◌==◌}
 use Rattle.std.specs.List.{list_any}
 use Rattle.std.proofs.lemmas.List.{map-append}
 use Rattle.std.proofs.lemmas.List.Folds.{list_any-append}
@@ -16,7 +16,7 @@ use Rattle.match_rule.specs.Grammar.{rule_with}
 use Rattle.match_rule.specs.Reading.{◌>>=◌, behind_blanks, part_at, parts_from, terms_at}
 use Rattle.match_rule.specs.Parts.{terms_of, conditions_with, eavesdrop_with, tree_at}
 use Rattle.match_rule.specs.RuleTree.{RuleTree}
-use Rattle.match_rule.proofs.PartReads.{Reads, reads_from, part_same, term_is}
+use Rattle.match_rule.proofs.PartReads.{reads_from, part_same, term_is}
 use Rattle.match_rule.proofs.Turns.{turn, turn_err}
 
 -- the terms are those conditions, and say that of eavesdropping

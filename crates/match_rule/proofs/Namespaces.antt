@@ -17,9 +17,6 @@ ends_with-last byte (b ∷ c ∷ front) last = ends_with-last byte (c ∷ front)
 pub no_front : (text front : List ℕ) (byte : ℕ) → ((rest : List ℕ) → text ≡ front ++ rest → ⊥) → IsTrue false ↔ Begins text (front ++ byte ∷ [])
 no_front text front byte none = (λ e. absurd cc, λ w. absurd (none (byte ∷ w.0) (w.1 ∙ append_assoc front (byte ∷ []) w.0)))
 
-pub front_ends : (text front rest : List ℕ) (byte : ℕ) → text ≡ front ++ rest → rest ≡ [] → IsTrue false ↔ Begins text (front ++ byte ∷ [])
-front_ends text front rest byte is none = (λ e. absurd cc, λ w. let same : rest ≡ byte ∷ w.0 = append_cancel_left front rest (byte ∷ w.0) (sym is ∙ w.1 ∙ append_assoc front (byte ∷ []) w.0) in absurd cc)
-
 pub front_goes_on : (text front rest more : List ℕ) (first byte : ℕ) → text ≡ front ++ rest → rest ≡ first ∷ more → IsTrue (first == byte) ↔ Begins text (front ++ byte ∷ [])
 front_goes_on text front rest more first byte is next = (forth, back)
   where

@@ -1,10 +1,9 @@
 -- A rule that was read asks for one sender at most.
-use Rattle.std.proofs.Common.{◌≡◌, ℕ, zero, suc, ◌<◌, Bool, true, false, cond, List, [], ◌∷◌, ◌++◌, length, get_or, refl, sym, ap, ◌∙◌, subst, below_more, arith, ◌+◌, ◌⊎◌}
-use Rattle.std.specs.Prelude.{Option, Some, None, not, ◌&&◌, ◌||◌, ◌==◌, All, IfSome, IsTrue, ◌↔◌}
+use Rattle.std.proofs.Common.{◌≡◌, ℕ, zero, suc, ◌<◌, Bool, true, false, List, [], ◌∷◌, ◌++◌, length, get_or, refl, sym, ap, ◌∙◌, subst, below_more, arith, ◌+◌, ◌⊎◌}
+use Rattle.std.specs.Prelude.{Option, Some, None, not, ◌&&◌, ◌||◌, All, IfSome, IsTrue, ◌↔◌}
 use Rattle.std.specs.List.{list_any}
 use Rattle.std.proofs.lemmas.List.{get_or_read}
 use Rattle.std.proofs.lemmas.List.Folds.{list_any-append}
-use Rattle.match_rule.specs.declared.key.Key.{Key}
 use Rattle.match_rule.specs.declared.key.Key.TheVariants as keys
 use Rattle.match_rule.specs.declared.condition.Condition.{Condition}
 use Rattle.match_rule.specs.declared.condition.Condition.TheVariants.{Kind, Sender, Interface, Member, Path, PathNamespace, Destination, Arg, ArgPath, Arg0Namespace}
@@ -13,7 +12,7 @@ use Rattle.match_rule.specs.declared.term.Term.TheVariants.{Asks, Eavesdrop}
 use Rattle.match_rule.specs.Key.{is_twice}
 use Rattle.match_rule.specs.Condition.{key_of, term_key, has_key, conditions_in}
 use Rattle.match_rule.specs.Grammar.{HaveOwnKeys}
-use Rattle.match_rule.specs.RuleTree.{RuleTree, is_owned_name, owned_name_in, first_owned_name, or_else}
+use Rattle.match_rule.specs.RuleTree.{RuleTree, owned_name_in, first_owned_name, or_else}
 use Rattle.match_rule.specs.Parts.{is_sender, has_one_sender}
 use Rattle.match_rule.specs.Holds.{ConditionHolds, Holds, Agrees}
 use Rattle.message_view.specs.Message.{Message, destination_of}

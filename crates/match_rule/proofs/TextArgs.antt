@@ -7,11 +7,6 @@ use Rattle.message_view.specs.Spelling.{arguments_of}
 use Rattle.match_rule.specs.Arguments.{text_in}
 use Rattle.match_rule.specs.Holds.{HasArg, AreNested, InNamespace}
 
--- a text that is there and passes
-pub some_text : {A : Type 0} (view : A → List ℕ) (o : Option A) (found : Option (List ℕ)) (P : List ℕ → Type 0) → option_map view o ≡ found → IsSomeAnd o (λ x. P (view x)) ↔ ((x : List ℕ) × (found ≡ Some x) × P x)
-some_text view (Some x) found P is = (λ p. (view x, sym is, p), λ w. let same : w.0 ≡ view x = let e = sym w.1 ∙ sym is in cc in subst P same w.2)
-some_text view None found P is = (λ p. absurd p, λ w. let e = is ∙ w.1 in absurd cc)
-
 -- an argument that is there, is a text and passes
 record IsArg (m : Message) (n : ℕ) (Q : ℕ → List ℕ → Type 0) : Type 0 where
   pub code : ℕ

@@ -3,11 +3,10 @@ use Rattle.std.proofs.Common.{◌≡◌, ℕ, zero, suc, ◌+◌, ◌*◌, ◌�
 use Rattle.std.specs.Prelude.{Result, Ok, Err, sum_by, ◌==◌}
 use Rattle.std.proofs.lemmas.List.Sums.{sum_by-append, sum_by-cons}
 use Rattle.match_rule.specs.declared.fault.RuleError.{RuleError}
-use Rattle.match_rule.specs.declared.condition.Condition.{Condition}
 use Rattle.match_rule.specs.declared.condition.Condition.TheVariants.{Kind, Sender, Interface, Member, Path, PathNamespace, Destination, Arg, ArgPath, Arg0Namespace}
 use Rattle.match_rule.specs.declared.term.Term.{Term}
 use Rattle.match_rule.specs.declared.term.Term.TheVariants.{Asks, Eavesdrop}
-use Rattle.match_rule.specs.Condition.{value_of, conditions_in}
+use Rattle.match_rule.specs.Condition.{conditions_in}
 use Rattle.match_rule.specs.RuleTree.{slashes, condition_weight}
 use Rattle.match_rule.specs.Grammar.{is_blank}
 use Rattle.match_rule.specs.Reading.{◌>>=◌, behind_blanks, part_at, parts_from, terms_at}

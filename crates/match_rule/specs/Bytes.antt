@@ -1,5 +1,5 @@
 -- Beginnings and ends of texts.
-use Rattle.std.specs.Prelude.{ℕ, Bool, true, false, List, [], ◌∷◌, ◌==◌, ◌&&◌}
+use Rattle.std.specs.Prelude.{ℕ, Bool, false, List, [], ◌∷◌, ◌==◌}
 
 abbrev pub begins_with : ℕ → List ℕ → Bool
 begins_with byte [] = false

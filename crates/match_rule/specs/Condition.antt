@@ -1,5 +1,5 @@
 -- The conditions of rules (D-Bus Specification, "Match Rules").
-use Rattle.std.specs.Prelude.{ℕ, Bool, true, false, not, List, [], ◌∷◌, Option, Some, None, is_some, option_map, codes, ◌&&◌, ◌||◌, ◌==◌, if◌then◌else◌}
+use Rattle.std.specs.Prelude.{ℕ, Bool, true, false, List, [], ◌∷◌, Option, Some, None, option_map, codes, ◌&&◌, if◌then◌else◌}
 use Rattle.std.specs.Str.{bytes_eq, is_utf8}
 use Rattle.std.specs.List.{list_any}
 use Rattle.signature.specs.Name.{is_interface, is_member, is_path, is_bus_name, is_namespace}

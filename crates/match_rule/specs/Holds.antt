@@ -1,5 +1,5 @@
 -- Where a rule holds of a message (D-Bus Specification, "Match Rules").
-use Rattle.std.specs.Prelude.{◌≡◌, ◌⊎◌, ℕ, Bool, true, List, [], ◌∷◌, ◌++◌, Option, Some, None, All, IfSome, MatchBool, slice_get}
+use Rattle.std.specs.Prelude.{◌≡◌, ◌⊎◌, ℕ, Bool, true, List, [], ◌∷◌, ◌++◌, Some, None, All, IfSome, MatchBool, slice_get}
 use Rattle.message_value.specs.Arguments.{Argument}
 use Rattle.message_view.specs.Message.{Message, path_of, interface_of, member_of, destination_of, sender_of}
 use Rattle.message_view.specs.Spelling.{arguments_of}

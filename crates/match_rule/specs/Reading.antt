@@ -1,5 +1,5 @@
 -- Reading a rule's text from left to right, with the first fault that is met.
-use Rattle.std.specs.Prelude.{◌≡◌, ◌≢◌, ℕ, zero, suc, Bool, false, List, [], ◌∷◌, ◌++◌, length, Option, Some, None, option_map, Result, Ok, Err, nat_lt, ◌==◌, if◌then◌else◌}
+use Rattle.std.specs.Prelude.{◌≡◌, ◌≢◌, ℕ, zero, suc, Bool, List, [], ◌∷◌, ◌++◌, length, Option, Some, None, option_map, Result, Ok, Err, nat_lt, ◌==◌, if◌then◌else◌}
 use Rattle.match_rule.specs.declared.fault.RuleError.{RuleError}
 use Rattle.match_rule.specs.declared.fault.RuleError.TheVariants.{TooLong, UnknownKey, KeyTwice, BadValue, Unquoted, PathTwice, NoMemory}
 use Rattle.match_rule.specs.declared.key.Key.{Key}

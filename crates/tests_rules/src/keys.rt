@@ -189,6 +189,7 @@ fn order_of_faults(rt: HostRuntime) {
     for (text, want) in [
         ("arg64='x", RuleError::ArgNumber),
         ("argx='x", RuleError::UnknownKey),
+        ("arg0='x", RuleError::Unquoted),
         ("arg0='x',arg0='y", RuleError::KeyTwice),
         ("arg0='x',arg0path='y", RuleError::KeyTwice),
         ("path='/',path_namespace='x", RuleError::PathTwice),

@@ -2,6 +2,10 @@
 #![tactic(auto)]
 
 #[cfg(test)]
+mod argument_samples;
+#[cfg(test)]
+mod arguments;
+#[cfg(test)]
 mod equality;
 #[cfg(test)]
 mod keys;

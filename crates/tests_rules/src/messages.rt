@@ -9,7 +9,7 @@ use std::alloc::Global;
 use std::test::Fail;
 
 /// Whether a rule holds of a message, whose sender is or isn't the owner of the rule's sender name.
-fn holds_of(alloc: Global, text: &str, message: &str, owns: bool) -> Result<bool, Fail> {
+pub(crate) fn holds_of(alloc: Global, text: &str, message: &str, owns: bool) -> Result<bool, Fail> {
     let rule = Rule::read(alloc, text)?;
     let bytes = hex::decode(alloc, message)?;
     let view = View::read(bytes.as_slice()).ok().ok_or("no message")?;

@@ -1,4 +1,4 @@
-use Rattle.std.proofs.Common.{◌≡◌, ℕ, List}
+use Rattle.std.proofs.Common.{ℕ, List}
 use Rattle.std.specs.Prelude.{◌↔◌}
 use Rattle.match_rule.specs.declared.holding.TextArg.{TextArg}
 use Rattle.match_rule.proofs.TextArgs.{string_arg, nested_arg, name_arg}

@@ -1,4 +1,4 @@
-use Rattle.std.proofs.Common.{sym, ap, ◌∙◌}
+use Rattle.std.proofs.Common.{sym}
 use Rattle.match_rule.proofs.KeptParts.{asked_paths}
 use Rattle.match_rule.proofs.parts.Parts.has_path.Goals as goal
 
