@@ -9,3 +9,5 @@ pub mod ReadValues
 pub mod PlainTexts
 pub mod SmallValues
 pub mod FaultOrder
+pub mod MovedValues
+pub mod AppendedMembers

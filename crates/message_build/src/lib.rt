@@ -1,0 +1,7 @@
+//! Building D-Bus messages. What a builder gives is valid, and is what it was asked for.
+#![tactic(auto)]
+
+mod appending;
+mod error;
+
+pub use error::BuildError;
