@@ -1,14 +1,21 @@
 -- What a builder was asked for (D-Bus Specification, "Message Format").
-use Rattle.std.specs.Prelude.{◌≡◌, ℕ, Bool, false, List, [], ◌∷◌, ◌++◌, length, Option, Some, None}
+use Rattle.std.specs.Prelude.{◌≡◌, ℕ, Bool, true, false, List, [], ◌∷◌, ◌++◌, length, Option, Some, None}
 use Rattle.signature.specs.DataType.{DataType, basic, spellings}
 use Rattle.message_value.specs.declared.order.Order.TheVariants.{Little}
 use Rattle.message_value.specs.Value.{Value, number, text}
 use Rattle.message_value.specs.Spelling.{members_bytes}
 use Rattle.message_view.specs.declared.kind.Kind.{Kind}
 use Rattle.message_view.specs.Message.{Field, Message}
+use Rattle.message_build.specs.declared.given.Given.{Given}
+use Rattle.message_build.specs.declared.given.Given.TheVariants.{Nothing, Arguments, Raw, Spoiled}
+
+-- whether a body was given in a way that no message has
+abbrev pub is_spoiled : Given → Bool
+is_spoiled Spoiled = true
+is_spoiled _ = false
 
 -- The kind, the flags and the serial; the header fields that were set; the signature and the bytes of the body;
--- and whether a body was given in a way that no message has.
+-- and how the body was given.
 pub record Asked : Type 0 where
   pub kind : Kind
   pub flags : ℕ
@@ -22,7 +29,7 @@ pub record Asked : Type 0 where
   pub sender : Option (List ℕ)
   pub signature : List ℕ
   pub body : List ℕ
-  pub spoiled : Bool
+  pub given : Given
 
 abbrev pub text_field : ℕ → ℕ → Option (List ℕ) → List Field
 text_field code type (Some bytes) = record { code = code; type = basic type; value = text bytes } ∷ []
@@ -58,4 +65,4 @@ pub record Asks (a : Asked) (m : Message) : Type 0 where
   pub fields : m.fields ≡ fields_asked a
   pub types : a.signature ≡ spellings m.types
   pub arguments : a.body ≡ members_bytes Little 0 m.types m.arguments
-  pub whole : a.spoiled ≡ false
+  pub whole : is_spoiled a.given ≡ false

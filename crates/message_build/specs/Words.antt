@@ -1,7 +1,147 @@
 -- Words that the contracts of the builder use.
-use Rattle.std.specs.Prelude.{◌≡◌, ℕ, List, ◌++◌, length, take, Result, Ok, Err}
+use Rattle.std.specs.Prelude.{◌≡◌, ◌+◌, ◌<◌, ◌≤◌, ℕ, Bool, true, false, not, ◌&&◌, List, [], ◌∷◌, ◌++◌, length, take, Option, Some, None, is_some, option_map, ◌==◌, nat_lt, Result, Ok, Err}
+use Rattle.std.specs.Borrow.{Bor}
+use Rattle.std.specs.List.{list_all}
+use Rattle.std.specs.Str.{bytes_eq}
+use Rattle.signature.specs.DataType.{DataType, basic}
+use Rattle.signature.specs.Name.{is_path, is_interface, is_member, is_bus_name}
+use Rattle.signature.specs.Trees.{types_of}
+use Rattle.message_value.specs.Value.{Value, number, text}
+use Rattle.message_value.specs.Fits.{max_array_len}
+use Rattle.message_view.specs.declared.kind.Kind.{Kind}
+use Rattle.message_view.specs.declared.kind.Kind.TheVariants as kinds
+use Rattle.message_view.specs.Message.{Field}
+use Rattle.message_view.specs.Spelling.{fixed_len, field_bytes}
+use Rattle.message_value.specs.declared.order.Order.TheVariants.{Little}
+use Rattle.message_view.specs.Header.{kind_byte, kind_of, local_path, local_interface}
+use Rattle.message_build.specs.declared.field.HeaderField.{HeaderField}
+use Rattle.message_build.specs.declared.field.HeaderField.TheVariants.{Path, Interface, Member, ErrorName, ReplySerial, Destination, Sender, Signature}
+use Rattle.message_build.specs.declared.header.Header.{Header}
+use Rattle.message_build.specs.declared.given.Given.{Given}
+use Rattle.message_build.specs.Asked.{Asked, text_field, number_field, signature_field, fields_asked}
 
 -- What a call appended: all of it, or the bytes that were there are still in front.
 abbrev pub Appends : {X E : Type 0} → Result X E → List ℕ → List ℕ → List ℕ → Type 0
 Appends (Ok x) old new added = new ≡ old ++ added
 Appends (Err e) old new added = take (length old) new ≡ old
+
+-- where so many bytes end that begin at a place, or that they are more than an array may have
+abbrev pub Ends : Option ℕ → ℕ → ℕ → Type 0
+Ends (Some end) place len = end ≡ place + len
+Ends None place len = max_array_len < len
+
+-- ---- fields
+
+-- what a text is, where there is one
+abbrev pub said : Option (Bor (List ℕ)) → Option (List ℕ)
+said (Some t) = Some t.now
+said None = None
+
+-- a field as the variant that it is
+abbrev pub field_of : HeaderField → Field
+field_of (Path t) = record { code = 1; type = basic 111; value = text t.now }
+field_of (Interface t) = record { code = 2; type = basic 115; value = text t.now }
+field_of (Member t) = record { code = 3; type = basic 115; value = text t.now }
+field_of (ErrorName t) = record { code = 4; type = basic 115; value = text t.now }
+field_of (ReplySerial n) = record { code = 5; type = basic 117; value = number n }
+field_of (Destination t) = record { code = 6; type = basic 115; value = text t.now }
+field_of (Sender t) = record { code = 7; type = basic 115; value = text t.now }
+field_of (Signature t) = record { code = 8; type = basic 103; value = text t.now }
+
+-- the fields that are there
+abbrev pub fields_of : List (Option HeaderField) → List Field
+fields_of [] = []
+fields_of (None ∷ more) = fields_of more
+fields_of (Some field ∷ more) = field_of field ∷ fields_of more
+
+-- an interface, and not the one that only a connection's own library may use
+abbrev pub is_open_interface : List ℕ → Bool
+is_open_interface bytes = is_interface bytes && not (bytes_eq bytes local_interface)
+
+-- the same of a path
+abbrev pub is_open_path : List ℕ → Bool
+is_open_path bytes = is_path bytes && not (bytes_eq bytes local_path)
+
+-- what a field may hold
+abbrev pub is_allowed : HeaderField → Bool
+is_allowed (Path t) = is_open_path t.now
+is_allowed (Interface t) = is_open_interface t.now
+is_allowed (Member t) = is_member t.now
+is_allowed (ErrorName t) = is_interface t.now
+is_allowed (ReplySerial n) = not (n == 0)
+is_allowed (Destination t) = is_bus_name t.now
+is_allowed (Sender t) = is_bus_name t.now
+is_allowed (Signature t) = is_some (types_of t.now)
+
+-- nothing, or a field that holds what it may
+abbrev pub may_be : Option HeaderField → Bool
+may_be None = true
+may_be (Some field) = is_allowed field
+
+abbrev pub are_allowed : List (Option HeaderField) → Bool
+are_allowed fields = list_all may_be fields
+
+-- the bytes of a field at a place, if there is one
+abbrev pub bytes_at : ℕ → Option HeaderField → List ℕ
+bytes_at place None = []
+bytes_at place (Some field) = field_bytes Little place (field_of field)
+
+-- where so many bytes end that begin at a place, or that the fields would be too long
+abbrev pub EndsWithin : Option ℕ → ℕ → ℕ → Type 0
+EndsWithin (Some end) place len = (end ≡ place + len) × (end ≤ fixed_len + max_array_len)
+EndsWithin None place len = fixed_len + max_array_len < place + len
+
+-- ---- headers
+
+-- what a builder with this header, signature and body was asked for
+abbrev pub asked : Header → List ℕ → List ℕ → Given → Asked
+asked h signature body given = record {
+  kind = h.kind;
+  flags = h.flags;
+  serial = h.serial;
+  path = said h.path;
+  interface = said h.interface;
+  member = said h.member;
+  error_name = said h.error_name;
+  reply_serial = h.reply_serial;
+  destination = said h.destination;
+  sender = said h.sender;
+  signature = signature;
+  body = body;
+  given = given;
+}
+
+-- the fields of a header, and of the signature of a body
+abbrev pub fields_set : Header → List ℕ → List Field
+fields_set h signature =
+    text_field 1 111 (said h.path)
+    ++ (text_field 2 115 (said h.interface)
+    ++ (text_field 3 115 (said h.member)
+    ++ (text_field 4 115 (said h.error_name)
+    ++ (number_field 5 h.reply_serial
+    ++ (text_field 6 115 (said h.destination)
+    ++ (text_field 7 115 (said h.sender)
+    ++ signature_field signature))))))
+
+-- a kind is the one of its byte
+abbrev pub kind_is_own : Kind → Bool
+kind_is_own (kinds.Other byte) = nat_lt 4 byte
+kind_is_own _ = true
+
+-- the fields without which a message of the kind is none
+abbrev pub has_needed_of : Kind → Header → Bool
+has_needed_of kinds.MethodCall h = is_some h.path && is_some h.member
+has_needed_of kinds.MethodReturn h = is_some h.reply_serial
+has_needed_of kinds.Error h = is_some h.error_name && is_some h.reply_serial
+has_needed_of kinds.Signal h = is_some h.path && is_some h.interface && is_some h.member
+has_needed_of (kinds.Other byte) h = true
+
+abbrev pub has_needed : Header → Bool
+has_needed h = has_needed_of h.kind h
+
+abbrev pub is_sound_header : Header → Bool
+is_sound_header h = kind_is_own h.kind && not (h.serial == 0) && has_needed h
+
+-- what fields hold that were set to nothing
+abbrev pub bare_header : Kind → ℕ → ℕ → Header
+bare_header kind flags serial = record { kind = kind; flags = flags; serial = serial; path = None; interface = None; member = None; error_name = None; reply_serial = None; destination = None; sender = None }

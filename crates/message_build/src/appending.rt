@@ -3,7 +3,9 @@
 ghost use Rattle.std.specs.Prelude.{◌≡◌, ◌<◌, ◌≤◌, ◌∷◌, [], length, List, ℕ};
 ghost use Rattle.message_value.specs.declared.order.Order.TheVariants.{Little};
 ghost use Rattle.message_value.specs.Order.{word_bytes};
-ghost use Rattle.message_value.specs.Spelling.{padding, zeros, text_bytes};
+ghost use Rattle.signature.specs.DataType.{basic};
+ghost use Rattle.message_value.specs.Value.{number, text};
+ghost use Rattle.message_value.specs.Spelling.{padding, zeros, text_bytes, value_bytes};
 ghost use Rattle.message_build.specs.Words.{Appends};
 
 use message_value::padding;
@@ -34,6 +36,22 @@ pub(crate) fn push_text(bytes: &mut Vec<u8>, text: &[u8]) -> Result<(), AllocErr
     push_word(bytes, text.len())?;
     bytes.extend_from_slice(text)?;
     bytes.extend_from_slice(&[0])
+}
+
+/// A string or a path as a value, with the zeros before it.
+pub(crate) fn push_string(bytes: &mut Vec<u8>, string: &str) -> Result<(), AllocError>
+    ensures { Appends result bytes.old.items bytes.new.items (value_bytes Little (length bytes.old.items) (basic 115) (text string.now)) }
+{
+    align(bytes, 4)?;
+    push_text(bytes, string.as_bytes())
+}
+
+/// A number of four bytes as a value, with the zeros before it.
+pub(crate) fn push_number(bytes: &mut Vec<u8>, n: u32) -> Result<(), AllocError>
+    ensures { Appends result bytes.old.items bytes.new.items (value_bytes Little (length bytes.old.items) (basic 117) (number n)) }
+{
+    align(bytes, 4)?;
+    push_word(bytes, n as usize)
 }
 
 /// A signature with its length in a byte, and a zero.

@@ -3,5 +3,9 @@
 
 mod appending;
 mod error;
+mod field;
+mod fields;
+mod given;
+mod header;
 
 pub use error::BuildError;

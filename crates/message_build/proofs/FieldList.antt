@@ -1,0 +1,22 @@
+-- Fields one behind the other, field by field.
+use Rattle.std.proofs.Common.{◌≡◌, ℕ, suc, ◌+◌, ◌<◌, ◌≤◌, Bool, true, List, [], ◌∷◌, ◌++◌, length, drop, get_or, Option, Some, None, refl, sym, ap, ◌∙◌, append_assoc, arith, drop-cons}
+use Rattle.std.specs.Prelude.{◌&&◌}
+use Rattle.std.specs.List.{list_all}
+use Rattle.std.proofs.lemmas.Bool.{and_parts}
+use Rattle.std.proofs.lemmas.List.{length-append}
+use Rattle.message_value.specs.declared.order.Order.TheVariants.{Little}
+use Rattle.message_view.specs.Spelling.{fields_bytes, field_bytes}
+use Rattle.message_build.specs.declared.field.HeaderField.{HeaderField}
+use Rattle.message_build.specs.Words.{field_of, fields_of, bytes_at, may_be}
+
+pub first_field : (place : ℕ) (x : Option HeaderField) (more : List (Option HeaderField)) → fields_bytes Little place (fields_of (x ∷ more)) ≡ bytes_at place x ++ fields_bytes Little (place + length (bytes_at place x)) (fields_of more)
+first_field place None more = let same : place ≡ place + 0 = omega arith in ap (λ (k : ℕ). fields_bytes Little k (fields_of more)) same
+first_field place (Some field) more = refl
+
+drop_is : {A : Type 0} (xs : List A) (i : ℕ) (x : A) → i < length xs → x ≡ get_or xs i x → drop i xs ≡ x ∷ drop (i + 1) xs
+drop_is xs i x lt is = ?
+
+-- the fields from one on
+pub field_at : (place i : ℕ) (x : Option HeaderField) (xs : List (Option HeaderField)) → i < length xs → x ≡ get_or xs i x
+    → fields_bytes Little place (fields_of (drop i xs)) ≡ bytes_at place x ++ fields_bytes Little (place + length (bytes_at place x)) (fields_of (drop (i + 1) xs))
+field_at place i x xs lt is = ap (λ (l : List (Option HeaderField)). fields_bytes Little place (fields_of l)) (drop_is xs i x lt is) ∙ first_field place x (drop (i + 1) xs)
