@@ -1,2 +1,5 @@
 pub mod Appended
 pub mod FieldList
+pub mod PlainNames
+pub mod AllowedFields
+pub mod SetFields

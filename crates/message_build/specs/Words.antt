@@ -1,19 +1,22 @@
 -- Words that the contracts of the builder use.
-use Rattle.std.specs.Prelude.{◌≡◌, ◌+◌, ◌<◌, ◌≤◌, ℕ, Bool, true, false, not, ◌&&◌, List, [], ◌∷◌, ◌++◌, length, take, Option, Some, None, is_some, option_map, ◌==◌, nat_lt, Result, Ok, Err}
+use Rattle.std.specs.Prelude.{◌≡◌, ◌+◌, ◌<◌, ◌≤◌, ℕ, Bool, true, false, not, ◌&&◌, List, [], ◌∷◌, ◌++◌, length, take, Option, Some, None, is_some, option_map, ◌==◌, nat_lt, Result, Ok, Err, Vec}
 use Rattle.std.specs.Borrow.{Bor}
 use Rattle.std.specs.List.{list_all}
 use Rattle.std.specs.Str.{bytes_eq}
-use Rattle.signature.specs.DataType.{DataType, basic}
+use Rattle.signature.specs.DataType.{DataTypes, basic, SigText}
 use Rattle.signature.specs.Name.{is_path, is_interface, is_member, is_bus_name}
 use Rattle.signature.specs.Trees.{types_of}
-use Rattle.message_value.specs.Value.{Value, number, text}
-use Rattle.message_value.specs.Fits.{max_array_len}
+use Rattle.message_value.specs.Order.{word_bytes}
+use Rattle.message_value.specs.Value.{Values, number, text}
+use Rattle.message_value.specs.Spelling.{padding, zeros, members_bytes}
+use Rattle.message_value.specs.Fits.{max_array_len, max_levels, MembersFit}
 use Rattle.message_view.specs.declared.kind.Kind.{Kind}
 use Rattle.message_view.specs.declared.kind.Kind.TheVariants as kinds
 use Rattle.message_view.specs.Message.{Field}
-use Rattle.message_view.specs.Spelling.{fixed_len, field_bytes}
+use Rattle.message_view.specs.Spelling.{fixed_len, field_bytes, fields_bytes}
 use Rattle.message_value.specs.declared.order.Order.TheVariants.{Little}
 use Rattle.message_view.specs.Header.{kind_byte, kind_of, local_path, local_interface}
+use Rattle.message_build.specs.declared.error.BuildError.{BuildError}
 use Rattle.message_build.specs.declared.field.HeaderField.{HeaderField}
 use Rattle.message_build.specs.declared.field.HeaderField.TheVariants.{Path, Interface, Member, ErrorName, ReplySerial, Destination, Sender, Signature}
 use Rattle.message_build.specs.declared.header.Header.{Header}
@@ -145,3 +148,32 @@ is_sound_header h = kind_is_own h.kind && not (h.serial == 0) && has_needed h
 -- what fields hold that were set to nothing
 abbrev pub bare_header : Kind → ℕ → ℕ → Header
 bare_header kind flags serial = record { kind = kind; flags = flags; serial = serial; path = None; interface = None; member = None; error_name = None; reply_serial = None; destination = None; sender = None }
+
+-- ---- bodies
+
+-- bytes that are values of a signature's types, at a place that is a multiple of 8
+pub record BodyOf (types : DataTypes) (values : Values) (signature body : List ℕ) : Type 0 where
+  pub typed : SigText types signature
+  pub fit : MembersFit Little max_levels 0 types values
+  pub spelled : body ≡ members_bytes Little 0 types values
+
+abbrev pub IsBody : List ℕ → List ℕ → Type 0
+IsBody signature body = (types : DataTypes) × (values : Values) × BodyOf types values signature body
+
+-- ---- messages
+
+-- the bytes in front of the fields
+abbrev pub fixed_bytes : Header → ℕ → ℕ → List ℕ
+fixed_bytes h fields_len body_len =
+    (108 ∷ kind_byte h.kind ∷ h.flags ∷ 1 ∷ []) ++ (word_bytes Little body_len ++ (word_bytes Little h.serial ++ word_bytes Little fields_len))
+
+-- a message of these fields
+abbrev pub spelled : Header → List Field → List ℕ → List ℕ
+spelled h fields body =
+    let all = fields_bytes Little fixed_len fields in
+    fixed_bytes h (length all) (length body) ++ (all ++ (zeros (padding 8 (length all)) ++ body))
+
+-- the bytes of a result
+abbrev pub listed : {A : Type 0} → Result (Vec ℕ A) BuildError → Result (List ℕ) BuildError
+listed (Ok v) = Ok v.items
+listed (Err e) = Err e
