@@ -7,6 +7,13 @@ pub mod EachTurns
 pub mod ValueSizes
 pub mod ReadValues
 pub mod PlainTexts
+pub mod SignatureTexts
+pub mod SignatureRead
+pub mod ReadShorter
+pub mod ValueSteps
+pub mod ArrayTurns
+pub mod NumberArrays
+pub mod MemberTurns
 pub mod SmallValues
 pub mod FaultOrder
 pub mod MovedValues

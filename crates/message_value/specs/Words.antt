@@ -1,10 +1,18 @@
 -- Words that the contracts of the readers use.
-use Rattle.std.specs.Prelude.{◌≡◌, ℕ, Bool, true, false, List, length, ◌≤◌, Option, Some, None, Result, Ok, Err}
-use Rattle.signature.specs.DataType.{DataType, TypeText}
+use Rattle.std.specs.Prelude.{◌≡◌, ℕ, Bool, true, false, List, length, ◌≤◌, ◌==◌, if◌then◌else◌, Option, Some, None, Result, Ok, Err}
+use Rattle.signature.specs.DataType.{DataType, basic, TypeText}
+use Rattle.signature.specs.BasicType.{basic_alignment}
+use Rattle.message_value.specs.declared.order.Order.{Order}
 use Rattle.message_value.specs.declared.fault.MsgError.{MsgError}
+use Rattle.message_value.specs.declared.fault.MsgError.TheVariants as faults
 use Rattle.message_value.specs.declared.text.TextType.{TextType}
 use Rattle.message_value.specs.declared.text.TextType.TheVariants as texts
-use Rattle.message_value.specs.Reading.{At}
+use Rattle.message_value.specs.declared.basic_form.BasicForm.{BasicForm}
+use Rattle.message_value.specs.declared.basic_form.BasicForm.TheVariants as forms
+use Rattle.message_value.specs.Value.{Value}
+use Rattle.message_value.specs.Spelling.{number_len}
+use Rattle.message_value.specs.Fits.{is_text_code}
+use Rattle.message_value.specs.Reading.{At, ◌>>=◌, aligned_at, text_value_at, number_value_at}
 
 -- What a call returned, and where it then stands, is what reading gives.
 abbrev pub Reads : {X Y : Type 0} → (X → Y) → Result X MsgError → At → Result (Y × At) MsgError → Type 0
@@ -43,3 +51,29 @@ text_code texts.Signature = 103
 abbrev pub LendsText : Bool → List ℕ → Option (List ℕ) → Type 0
 LendsText allowed bytes (Some found) = (allowed ≡ true) × (found ≡ bytes)
 LendsText allowed bytes None = allowed ≡ false
+
+-- the form of the values of a basic type
+abbrev pub IsFormOf : ℕ → BasicForm → Type 0
+IsFormOf code (forms.Text text) = code ≡ text_code text
+IsFormOf code forms.Boolean = code ≡ 98
+IsFormOf code (forms.Number len) = (is_text_code code ≡ false) × ((code == 98) ≡ false) × (number_len code ≡ len)
+
+-- a value of a basic type, with the zeros before it
+unfoldable pub basic_at : Order → ℕ → At → Result (Value × At) MsgError
+basic_at order code at =
+    aligned_at (basic_alignment code) at >>= λ start. if is_text_code code then text_value_at order code start else number_value_at order code start
+
+-- What a call returned is whether reading what is read again and again is Ok, and its fault.
+abbrev pub ChecksAll : {X Y : Type 0} → Result X MsgError → Result (List Y) MsgError → Type 0
+ChecksAll (Ok x) read = (found : _) × (read ≡ Ok found)
+ChecksAll (Err fault) read = read ≡ Err fault
+
+-- the values of a type have so many bytes, any of which are a value
+abbrev pub AreNumbers : ℕ → DataType → Type 0
+AreNumbers len (basic code) = (is_text_code code ≡ false) × ((code == 98) ≡ false) × (number_len code ≡ len)
+AreNumbers len _ = ⊥
+
+-- an array's length is a multiple, or a fault
+abbrev pub Divides : {X : Type 0} → Bool → Result X MsgError → Type 0
+Divides multiple (Ok x) = multiple ≡ true
+Divides multiple (Err fault) = (multiple ≡ false) × (fault ≡ faults.ArrayLength)

@@ -2,13 +2,17 @@
 
 ghost use Rattle.std.specs.Prelude.{◌≡◌, ◌+◌, ◌<◌, ◌≤◌, ◌==◌, length, IfOk};
 ghost use Rattle.std.specs.List.{list_all};
-ghost use Rattle.message_value.specs.Reading.{At, item_at, aligned_at, byte_at, word_at};
+ghost use Rattle.message_value.specs.Reading.{At, item_at, aligned_at, byte_at, word_at, signature_at, extent_at};
 ghost use Rattle.message_value.specs.Spelling.{padding};
-ghost use Rattle.message_value.specs.Words.{Reads, Skips};
+ghost use Rattle.message_value.specs.Words.{Reads, Skips, ReadsType};
 
 use crate::fault::MsgError;
 use crate::order::Order;
+use signature::OneType;
 use std::marker::Model;
+
+/// An array has at most 64 MiB.
+const MAX_ARRAY_LEN: u32 = 67108864;
 
 /// A place of the message, and the bytes that the innermost array has from there on, or the body where no
 /// array holds the place.
@@ -65,6 +69,13 @@ impl<'a> Cursor<'a> {
         self.place
     }
 
+    /// How many bytes are left.
+    pub(crate) fn len(&self) -> usize
+        ensures { result ≡ length self.now.rest }
+    {
+        self.rest.len()
+    }
+
     /// Whether no byte is left.
     pub fn is_empty(&self) -> bool
         ensures { result ≡ (length self.now.rest == 0) }
@@ -117,5 +128,35 @@ impl<'a> Cursor<'a> {
     {
         let item = self.item(4)?;
         Ok(order.word([item[0], item[1], item[2], item[3]]))
+    }
+
+    /// The signature of a variant, which is one complete type.
+    #[tactic(auto, unfolding(crate::specs::Reading::signature_at))]
+    pub fn signature(&mut self) -> Result<OneType<'a>, MsgError>
+        ensures { ReadsType result self.new (signature_at self.old) }
+    {
+        let len = usize::from(self.byte()?);
+        let item = self.item(len + 1)?;
+        let value_type = OneType::read(&item[..len]).ok_or(MsgError::BadSignature)?;
+        if item[len] != 0 {
+            return Err(MsgError::BadText);
+        }
+        Ok(value_type)
+    }
+
+    /// The length of an array, and then the extent of its elements.
+    #[tactic(auto, unfolding(crate::specs::Reading::extent_at))]
+    pub(crate) fn extent(&mut self, order: Order, alignment: usize) -> Result<Cursor<'a>, MsgError>
+        requires { 0 < alignment }
+        ensures { Reads (λ inner. inner) result self.new (extent_at order alignment self.old) }
+    {
+        let len = self.word(order)?;
+        if len > MAX_ARRAY_LEN {
+            return Err(MsgError::ArrayLength);
+        }
+        self.align(alignment)?;
+        let place = self.place;
+        let elements = self.item(len as usize)?;
+        Ok(Cursor::new(place, elements, MsgError::ArrayLength))
     }
 }

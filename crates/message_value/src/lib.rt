@@ -2,12 +2,16 @@
 //! bytes spell it, and that the first fault is named otherwise.
 #![tactic(auto)]
 
+mod basic_form;
 mod cursor;
 mod fault;
+mod fixed_len;
 mod order;
 mod text;
+mod value;
 
 pub use cursor::{Cursor, are_zeros, padding};
 pub use fault::MsgError;
 pub use order::Order;
 pub use text::TextType;
+pub use value::{check_members, check_value};

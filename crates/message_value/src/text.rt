@@ -50,9 +50,10 @@ fn path_text(bytes: &[u8]) -> Option<&str>
 fn signature_text(bytes: &[u8]) -> Option<&str>
     ensures { LendsText (is_text_of 103 bytes.now) bytes.now (option_map (λ text. text.now) result) }
 {
-    match Signature::read(bytes) {
+    match std::str::from_utf8(bytes) {
         Err(_) => None,
-        Ok(_) => std::str::from_utf8(bytes).ok(),
+        Ok(text) if Signature::read(bytes).is_ok() => Some(text),
+        Ok(_) => None,
     }
 }
 

@@ -1,0 +1,35 @@
+// Arrays of numbers that need no look.
+
+ghost use Rattle.std.specs.Prelude.{◌%◌, ◌<◌, ◌==◌, length, IfSome};
+ghost use Rattle.signature.specs.DataType.{DataType, TypeText};
+ghost use Rattle.message_value.specs.Words.{AreNumbers, Divides};
+
+use crate::basic_form::BasicForm;
+use crate::cursor::Cursor;
+use crate::fault::MsgError;
+use signature::{OneType, Parts};
+
+/// How many bytes each value of a type has, where any of these are a value.
+pub(crate) fn fixed_len(value_type: &OneType<'_>) -> Option<usize>
+    ensures { IfSome result (λ len. (type : DataType) → TypeText type value_type.now → AreNumbers len type) }
+{
+    match value_type.parts() {
+        Parts::Basic(basic) => match BasicForm::of(basic) {
+            BasicForm::Number(len) => Some(len),
+            BasicForm::Text(_) | BasicForm::Boolean => None,
+        },
+        Parts::Variant | Parts::Array(_) | Parts::Dict(_, _) | Parts::Struct(_) => None,
+    }
+}
+
+/// The elements of an array, each of so many bytes.
+pub(crate) fn check_fixed(inner: &Cursor<'_>, len: usize) -> Result<(), MsgError>
+    requires { 0 < len }
+    ensures { Divides (length inner.now.rest % len == 0) result }
+{
+    if inner.len() % len == 0 {
+        Ok(())
+    } else {
+        Err(MsgError::ArrayLength)
+    }
+}
