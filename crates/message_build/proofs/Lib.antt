@@ -3,3 +3,4 @@ pub mod FieldList
 pub mod PlainNames
 pub mod AllowedFields
 pub mod SetFields
+pub mod MessageLaws

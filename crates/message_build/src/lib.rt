@@ -2,10 +2,12 @@
 #![tactic(auto)]
 
 mod appending;
+mod body;
 mod error;
 mod field;
 mod fields;
 mod given;
 mod header;
+mod message;
 
 pub use error::BuildError;
