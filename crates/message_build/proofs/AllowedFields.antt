@@ -19,7 +19,7 @@ use Rattle.message_view.specs.Spelling.{field_front, field_value_place, field_by
 use Rattle.message_view.specs.Valid.{IsField, IsOnce, AreFields}
 use Rattle.message_build.specs.declared.field.HeaderField.{HeaderField}
 use Rattle.message_build.specs.declared.field.HeaderField.TheVariants.{Path, Interface, Member, ErrorName, ReplySerial, Destination, Sender, Signature}
-use Rattle.message_build.specs.Words.{field_of, fields_of, is_allowed, may_be, is_open_path, is_open_interface}
+use Rattle.message_build.specs.Words.{field_of, fields_of, is_allowed, may_be, is_open_path, is_open_interface, Holds, HoldEach}
 use Rattle.message_build.proofs.PlainNames.{interface_string, member_string, bus_name_string}
 
 -- ---- lengths
@@ -68,11 +68,6 @@ one_number = (record { spelled = refl; fits = refl }, omega arith)
 one_signature : IsOneType (basic 103)
 one_signature = (record { spelled = refl; fits = refl }, omega arith)
 
--- a number fits
-abbrev Holds : HeaderField → Type 0
-Holds (ReplySerial n) = n < 2 ^ 32
-Holds _ = Unit {0}
-
 field_is : (place : ℕ) (f : HeaderField) → Holds f → is_allowed f ≡ true → length (field_bytes Little place (field_of f)) < 2 ^ 32 → IsField Little place (field_of f)
 field_is place (Path t) holds e short =
     let parts = and_parts (is_path t.now) (not (bytes_eq t.now local_path)) e in
@@ -109,11 +104,6 @@ field_was place (Sender t) is = is.allowed.1.0
 field_was place (Signature t) is = is.shaped.0
 
 -- ---- all of them
-
-abbrev pub HoldEach : List (Option HeaderField) → Type 0
-HoldEach [] = Unit {0}
-HoldEach (None ∷ more) = HoldEach more
-HoldEach (Some f ∷ more) = Holds f × HoldEach more
 
 -- no known one comes twice
 abbrev pub AreOnce : List Field → Type 0

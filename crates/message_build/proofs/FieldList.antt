@@ -7,7 +7,7 @@ use Rattle.std.proofs.lemmas.List.{length-append}
 use Rattle.message_value.specs.declared.order.Order.TheVariants.{Little}
 use Rattle.message_view.specs.Spelling.{fields_bytes, field_bytes}
 use Rattle.message_build.specs.declared.field.HeaderField.{HeaderField}
-use Rattle.message_build.specs.Words.{field_of, fields_of, bytes_at, may_be}
+use Rattle.message_build.specs.Words.{field_of, fields_of, bytes_at, may_be, HoldEach}
 
 pub first_field : (place : ℕ) (x : Option HeaderField) (more : List (Option HeaderField)) → fields_bytes Little place (fields_of (x ∷ more)) ≡ bytes_at place x ++ fields_bytes Little (place + length (bytes_at place x)) (fields_of more)
 first_field place None more = let same : place ≡ place + 0 = omega arith in ap (λ (k : ℕ). fields_bytes Little k (fields_of more)) same
@@ -44,3 +44,7 @@ left_at whole old new i x xs lt is e added =
 pub allowed_at : (i : ℕ) (x : Option HeaderField) (xs : List (Option HeaderField)) → i < length xs → x ≡ get_or xs i x
     → list_all may_be (drop i xs) ≡ true → (may_be x ≡ true) × (list_all may_be (drop (i + 1) xs) ≡ true)
 allowed_at i x xs lt is e = and_parts (may_be x) (list_all may_be (drop (i + 1) xs)) (sym (ap (λ (l : List (Option HeaderField)). list_all may_be l) (drop_is xs i x lt is)) ∙ e)
+
+pub hold_more : (x : Option HeaderField) (more : List (Option HeaderField)) → HoldEach (x ∷ []) → HoldEach more → HoldEach (x ∷ more)
+hold_more None more has others = others
+hold_more (Some field) more has others = (has.0, others)

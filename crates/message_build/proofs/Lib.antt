@@ -4,3 +4,4 @@ pub mod PlainNames
 pub mod AllowedFields
 pub mod SetFields
 pub mod MessageLaws
+pub mod BodyLaws

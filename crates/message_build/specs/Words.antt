@@ -1,5 +1,5 @@
 -- Words that the contracts of the builder use.
-use Rattle.std.specs.Prelude.{◌≡◌, ◌+◌, ◌<◌, ◌≤◌, ℕ, Bool, true, false, not, ◌&&◌, List, [], ◌∷◌, ◌++◌, length, take, Option, Some, None, is_some, option_map, ◌==◌, nat_lt, Result, Ok, Err, Vec}
+use Rattle.std.specs.Prelude.{◌≡◌, ◌+◌, ◌<◌, ◌≤◌, ◌^◌, ℕ, Bool, true, false, not, ◌&&◌, List, [], ◌∷◌, ◌++◌, length, take, Option, Some, None, is_some, option_map, ◌==◌, nat_lt, Result, Ok, Err, Vec}
 use Rattle.std.specs.Borrow.{Bor}
 use Rattle.std.specs.List.{list_all}
 use Rattle.std.specs.Str.{bytes_eq}
@@ -84,6 +84,16 @@ may_be (Some field) = is_allowed field
 abbrev pub are_allowed : List (Option HeaderField) → Bool
 are_allowed fields = list_all may_be fields
 
+-- a number fits
+abbrev pub Holds : HeaderField → Type 0
+Holds (ReplySerial n) = n < 2 ^ 32
+Holds _ = Unit {0}
+
+abbrev pub HoldEach : List (Option HeaderField) → Type 0
+HoldEach [] = Unit {0}
+HoldEach (None ∷ more) = HoldEach more
+HoldEach (Some field ∷ more) = Holds field × HoldEach more
+
 -- the bytes of a field at a place, if there is one
 abbrev pub bytes_at : ℕ → Option HeaderField → List ℕ
 bytes_at place None = []
@@ -141,6 +151,12 @@ has_needed_of (kinds.Other byte) h = true
 
 abbrev pub has_needed : Header → Bool
 has_needed h = has_needed_of h.kind h
+
+-- the numbers of a header fit
+pub record InRange (h : Header) : Type 0 where
+  pub kind : kind_byte h.kind < 256
+  pub flags : h.flags < 256
+  pub serial : h.serial < 2 ^ 32
 
 abbrev pub is_sound_header : Header → Bool
 is_sound_header h = kind_is_own h.kind && not (h.serial == 0) && has_needed h

@@ -1,8 +1,9 @@
 // The header of a message that is built.
 
-ghost use Rattle.std.specs.Prelude.{◌≡◌, ℕ, List, ◌∷◌, []};
+ghost use Rattle.std.specs.Prelude.{◌≡◌, ◌<◌, ℕ, List, ◌∷◌, []};
+ghost use Rattle.message_view.specs.Header.{kind_byte};
 ghost use Rattle.message_build.specs.Asked.{text_field, number_field, signature_field};
-ghost use Rattle.message_build.specs.Words.{bare_header, fields_of, fields_set, said, has_needed, is_sound_header, kind_is_own};
+ghost use Rattle.message_build.specs.Words.{HoldEach, InRange, bare_header, fields_of, fields_set, said, has_needed, is_sound_header, kind_is_own};
 
 use crate::field::HeaderField;
 use message_view::Kind;
@@ -27,7 +28,8 @@ pub(crate) struct Header<'a> {
 
 /// The signature of a body; an empty one is left out.
 fn signature_field(signature: &[u8]) -> Option<HeaderField<'_>>
-    ensures { fields_of (result ∷ []) ≡ signature_field signature.now }
+    ensures field { fields_of (result ∷ []) ≡ signature_field signature.now }
+    ensures holds { HoldEach (result ∷ []) }
 {
     if signature.is_empty() {
         None
@@ -56,50 +58,58 @@ impl<'a> Header<'a> {
     }
 
     fn path_field(&self) -> Option<HeaderField<'a>>
-        ensures { fields_of (result ∷ []) ≡ text_field 1 111 (said self.now.path) }
+        ensures field { fields_of (result ∷ []) ≡ text_field 1 111 (said self.now.path) }
+        ensures holds { HoldEach (result ∷ []) }
     {
         Some(HeaderField::Path(self.path?))
     }
 
     fn interface_field(&self) -> Option<HeaderField<'a>>
-        ensures { fields_of (result ∷ []) ≡ text_field 2 115 (said self.now.interface) }
+        ensures field { fields_of (result ∷ []) ≡ text_field 2 115 (said self.now.interface) }
+        ensures holds { HoldEach (result ∷ []) }
     {
         Some(HeaderField::Interface(self.interface?))
     }
 
     fn member_field(&self) -> Option<HeaderField<'a>>
-        ensures { fields_of (result ∷ []) ≡ text_field 3 115 (said self.now.member) }
+        ensures field { fields_of (result ∷ []) ≡ text_field 3 115 (said self.now.member) }
+        ensures holds { HoldEach (result ∷ []) }
     {
         Some(HeaderField::Member(self.member?))
     }
 
     fn error_name_field(&self) -> Option<HeaderField<'a>>
-        ensures { fields_of (result ∷ []) ≡ text_field 4 115 (said self.now.error_name) }
+        ensures field { fields_of (result ∷ []) ≡ text_field 4 115 (said self.now.error_name) }
+        ensures holds { HoldEach (result ∷ []) }
     {
         Some(HeaderField::ErrorName(self.error_name?))
     }
 
     fn reply_serial_field(&self) -> Option<HeaderField<'a>>
-        ensures { fields_of (result ∷ []) ≡ number_field 5 self.now.reply_serial }
+        ensures field { fields_of (result ∷ []) ≡ number_field 5 self.now.reply_serial }
+        ensures holds { HoldEach (result ∷ []) }
     {
         Some(HeaderField::ReplySerial(self.reply_serial?))
     }
 
     fn destination_field(&self) -> Option<HeaderField<'a>>
-        ensures { fields_of (result ∷ []) ≡ text_field 6 115 (said self.now.destination) }
+        ensures field { fields_of (result ∷ []) ≡ text_field 6 115 (said self.now.destination) }
+        ensures holds { HoldEach (result ∷ []) }
     {
         Some(HeaderField::Destination(self.destination?))
     }
 
     fn sender_field(&self) -> Option<HeaderField<'a>>
-        ensures { fields_of (result ∷ []) ≡ text_field 7 115 (said self.now.sender) }
+        ensures field { fields_of (result ∷ []) ≡ text_field 7 115 (said self.now.sender) }
+        ensures holds { HoldEach (result ∷ []) }
     {
         Some(HeaderField::Sender(self.sender?))
     }
 
     /// The fields by rising code, with the body's signature last.
     pub(crate) fn fields<'b>(&'b self, signature: &'b [u8]) -> [Option<HeaderField<'b>>; FIELDS]
-        ensures { fields_of result ≡ fields_set self.now signature.now }
+        ensures fields { fields_of result ≡ fields_set self.now signature.now }
+        ensures hold { HoldEach result }
     {
         [
             self.path_field(),
@@ -128,7 +138,8 @@ impl<'a> Header<'a> {
 
     /// Whether the kind is the one of its byte.
     fn has_kind(&self) -> bool
-        ensures { result ≡ kind_is_own self.now.kind }
+        ensures own { result ≡ kind_is_own self.now.kind }
+        ensures fits { kind_byte self.now.kind < 256 }
     {
         match self.kind {
             Kind::Other(byte) => byte > 4,
@@ -138,8 +149,10 @@ impl<'a> Header<'a> {
 
     /// Whether a message may have this kind, this serial and, but for what the fields hold, these fields.
     pub(crate) fn is_sound(&self) -> bool
-        ensures { result ≡ is_sound_header self.now }
+        ensures sound { result ≡ is_sound_header self.now }
+        ensures in_range { InRange self.now }
     {
-        self.has_kind() && self.serial != 0 && self.has_required()
+        let (_flags, serial) = (self.flags, self.serial);
+        self.has_kind() && serial != 0 && self.has_required()
     }
 }

@@ -69,7 +69,13 @@ pub(crate) fn built(
     ensures { Finishes (asked header.now signature.now body.now given) (listed result) }
 {
     let fields = header.fields(signature);
-    if given.is_spoiled() || !header.is_sound() || !are_allowed(&fields) {
+    if given.is_spoiled() {
+        return Err(BuildError::Invalid);
+    }
+    if !header.is_sound() {
+        return Err(BuildError::Invalid);
+    }
+    if !are_allowed(&fields) {
         return Err(BuildError::Invalid);
     }
     let Some(end) = fields_end(&fields) else {
