@@ -121,10 +121,10 @@ fields_refused h s body given xs is e m bytes asks valid =
     absurd cc
 
 pub body_refused : (h : Header) (s body : List ℕ) (given : Given) → (IsBody s body → ⊥) → Refuses h s body given
-body_refused h s body given no m bytes asks valid =
+body_refused h s body given refute m bytes asks valid =
     let v = the_valid h s body given m bytes asks valid in
     let len = length (fields_bytes Little fixed_len (fields_set h s)) in
-    no (m.types, m.arguments, record {
+    refute (m.types, m.arguments, record {
       typed = subst (λ (t : List ℕ). SigText m.types t) (signature_set h s) v.types;
       fit = members_fit_moved Little max_levels (body_place len) 0 (body_alike len) m.types m.arguments v.arguments;
       spelled = asks.arguments;

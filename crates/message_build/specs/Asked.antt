@@ -31,6 +31,16 @@ pub record Asked : Type 0 where
   pub body : List ℕ
   pub given : Given
 
+-- whether arguments may follow
+abbrev pub takes_arguments : Given → Bool
+takes_arguments Nothing = true
+takes_arguments Arguments = true
+takes_arguments _ = false
+
+abbrev pub is_nothing : Given → Bool
+is_nothing Nothing = true
+is_nothing _ = false
+
 abbrev pub text_field : ℕ → ℕ → Option (List ℕ) → List Field
 text_field code type (Some bytes) = record { code = code; type = basic type; value = text bytes } ∷ []
 text_field code type None = []
@@ -66,3 +76,21 @@ pub record Asks (a : Asked) (m : Message) : Type 0 where
   pub types : a.signature ≡ spellings m.types
   pub arguments : a.body ≡ members_bytes Little 0 m.types m.arguments
   pub whole : is_spoiled a.given ≡ false
+
+-- no fields and no body
+abbrev pub nothing_asked : Kind → ℕ → ℕ → Asked
+nothing_asked kind flags serial = record {
+  kind = kind;
+  flags = flags;
+  serial = serial;
+  path = None;
+  interface = None;
+  member = None;
+  error_name = None;
+  reply_serial = None;
+  destination = None;
+  sender = None;
+  signature = [];
+  body = [];
+  given = Nothing;
+}

@@ -1,14 +1,14 @@
 -- Words that the contracts of the builder use.
-use Rattle.std.specs.Prelude.{◌≡◌, ◌+◌, ◌<◌, ◌≤◌, ◌^◌, ℕ, Bool, true, false, not, ◌&&◌, List, [], ◌∷◌, ◌++◌, length, take, Option, Some, None, is_some, option_map, ◌==◌, nat_lt, Result, Ok, Err, Vec}
+use Rattle.std.specs.Prelude.{◌≡◌, ◌+◌, ◌<◌, ◌≤◌, ◌^◌, ℕ, Bool, true, false, not, ◌&&◌, List, [], ◌∷◌, ◌++◌, length, take, Option, Some, None, is_some, option_map, ◌==◌, nat_lt, Result, Ok, Err, Vec, if◌then◌else◌}
 use Rattle.std.specs.Borrow.{Bor}
 use Rattle.std.specs.List.{list_all}
 use Rattle.std.specs.Str.{bytes_eq}
-use Rattle.signature.specs.DataType.{DataTypes, basic, SigText}
+use Rattle.signature.specs.DataType.{DataType, DataTypes, basic, spelling, SigText}
 use Rattle.signature.specs.Name.{is_path, is_interface, is_member, is_bus_name}
 use Rattle.signature.specs.Trees.{types_of}
 use Rattle.message_value.specs.Order.{word_bytes}
-use Rattle.message_value.specs.Value.{Values, number, text}
-use Rattle.message_value.specs.Spelling.{padding, zeros, members_bytes}
+use Rattle.message_value.specs.Value.{Value, Values, number, text}
+use Rattle.message_value.specs.Spelling.{padding, zeros, value_bytes, members_bytes}
 use Rattle.message_value.specs.Fits.{max_array_len, max_levels, MembersFit}
 use Rattle.message_view.specs.declared.kind.Kind.{Kind}
 use Rattle.message_view.specs.declared.kind.Kind.TheVariants as kinds
@@ -17,11 +17,13 @@ use Rattle.message_view.specs.Spelling.{fixed_len, field_bytes, fields_bytes}
 use Rattle.message_value.specs.declared.order.Order.TheVariants.{Little}
 use Rattle.message_view.specs.Header.{kind_byte, kind_of, local_path, local_interface}
 use Rattle.message_build.specs.declared.error.BuildError.{BuildError}
+use Rattle.message_build.specs.declared.error.BuildError.TheVariants.{NoMemory}
 use Rattle.message_build.specs.declared.field.HeaderField.{HeaderField}
 use Rattle.message_build.specs.declared.field.HeaderField.TheVariants.{Path, Interface, Member, ErrorName, ReplySerial, Destination, Sender, Signature}
 use Rattle.message_build.specs.declared.header.Header.{Header}
 use Rattle.message_build.specs.declared.given.Given.{Given}
-use Rattle.message_build.specs.Asked.{Asked, text_field, number_field, signature_field, fields_asked}
+use Rattle.message_build.specs.declared.given.Given.TheVariants.{Nothing, Arguments, Raw, Spoiled}
+use Rattle.message_build.specs.Asked.{Asked, takes_arguments, is_nothing, text_field, number_field, signature_field, fields_asked}
 
 -- What a call appended: all of it, or the bytes that were there are still in front.
 abbrev pub Appends : {X E : Type 0} → Result X E → List ℕ → List ℕ → List ℕ → Type 0
@@ -193,3 +195,30 @@ spelled h fields body =
 abbrev pub listed : {A : Type 0} → Result (Vec ℕ A) BuildError → Result (List ℕ) BuildError
 listed (Ok v) = Ok v.items
 listed (Err e) = Err e
+
+-- ---- arguments
+
+-- The argument behind the others; behind a whole body there is no place for it.
+abbrev pub with_argument : Asked → DataType → Value → Asked
+with_argument a type value =
+    if takes_arguments a.given
+    then record a { signature = a.signature ++ spelling type; body = a.body ++ value_bytes Little (length a.body) type value; given = Arguments }
+    else record a { given = Spoiled }
+
+-- A whole body, before which nothing was given.
+abbrev pub with_raw : Asked → List ℕ → List ℕ → Asked
+with_raw a signature body =
+    if is_nothing a.given
+    then record a { signature = a.signature ++ signature; body = a.body ++ body; given = Raw }
+    else record a { given = Spoiled }
+
+-- a call did this, or memory ran out and nothing changed
+abbrev pub Adds : {X : Type 0} → Result X BuildError → Asked → Asked → Asked → Type 0
+Adds (Ok x) old new next = new ≡ next
+Adds (Err e) old new next = (e ≡ NoMemory) × (new ≡ old)
+
+-- what completes a list, or cuts another one back
+abbrev pub Completes : {X Y E : Type 0} → Result X E → Result Y E → List ℕ → List ℕ → ℕ → List ℕ → List ℕ → List ℕ → Type 0
+Completes (Ok x) (Ok y) grown cut len list new more = (cut ≡ grown) × (new ≡ list ++ more)
+Completes (Err e) (Ok y) grown cut len list new more = ⊥
+Completes pushed (Err e) grown cut len list new more = (cut ≡ take len grown) × (new ≡ list)

@@ -39,11 +39,11 @@ pub(crate) fn push_text(bytes: &mut Vec<u8>, text: &[u8]) -> Result<(), AllocErr
 }
 
 /// A string or a path as a value, with the zeros before it.
-pub(crate) fn push_string(bytes: &mut Vec<u8>, string: &str) -> Result<(), AllocError>
+pub(crate) fn push_string(bytes: &mut Vec<u8>, string: &[u8]) -> Result<(), AllocError>
     ensures { Appends result bytes.old.items bytes.new.items (value_bytes Little (length bytes.old.items) (basic 115) (text string.now)) }
 {
     align(bytes, 4)?;
-    push_text(bytes, string.as_bytes())
+    push_text(bytes, string)
 }
 
 /// A number of four bytes as a value, with the zeros before it.

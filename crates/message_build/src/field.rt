@@ -132,7 +132,7 @@ impl HeaderField<'_> {
             | HeaderField::Member(text)
             | HeaderField::ErrorName(text)
             | HeaderField::Destination(text)
-            | HeaderField::Sender(text) => push_string(bytes, text),
+            | HeaderField::Sender(text) => push_string(bytes, text.as_bytes()),
         }
     }
 

@@ -2,7 +2,9 @@
 #![tactic(auto)]
 
 mod appending;
+mod arguments;
 mod body;
+mod builder;
 mod error;
 mod field;
 mod fields;
@@ -10,4 +12,5 @@ mod given;
 mod header;
 mod message;
 
+pub use builder::Builder;
 pub use error::BuildError;

@@ -7,4 +7,4 @@ use Rattle.message_build.proofs.appending.push_string.Goals as goal
 pub returns : goal.returns
 returns c =
     let old = c.args.bytes.now.items in
-    appends_then c.push_text.result old c.align.new.bytes.items c.push_text.new.bytes.items (zeros (padding 4 (length old))) (text_bytes Little 115 c.args.string.now) c.in_ok-align.ensures (rw c.as_bytes.ensures.value at c.push_text.ensures)
+    appends_then c.push_text.result old c.align.new.bytes.items c.push_text.new.bytes.items (zeros (padding 4 (length old))) (text_bytes Little 115 c.args.string.now) c.in_ok-align.ensures c.push_text.ensures
