@@ -5,3 +5,4 @@ pub mod AllowedFields
 pub mod SetFields
 pub mod MessageLaws
 pub mod BodyLaws
+pub mod FourBytes

@@ -7,7 +7,7 @@ use Rattle.signature.specs.DataType.{DataType, DataTypes, basic, spelling, SigTe
 use Rattle.signature.specs.Name.{is_path, is_interface, is_member, is_bus_name}
 use Rattle.signature.specs.Trees.{types_of}
 use Rattle.message_value.specs.Order.{word_bytes}
-use Rattle.message_value.specs.Value.{Value, Values, number, text}
+use Rattle.message_value.specs.Value.{Value, Values, number, text, no_values, one_value}
 use Rattle.message_value.specs.Spelling.{padding, zeros, value_bytes, members_bytes}
 use Rattle.message_value.specs.Fits.{max_array_len, max_levels, MembersFit}
 use Rattle.message_view.specs.declared.kind.Kind.{Kind}
@@ -222,3 +222,8 @@ abbrev pub Completes : {X Y E : Type 0} → Result X E → Result Y E → List �
 Completes (Ok x) (Ok y) grown cut len list new more = (cut ≡ grown) × (new ≡ list ++ more)
 Completes (Err e) (Ok y) grown cut len list new more = ⊥
 Completes pushed (Err e) grown cut len list new more = (cut ≡ take len grown) × (new ≡ list)
+
+-- strings as the elements of an array
+abbrev pub string_values : List (Bor (List ℕ)) → Values
+string_values [] = no_values
+string_values (string ∷ more) = one_value (text string.now) (string_values more)

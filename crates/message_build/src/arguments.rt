@@ -9,6 +9,7 @@ use crate::appending::{push_number, push_string};
 use crate::builder::Builder;
 use crate::error::BuildError;
 use crate::given::Given;
+use crate::strings::push_strings;
 use std::alloc::AllocError;
 
 /// Appends to one list once another has grown; where either is refused, that one is cut back.
@@ -35,7 +36,7 @@ impl<'a> Builder<'a> {
     ghost use Rattle.std.specs.Prelude.{◌≡◌, if◌then◌else◌};
     ghost use Rattle.signature.specs.DataType.{basic, array};
     ghost use Rattle.message_value.specs.Value.{text, number, elements};
-    ghost use Rattle.message_build.specs.Words.{Adds, with_argument, with_raw};
+    ghost use Rattle.message_build.specs.Words.{Adds, with_argument, with_raw, string_values};
 
     /// Adds a string.
     ///
@@ -91,6 +92,25 @@ impl<'a> Builder<'a> {
         let bits = if b { 1 } else { 0 };
         let pushed = push_number(&mut self.body, bits);
         complete(pushed, &mut self.body, len, &mut self.signature, b"b")?;
+        self.given = Given::Arguments;
+        Ok(())
+    }
+
+    /// Adds an array of strings.
+    ///
+    /// # Errors
+    ///
+    /// `NoMemory`, and then nothing is added.
+    pub fn arg_strs(&mut self, strings: &[&str]) -> Result<(), BuildError>
+        ensures { Adds result self.old self.new (with_argument self.old (array (basic 115)) (elements (string_values strings.now))) }
+    {
+        if !self.given.takes_arguments() {
+            self.given = Given::Spoiled;
+            return Ok(());
+        }
+        let len = self.body.len();
+        let pushed = push_strings(&mut self.body, strings);
+        complete(pushed, &mut self.body, len, &mut self.signature, b"as")?;
         self.given = Given::Arguments;
         Ok(())
     }

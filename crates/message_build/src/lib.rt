@@ -11,6 +11,7 @@ mod fields;
 mod given;
 mod header;
 mod message;
+mod strings;
 
 pub use builder::Builder;
 pub use error::BuildError;
