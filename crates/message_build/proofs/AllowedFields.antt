@@ -1,5 +1,5 @@
 -- Fields that hold what they may are fields of a valid message, and the other way round.
-use Rattle.std.proofs.Common.{◌≡◌, ℕ, ◌+◌, ◌<◌, ◌≤◌, ◌^◌, Bool, true, false, cond, eqb, lit<, List, [], ◌∷◌, ◌++◌, length, Option, Some, None, refl, sym, ap, arith}
+use Rattle.std.proofs.Common.{◌≡◌, ℕ, ◌+◌, ◌<◌, ◌≤◌, ◌^◌, Bool, true, false, cond, eqb, lit<, List, [], ◌∷◌, ◌++◌, length, Option, Some, None, refl, arith}
 use Rattle.std.specs.Prelude.{◌&&◌, not}
 use Rattle.std.specs.List.{list_all}
 use Rattle.std.specs.Str.{bytes_eq}
@@ -7,19 +7,19 @@ use Rattle.std.proofs.lemmas.Bool.{and_parts}
 use Rattle.std.proofs.lemmas.List.{length-append}
 use Rattle.signature.specs.DataType.{basic}
 use Rattle.signature.specs.Alignment.{alignment_of}
-use Rattle.signature.specs.Name.{is_path, is_interface, is_member, is_bus_name}
+use Rattle.signature.specs.Name.{is_path, is_interface}
 use Rattle.message_value.specs.declared.order.Order.TheVariants.{Little}
-use Rattle.message_value.specs.Value.{number, text}
+use Rattle.message_value.specs.Value.{text}
 use Rattle.message_value.specs.Order.{word_bytes}
-use Rattle.message_value.specs.Spelling.{padding, aligned, zeros, text_bytes, value_bytes}
+use Rattle.message_value.specs.Spelling.{padding, zeros, text_bytes}
 use Rattle.message_value.specs.Fits.{IsOneType}
 use Rattle.message_view.specs.Header.{code_of, local_path, local_interface}
-use Rattle.message_view.specs.Message.{Field, field_with}
+use Rattle.message_view.specs.Message.{Field}
 use Rattle.message_view.specs.Spelling.{field_front, field_value_place, field_bytes, fields_bytes}
 use Rattle.message_view.specs.Valid.{IsField, IsOnce, AreFields}
 use Rattle.message_build.specs.declared.field.HeaderField.{HeaderField}
 use Rattle.message_build.specs.declared.field.HeaderField.TheVariants.{Path, Interface, Member, ErrorName, ReplySerial, Destination, Sender, Signature}
-use Rattle.message_build.specs.Words.{field_of, fields_of, is_allowed, may_be, is_open_path, is_open_interface, Holds, HoldEach}
+use Rattle.message_build.specs.Words.{field_of, fields_of, is_allowed, may_be, Holds, HoldEach}
 use Rattle.message_build.proofs.PlainNames.{interface_string, member_string, bus_name_string}
 
 -- ---- lengths

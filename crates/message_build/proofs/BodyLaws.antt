@@ -1,5 +1,5 @@
 -- A body is read exactly where it is the values of its types.
-use Rattle.std.proofs.Common.{◌≡◌, ℕ, ◌+◌, Bool, true, false, eqb, List, [], ◌∷◌, ◌++◌, length, Result, Ok, Err, refl, sym, ap, subst, ◌∙◌, arith}
+use Rattle.std.proofs.Common.{◌≡◌, ℕ, ◌+◌, List, [], ◌∷◌, ◌++◌, length, Ok, Err, refl, sym, ap, subst, ◌∙◌, arith}
 use Rattle.signature.specs.DataType.{DataTypes, SigText}
 use Rattle.signature.proofs.Signatures.{SigText-unique}
 use Rattle.message_value.specs.declared.order.Order.TheVariants.{Little}
@@ -10,9 +10,9 @@ use Rattle.message_value.specs.Fits.{max_levels, MembersFit}
 use Rattle.message_value.specs.Reading.{At, members_at, value_at}
 use Rattle.message_value.proofs.WordBytes.{IsBytes}
 use Rattle.message_value.proofs.OkSteps.{ok_is}
-use Rattle.message_value.proofs.ReadItems.{at, Takes}
+use Rattle.message_value.proofs.ReadItems.{at}
 use Rattle.message_value.proofs.ReadValues.{members_takes, members_again}
-use Rattle.message_build.specs.Words.{BodyOf, IsBody}
+use Rattle.message_build.specs.Words.{IsBody}
 
 append_nothing : (xs : List ℕ) → xs ++ [] ≡ xs
 append_nothing [] = refl

@@ -1,13 +1,12 @@
 -- Fields one behind the other, field by field.
-use Rattle.std.proofs.Common.{◌≡◌, ℕ, suc, ◌+◌, ◌<◌, ◌≤◌, Bool, true, List, [], ◌∷◌, ◌++◌, length, drop, get_or, Option, Some, None, refl, sym, ap, ◌∙◌, append_assoc, arith, drop-cons, add-one}
-use Rattle.std.specs.Prelude.{◌&&◌}
+use Rattle.std.proofs.Common.{◌≡◌, ℕ, suc, ◌+◌, ◌<◌, true, List, [], ◌∷◌, ◌++◌, length, drop, get_or, Option, Some, None, refl, sym, ap, ◌∙◌, append_assoc, arith, drop-cons, add-one}
 use Rattle.std.specs.List.{list_all}
 use Rattle.std.proofs.lemmas.Bool.{and_parts}
 use Rattle.std.proofs.lemmas.List.{length-append}
 use Rattle.message_value.specs.declared.order.Order.TheVariants.{Little}
-use Rattle.message_view.specs.Spelling.{fields_bytes, field_bytes}
+use Rattle.message_view.specs.Spelling.{fields_bytes}
 use Rattle.message_build.specs.declared.field.HeaderField.{HeaderField}
-use Rattle.message_build.specs.Words.{field_of, fields_of, bytes_at, may_be, HoldEach}
+use Rattle.message_build.specs.Words.{fields_of, bytes_at, may_be, HoldEach}
 
 pub first_field : (place : ℕ) (x : Option HeaderField) (more : List (Option HeaderField)) → fields_bytes Little place (fields_of (x ∷ more)) ≡ bytes_at place x ++ fields_bytes Little (place + length (bytes_at place x)) (fields_of more)
 first_field place None more = let same : place ≡ place + 0 = omega arith in ap (λ (k : ℕ). fields_bytes Little k (fields_of more)) same

@@ -1,31 +1,30 @@
 -- What was asked for is no valid message, is above the limits, or is the message of the bytes.
-use Rattle.std.proofs.Common.{◌≡◌, ℕ, ◌+◌, ◌-◌, ◌%◌, ◌<◌, ◌≤◌, ◌^◌, Bool, true, false, cond, eqb, ltb, lit<, List, [], ◌∷◌, ◌++◌, length, Option, Some, None, Result, Ok, Err, refl, sym, ap, subst, ◌∙◌, append_assoc, inl, inr, arith}
+use Rattle.std.proofs.Common.{◌≡◌, ℕ, ◌+◌, ◌-◌, ◌<◌, ◌≤◌, ◌^◌, Bool, true, false, cond, eqb, ltb, List, [], ◌∷◌, ◌++◌, length, Option, Some, None, Ok, refl, sym, ap, subst, ◌∙◌, append_assoc, inr, arith}
 use Rattle.std.specs.Prelude.{◌&&◌, not}
 use Rattle.std.proofs.lemmas.Bool.{and_parts}
 use Rattle.std.proofs.lemmas.Bool.Decides.{nat_tests}
 use Rattle.std.proofs.lemmas.List.{length-append}
-use Rattle.signature.specs.DataType.{DataTypes, SigText, spellings}
+use Rattle.signature.specs.DataType.{DataTypes, SigText}
 use Rattle.message_value.specs.declared.order.Order.{Order}
 use Rattle.message_value.specs.declared.order.Order.TheVariants.{Little}
 use Rattle.message_value.specs.Value.{Values}
 use Rattle.message_value.specs.Order.{word_bytes}
 use Rattle.message_value.specs.Spelling.{padding, zeros, members_bytes}
-use Rattle.message_value.specs.Fits.{max_array_len, max_levels, MembersFit}
+use Rattle.message_value.specs.Fits.{max_array_len, max_levels}
 use Rattle.message_value.proofs.ReadItems.{length-zeros}
 use Rattle.message_value.proofs.MovedValues.{Alike, Alike-back, members_moved, members_fit_moved}
 use Rattle.message_view.specs.declared.kind.Kind.{Kind}
 use Rattle.message_view.specs.declared.kind.Kind.TheVariants as kinds
-use Rattle.message_view.specs.Header.{kind_byte, kind_of, has_required}
-use Rattle.message_view.specs.Message.{Field, Message, signature_in}
-use Rattle.message_view.specs.Spelling.{fixed_len, fields_bytes, header_bytes, body_place, body_bytes, message_bytes}
+use Rattle.message_view.specs.Header.{kind_byte, kind_of}
+use Rattle.message_view.specs.Message.{Field, Message}
+use Rattle.message_view.specs.Spelling.{fixed_len, fields_bytes, body_place, message_bytes}
 use Rattle.message_view.specs.Valid.{AreFields, Valid, max_message_len}
-use Rattle.message_build.specs.Asked.{Asked, Asks, is_spoiled}
+use Rattle.message_build.specs.Asked.{Asks, is_spoiled}
 use Rattle.message_build.specs.Building.{Finishes, IsTooLarge}
-use Rattle.message_build.specs.declared.error.BuildError.TheVariants.{Invalid, TooLarge, NoMemory}
 use Rattle.message_build.specs.declared.field.HeaderField.{HeaderField}
 use Rattle.message_build.specs.declared.given.Given.{Given}
 use Rattle.message_build.specs.declared.header.Header.{Header}
-use Rattle.message_build.specs.Words.{HoldEach, InRange, asked, fields_of, fields_set, are_allowed, is_sound_header, kind_is_own, has_needed, BodyOf, IsBody, fixed_bytes, spelled}
+use Rattle.message_build.specs.Words.{HoldEach, InRange, asked, fields_of, fields_set, are_allowed, is_sound_header, kind_is_own, has_needed, IsBody, fixed_bytes, spelled}
 use Rattle.message_build.proofs.AllowedFields.{AreOnce, fields_are, fields_were}
 use Rattle.message_build.proofs.SetFields.{set_once, required_set, signature_set}
 
@@ -124,11 +123,15 @@ pub body_refused : (h : Header) (s body : List ℕ) (given : Given) → (IsBody 
 body_refused h s body given refute m bytes asks valid =
     let v = the_valid h s body given m bytes asks valid in
     let len = length (fields_bytes Little fixed_len (fields_set h s)) in
-    refute (m.types, m.arguments, record {
-      typed = subst (λ (t : List ℕ). SigText m.types t) (signature_set h s) v.types;
-      fit = members_fit_moved Little max_levels (body_place len) 0 (body_alike len) m.types m.arguments v.arguments;
-      spelled = asks.arguments;
-    })
+    refute (
+      m.types,
+      m.arguments,
+      record {
+        typed = subst (λ (t : List ℕ). SigText m.types t) (signature_set h s) v.types;
+        fit = members_fit_moved Little max_levels (body_place len) 0 (body_alike len) m.types m.arguments v.arguments;
+        spelled = asks.arguments;
+      },
+    )
 
 -- ---- lengths
 
@@ -173,23 +176,24 @@ built_valid h s body given xs end bytes is range hold whole sound allowed end_is
     let once : AreOnce (fields_of xs) = subst (λ (fs : List Field). AreOnce fs) (sym is) (set_once h s) in
     let now : bytes ≡ spelled h (fields_set h s) body = spelt ∙ ap (λ (fs : List Field). spelled h fs body) is in
     let pad : padding 8 end ≡ padding 8 n = ap (λ (k : ℕ). padding 8 k) (end_is ∙ ap (λ (k : ℕ). fixed_len + k) same) ∙ same_padding n in
-    let len : length bytes ≡ fixed_len + n + padding 8 n + length body = ap (λ (l : List ℕ). length l) now ∙ length-spelled h (fields_set h s) body in
-    (the h s types values,
-     record { order = refl; kind = refl; flags = refl; serial = refl; fields = refl; types = b.2.typed.spelled; arguments = b.2.spelled; whole = whole },
-     record {
-       kind = kind_is h.kind two.0;
-       kind_fits = range.kind;
-       flags = range.flags;
-       serial = above_zero h.serial two.1;
-       serial_fits = range.serial;
-       fields = subst (λ (fs : List Field). AreFields Little fixed_len fs) is (fields_are fixed_len xs hold allowed once few);
-       required = required_set h.kind h s ∙ parts.1;
-       types = subst (λ (t : List ℕ). SigText types t) (sym (signature_set h s)) b.2.typed;
-       arguments = members_fit_moved Little max_levels 0 (body_place n) (Alike-back (body_place n) 0 (body_alike n)) types values b.2.fit;
-       fields_fit = omega (arith, same);
-       fits = omega (arith, len, pad, same);
-       spelled = now ∙ sym (bytes_are h s body types values b.2.spelled);
-     })
+    let len : length bytes ≡ fixed_len + n + padding 8 n + length body = ap (λ (l : List ℕ). length l) now ∙ length-spelled h (fields_set h s) body in (
+      the h s types values,
+      record { order = refl; kind = refl; flags = refl; serial = refl; fields = refl; types = b.2.typed.spelled; arguments = b.2.spelled; whole = whole },
+      record {
+        kind = kind_is h.kind two.0;
+        kind_fits = range.kind;
+        flags = range.flags;
+        serial = above_zero h.serial two.1;
+        serial_fits = range.serial;
+        fields = subst (λ (fs : List Field). AreFields Little fixed_len fs) is (fields_are fixed_len xs hold allowed once few);
+        required = required_set h.kind h s ∙ parts.1;
+        types = subst (λ (t : List ℕ). SigText types t) (sym (signature_set h s)) b.2.typed;
+        arguments = members_fit_moved Little max_levels 0 (body_place n) (Alike-back (body_place n) 0 (body_alike n)) types values b.2.fit;
+        fields_fit = omega (arith, same);
+        fits = omega (arith, len, pad, same);
+        spelled = now ∙ sym (bytes_are h s body types values b.2.spelled);
+      },
+    )
 
 -- ---- what is written
 

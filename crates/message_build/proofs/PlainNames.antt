@@ -1,12 +1,12 @@
 -- The bytes of a name are ASCII, and none is zero.
 use Rattle.std.proofs.Common.{◌≡◌, ℕ, zero, suc, ◌+◌, ◌<◌, ◌≤◌, Bool, true, false, cond, eqb, leb, lit<, List, [], ◌∷◌, length, refl, sym, ◌∙◌, arith, zero-add}
-use Rattle.std.specs.Prelude.{◌&&◌, ◌||◌, ◌==◌, not}
+use Rattle.std.specs.Prelude.{◌&&◌, ◌==◌}
 use Rattle.std.specs.List.{list_any, list_all}
-use Rattle.std.specs.Str.{IsAscii, is_utf8}
+use Rattle.std.specs.Str.{IsAscii}
 use Rattle.std.proofs.lemmas.Bool.{and_parts, leb-true, eqb-true}
 use Rattle.std.proofs.lemmas.Bool.Decides.{nat_tests}
 use Rattle.std.proofs.lemmas.Str.{IsUtf8-from_ascii, is_utf8-from_IsUtf8}
-use Rattle.signature.specs.Name.{is_letter, is_digit, may_begin, may_follow, interface_form, well_known_form, unique_form, is_element, are_elements, is_interface, is_member, is_bus_name, is_dotted}
+use Rattle.signature.specs.Name.{may_begin, may_follow, interface_form, well_known_form, unique_form, is_element, are_elements, is_interface, is_member, is_bus_name, is_dotted}
 use Rattle.signature.proofs.Elements.{rest_are, rest_are-cons}
 use Rattle.message_value.specs.Fits.{is_text_of}
 

@@ -1,5 +1,5 @@
 -- The fields that were asked for: none comes twice, and each is found by its code.
-use Rattle.std.proofs.Common.{◌≡◌, ℕ, ◌<◌, ◌≤◌, Bool, true, false, cond, eqb, lit<, List, [], ◌∷◌, ◌++◌, Option, Some, None, is_some, refl, sym, ap, ◌∙◌, arith}
+use Rattle.std.proofs.Common.{◌≡◌, ℕ, ◌<◌, ◌≤◌, Bool, true, false, eqb, lit<, List, [], ◌∷◌, ◌++◌, Option, Some, None, is_some, refl, ap, ◌∙◌, arith}
 use Rattle.std.specs.Prelude.{◌&&◌}
 use Rattle.std.proofs.lemmas.Bool.Decides.{nat_tests}
 use Rattle.std.specs.Borrow.{Bor}
@@ -10,9 +10,9 @@ use Rattle.message_view.specs.declared.kind.Kind.TheVariants as kinds
 use Rattle.message_view.specs.Header.{code_of, has_required}
 use Rattle.message_view.specs.Message.{Field, field_with, text_in, or_empty, signature_in}
 use Rattle.message_view.specs.Valid.{IsOnce}
-use Rattle.message_build.specs.Asked.{Asked, text_field, number_field, signature_field, fields_asked}
+use Rattle.message_build.specs.Asked.{text_field, number_field, signature_field}
 use Rattle.message_build.specs.declared.header.Header.{Header}
-use Rattle.message_build.specs.Words.{said, fields_set, has_needed, has_needed_of}
+use Rattle.message_build.specs.Words.{said, fields_set, has_needed_of}
 use Rattle.message_build.proofs.AllowedFields.{AreOnce}
 
 -- each code is above

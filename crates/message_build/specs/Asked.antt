@@ -1,13 +1,13 @@
 -- What a builder was asked for (D-Bus Specification, "Message Format").
-use Rattle.std.specs.Prelude.{◌≡◌, ℕ, Bool, true, false, List, [], ◌∷◌, ◌++◌, length, Option, Some, None}
-use Rattle.signature.specs.DataType.{DataType, basic, spellings}
+use Rattle.std.specs.Prelude.{◌≡◌, ℕ, Bool, true, false, List, [], ◌∷◌, ◌++◌, Option, Some, None}
+use Rattle.signature.specs.DataType.{basic, spellings}
 use Rattle.message_value.specs.declared.order.Order.TheVariants.{Little}
-use Rattle.message_value.specs.Value.{Value, number, text}
+use Rattle.message_value.specs.Value.{number, text}
 use Rattle.message_value.specs.Spelling.{members_bytes}
 use Rattle.message_view.specs.declared.kind.Kind.{Kind}
 use Rattle.message_view.specs.Message.{Field, Message}
 use Rattle.message_build.specs.declared.given.Given.{Given}
-use Rattle.message_build.specs.declared.given.Given.TheVariants.{Nothing, Arguments, Raw, Spoiled}
+use Rattle.message_build.specs.declared.given.Given.TheVariants.{Nothing, Arguments, Spoiled}
 
 -- whether a body was given in a way that no message has
 abbrev pub is_spoiled : Given → Bool

@@ -1,5 +1,5 @@
 -- What finishing answers.
-use Rattle.std.specs.Prelude.{◌≡◌, ◌⊎◌, ◌<◌, ℕ, List, length, Result, Ok, Err}
+use Rattle.std.specs.Prelude.{◌⊎◌, ◌<◌, ℕ, List, length, Result, Ok, Err}
 use Rattle.message_value.specs.Fits.{max_array_len}
 use Rattle.message_view.specs.Message.{Message}
 use Rattle.message_view.specs.Spelling.{header_bytes, message_bytes}

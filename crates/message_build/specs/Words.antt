@@ -1,5 +1,5 @@
 -- Words that the contracts of the builder use.
-use Rattle.std.specs.Prelude.{◌≡◌, ◌+◌, ◌<◌, ◌≤◌, ◌^◌, ℕ, Bool, true, false, not, ◌&&◌, List, [], ◌∷◌, ◌++◌, length, take, Option, Some, None, is_some, option_map, ◌==◌, nat_lt, Result, Ok, Err, Vec, if◌then◌else◌}
+use Rattle.std.specs.Prelude.{◌≡◌, ◌+◌, ◌<◌, ◌≤◌, ◌^◌, ℕ, Bool, true, not, ◌&&◌, List, [], ◌∷◌, ◌++◌, length, take, Option, Some, None, is_some, ◌==◌, nat_lt, Result, Ok, Err, Vec, if◌then◌else◌}
 use Rattle.std.specs.Borrow.{Bor}
 use Rattle.std.specs.List.{list_all}
 use Rattle.std.specs.Str.{bytes_eq}
@@ -15,15 +15,15 @@ use Rattle.message_view.specs.declared.kind.Kind.TheVariants as kinds
 use Rattle.message_view.specs.Message.{Field}
 use Rattle.message_view.specs.Spelling.{fixed_len, field_bytes, fields_bytes}
 use Rattle.message_value.specs.declared.order.Order.TheVariants.{Little}
-use Rattle.message_view.specs.Header.{kind_byte, kind_of, local_path, local_interface}
+use Rattle.message_view.specs.Header.{kind_byte, local_path, local_interface}
 use Rattle.message_build.specs.declared.error.BuildError.{BuildError}
 use Rattle.message_build.specs.declared.error.BuildError.TheVariants.{NoMemory}
 use Rattle.message_build.specs.declared.field.HeaderField.{HeaderField}
 use Rattle.message_build.specs.declared.field.HeaderField.TheVariants.{Path, Interface, Member, ErrorName, ReplySerial, Destination, Sender, Signature}
 use Rattle.message_build.specs.declared.header.Header.{Header}
 use Rattle.message_build.specs.declared.given.Given.{Given}
-use Rattle.message_build.specs.declared.given.Given.TheVariants.{Nothing, Arguments, Raw, Spoiled}
-use Rattle.message_build.specs.Asked.{Asked, takes_arguments, is_nothing, text_field, number_field, signature_field, fields_asked}
+use Rattle.message_build.specs.declared.given.Given.TheVariants.{Arguments, Raw, Spoiled}
+use Rattle.message_build.specs.Asked.{Asked, takes_arguments, is_nothing, text_field, number_field, signature_field}
 
 -- What a call appended: all of it, or the bytes that were there are still in front.
 abbrev pub Appends : {X E : Type 0} → Result X E → List ℕ → List ℕ → List ℕ → Type 0

@@ -54,7 +54,10 @@ fn push_field(bytes: &mut Vec<u8>, field: &Option<HeaderField<'_>>) -> Result<()
 }
 
 /// The fields one behind the other.
-pub(crate) fn push_fields(bytes: &mut Vec<u8>, fields: &[Option<HeaderField<'_>>]) -> Result<(), AllocError>
+pub(crate) fn push_fields(
+    bytes: &mut Vec<u8>,
+    fields: &[Option<HeaderField<'_>>],
+) -> Result<(), AllocError>
     requires { are_allowed fields.now ≡ true }
     ensures { IfOk result (λ _. bytes.new.items ≡ bytes.old.items ++ fields_bytes Little (length bytes.old.items) (fields_of fields.now)) }
 {

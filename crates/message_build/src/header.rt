@@ -131,7 +131,9 @@ impl<'a> Header<'a> {
             Kind::MethodCall => self.path.is_some() && self.member.is_some(),
             Kind::MethodReturn => self.reply_serial.is_some(),
             Kind::Error => self.error_name.is_some() && self.reply_serial.is_some(),
-            Kind::Signal => self.path.is_some() && self.interface.is_some() && self.member.is_some(),
+            Kind::Signal => self.path.is_some()
+                && self.interface.is_some()
+                && self.member.is_some(),
             Kind::Other(_) => true,
         }
     }

@@ -1,4 +1,4 @@
-use Rattle.std.proofs.Common.{◌≡◌, ◌<◌, arith, ℕ, List, Ok, Err, sym, subst, ◌∙◌, eqb-true, true, false, eqb, length}
+use Rattle.std.proofs.Common.{◌≡◌, arith, ℕ, List, Ok, Err, sym, subst, ◌∙◌, eqb-true, true, false, eqb, length}
 use Rattle.signature.specs.DataType.{SigText, slices}
 use Rattle.message_value.specs.declared.order.Order.TheVariants.{Little}
 use Rattle.message_value.specs.declared.fault.MsgError.TheVariants as faults

@@ -5,7 +5,7 @@ use Rattle.message_view.specs.Message.{Field}
 use Rattle.message_view.specs.Spelling.{fixed_len, fields_bytes}
 use Rattle.message_view.specs.Valid.{max_message_len}
 use Rattle.message_build.specs.Asked.{is_spoiled}
-use Rattle.message_build.specs.Words.{fields_set, fields_of, are_allowed, is_sound_header}
+use Rattle.message_build.specs.Words.{fields_set, are_allowed, is_sound_header}
 use Rattle.message_build.proofs.MessageLaws.{header_refused, fields_refused, body_refused, message_too_large, built_valid}
 use Rattle.message_build.proofs.message.built.Goals as goal
 

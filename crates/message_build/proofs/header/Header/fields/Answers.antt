@@ -1,4 +1,3 @@
-use Rattle.std.proofs.Common.{[], ◌∷◌}
 use Rattle.message_build.proofs.FieldList.{hold_more}
 use Rattle.message_build.proofs.header.Header.fields.Goals as goal
 
