@@ -1,5 +1,5 @@
 -- The arguments that are left, one after another.
-use Rattle.std.proofs.Common.{◌≡◌, ℕ, ◌+◌, ◌≤◌, List, [], ◌∷◌, ◌++◌, length, Some, Result, Ok, Err, refl, sym, ap, ap₂, subst, ◌∙◌, arith}
+use Rattle.std.proofs.Common.{◌≡◌, ℕ, ◌≤◌, List, [], ◌∷◌, length, Ok, refl, sym, ap, subst, ◌∙◌, arith}
 use Rattle.std.specs.List.{All}
 use Rattle.std.proofs.lemmas.List.{length-append}
 use Rattle.std.proofs.lemmas.List.Elements.{All-head, All-tail, All-cons, All-nil}
@@ -7,14 +7,12 @@ use Rattle.signature.specs.DataType.{DataType, DataTypes, no_types, one_more, sp
 use Rattle.signature.specs.Alignment.{alignment_of}
 use Rattle.signature.proofs.TreesOfTexts.{type_of-TypeText}
 use Rattle.message_value.specs.declared.order.Order.{Order}
-use Rattle.message_value.specs.declared.fault.MsgError.{MsgError}
-use Rattle.message_value.specs.Value.{Value, Values, no_values, one_value}
-use Rattle.message_value.specs.Spelling.{aligned, value_bytes}
+use Rattle.message_value.specs.Value.{Value, Values, one_value}
+use Rattle.message_value.specs.Spelling.{aligned}
 use Rattle.message_value.specs.Fits.{max_levels}
 use Rattle.message_value.specs.Reading.{At, ◌>>=◌, value_at, members_at}
 use Rattle.message_value.specs.Arguments.{Argument, argument_of, arguments_from}
-use Rattle.message_value.specs.ArgumentsLeft.{with_tree, trees_in, arguments_read, arguments_left, AreLeft}
-use Rattle.message_value.specs.Words.{IsRead, Reaches}
+use Rattle.message_value.specs.ArgumentsLeft.{trees_in, arguments_read, arguments_left, AreLeft}
 use Rattle.message_value.proofs.OkSteps.{bind_ok, ok_is}
 use Rattle.message_value.proofs.WordBytes.{IsBytes}
 use Rattle.message_value.proofs.ReadValues.{value_takes}

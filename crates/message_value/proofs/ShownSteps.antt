@@ -1,20 +1,18 @@
 -- An argument as it is read and as it lies in the message.
-use Rattle.std.proofs.Common.{◌≡◌, ℕ, ◌+◌, ◌-◌, ◌%◌, ◌<◌, false, List, length, Option, None, Result, Ok, refl, sym, ap, ◌∙◌, arith, get_or, subst, cond}
+use Rattle.std.proofs.Common.{◌≡◌, ℕ, ◌-◌, ◌%◌, List, length, None, Ok, refl, sym, ap, ◌∙◌, arith}
 use Rattle.std.specs.Prelude.{◌==◌, ◌&&◌, nat_lt, slice_index}
 use Rattle.signature.specs.BasicType.{basic_alignment}
 use Rattle.signature.specs.DataType.{DataType, basic, variant, array, dict, struct, spelling, TypeText}
 use Rattle.signature.specs.Alignment.{alignment_of}
 use Rattle.message_value.specs.declared.order.Order.{Order}
-use Rattle.message_value.specs.declared.fault.MsgError.{MsgError}
 use Rattle.message_value.specs.declared.fault.MsgError.TheVariants as faults
 use Rattle.message_value.specs.declared.text.TextType.{TextType}
 use Rattle.message_value.specs.Order.{number_of}
-use Rattle.message_value.specs.Value.{Value, number, text}
-use Rattle.message_value.specs.Spelling.{padding, aligned, number_len, width_of, bare_bytes, value_bytes}
-use Rattle.message_value.specs.Fits.{is_text_code}
-use Rattle.message_value.specs.Reading.{At, ◌>>=◌, item_at, aligned_at, text_value_at, counted, number_value_at, value_at}
+use Rattle.message_value.specs.Value.{Value, number}
+use Rattle.message_value.specs.Spelling.{aligned, number_len, width_of, bare_bytes, value_bytes}
+use Rattle.message_value.specs.Reading.{At, item_at, aligned_at, text_value_at, counted, number_value_at, value_at}
 use Rattle.message_value.specs.Arguments.{Argument, argument_of}
-use Rattle.message_value.specs.Words.{IsRead, IsNoText, basic_at, text_code}
+use Rattle.message_value.specs.Words.{IsNoText, text_code}
 use Rattle.message_value.proofs.OkSteps.{bind_ok, ok_is, not_refused}
 use Rattle.message_value.proofs.WordBytes.{IsBytes}
 use Rattle.message_value.proofs.ReadItems.{Takes-leaves, aligned_takes, length-padded}

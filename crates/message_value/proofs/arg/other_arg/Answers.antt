@@ -1,8 +1,6 @@
-use Rattle.std.proofs.Common.{◌≡◌, ◌-◌, ◌≤◌, ℕ, length, List, ap, sym, subst, ◌∙◌, arith}
+use Rattle.std.proofs.Common.{ℕ, length, List, ap, subst, ◌∙◌, arith}
 use Rattle.std.specs.Prelude.{slice_index}
-use Rattle.signature.specs.DataType.{spelling}
 use Rattle.signature.proofs.PartTexts.{not_empty}
-use Rattle.message_value.specs.Spelling.{bare_bytes}
 use Rattle.message_value.specs.Reading.{At}
 use Rattle.message_value.proofs.WordBytes.{IsBytes}
 use Rattle.message_value.proofs.ReadShorter.{value_shorter}

@@ -1,9 +1,7 @@
-use Rattle.std.proofs.Common.{◌≡◌, ℕ, Ok, ap, ap₂, sym, subst, ◌∙◌}
-use Rattle.signature.specs.DataType.{DataType, basic}
-use Rattle.signature.specs.Alignment.{alignment_of}
-use Rattle.message_value.specs.Reading.{aligned_at, value_at}
+use Rattle.std.proofs.Common.{ℕ, ap, ap₂, sym, ◌∙◌}
+use Rattle.signature.specs.DataType.{DataType}
+use Rattle.message_value.specs.Reading.{aligned_at}
 use Rattle.message_value.specs.Arguments.{argument_of}
-use Rattle.message_value.specs.Words.{text_code}
 use Rattle.message_value.proofs.SkipValues.{value_gone}
 use Rattle.message_value.proofs.ShownSteps.{start_place, start_aligned, value_here, text_of_value}
 use Rattle.message_value.proofs.arg.read_arg.Goals as goal

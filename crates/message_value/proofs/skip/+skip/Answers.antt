@@ -1,8 +1,6 @@
-use Rattle.std.proofs.Common.{◌≡◌, ◌-◌, ℕ, Ok, ap, sym, subst, ◌∙◌, arith}
+use Rattle.std.proofs.Common.{◌-◌, ℕ, sym, subst, ◌∙◌, arith}
 use Rattle.signature.specs.BasicType.{byte_of}
-use Rattle.signature.specs.DataType.{basic, variant, array, dict, struct, one_more}
-use Rattle.signature.specs.Alignment.{alignment_of}
-use Rattle.message_value.specs.Spelling.{entry_alignment}
+use Rattle.signature.specs.DataType.{variant, array, dict, struct, one_more}
 use Rattle.message_value.specs.Reading.{value_at, variant_at, array_at, dict_at, struct_at, extent_at}
 use Rattle.message_value.specs.Words.{IsRead, Reaches, basic_at}
 use Rattle.message_value.proofs.ValueSteps.{aligned_one}

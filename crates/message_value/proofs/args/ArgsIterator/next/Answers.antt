@@ -1,4 +1,4 @@
-use Rattle.std.proofs.Common.{◌≡◌, ◌∷◌, List, ℕ, length, sym, ap, subst, ◌∙◌, arith}
+use Rattle.std.proofs.Common.{◌∷◌, length, sym, ap, subst, ◌∙◌, arith}
 use Rattle.message_value.specs.Arguments.{Argument}
 use Rattle.message_value.specs.ArgumentsLeft.{arguments_left, AreLeft}
 use Rattle.message_value.specs.ShownArguments.{shown_arg}

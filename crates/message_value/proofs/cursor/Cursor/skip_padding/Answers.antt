@@ -1,4 +1,4 @@
-use Rattle.std.proofs.Common.{length, ap, sym, subst, arith, ℕ, ◌≤◌, ◌≡◌, ◌∙◌, Ok, ◌+◌}
+use Rattle.std.proofs.Common.{ap, subst, arith, ℕ, ◌≡◌, ◌∙◌, Ok}
 use Rattle.message_value.specs.Reading.{At, item_at}
 use Rattle.message_value.specs.Spelling.{padding}
 use Rattle.message_value.proofs.SkipTexts.{padding_fits, padding_gone}
