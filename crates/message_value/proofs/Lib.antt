@@ -14,6 +14,10 @@ pub mod ValueSteps
 pub mod ArrayTurns
 pub mod NumberArrays
 pub mod MemberTurns
+pub mod SkipTexts
+pub mod SkipValues
+pub mod ShownSteps
+pub mod ArgumentTurns
 pub mod SmallValues
 pub mod FaultOrder
 pub mod MovedValues

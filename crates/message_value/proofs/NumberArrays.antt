@@ -38,12 +38,12 @@ number_aligned code none = go (code == 121) (code == 115) (code == 111) (code ==
 -- ---- one number
 
 -- nothing lies before a multiple
-padding_none : (alignment place : ℕ) → place % alignment ≡ 0 → padding alignment place ≡ 0
+pub padding_none : (alignment place : ℕ) → place % alignment ≡ 0 → padding alignment place ≡ 0
 padding_none alignment place e =
     let whole : alignment - 0 ≡ alignment = omega arith in
     rw (e, whole) (mod_self alignment)
 
-aligned_here : (alignment : ℕ) (at : At) → at.place % alignment ≡ 0 → aligned_at alignment at ≡ Ok at
+pub aligned_here : (alignment : ℕ) (at : At) → at.place % alignment ≡ 0 → aligned_at alignment at ≡ Ok at
 unfolding aligned_at item_at
 aligned_here alignment at e =
     let enough : nat_lt (length at.rest) 0 ≡ false = le-ltb _ _ (omega arith) in
@@ -139,7 +139,7 @@ item_place : (len : ℕ) (at : At) (found : List ℕ × At) → item_at len at �
 unfolding item_at
 item_place len at found e = let h = not_refused (nat_lt (length at.rest) len) at.outside (Ok (take len at.rest, past len at)) found e in sym (ap (λ (x : List ℕ × At). x.1.place) (ok_is _ _ h.1))
 
-aligned_place : (a : ℕ) (at start : At) → 0 < a → aligned_at a at ≡ Ok start → start.place % a ≡ 0
+pub aligned_place : (a : ℕ) (at start : At) → 0 < a → aligned_at a at ≡ Ok start → start.place % a ≡ 0
 unfolding aligned_at
 aligned_place a at start some e =
     let s = bind_ok (item_at (padding a at.place) at) (λ skipped. cond (list_all (λ byte. byte == 0) skipped.0) (Ok skipped.1) (Err faults.Padding)) start e in
@@ -161,7 +161,7 @@ extent_inside order a at inner behind some e =
     let i = bind_ok (item_at w.0.0 s.0) (λ bytes. Ok (inside s.0.place bytes.0, bytes.1)) found s.2 in
     let made : At × At = (inside s.0.place i.0.0, i.0.1) in
     let same = ok_is made found i.2 in
-    record { place = ap (λ (x : At × At). x.0.place % a) (sym {a = made} same) ∙ aligned_place a l.0 s.0 some s.1; outside = ap (λ (x : At × At). x.0.outside) (sym {a = made} same) }
+    record { place = ap (λ (x : At × At). x.0.place % a) {x = found} {y = made} (sym {a = made} same) ∙ aligned_place a l.0 s.0 some s.1; outside = ap (λ (x : At × At). x.0.outside) {x = found} {y = made} (sym {a = made} same) }
 
 -- ---- the whole array
 

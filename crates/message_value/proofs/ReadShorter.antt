@@ -233,3 +233,9 @@ value_shorter levels order type at found e = let h = takes_at 1 (length at.rest)
 -- so does an entry of a dict
 pub entry_shorter : (levels : ℕ) (order : Order) (k : ℕ) (v : DataType) (at : At) (found : (Value × Value) × At) → entry_at (value_at levels order) k v at ≡ Ok found → length found.1.rest < length at.rest
 entry_shorter levels order k v at found e = let h = takes_at 1 (length at.rest) (entry_at (value_at levels order) k v at) found (entry_takes_one levels order k v at) e in omega arith
+
+pub byte_fits : (at : At) (found : ℕ × At) → byte_at at ≡ Ok found → 1 ≤ length at.rest
+byte_fits at found e = let h = takes_at 1 (length at.rest) (byte_at at) found (byte_takes_one at) e in omega arith
+
+pub word_fits : (order : Order) (at : At) (found : ℕ × At) → word_at order at ≡ Ok found → 4 ≤ length at.rest
+word_fits order at found e = let h = takes_at 4 (length at.rest) (word_at order at) found (word_takes_four order at) e in omega arith

@@ -41,7 +41,7 @@ mutual
   types_ascii (one_more t ts) a s fits = ascii_append (spelling t) (spellings ts) (type_ascii t a s fits.0) (types_ascii ts a s fits.1)
 
 -- a signature is UTF-8
-signature_utf8 : (types : DataTypes) (bytes : List ℕ) → types_of bytes ≡ Some types → IsUtf8 bytes
+pub signature_utf8 : (types : DataTypes) (bytes : List ℕ) → types_of bytes ≡ Some types → IsUtf8 bytes
 signature_utf8 types bytes is =
     let spelled = trees_spelled types bytes is in
     IsUtf8-from_ascii bytes (subst IsAscii (sym spelled.spelled) (types_ascii types 0 0 spelled.fits))

@@ -6,3 +6,5 @@ pub mod FaultName
 pub mod Reading
 pub mod Words
 pub mod Arguments
+pub mod ArgumentsLeft
+pub mod ShownArguments

@@ -1,7 +1,7 @@
 -- The bytes of values (D-Bus Specification, "Marshaling").
 use Rattle.std.specs.Prelude.{ℕ, ◌+◌, ◌-◌, ◌%◌, ◌||◌, List, [], ◌∷◌, ◌++◌, length, ◌==◌, if◌then◌else◌, replicate}
 use Rattle.std.specs.Int.{Width, w8, w16, w32, w64}
-use Rattle.signature.specs.DataType.{DataType, DataTypes, basic, variant, array, dict, struct, no_types, one_more, spelling}
+use Rattle.signature.specs.DataType.{DataType, DataTypes, basic, variant, array, dict, struct, one_more, spelling}
 use Rattle.signature.specs.Alignment.{alignment_of}
 use Rattle.message_value.specs.declared.order.Order.{Order}
 use Rattle.message_value.specs.Order.{number_bytes, word_bytes}

@@ -1,5 +1,5 @@
 -- Words that the contracts of the readers use.
-use Rattle.std.specs.Prelude.{◌≡◌, ℕ, Bool, true, false, List, length, ◌≤◌, ◌==◌, if◌then◌else◌, Option, Some, None, Result, Ok, Err}
+use Rattle.std.specs.Prelude.{◌≡◌, ℕ, Bool, true, false, List, length, ◌%◌, ◌<◌, ◌≤◌, ◌==◌, slice_index, if◌then◌else◌, Option, Some, None, Result, Ok, Err}
 use Rattle.signature.specs.DataType.{DataType, basic, TypeText}
 use Rattle.signature.specs.BasicType.{basic_alignment}
 use Rattle.message_value.specs.declared.order.Order.{Order}
@@ -77,3 +77,27 @@ AreNumbers len _ = ⊥
 abbrev pub Divides : {X : Type 0} → Bool → Result X MsgError → Type 0
 Divides multiple (Ok x) = multiple ≡ true
 Divides multiple (Err fault) = (multiple ≡ false) × (fault ≡ faults.ArrayLength)
+
+-- reading gives something
+abbrev pub IsRead : {Y : Type 0} → Result (Y × At) MsgError → Type 0
+IsRead read = (found : _) × (read ≡ Ok found)
+
+-- the same where only the place changes
+abbrev pub IsGone : Result At MsgError → Type 0
+IsGone read = (behind : At) × (read ≡ Ok behind)
+
+-- a place is the one behind what reading gives, where it gives something
+abbrev pub Reaches : {Y : Type 0} → At → Result (Y × At) MsgError → Type 0
+Reaches behind read = (found : _) → read ≡ Ok found → behind ≡ found.1
+
+-- its values are no texts
+abbrev pub IsNoText : DataType → Type 0
+IsNoText (basic code) = is_text_code code ≡ false
+IsNoText _ = Unit {0}
+
+-- the alignment divides the place
+abbrev pub IsAligned : ℕ → ℕ → Type 0
+IsAligned alignment place = place % alignment ≡ 0
+
+abbrev pub AreBytes : List ℕ → Type 0
+AreBytes bytes = (i : ℕ) → slice_index bytes i < 256

@@ -1,10 +1,10 @@
 // Reading from left to right within an array or the body.
 
-ghost use Rattle.std.specs.Prelude.{◌≡◌, ◌+◌, ◌<◌, ◌≤◌, ◌==◌, length, IfOk};
+ghost use Rattle.std.specs.Prelude.{◌≡◌, ◌+◌, ◌<◌, ◌≤◌, ◌==◌, length, IfOk, Ok};
 ghost use Rattle.std.specs.List.{list_all};
 ghost use Rattle.message_value.specs.Reading.{At, item_at, aligned_at, byte_at, word_at, signature_at, extent_at};
 ghost use Rattle.message_value.specs.Spelling.{padding};
-ghost use Rattle.message_value.specs.Words.{Reads, Skips, ReadsType};
+ghost use Rattle.message_value.specs.Words.{Reads, Skips, ReadsType, IsGone, AreBytes};
 
 use crate::fault::MsgError;
 use crate::order::Order;
@@ -26,12 +26,13 @@ pub struct Cursor<'a> {
 impl<'a> Model for Cursor<'a> {
     ghost use Rattle.std.specs.Prelude.{◌+◌, ◌≤◌, length};
     ghost use Rattle.message_value.specs.Reading.{At};
+    ghost use Rattle.message_value.specs.Words.{AreBytes};
 
     ghost Value = { At };
 
     ghost view = { λ c. record { place = c.place; rest = c.rest.now; outside = c.outside } };
 
-    ghost invariant = { λ c. c.place + length c.rest.now ≤ 134217728 };
+    ghost invariant = { λ c. (c.place + length c.rest.now ≤ 134217728) × AreBytes c.rest.now };
 }
 
 /// How many bytes lie before the next multiple.
@@ -74,6 +75,23 @@ impl<'a> Cursor<'a> {
         ensures { result ≡ length self.now.rest }
     {
         self.rest.len()
+    }
+
+    /// Where it stands, in four bytes.
+    pub(crate) fn place_word(&self) -> u32
+        ensures place { result ≡ self.now.place }
+        ensures bound { result ≤ 134217728 }
+    {
+        self.place as u32
+    }
+
+    /// The bytes that are left.
+    pub(crate) fn rest(&self) -> &'a [u8]
+        ensures rest { result.now ≡ self.now.rest }
+        ensures bound { length result.now ≤ 134217728 }
+        ensures bytes { AreBytes result.now }
+    {
+        self.rest
     }
 
     /// Whether no byte is left.
@@ -158,5 +176,47 @@ impl<'a> Cursor<'a> {
         let place = self.place;
         let elements = self.item(len as usize)?;
         Ok(Cursor::new(place, elements, MsgError::ArrayLength))
+    }
+
+    /// So many bytes, all of which are there.
+    #[tactic(auto, unfolding(crate::specs::Reading::item_at))]
+    pub(crate) fn skip(&mut self, len: usize) -> &'a [u8]
+        requires { len ≤ length self.old.rest }
+        ensures read { item_at len self.old ≡ Ok (result.now, self.new) }
+        ensures len { length result.now ≡ len }
+    {
+        let (item, rest) = self.rest.split_at(len);
+        self.place += len;
+        self.rest = rest;
+        item
+    }
+
+    /// The zeros up to a multiple, all of which are there.
+    pub(crate) fn skip_padding(&mut self, alignment: usize)
+        requires some { 0 < alignment }
+        requires read { IsGone (aligned_at alignment self.old) }
+        ensures gone { aligned_at alignment self.old ≡ Ok self.new }
+        ensures bytes { AreBytes self.old.rest }
+    {
+        self.skip(padding(alignment, self.place));
+    }
+
+    /// One byte, which is there.
+    #[tactic(auto, unfolding(crate::specs::Reading::byte_at))]
+    pub(crate) fn skip_byte(&mut self) -> u8
+        requires { 1 ≤ length self.old.rest }
+        ensures { byte_at self.old ≡ Ok (result, self.new) }
+    {
+        self.skip(1)[0]
+    }
+
+    /// A number of four bytes, all of which are there.
+    #[tactic(auto, unfolding(crate::specs::Reading::word_at))]
+    pub(crate) fn skip_word(&mut self, order: Order) -> u32
+        requires { 4 ≤ length self.old.rest }
+        ensures { word_at order self.old ≡ Ok (result, self.new) }
+    {
+        let item = self.skip(4);
+        order.word([item[0], item[1], item[2], item[3]])
     }
 }

@@ -2,14 +2,20 @@
 //! bytes spell it, and that the first fault is named otherwise.
 #![tactic(auto)]
 
+mod arg;
+mod args;
 mod basic_form;
 mod cursor;
 mod fault;
 mod fixed_len;
 mod order;
+mod skip;
+mod skip_text;
 mod text;
 mod value;
 
+pub use arg::Arg;
+pub use args::{Args, MAX_LEVELS};
 pub use cursor::{Cursor, are_zeros, padding};
 pub use fault::MsgError;
 pub use order::Order;

@@ -2,15 +2,15 @@
 use Rattle.std.proofs.Common.{◌≡◌, ℕ, ◌+◌, ◌<◌, ◌≤◌, List, [], ◌∷◌, length, get_or, take, drop, Bool, true, false, cond, eqb, Some, None, Ok, refl, sym, ap, ◌∙◌, arith, add-zero, length-drop}
 use Rattle.std.specs.Prelude.{slice_index}
 use Rattle.std.proofs.lemmas.List.{get_or-drop}
-use Rattle.message_view.specs.declared.order.Order.{Order}
-use Rattle.message_view.specs.declared.order.Order.TheVariants.{Little, Big}
+use Rattle.message_value.specs.declared.order.Order.{Order}
+use Rattle.message_value.specs.declared.order.Order.TheVariants.{Little, Big}
 use Rattle.message_view.specs.declared.fixed.Fixed.{Fixed}
-use Rattle.message_view.specs.Order.{order_of, word_of}
+use Rattle.message_value.specs.Order.{order_of, word_of}
 use Rattle.message_view.specs.Header.{kind_of}
-use Rattle.message_view.specs.Spelling.{padding}
+use Rattle.message_value.specs.Spelling.{padding}
 use Rattle.message_view.specs.Fixed.{order_in, word_at, body_len, serial_in, fields_len, whole_len}
 use Rattle.message_view.specs.Words as words
-use Rattle.message_view.proofs.OkSteps.{some_is}
+use Rattle.message_value.proofs.OkSteps.{some_is}
 use Rattle.message_view.proofs.FixedPart.{framing_again}
 use Rattle.message_view.proofs.FixedPart as proved
 

@@ -2,18 +2,19 @@
 use Rattle.std.proofs.Common.{◌≡◌, ℕ, zero, suc, ◌<◌, ◌≤◌, Bool, true, false, not, cond, eqb, leb, ltb, List, [], ◌∷◌, length, get_or, is_none, Option, Some, None, Ok, Err, refl, sym, ap, ◌∙◌, arith}
 use Rattle.std.specs.Prelude.{◌&&◌}
 use Rattle.std.proofs.lemmas.Bool.{eqb-true, eq-eqb, ne_eqb, ltb-false, le-ltb, le-leb, not-false}
-use Rattle.message_view.specs.declared.order.Order.{Order}
-use Rattle.message_view.specs.declared.order.Order.TheVariants.{Little, Big}
+use Rattle.message_value.specs.declared.order.Order.{Order}
+use Rattle.message_value.specs.declared.order.Order.TheVariants.{Little, Big}
 use Rattle.message_view.specs.declared.kind.Kind.{Kind}
 use Rattle.message_view.specs.declared.kind.Kind.TheVariants as kinds
-use Rattle.message_view.specs.declared.fault.MsgError.{MsgError}
-use Rattle.message_view.specs.declared.fault.MsgError.TheVariants as faults
-use Rattle.message_view.specs.Order.{order_byte, order_of}
+use Rattle.message_value.specs.declared.fault.MsgError.{MsgError}
+use Rattle.message_value.specs.declared.fault.MsgError.TheVariants as faults
+use Rattle.message_value.specs.Order.{order_byte, order_of}
 use Rattle.message_view.specs.Header.{kind_byte, kind_of}
 use Rattle.message_view.specs.Spelling.{fixed_len}
-use Rattle.message_view.specs.Valid.{max_array_len, max_message_len}
+use Rattle.message_value.specs.Fits.{max_array_len}
+use Rattle.message_view.specs.Valid.{max_message_len}
 use Rattle.message_view.specs.Fixed.{order_in, serial_in, fields_len, whole_len, Check, checks, first_failing, framing}
-use Rattle.message_view.proofs.OkSteps.{found_none, ok_is, some_is}
+use Rattle.message_value.proofs.OkSteps.{found_none, ok_is, some_is}
 
 -- ---- the order and the kind
 

@@ -1,19 +1,20 @@
 -- A message behind its fixed part, by the slices that the code reads.
-use Rattle.std.proofs.Common.{◌≡◌, ℕ, List, [], length, take, drop, Some, None, Result, Ok, Err, eqb, refl, sym, ap, ◌∙◌}
-use Rattle.std.proofs.lemmas.List.{drop-drop}
-use Rattle.std.proofs.lemmas.Bool.{eqb-true, not-false}
-use Rattle.message_view.specs.declared.fault.MsgError.{MsgError}
-use Rattle.message_view.specs.declared.fault.MsgError.TheVariants as faults
+use Rattle.std.proofs.Common.{◌≡◌, ℕ, ◌+◌, ◌-◌, List, [], length, take, drop, Some, None, Result, Ok, Err, refl, sym, ap, ◌∙◌, arith}
+use Rattle.std.proofs.lemmas.List.{drop-drop, length-drop}
+use Rattle.message_value.specs.declared.order.Order.{Order}
+use Rattle.message_value.specs.declared.fault.MsgError.{MsgError}
+use Rattle.message_value.specs.Value.{Values}
+use Rattle.message_value.specs.Spelling.{padding}
+use Rattle.message_value.specs.Reading.{At, inside}
+use Rattle.message_value.specs.Words.{Gives}
 use Rattle.message_view.specs.declared.fields.Fields.{Fields}
 use Rattle.message_view.specs.declared.fixed.Fixed.{Fixed}
-use Rattle.message_view.specs.declared.kind.Kind.{Kind}
 use Rattle.message_view.specs.Message.{Field}
 use Rattle.message_view.specs.Slots.{slots_of}
-use Rattle.message_view.specs.Spelling.{padding}
-use Rattle.message_view.specs.Fixed.{fields_len}
-use Rattle.message_view.specs.Reading.{ending_of, ending_fault, header_padding, message_of, fields_of, fields_from, framed_message}
-use Rattle.message_view.proofs.OkSteps.{found_none}
-use Rattle.message_view.specs.Words.{IsFixed, Gives, shown}
+use Rattle.message_view.specs.Spelling.{body_place}
+use Rattle.message_view.specs.Fixed.{order_in, fields_len, whole_len}
+use Rattle.message_view.specs.Reading.{header_fault, header_padding, types_in, arguments_at, in_body, body_at, message_of, fields_of, fields_from, framed_message}
+use Rattle.message_view.specs.Words.{body_of, IsFixed, shown}
 
 -- what a reader of the fields was given, by what it answered
 gave_fault : (fault : MsgError) (whole : Result (List Field) MsgError) → Gives {X = Fields} shown slots_of (Err fault) whole → whole ≡ Err fault
@@ -26,7 +27,7 @@ gave_fields fields (Err other) never = absurd never
 
 -- the array that the code cut out is the one that is read
 pub array_is : (fixed : Fixed) (bytes behind array : List ℕ) → IsFixed fixed bytes → behind ≡ drop 16 bytes → array ≡ take fixed.fields_len behind → length array ≡ fixed.fields_len
-    → fields_from (length array) fixed.order [] (record { place = 16; rest = array }) ≡ fields_of bytes
+    → fields_from (length array) fixed.order [] (inside 16 array) ≡ fields_of bytes
 array_is fixed bytes behind array is behind_is front_is len =
     let cut : array ≡ take (fields_len bytes) (drop 16 bytes) = front_is ∙ rw (is.fields, behind_is) refl in
     rw (len, cut, is.order, is.fields) refl
@@ -36,34 +37,55 @@ pub skipped_is : (fixed : Fixed) (bytes behind rest skipped : List ℕ) (n : ℕ
 skipped_is fixed bytes behind rest skipped n is behind_is rest_is n_is front_is =
     front_is ∙ rw (n_is, rest_is, behind_is, is.fields) (ap (take (padding 8 (fields_len bytes))) (drop-drop _ _ bytes))
 
+-- the body that the code cut off
+pub body_is : (fixed : Fixed) (bytes behind rest body : List ℕ) (n : ℕ) → IsFixed fixed bytes → behind ≡ drop 16 bytes → rest ≡ drop fixed.fields_len behind → n ≡ padding 8 fixed.fields_len → body ≡ drop n rest → body ≡ body_of bytes
+body_is fixed bytes behind rest body n is behind_is rest_is n_is back_is =
+    back_is
+    ∙ rw (n_is, rest_is, behind_is, is.fields) (ap (drop (padding 8 (fields_len bytes))) (drop-drop (fields_len bytes) 16 bytes) ∙ drop-drop (padding 8 (fields_len bytes)) (16 + fields_len bytes) bytes)
+
+-- where it is read
+pub cursor_is : (bytes body : List ℕ) (place : ℕ) (cursor : At) → length bytes ≡ whole_len bytes → body ≡ body_of bytes → place ≡ length bytes - length body → cursor ≡ in_body place body → cursor ≡ body_at bytes
+cursor_is bytes body place cursor whole is left read_there =
+    let len : length body ≡ length bytes - body_place (fields_len bytes) = ap (λ (x : List ℕ). length x) is ∙ length-drop (body_place (fields_len bytes)) bytes in
+    let same : place ≡ body_place (fields_len bytes) = omega (arith, left, len, whole) in
+    read_there ∙ rw (same, is) refl
+
 pub fields_fail : (fixed : Fixed) (bytes : List ℕ) (whole : Result (List Field) MsgError) (fault : MsgError) → IsFixed fixed bytes → whole ≡ fields_of bytes → Gives {X = Fields} shown slots_of (Err fault) whole → framed_message bytes ≡ Err fault
 unfolding framed_message
 fields_fail fixed bytes whole fault is same gave =
     let failed : fields_of bytes ≡ Err fault = sym same ∙ gave_fault fault whole gave in
     rw (is.kind, failed) refl
 
-pub ending_fails : (fixed : Fixed) (fields : Fields) (bytes skipped : List ℕ) (whole : Result (List Field) MsgError) (fault : MsgError) → IsFixed fixed bytes → whole ≡ fields_of bytes → Gives shown slots_of (Ok fields) whole → skipped ≡ header_padding bytes
-    → ((front : List Field) → shown fields ≡ slots_of front → Some fault ≡ ending_of fixed.kind skipped fixed.body_len front) → framed_message bytes ≡ Err fault
+pub header_fails : (fixed : Fixed) (fields : Fields) (bytes skipped : List ℕ) (whole : Result (List Field) MsgError) (fault : MsgError) → IsFixed fixed bytes → whole ≡ fields_of bytes → Gives shown slots_of (Ok fields) whole → skipped ≡ header_padding bytes
+    → ((front : List Field) → shown fields ≡ slots_of front → Some fault ≡ header_fault fixed.kind skipped front) → framed_message bytes ≡ Err fault
 unfolding framed_message
-ending_fails fixed fields bytes skipped whole fault is same gave skip found =
+header_fails fixed fields bytes skipped whole fault is same gave skip found =
     let f = gave_fields fields whole gave in
     let read : fields_of bytes ≡ Ok f.0 = sym same ∙ f.1 in
-    let end : ending_fault fixed.kind bytes f.0 ≡ Some fault = rw (← skip, ← is.body) (sym (found f.0 f.2)) in
+    let end : header_fault fixed.kind (header_padding bytes) f.0 ≡ Some fault = rw (← skip) (sym (found f.0 f.2)) in
     rw (is.kind, read, end) refl
 
-pub ending_passes : (fixed : Fixed) (fields : Fields) (bytes skipped : List ℕ) (whole : Result (List Field) MsgError) → IsFixed fixed bytes → whole ≡ fields_of bytes → Gives shown slots_of (Ok fields) whole → skipped ≡ header_padding bytes
-    → ((front : List Field) → shown fields ≡ slots_of front → None ≡ ending_of fixed.kind skipped fixed.body_len front) → (front : List Field) × (framed_message bytes ≡ Ok (message_of bytes fixed.kind front)) × (shown fields ≡ slots_of front)
-unfolding framed_message
-ending_passes fixed fields bytes skipped whole is same gave skip found =
-    let f = gave_fields fields whole gave in
-    let read : fields_of bytes ≡ Ok f.0 = sym same ∙ f.1 in
-    let end : ending_fault fixed.kind bytes f.0 ≡ None = rw (← skip, ← is.body) (sym (found f.0 f.2)) in
-    (f.0, rw (is.kind, read, end) refl, f.2)
+-- what passes up to the body
+pub record IsHeader (fixed : Fixed) (fields : Fields) (bytes : List ℕ) : Type 0 where
+  pub front : List Field
+  pub read : fields_of bytes ≡ Ok front
+  pub shows : shown fields ≡ slots_of front
+  pub passes : header_fault fixed.kind (header_padding bytes) front ≡ None
 
--- what passes the last of these checks has no body
-pub no_body : (kind : Kind) (skipped : List ℕ) (body : ℕ) (front : List Field) → None ≡ ending_of kind skipped body front → body ≡ 0
-no_body kind skipped body front none =
-    let required = found_none _ faults.FieldMissing _ (sym none) in
-    let padded = found_none _ faults.Padding _ required.1 in
-    let bodiless = found_none _ faults.Trailing _ padded.1 in
-    eqb-true body 0 (not-false (eqb body 0) bodiless.0)
+pub header_passes : (fixed : Fixed) (fields : Fields) (bytes skipped : List ℕ) (whole : Result (List Field) MsgError) → whole ≡ fields_of bytes → Gives shown slots_of (Ok fields) whole → skipped ≡ header_padding bytes
+    → ((front : List Field) → shown fields ≡ slots_of front → None ≡ header_fault fixed.kind skipped front) → IsHeader fixed fields bytes
+header_passes fixed fields bytes skipped whole same gave skip found =
+    let f = gave_fields fields whole gave in
+    record { front = f.0; read = sym same ∙ f.1; shows = f.2; passes = rw (← skip) (sym (found f.0 f.2)) }
+
+pub body_fails : (fixed : Fixed) (fields : Fields) (bytes : List ℕ) (cursor : At) (fault : MsgError) → IsFixed fixed bytes → (header : IsHeader fixed fields bytes) → cursor ≡ body_at bytes → arguments_at fixed.order (types_in header.front) cursor ≡ Err fault → framed_message bytes ≡ Err fault
+unfolding framed_message
+body_fails fixed fields bytes cursor fault is header place failed =
+    let arguments : arguments_at (order_in bytes) (types_in header.front) (body_at bytes) ≡ Err fault = ap (λ (o : Order). arguments_at o (types_in header.front) (body_at bytes)) (sym is.order) ∙ ap (arguments_at fixed.order (types_in header.front)) (sym place) ∙ failed in
+    rw (is.kind, header.read, header.passes, arguments) refl
+
+pub body_passes : (fixed : Fixed) (fields : Fields) (bytes : List ℕ) (cursor : At) (found : Values) → IsFixed fixed bytes → (header : IsHeader fixed fields bytes) → cursor ≡ body_at bytes → arguments_at fixed.order (types_in header.front) cursor ≡ Ok found → framed_message bytes ≡ Ok (message_of bytes fixed.kind header.front found)
+unfolding framed_message
+body_passes fixed fields bytes cursor found is header place passed =
+    let arguments : arguments_at (order_in bytes) (types_in header.front) (body_at bytes) ≡ Ok found = ap (λ (o : Order). arguments_at o (types_in header.front) (body_at bytes)) (sym is.order) ∙ ap (arguments_at fixed.order (types_in header.front)) (sym place) ∙ passed in
+    rw (is.kind, header.read, header.passes, arguments) refl

@@ -1,12 +1,13 @@
 -- A message at the front of more bytes: its length is said there.
 use Rattle.std.proofs.Common.{◌≡◌, ℕ, ◌+◌, ◌<◌, ◌≤◌, eqb, cond, List, ◌++◌, length, get_or, take, drop, is_none, Some, Ok, sym, ap, ◌∙◌, arith}
 use Rattle.std.proofs.lemmas.List.{get_or_append_left, take-append-le, drop-append-le, length-append, length-drop}
-use Rattle.message_view.specs.declared.order.Order.{Order}
-use Rattle.message_view.specs.declared.order.Order.TheVariants.{Little, Big}
-use Rattle.message_view.specs.Order.{order_of, word_of}
+use Rattle.message_value.specs.declared.order.Order.{Order}
+use Rattle.message_value.specs.declared.order.Order.TheVariants.{Little, Big}
+use Rattle.message_value.specs.Order.{order_of, word_of}
 use Rattle.message_view.specs.Header.{kind_of}
 use Rattle.message_view.specs.Message.{Message}
-use Rattle.message_view.specs.Spelling.{padding, fixed_len, fields_bytes}
+use Rattle.message_value.specs.Spelling.{padding}
+use Rattle.message_view.specs.Spelling.{fixed_len, header_bytes, body_bytes}
 use Rattle.message_view.specs.Valid.{Valid}
 use Rattle.message_view.specs.Fixed.{order_in, word_at, body_len, serial_in, fields_len, whole_len, framing}
 use Rattle.message_view.proofs.FixedPart.{IsFixed, framing_again}
@@ -50,5 +51,5 @@ fixed_in_front bytes rest f =
 pub valid_frames : (bytes rest : List ℕ) (m : Message) → Valid bytes m → framing (bytes ++ rest) ≡ Ok (Some (length bytes))
 valid_frames bytes rest m v =
     let fixed = valid_fixed bytes m v in
-    let whole = lies_whole bytes m.order m.serial (fields_bytes m.order fixed_len m.fields) (valid_lies bytes m v) in
+    let whole = lies_whole bytes m.order m.serial (header_bytes m) (body_bytes m) (valid_lies bytes m v) in
     framing_again (bytes ++ rest) (fixed_in_front bytes rest fixed) ∙ ap (λ (k : ℕ). Ok (Some k)) (whole_in_front bytes rest fixed.long ∙ whole)

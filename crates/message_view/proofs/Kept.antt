@@ -1,21 +1,24 @@
 -- What the slots of the known fields keep.
-use Rattle.std.proofs.Common.{◌≡◌, ℕ, ◌++◌, [], ◌∷◌, Bool, true, false, cond, List, Option, Some, None, Ok, Err, map, refl, sym, ◌∙◌}
-use Rattle.std.proofs.lemmas.Bool.{eq-eqb}
+use Rattle.std.proofs.Common.{◌≡◌, ℕ, ◌++◌, [], ◌∷◌, Bool, true, false, cond, eqb, List, Option, Some, None, Result, Ok, Err, map, refl, sym, ap, ◌∙◌}
+use Rattle.std.specs.Prelude.{◌==◌, option_map, slice_set, slice_index_or}
+use Rattle.std.proofs.lemmas.Bool.{eq-eqb, ne_eqb}
 use Rattle.std.proofs.Math.ListN.{get_or-map, set}
 use Rattle.std.proofs.lemmas.List.{map-set}
-use Rattle.std.specs.Prelude.{◌==◌, option_map, slice_set, slice_index_or}
+use Rattle.signature.specs.DataType.{DataType, basic}
+use Rattle.message_value.specs.declared.order.Order.{Order}
+use Rattle.message_value.specs.declared.fault.MsgError.{MsgError}
+use Rattle.message_value.specs.Value.{Value}
+use Rattle.message_value.specs.Reading.{At}
+use Rattle.message_value.specs.Words.{Checks}
 use Rattle.message_view.specs.declared.content.Content.{Content}
-use Rattle.signature.specs.DataType.{basic}
 use Rattle.message_view.specs.declared.field.FieldCode.{FieldCode}
 use Rattle.message_view.specs.declared.field.FieldCode.TheVariants as codes
-use Rattle.message_view.specs.Header.{code_byte, type_code}
-use Rattle.message_view.specs.Message.{Value, Field, field_with}
-use Rattle.message_view.specs.declared.fault.MsgError.{MsgError}
-use Rattle.message_view.specs.declared.order.Order.{Order}
-use Rattle.message_view.specs.Reading.{At, code_at, content_at, field_at}
+use Rattle.message_view.specs.Header.{code_byte, code_of, type_code}
+use Rattle.message_view.specs.Message.{Field, field_with}
+use Rattle.message_view.specs.Reading.{code_at, content_at, field_at}
 use Rattle.message_view.specs.Slots.{Slots, slot_of, slots_of}
-use Rattle.message_view.specs.Words.{value_of}
-use Rattle.message_view.proofs.ReadFields.{code_takes}
+use Rattle.message_view.specs.Words.{value_of, KeepsNext}
+use Rattle.message_view.proofs.ReadFields.{code_byte-code_of, once_at, field_of, code_takes}
 
 -- a slot shows its value
 pub slot_shown : (slots : List (Option Content)) (i j : ℕ) → i ≡ j → option_map value_of (slice_index_or slots i None) ≡ slice_index_or (map (option_map value_of) slots) j None
@@ -43,13 +46,13 @@ more_fields code (first ∷ front) field = go (first.code == code) (more_fields 
     go true e = refl
     go false e = e
 
--- the slots with one field more
-pub slots_more : (front : List Field) (code : FieldCode) (value : Value) → field_with (code_byte code) front ≡ None
-    → slice_set (slots_of front) (slot_of code) (Some value) ≡ slots_of (front ++ record { code = code_byte code; type = basic (type_code code); value = value } ∷ [])
-slots_more front code value none = go code own other
+-- the slots with one known field more
+pub slots_more : (front : List Field) (code : FieldCode) (type : DataType) (value : Value) → field_with (code_byte code) front ≡ None
+    → slice_set (slots_of front) (slot_of code) (Some value) ≡ slots_of (front ++ field_of (code_byte code) type value ∷ [])
+slots_more front code type value none = go code own other
   where
     field : Field
-    field = record { code = code_byte code; type = basic (type_code code); value = value }
+    field = field_of (code_byte code) type value
 
     own : field_with (code_byte code) (front ++ field ∷ []) ≡ Some value
     own = more_fields (code_byte code) front field ∙ rw (none, eq-eqb (code_byte code) (code_byte code) refl) refl
@@ -69,21 +72,49 @@ slots_more front code value none = go code own other
     go codes.Signature own other = cc (own, other 1 refl, other 2 refl, other 3 refl, other 4 refl, other 5 refl, other 6 refl, other 7 refl, other 9 refl)
     go codes.UnixFds own other = cc (own, other 1 refl, other 2 refl, other 3 refl, other 4 refl, other 5 refl, other 6 refl, other 7 refl, other 8 refl)
 
--- a field that was read, with the slots behind it
-pub kept_next : (order : Order) (front : List Field) (old behind : At) (middle : At) (code : FieldCode) (value : Value) (slots kept : Slots) → slots ≡ slots_of front → kept ≡ slice_set slots (slot_of code) (Some value)
-    → code_at front old ≡ Ok (code, middle) → content_at order code middle ≡ Ok (value, behind)
+-- a field of which nothing is known changes none of them
+slots_same : (front : List Field) (field : Field) → code_of field.code ≡ None → slots_of front ≡ slots_of (front ++ field ∷ [])
+slots_same front field unknown =
+    cc (other 1 codes.Path refl, other 2 codes.Interface refl, other 3 codes.Member refl, other 4 codes.ErrorName refl, other 5 codes.ReplySerial refl, other 6 codes.Destination refl, other 7 codes.Sender refl, other 8 codes.Signature refl, other 9 codes.UnixFds refl)
+  where
+    other : (k : ℕ) (named : FieldCode) → code_of k ≡ Some named → field_with k front ≡ field_with k (front ++ field ∷ [])
+    other k named is =
+        let differ : eqb field.code k ≡ false = ne_eqb field.code k (λ same. let no : Some named ≡ None = sym is ∙ ap code_of (sym same) ∙ unknown in absurd cc) in
+        sym (more_fields k front field ∙ rw differ (or_none (field_with k front)))
+
+-- a known field that was read, with the slots behind it
+pub kept_next : (order : Order) (front : List Field) (old middle behind : At) (byte : ℕ) (code : FieldCode) (value : Value) (slots kept : Slots) → slots ≡ slots_of front → kept ≡ slice_set slots (slot_of code) (Some value)
+    → Some code ≡ code_of byte → code_at front old ≡ Ok (byte, middle) → content_at order (Some code) middle ≡ Ok ((basic (type_code code), value), behind)
     → (field : Field) × (field_at order front old ≡ Ok (field, behind)) × (kept ≡ slots_of (front ++ field ∷ []))
 unfolding field_at
-kept_next order front old behind middle code value slots kept is put coded valued = (
-  record { code = code_byte code; type = basic (type_code code); value = value },
-  rw (coded, valued) refl,
-  put ∙ rw is (slots_more front code value (code_takes front old (code, middle) coded).1),
-)
+kept_next order front old middle behind byte code value slots kept is put named coded valued =
+    let byte_is : code_byte code ≡ byte = code_byte-code_of byte code (sym named) in
+    let content : content_at order (code_of byte) middle ≡ Ok ((basic (type_code code), value), behind) = rw (← named) valued in
+    let once : field_with (code_byte code) front ≡ None = ap (λ (k : ℕ). field_with k front) byte_is ∙ once_at (code_of byte) byte front code (code_takes front old (byte, middle) coded).3 (sym named) in (
+      field_of (code_byte code) (basic (type_code code)) value,
+      rw (coded, content) (ap (λ (k : ℕ). Ok (field_of k (basic (type_code code)) value, behind)) (sym byte_is)),
+      put ∙ rw is (slots_more front code (basic (type_code code)) value once),
+    )
+
+-- what a reader of a field's content answers, where nothing is known of the field
+pub passed_next : {X : Type 0} (order : Order) (front : List Field) (old middle behind : At) (byte : ℕ) (result : Result X MsgError) (slots : Slots) → slots ≡ slots_of front
+    → None ≡ code_of byte → code_at front old ≡ Ok (byte, middle) → Checks result behind (content_at order None middle)
+    → KeepsNext result slots behind front (field_at order front old)
+unfolding field_at
+passed_next order front old middle behind byte (Ok x) slots is unknown coded checks =
+    let content : content_at order (code_of byte) middle ≡ Ok (checks.0, behind) = rw (← unknown) checks.1 in
+    let field = field_of byte checks.0.0 checks.0.1 in
+    (field, rw (coded, content) refl, is ∙ slots_same front field (sym unknown))
+passed_next order front old middle behind byte (Err fault) slots is unknown coded checks =
+    let content : content_at order (code_of byte) middle ≡ Err fault = rw (← unknown) checks in
+    rw (coded, content) refl
 
 pub no_code : (order : Order) (front : List Field) (old : At) (fault : MsgError) → code_at front old ≡ Err fault → field_at order front old ≡ Err fault
 unfolding field_at
 no_code order front old fault coded = rw coded refl
 
-pub no_content : (order : Order) (front : List Field) (old middle : At) (code : FieldCode) (fault : MsgError) → code_at front old ≡ Ok (code, middle) → content_at order code middle ≡ Err fault → field_at order front old ≡ Err fault
+pub no_content : (order : Order) (front : List Field) (old middle : At) (byte : ℕ) (code : FieldCode) (fault : MsgError) → Some code ≡ code_of byte → code_at front old ≡ Ok (byte, middle) → content_at order (Some code) middle ≡ Err fault → field_at order front old ≡ Err fault
 unfolding field_at
-no_content order front old middle code fault coded valued = rw (coded, valued) refl
+no_content order front old middle byte code fault named coded valued =
+    let content : content_at order (code_of byte) middle ≡ Err fault = rw (← named) valued in
+    rw (coded, content) refl

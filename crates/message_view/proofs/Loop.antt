@@ -2,13 +2,15 @@
 use Rattle.std.proofs.Common.{◌≡◌, ℕ, zero, suc, ◌<◌, ◌≤◌, true, false, List, [], ◌∷◌, ◌++◌, length, Result, Ok, Err, refl, sym, ◌∙◌, arith}
 use Rattle.std.specs.Prelude.{◌==◌}
 use Rattle.std.proofs.lemmas.Bool.{eq-eqb}
-use Rattle.message_view.specs.declared.order.Order.{Order}
-use Rattle.message_view.specs.declared.fault.MsgError.{MsgError}
+use Rattle.message_value.specs.declared.order.Order.{Order}
+use Rattle.message_value.specs.declared.fault.MsgError.{MsgError}
 use Rattle.message_view.specs.declared.fields.Fields.{Fields}
 use Rattle.message_view.specs.Message.{Field}
 use Rattle.message_view.specs.Slots.{Slots, no_slots, slots_of}
-use Rattle.message_view.specs.Reading.{At, ◌>>=◌, field_at, fields_from}
-use Rattle.message_view.specs.Words.{Gives, shown}
+use Rattle.message_value.specs.Reading.{At, ◌>>=◌}
+use Rattle.message_value.specs.Words.{Gives}
+use Rattle.message_view.specs.Reading.{field_at, fields_from}
+use Rattle.message_view.specs.Words.{shown}
 use Rattle.message_view.proofs.FieldTurns.{field_shorter}
 
 -- The slots are those of the fields in front, and reading goes on behind them to what the whole array reads as.

@@ -1,20 +1,29 @@
 -- What a view keeps is its message's.
-use Rattle.std.proofs.Common.{◌≡◌, ℕ, ◌+◌, ◌-◌, ◌<◌, ◌≤◌, List, [], length, take, drop, map, get_or, Some, None, Result, Ok, Err, false, ltb, refl, sym, ap, ◌∙◌, arith}
+use Rattle.std.proofs.Common.{◌≡◌, ℕ, ◌+◌, ◌-◌, ◌<◌, ◌≤◌, List, length, map, get_or, Some, None, Result, Ok, Err, false, ltb, refl, sym, ap, ◌∙◌, arith}
 use Rattle.std.specs.Prelude.{slice_index_or, IfOk, IsOk}
 use Rattle.std.proofs.Math.ListN.{get_or-map}
 use Rattle.std.proofs.lemmas.Bool.{lt-ltb, le-ltb}
-use Rattle.message_view.specs.declared.fault.MsgError.{MsgError}
-use Rattle.message_view.specs.declared.fault.MsgError.TheVariants as faults
-use Rattle.message_view.specs.declared.fields.Fields.{Fields}
+use Rattle.std.proofs.lemmas.List.{length-drop}
+use Rattle.message_value.specs.declared.fault.MsgError.{MsgError}
+use Rattle.message_value.specs.declared.fault.MsgError.TheVariants as faults
+use Rattle.message_view.specs.declared.view.Sections.{Sections}
 use Rattle.message_view.specs.declared.fixed.Fixed.{Fixed}
-use Rattle.message_view.specs.Message.{Field, text_in, number_in, Message}
+use Rattle.message_view.specs.Message.{text_in, number_in, Message}
 use Rattle.message_view.specs.Valid.{Valid}
-use Rattle.message_view.specs.Spelling.{padding}
-use Rattle.message_view.specs.Fixed.{framing, whole_len}
-use Rattle.message_view.specs.Reading.{message_at, framed_message, message_of}
-use Rattle.message_view.specs.Slots.{Slots, Kept, kept_of, kept_of_reading, slots_of}
-use Rattle.message_view.specs.Words.{IsFixed, ReadsView, shown}
-use Rattle.message_view.proofs.OneMessage.{valid_reads, reads_valid, fault_invalid}
+use Rattle.message_value.specs.declared.order.Order.{Order}
+use Rattle.message_value.specs.Value.{Values}
+use Rattle.message_value.specs.Spelling.{padding}
+use Rattle.message_value.specs.Reading.{At, value_at, members_at}
+use Rattle.signature.specs.DataType.{DataTypes, SigText}
+use Rattle.message_value.proofs.OkSteps.{ok_is}
+use Rattle.message_value.specs.Arguments.{Argument, arguments_from}
+use Rattle.message_view.specs.Spelling.{body_place, header_bytes, body_bytes, arguments_of}
+use Rattle.message_view.specs.Fixed.{fields_len, whole_len, framing}
+use Rattle.message_view.specs.Reading.{in_body, body_at, message_of, framed_message, message_at}
+use Rattle.message_view.specs.Slots.{Slots, Kept, kept_of, slots_of}
+use Rattle.message_view.specs.Words.{body_of, IsFixed, IsKept, ReadsFramed, ReadsView, shown}
+use Rattle.message_view.proofs.Framed.{cursor_is}
+use Rattle.message_view.proofs.OneMessage.{valid_lies, valid_reads, reads_valid, message_whole, members_read, fault_invalid}
 
 -- ---- the length
 
@@ -50,33 +59,36 @@ whole_framed bytes len is len_is low high =
 -- ---- what is kept
 
 -- of a message that was read
-pub kept_first : (fixed : Fixed) (fields : Fields) (bytes : List ℕ) → IsFixed fixed bytes → (front : List Field) × (message_at bytes ≡ Ok (message_of bytes fixed.kind front)) × (shown fields ≡ slots_of front)
-    → kept_of_reading (message_at bytes) ≡ Ok (record { order = fixed.order; kind = fixed.kind; flags = fixed.flags; serial = fixed.serial; texts = map text_in (shown fields); numbers = map number_in (shown fields) })
-kept_first fixed fields bytes is found = rw (found.1, is.order, is.flags, is.serial, found.2) refl
+pub kept_first : (fixed : Fixed) (sections : Sections) (bytes : List ℕ) (read : Result Message MsgError) → IsFixed fixed bytes → message_at bytes ≡ read → ReadsFramed (Ok sections) fixed.kind bytes read
+    → IsKept bytes sections.body.now sections.signature (record { order = fixed.order; kind = fixed.kind; flags = fixed.flags; serial = fixed.serial; texts = map text_in (shown sections.fields); numbers = map number_in (shown sections.fields) })
+kept_first fixed sections bytes read is same found =
+    let m = message_of bytes fixed.kind found.0 found.1 in
+    record {
+      message = m;
+      read = same ∙ found.2;
+      is = rw (is.order, is.flags, is.serial, found.3) refl;
+      typed = found.4;
+      behind = found.5;
+    }
 
--- of the message that the bytes spell
-pub kept_is : (bytes now : List ℕ) (m : Message) (kept : Kept) → kept_of_reading (message_at bytes) ≡ Ok kept → bytes ≡ now → Valid now m → kept ≡ kept_of m (slots_of m.fields)
-kept_is bytes now m kept keeps same valid =
-    let read : message_at bytes ≡ Ok m = ap message_at same ∙ valid_reads now m valid in
-    sym (ok_kept _ _ (rw read at keeps))
-  where
-    done : Kept → Result Kept MsgError
-    done x = Ok x
+-- the message that was read is the one that the bytes spell
+pub message_is : (bytes now body signature : List ℕ) (m : Message) (kept : Kept) (keeps : IsKept bytes body signature kept) → bytes ≡ now → Valid now m → keeps.message ≡ m
+message_is bytes now body signature m kept keeps same valid = ok_is keeps.message m (sym keeps.read ∙ ap message_at same ∙ valid_reads now m valid)
 
-    ok_kept : (x y : Kept) → done x ≡ done y → x ≡ y
-    ok_kept x y e = cc
+-- what is kept is its
+pub kept_is : (bytes now body signature : List ℕ) (m : Message) (kept : Kept) → IsKept bytes body signature kept → bytes ≡ now → Valid now m → kept ≡ kept_of m (slots_of m.fields)
+kept_is bytes now body signature m kept keeps same valid =
+    keeps.is ∙ ap (λ (x : Message). kept_of x (slots_of x.fields)) (message_is bytes now body signature m kept keeps same valid)
+
+-- and so is the body
+pub body_kept : (bytes now body signature : List ℕ) (m : Message) (kept : Kept) → IsKept bytes body signature kept → bytes ≡ now → Valid now m → body ≡ body_bytes m
+body_kept bytes now body signature m kept keeps same valid = keeps.behind ∙ ap body_of same ∙ (valid_lies now m valid).is_body
 
 pub text_kept : (xs ys : Slots) (i : ℕ) → map text_in xs ≡ map text_in ys → text_in (slice_index_or xs i None) ≡ text_in (slice_index_or ys i None)
 text_kept xs ys i same = sym (get_or-map text_in xs i None) ∙ ap (λ texts. get_or texts i None) same ∙ get_or-map text_in ys i None
 
 pub number_kept : (xs ys : Slots) (i : ℕ) → map number_in xs ≡ map number_in ys → number_in (slice_index_or xs i None) ≡ number_in (slice_index_or ys i None)
 number_kept xs ys i same = sym (get_or-map number_in xs i None) ∙ ap (λ numbers. get_or numbers i None) same ∙ get_or-map number_in ys i None
-
--- nothing lies behind a message without a body
-pub nothing_behind : (bytes : List ℕ) (len body : ℕ) → body ≡ 0 → length bytes ≤ len → len ≤ length bytes → take (length bytes - (len - body)) (drop (len - body) bytes) ≡ []
-nothing_behind bytes len body none low high =
-    let left : length bytes - (len - body) ≡ 0 = omega arith in
-    rw left refl
 
 -- ---- what reading found
 
@@ -87,3 +99,41 @@ reading_found bytes (Err fault) fits read = tt
 pub reading_only : (bytes : List ℕ) (result : Result (List ℕ) MsgError) (m : Message) → ReadsView result bytes (message_at bytes) → Valid bytes m → IsOk result
 reading_only bytes (Ok view) m read valid = refl
 reading_only bytes (Err fault) m read valid = absurd (fault_invalid bytes fault m read valid)
+
+-- ---- the arguments
+
+-- the body is where the code's cursor stands
+pub body_cursor : (bytes body signature : List ℕ) (kept : Kept) (place : ℕ) (cursor : At) → IsKept bytes body signature kept → place ≡ length bytes - length body → cursor ≡ in_body place body → cursor ≡ body_at bytes
+body_cursor bytes body signature kept place cursor keeps left is = cursor_is bytes body place cursor (message_whole bytes keeps.message keeps.read).whole keeps.behind left is
+
+-- it fits
+pub body_fits : (bytes body signature : List ℕ) (kept : Kept) → IsKept bytes body signature kept → (length body ≤ length bytes) × (length bytes ≤ 134217728)
+body_fits bytes body signature kept keeps =
+    let w = message_whole bytes keeps.message keeps.read in
+    let len : length body ≡ length bytes - body_place (fields_len bytes) = ap (λ (x : List ℕ). length x) keeps.behind ∙ length-drop (body_place (fields_len bytes)) bytes in
+    (omega (arith, len), omega (arith, w.whole, w.fixed.whole))
+
+-- what the arguments are read from
+pub args_found : (bytes now body signature given : List ℕ) (kept : Kept) (cursor : At) → IsKept bytes body signature kept → bytes ≡ now → given ≡ signature → cursor ≡ body_at now
+    → (types : DataTypes) × SigText types given × ((values : Values) × (behind : At) × (members_at (value_at 64 kept.order) types cursor ≡ Ok (values, behind)))
+args_found bytes now body signature given kept cursor keeps same is place =
+    let m = keeps.message in
+    let found = members_read bytes m (message_whole bytes m keeps.read).parts in
+    let order : kept.order ≡ m.order = ap (λ (k : Kept). k.order) keeps.is in
+    let there : cursor ≡ body_at bytes = place ∙ ap body_at (sym same) in
+    let read : members_at (value_at 64 kept.order) m.types cursor ≡ Ok (m.arguments, found.0) = ap (λ (o : Order). members_at (value_at 64 o) m.types cursor) order ∙ ap (members_at (value_at 64 m.order) m.types) there ∙ found.1 in
+    (m.types, rw is keeps.typed, (m.arguments, found.0, read))
+
+-- they are those of the message that the bytes spell
+pub args_are : (bytes now body signature given : List ℕ) (m : Message) (kept : Kept) (cursor : At) (args : List Argument) → IsKept bytes body signature kept → bytes ≡ now → Valid now m → given ≡ signature → cursor ≡ body_at now
+    → ((types : DataTypes) (values : Values) (behind : At) → SigText types given → members_at (value_at 64 kept.order) types cursor ≡ Ok (values, behind) → args ≡ arguments_from kept.order cursor.place types values) → args ≡ arguments_of m
+unfolding args_found
+args_are bytes now body signature given m kept cursor args keeps same valid is place given_by =
+    let found = args_found bytes now body signature given kept cursor keeps same is place in
+    let message : keeps.message ≡ m = message_is bytes now body signature m kept keeps same valid in
+    let order : kept.order ≡ m.order = ap (λ (k : Kept). k.order) keeps.is ∙ ap (λ (x : Message). x.order) message in
+    let start : cursor.place ≡ body_place (length (header_bytes m)) = ap (λ (a : At). a.place) place ∙ ap body_place (valid_lies now m valid).is_len in
+    given_by found.0 found.2.0 found.2.1 found.1 found.2.2
+    ∙ ap (λ (x : Message). arguments_from kept.order cursor.place x.types x.arguments) message
+    ∙ ap (λ (o : Order). arguments_from o cursor.place m.types m.arguments) order
+    ∙ ap (λ (p : ℕ). arguments_from m.order p m.types m.arguments) start

@@ -17,7 +17,7 @@ use Rattle.message_view.specs.Header.{kind_of, code_of, type_code, is_named_well
 use Rattle.message_view.specs.Message.{Field, field_with, signature_in, Message}
 use Rattle.message_view.specs.Spelling.{field_alignment, fixed_len, body_place}
 use Rattle.message_view.specs.Valid.{levels_in_field}
-use Rattle.message_view.specs.Fixed.{order_in, serial_in, fields_len, body_len, framing}
+use Rattle.message_view.specs.Fixed.{order_in, serial_in, fields_len, framing}
 
 -- ---- fields
 

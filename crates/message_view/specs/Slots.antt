@@ -1,10 +1,9 @@
 -- The known fields in the order of their codes.
-use Rattle.std.specs.Prelude.{ℕ, List, [], ◌∷◌, map, Option, None, Result, Ok, Err}
+use Rattle.std.specs.Prelude.{ℕ, List, [], ◌∷◌, map, Option, None}
 use Rattle.message_value.specs.declared.order.Order.{Order}
 use Rattle.message_view.specs.declared.kind.Kind.{Kind}
 use Rattle.message_view.specs.declared.field.FieldCode.{FieldCode}
 use Rattle.message_view.specs.declared.field.FieldCode.TheVariants.{Path, Interface, Member, ErrorName, ReplySerial, Destination, Sender, Signature, UnixFds}
-use Rattle.message_value.specs.declared.fault.MsgError.{MsgError}
 use Rattle.message_value.specs.Value.{Value}
 use Rattle.message_view.specs.Message.{Field, field_with, text_in, number_in, Message}
 
@@ -44,7 +43,3 @@ pub record Kept : Type 0 where
 -- of a message that has these slots
 abbrev pub kept_of : Message → Slots → Kept
 kept_of m slots = record { order = m.order; kind = m.kind; flags = m.flags; serial = m.serial; texts = map text_in slots; numbers = map number_in slots }
-
-abbrev pub kept_of_reading : Result Message MsgError → Result Kept MsgError
-kept_of_reading (Ok m) = Ok (kept_of m (slots_of m.fields))
-kept_of_reading (Err fault) = Err fault

@@ -1,7 +1,7 @@
 -- Words that the contracts of the readers use.
-use Rattle.std.specs.Prelude.{◌≡◌, ℕ, List, [], ◌∷◌, ◌++◌, length, map, option_map, slice_index, ◌≤◌, Option, Some, None, Result, Ok, Err}
+use Rattle.std.specs.Prelude.{◌≡◌, ℕ, List, [], ◌∷◌, ◌++◌, length, drop, map, option_map, slice_index, ◌≤◌, Option, Some, None, Result, Ok, Err}
+use Rattle.signature.specs.DataType.{SigText}
 use Rattle.message_value.specs.declared.fault.MsgError.{MsgError}
-use Rattle.message_value.specs.declared.text.TextType.{TextType}
 use Rattle.message_value.specs.declared.text.TextType.TheVariants as texts
 use Rattle.message_value.specs.Value.{Value, Values, number, text}
 use Rattle.message_value.specs.Fits.{max_array_len}
@@ -12,6 +12,7 @@ use Rattle.message_view.specs.declared.fixed.Fixed.{Fixed}
 use Rattle.message_view.specs.declared.content.Content.{Content}
 use Rattle.message_view.specs.declared.content.Content.TheVariants.{Text, Number}
 use Rattle.message_view.specs.declared.fields.Fields.{Fields}
+use Rattle.message_view.specs.declared.view.Sections.{Sections}
 use Rattle.message_view.specs.declared.field.FieldCode.{FieldCode}
 use Rattle.message_view.specs.declared.field.FieldCode.TheVariants.{Path, Interface, Member, ErrorName, ReplySerial, Destination, Sender, Signature, UnixFds}
 use Rattle.message_view.specs.declared.field.FieldType.{FieldType}
@@ -20,14 +21,18 @@ use Rattle.message_view.specs.Message.{Field, Message}
 use Rattle.message_view.specs.Header.{kind_of}
 use Rattle.message_view.specs.Fixed.{order_in, serial_in, fields_len, body_len, whole_len, framing}
 use Rattle.message_view.specs.Valid.{max_message_len}
-use Rattle.message_view.specs.Spelling.{fixed_len}
-use Rattle.message_view.specs.Reading.{message_of}
-use Rattle.message_view.specs.Slots.{Slots, slots_of}
+use Rattle.message_view.specs.Spelling.{fixed_len, body_place}
+use Rattle.message_view.specs.Reading.{types_in, message_of, message_at}
+use Rattle.message_view.specs.Slots.{Slots, Kept, kept_of, slots_of}
 
 -- a field's content as the value that it is
 abbrev pub value_of : Content → Value
 value_of (Text t) = text t.now
 value_of (Number n) = number n
+
+-- the bytes behind the header and its padding
+abbrev pub body_of : List ℕ → List ℕ
+body_of bytes = drop (body_place (fields_len bytes)) bytes
 
 -- the fixed part of some bytes
 pub record IsFixed (fixed : Fixed) (bytes : List ℕ) : Type 0 where
@@ -74,12 +79,27 @@ abbrev pub KeepsNext : {X : Type 0} → Result X MsgError → Slots → At → L
 KeepsNext (Ok x) slots behind front read = (field : Field) × (read ≡ Ok (field, behind)) × (slots ≡ slots_of (front ++ field ∷ []))
 KeepsNext (Err fault) slots behind front read = read ≡ Err fault
 
+-- what a test of some bytes answers, whose value isn't kept
+abbrev pub Passes : {X Y : Type 0} → Result X MsgError → Result Y MsgError → Type 0
+Passes {Y = Y} (Ok x) read = (y : Y) × (read ≡ Ok y)
+Passes (Err fault) read = read ≡ Err fault
+
 -- what a reader of the message behind a fixed part answers
-abbrev pub ReadsFramed : Result Fields MsgError → Kind → List ℕ → Result Message MsgError → Type 0
-ReadsFramed (Ok fields) kind bytes read = (front : List Field) × (arguments : Values) × (read ≡ Ok (message_of bytes kind front arguments)) × (shown fields ≡ slots_of front)
+abbrev pub ReadsFramed : Result Sections MsgError → Kind → List ℕ → Result Message MsgError → Type 0
+ReadsFramed (Ok found) kind bytes read =
+    (front : List Field) × (arguments : Values) × (read ≡ Ok (message_of bytes kind front arguments))
+    × (shown found.fields ≡ slots_of front) × SigText (types_in front) found.signature × (found.body.now ≡ body_of bytes)
 ReadsFramed (Err fault) kind bytes read = read ≡ Err fault
 
 -- what a reader of a view answers, whose value is its bytes
 abbrev pub ReadsView : Result (List ℕ) MsgError → List ℕ → Result Message MsgError → Type 0
 ReadsView (Ok view) bytes read = (view ≡ bytes) × ((m : Message) × (read ≡ Ok m))
 ReadsView (Err fault) bytes read = read ≡ Err fault
+
+-- what a view keeps of the message that its bytes read as
+pub record IsKept (bytes body signature : List ℕ) (kept : Kept) : Type 0 where
+  pub message : Message
+  pub read : message_at bytes ≡ Ok message
+  pub is : kept ≡ kept_of message (slots_of message.fields)
+  pub typed : SigText message.types signature
+  pub behind : body ≡ body_of bytes

@@ -7,8 +7,7 @@ ghost use Rattle.message_view.specs.Slots.{slot_of};
 ghost use Rattle.message_view.specs.Words.{type_of, value_of};
 
 use crate::content::Content;
-use message_value::MsgError;
-use message_value::TextType;
+use message_value::{MsgError, TextType};
 use signature::{check_bus_name, check_interface, check_member};
 
 const LOCAL_PATH: &str = "/org/freedesktop/DBus/Local";
@@ -54,7 +53,7 @@ impl FieldCode {
         }
     }
 
-    /// The field of a code. For now the codes without a meaning are refused.
+    /// The field of a code; the other codes have no meaning yet.
     pub(crate) fn of(byte: u8) -> Option<Self>
         ensures { result ≡ code_of byte }
     {

@@ -1,18 +1,25 @@
 // The known fields of a header.
 
 ghost use Rattle.std.specs.Prelude.{◌≡◌, ℕ, ◌+◌, ◌<◌, ◌≤◌, List, [], length, Some, None, option_map, is_some, slice_index_or, slice_set};
-ghost use Rattle.signature.specs.DataType.{basic};
-ghost use Rattle.message_value.specs.Value.{Value};
-ghost use Rattle.message_view.specs.Message.{Field, text_in, number_in, field_with};
+ghost use Rattle.signature.specs.DataType.{DataType, TypeText, SigText, basic};
+ghost use Rattle.signature.specs.Alignment.{alignment_of};
+ghost use Rattle.message_value.specs.Reading.{At, inside, value_at};
+ghost use Rattle.message_value.specs.Words.{Reads, Checks, Gives};
+ghost use Rattle.message_view.specs.Message.{Field, text_in, number_in, signature_in};
 ghost use Rattle.message_view.specs.Header.{code_byte, type_code, has_required};
+ghost use Rattle.message_view.specs.Valid.{levels_in_field};
 ghost use Rattle.message_view.specs.Slots.{slot_of, slots_of, no_slots};
-ghost use Rattle.message_view.specs.Reading.{At, type_at, value_at, content_at, code_at, field_at, fields_from};
-ghost use Rattle.message_view.specs.Words.{Reads, Skips, Gives, value_of, type_code_of, shown, KeepsNext};
+ghost use Rattle.message_view.specs.Reading.{is_basic_of, content_at, code_fault, code_at, field_at, fields_from, types_in};
+ghost use Rattle.message_view.specs.Words.{value_of, type_code_of, shown, KeepsNext};
 
 use crate::content::Content;
 use crate::field::{FieldCode, FieldType};
 use crate::kind::Kind;
-use message_value::{Cursor, MsgError, Order};
+use message_value::{Cursor, MsgError, Order, TextType, check_value};
+use signature::{OneType, Signature};
+
+/// How many levels of values are left inside the variant of a field.
+const LEVELS_IN_FIELD: usize = 63;
 
 /// What each known field of a header holds, if it is there.
 #[derive(Drop)]
@@ -31,32 +38,36 @@ impl FieldType {
         }
     }
 
-    /// Goes over a variant's signature, which is to be this type with its zero byte.
-    #[tactic(auto, unfolding(crate::specs::Reading::type_at))]
-    fn skip_signature(self, cursor: &mut Cursor<'_>) -> Result<(), MsgError>
-        ensures { Skips result cursor.new (type_at (type_code_of self) cursor.old) }
+    /// Whether a type is this one.
+    fn is(self, value_type: &OneType<'_>) -> bool
+        ensures { (type : DataType) → TypeText type value_type.now → result ≡ is_basic_of (type_code_of self) type }
     {
-        let len = cursor.byte()?;
-        let signature = cursor.item(usize::from(len) + 1)?;
-        if signature == [self.code(), 0].as_slice() {
-            Ok(())
-        } else {
-            Err(MsgError::FieldType)
+        value_type.as_bytes() == [self.code()].as_slice()
+    }
+
+    /// What the place of a value of it is a multiple of, in bytes.
+    fn alignment(self) -> usize
+        ensures { result ≡ alignment_of (basic (type_code_of self)) }
+    {
+        match self {
+            FieldType::Text(TextType::Signature) => 1,
+            FieldType::Text(TextType::String | TextType::ObjectPath) | FieldType::Number => 4,
         }
     }
 
-    /// A value of this type.
-    #[tactic(auto, unfolding(crate::specs::Reading::value_at, crate::specs::Reading::number_value_at))]
+    /// A value of this type, behind its padding.
+    #[tactic(auto, unfolding(message_value::specs::Reading::value_by, message_value::specs::Reading::number_value_at, message_value::specs::Reading::word_at))]
     fn read_value<'a>(self, cursor: &mut Cursor<'a>, order: Order) -> Result<Content<'a>, MsgError>
-        ensures { Reads value_of result cursor.new (value_at order (type_code_of self) cursor.old) }
+        ensures { Reads value_of result cursor.new (value_at levels_in_field order (basic (type_code_of self)) cursor.old) }
     {
+        cursor.align(self.alignment())?;
         match self {
             FieldType::Text(text) => {
                 let found = text.read_value(cursor, order)?;
                 Ok(Content::Text(found))
             }
             FieldType::Number => {
-                let number = cursor.number(order)?;
+                let number = cursor.word(order)?;
                 Ok(Content::Number(number))
             }
         }
@@ -64,23 +75,35 @@ impl FieldType {
 }
 
 impl FieldCode {
-    /// The value of this field, and its content.
+    /// The value of this field, whose variant has to be of the field's type, and its content.
     #[tactic(auto, unfolding(crate::specs::Reading::content_at))]
     fn read_content<'a>(
         self,
         cursor: &mut Cursor<'a>,
         order: Order,
     ) -> Result<Content<'a>, MsgError>
-        ensures { Reads value_of result cursor.new (content_at order self cursor.old) }
+        ensures { Reads (λ content. (basic (type_code self), value_of content)) result cursor.new (content_at order (Some self) cursor.old) }
     {
+        let value_type = cursor.signature()?;
         let field_type = self.field_type();
-        field_type.skip_signature(cursor)?;
+        if !field_type.is(&value_type) {
+            return Err(MsgError::FieldType);
+        }
         let content = field_type.read_value(cursor, order)?;
         match self.content_fault(content) {
             Some(fault) => Err(fault),
             None => Ok(content),
         }
     }
+}
+
+/// Goes over the variant of a field of which nothing is known.
+#[tactic(auto, unfolding(crate::specs::Reading::content_at))]
+fn skip_content(cursor: &mut Cursor<'_>, order: Order) -> Result<(), MsgError>
+    ensures { Checks result cursor.new (content_at order None cursor.old) }
+{
+    let value_type = cursor.signature()?;
+    check_value(cursor, order, &value_type, LEVELS_IN_FIELD)
 }
 
 impl<'a> Fields<'a> {
@@ -150,27 +173,40 @@ impl<'a> Fields<'a> {
         }
     }
 
+    /// What keeps a field from having this code.
+    fn code_fault(&self, byte: u8) -> Option<MsgError>
+        ensures { (front : List Field) → shown self.now ≡ slots_of front → result ≡ code_fault front byte }
+    {
+        if byte == 0 {
+            return Some(MsgError::FieldCode);
+        }
+        match FieldCode::of(byte) {
+            Some(code) if self.has(code) => Some(MsgError::FieldTwice),
+            _ => None,
+        }
+    }
+
     /// The code of the next field, behind its padding.
     #[tactic(auto, unfolding(crate::specs::Reading::code_at))]
-    fn next_code(&self, cursor: &mut Cursor<'a>) -> Result<FieldCode, MsgError>
+    fn next_code(&self, cursor: &mut Cursor<'a>) -> Result<u8, MsgError>
         ensures { (front : List Field) → shown self.now ≡ slots_of front → Reads (λ code. code) result cursor.new (code_at front cursor.old) }
     {
         cursor.align(8)?;
-        let byte = cursor.byte()?;
-        let Some(code) = FieldCode::of(byte) else {
-            return Err(MsgError::FieldCode);
-        };
-        if self.has(code) {
-            return Err(MsgError::FieldTwice);
+        let code = cursor.byte()?;
+        match self.code_fault(code) {
+            Some(fault) => Err(fault),
+            None => Ok(code),
         }
-        Ok(code)
     }
 
-    /// The next field is kept.
+    /// The next field is kept, if it is known.
     fn read_next(&mut self, cursor: &mut Cursor<'a>, order: Order) -> Result<(), MsgError>
         ensures { (front : List Field) → shown self.old ≡ slots_of front → KeepsNext result (shown self.new) cursor.new front (field_at order front cursor.old) }
     {
-        let code = self.next_code(cursor)?;
+        let byte = self.next_code(cursor)?;
+        let Some(code) = FieldCode::of(byte) else {
+            return skip_content(cursor, order);
+        };
         let content = code.read_content(cursor, order)?;
         self.put(code, content);
         Ok(())
@@ -179,13 +215,33 @@ impl<'a> Fields<'a> {
     /// The fields that the array holds, which begins at a place of the message.
     pub(crate) fn read(order: Order, place: usize, bytes: &'a [u8]) -> Result<Fields<'a>, MsgError>
         requires { place + length bytes.now ≤ 134217728 }
-        ensures { Gives shown slots_of result (fields_from (length bytes.entry.now) order [] (record { place = place; rest = bytes.entry.now })) }
+        ensures { Gives shown slots_of result (fields_from (length bytes.entry.now) order [] (inside place bytes.entry.now)) }
     {
         let mut fields = Fields::new();
-        let mut cursor = Cursor::new(place, bytes);
+        let mut cursor = Cursor::new(place, bytes, MsgError::ArrayLength);
         while !cursor.is_empty() {
             fields.read_next(&mut cursor, order)?;
         }
         Ok(fields)
+    }
+
+    /// The text of the body's signature; absent means empty.
+    fn signature_text(&self) -> &'a str
+        ensures { (front : List Field) → shown self.now ≡ slots_of front → result.now ≡ signature_in front }
+    {
+        match self.text(FieldCode::Signature) {
+            Some(text) => text,
+            None => "",
+        }
+    }
+
+    /// The signature of the body.
+    pub(crate) fn signature(&self) -> Signature<'a>
+        ensures { (front : List Field) → shown self.now ≡ slots_of front → SigText (types_in front) result }
+    {
+        match Signature::read(self.signature_text().as_bytes()) {
+            Ok(signature) => signature,
+            Err(_) => Signature::empty(),
+        }
     }
 }

@@ -3,8 +3,8 @@
 ghost use Rattle.std.specs.Prelude.{◌≡◌};
 ghost use Rattle.message_view.specs.Fixed.{framing};
 
-use message_value::MsgError;
 use crate::fixed::Fixed;
+use message_value::MsgError;
 
 /// The length in bytes of the whole message that begins with these bytes, by the fixed part of its
 /// header (D-Bus Specification, "Message Format"); `None` where more bytes are needed to say.

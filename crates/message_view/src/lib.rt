@@ -12,5 +12,5 @@ mod view;
 
 pub use frame::frame_len;
 pub use kind::Kind;
-pub use message_value::{MsgError, Order};
+pub use message_value::{Arg, Args, MsgError, Order};
 pub use view::{View, one_message};

@@ -1,55 +1,86 @@
 // A message as a view of its bytes.
 
-ghost use Rattle.std.specs.Prelude.{◌≡◌, ℕ, List, length, Some, Ok, OnOk};
-ghost use Rattle.message_view.specs.Message.{Message, Field, path_of};
+ghost use Rattle.std.specs.Prelude.{◌≡◌, ℕ, List, length, Some, Ok};
+ghost use Rattle.signature.specs.DataType.{DataTypes, SigText};
+ghost use Rattle.message_view.specs.Message.{Message, Field};
 ghost use Rattle.message_view.specs.Valid.{Valid};
 ghost use Rattle.message_view.specs.Fixed.{whole_len};
-ghost use Rattle.message_view.specs.Reading.{message_at, framed_message, ending_of};
-ghost use Rattle.message_view.specs.Slots.{kept_of_reading, slots_of};
-ghost use Rattle.message_view.specs.Words.{ReadsFixed, ReadsFramed, shown};
+ghost use Rattle.message_view.specs.Reading.{framed_message, header_fault, arguments_at};
+ghost use Rattle.message_view.specs.Slots.{slots_of};
+ghost use Rattle.message_view.specs.Words.{ReadsFixed, ReadsFramed, Passes, shown};
 
-use message_value::are_zeros;
-use message_value::MsgError;
 use crate::field::FieldCode;
 use crate::fields::Fields;
 use crate::fixed::{FIXED_LEN, Fixed};
-use message_value::padding;
 use crate::kind::Kind;
-use message_value::Order;
+use message_value::{Args, Cursor, MAX_LEVELS, MsgError, Order, are_zeros, check_members, padding};
+use signature::Signature;
 use std::marker::Model;
 
-/// What there is to say behind the fields of a message.
-fn ending_fault(kind: Kind, fields: &Fields<'_>, skipped: &[u8], body_len: u32) -> Option<MsgError>
-    ensures { (front : List Field) → shown fields.now ≡ slots_of front → result ≡ ending_of kind skipped.now body_len front }
+/// What a message has behind its fixed part.
+#[derive(Drop)]
+pub(crate) struct Sections<'a> {
+    pub(crate) fields: Fields<'a>,
+    pub(crate) signature: Signature<'a>,
+    pub(crate) body: &'a [u8],
+}
+
+/// What there is to say between the fields and the body.
+fn header_fault(kind: Kind, fields: &Fields<'_>, skipped: &[u8]) -> Option<MsgError>
+    ensures { (front : List Field) → shown fields.now ≡ slots_of front → result ≡ header_fault kind skipped.now front }
 {
     if !fields.has_required(kind) {
         Some(MsgError::FieldMissing)
     } else if !are_zeros(skipped) {
         Some(MsgError::Padding)
-    } else if body_len != 0 {
-        Some(MsgError::Trailing)
     } else {
         None
     }
 }
 
-/// The fields of a message whose fixed part was read, and whose length is the one that it says.
-fn framed<'a>(fixed: &Fixed, bytes: &'a [u8]) -> Result<Fields<'a>, MsgError>
+/// Goes over the arguments, which have to be all of the body.
+#[tactic(auto, unfolding(crate::specs::Reading::arguments_at))]
+fn check_body(
+    order: Order,
+    signature: &Signature<'_>,
+    mut cursor: Cursor<'_>,
+) -> Result<(), MsgError>
+    ensures { (types : DataTypes) → SigText types signature.now → Passes result (arguments_at order types cursor.entry) }
+{
+    check_members(&mut cursor, order, signature.types(), MAX_LEVELS)?;
+    if cursor.is_empty() {
+        Ok(())
+    } else {
+        Err(MsgError::Trailing)
+    }
+}
+
+/// The fields and the body of a message whose fixed part was read, and whose length is the one that it says.
+fn framed<'a>(fixed: &Fixed, bytes: &'a [u8]) -> Result<Sections<'a>, MsgError>
     requires fixed { ReadsFixed (Ok (Some fixed.now)) bytes.now }
     requires whole { length bytes.now ≡ whole_len bytes.now }
-    ensures fields { ReadsFramed result fixed.now.kind bytes.entry.now (framed_message bytes.entry.now) }
-    // For now a message has no body.
-    ensures body { OnOk result (fixed.now.body_len ≡ 0) }
+    ensures { ReadsFramed result fixed.now.kind bytes.entry.now (framed_message bytes.entry.now) }
 {
     let fields_len = fixed.fields_len as usize;
     let (_, behind_fixed) = bytes.split_at(FIXED_LEN);
     let (array, behind_fields) = behind_fixed.split_at(fields_len);
-    let (skipped, _) = behind_fields.split_at(padding(8, fields_len));
+    let (skipped, body) = behind_fields.split_at(padding(8, fields_len));
     let fields = Fields::read(fixed.order, FIXED_LEN, array)?;
-    match ending_fault(fixed.kind, &fields, skipped, fixed.body_len) {
-        Some(fault) => Err(fault),
-        None => Ok(fields),
+    if let Some(fault) = header_fault(fixed.kind, &fields, skipped) {
+        return Err(fault);
     }
+    let signature = fields.signature();
+    let place = bytes.len() - body.len();
+    check_body(
+        fixed.order,
+        &signature,
+        Cursor::new(place, body, MsgError::Short),
+    )?;
+    Ok(Sections {
+        fields,
+        signature,
+        body,
+    })
 }
 
 /// A valid message, whose parts lie in the bytes that it was read from.
@@ -62,29 +93,28 @@ pub struct View<'a> {
     flags: u8,
     serial: u32,
     fields: Fields<'a>,
+    signature: Signature<'a>,
 }
 
 impl<'a> Model for View<'a> {
-    ghost use Rattle.std.specs.Prelude.{◌≡◌, ℕ, List, [], Ok, map};
+    ghost use Rattle.std.specs.Prelude.{ℕ, List, map};
     ghost use Rattle.message_view.specs.Message.{text_in, number_in};
-    ghost use Rattle.message_view.specs.Reading.{message_at};
-    ghost use Rattle.message_view.specs.Slots.{kept_of_reading};
-    ghost use Rattle.message_view.specs.Words.{shown};
+    ghost use Rattle.message_view.specs.Words.{IsKept, shown};
 
     ghost Value = { List ℕ };
 
     ghost view = { λ v. v.bytes.now };
 
-    ghost invariant = { λ v. (v.body.now ≡ []) × kept_of_reading (message_at v.bytes.now) ≡ Ok (record { order = v.order; kind = v.kind; flags = v.flags; serial = v.serial; texts = map text_in (shown v.fields); numbers = map number_in (shown v.fields) }) };
+    ghost invariant = { λ v. IsKept v.bytes.now v.body.now v.signature (record { order = v.order; kind = v.kind; flags = v.flags; serial = v.serial; texts = map text_in (shown v.fields); numbers = map number_in (shown v.fields) }) };
 }
 
 impl<'a> View<'a> {
     ghost use Rattle.std.specs.Prelude.{◌≡◌, IfOk, IfErr, IsOk, Err, None, option_map, slice_index_or};
     ghost use Rattle.message_view.specs.Message.{Message, text_in, path_of, interface_of, member_of, error_name_of, destination_of, sender_of, reply_serial_of};
     ghost use Rattle.message_view.specs.Valid.{Valid};
-    ghost use Rattle.message_view.specs.Reading.{message_at};
+    ghost use Rattle.message_view.specs.Reading.{body_at, message_at};
     ghost use Rattle.message_view.specs.Slots.{slot_of, slots_of};
-    ghost use Rattle.message_view.specs.Spelling.{body_bytes};
+    ghost use Rattle.message_view.specs.Spelling.{body_bytes, arguments_of};
     ghost use Rattle.message_view.specs.Words.{ReadsView};
 
     /// The message or the first fault, as reading gives it.
@@ -101,15 +131,16 @@ impl<'a> View<'a> {
         if bytes.len() > len {
             return Err(MsgError::Trailing);
         }
-        let fields = framed(&fixed, bytes)?;
+        let sections = framed(&fixed, bytes)?;
         Ok(View {
             bytes,
-            body: &bytes[len - fixed.body_len as usize..],
+            body: sections.body,
             order: fixed.order,
             kind: fixed.kind,
             flags: fixed.flags,
             serial: fixed.serial,
-            fields,
+            fields: sections.fields,
+            signature: sections.signature,
         })
     }
 
@@ -222,11 +253,26 @@ impl<'a> View<'a> {
         self.fields.number(FieldCode::ReplySerial)
     }
 
-    /// The bytes behind the header and its padding. For now no message has any.
+    /// The bytes behind the header and its padding: the arguments, with the padding between them.
     pub fn body(&self) -> &'a [u8]
         ensures { (m : Message) → Valid self.now m → result.now ≡ body_bytes m }
     {
         self.body
+    }
+
+    /// Before the first argument.
+    fn at_body(&self) -> Cursor<'a>
+        ensures { result ≡ body_at self.now }
+    {
+        let place = self.bytes.len() - self.body.len();
+        Cursor::new(place, self.body, MsgError::Short)
+    }
+
+    /// The arguments, one after the other.
+    pub fn args(&self) -> Args<'a>
+        ensures { (m : Message) → Valid self.now m → result ≡ arguments_of m }
+    {
+        Args::new(self.order, self.signature.again(), self.at_body())
     }
 }
 

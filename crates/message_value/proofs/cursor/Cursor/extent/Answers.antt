@@ -7,4 +7,4 @@ pub new-requires : goal.new-requires
 new-requires c =
     let fits = item_fits c.in_ok-len.len c.align.new.self (c.in_ok-elements.elements.now, c.item.new.self) c.in_ok-elements.ensures.read in
     let viewed = ap (λ (at : At). length at.rest) c.self.view_is in
-    omega (arith, fits, viewed, c.self.invariant, c.in_ok-elements.ensures.len)
+    omega (arith, fits, viewed, c.self.invariant.0, c.in_ok-elements.ensures.len)

@@ -1,6 +1,6 @@
 use Rattle.std.proofs.Common.{refl, ◌∙◌, arith}
 use Rattle.std.proofs.lemmas.Result.{err_from_is_err_and}
-use Rattle.message_view.proofs.Views.{fixed_fault, fixed_short, len_is, whole_short, whole_long, whole_framed, kept_first, nothing_behind}
+use Rattle.message_view.proofs.Views.{fixed_fault, fixed_short, len_is, whole_short, whole_long, whole_framed, kept_first}
 use Rattle.message_view.proofs.view.View.read_exactly.Goals as goal
 
 pub returns-in_err-fixed : goal.returns-in_err-fixed
@@ -23,27 +23,23 @@ returns-then-bytes-len-2 c =
     let len = len_is c.in-Some.fixed c.args.bytes.now _ fixed.1 c.whole_len-len.ensures in
     whole_long c.args.bytes.now fixed.0 (omega arith)
 
-pub returns-in_err-fields : goal.returns-in_err-fields
-returns-in_err-fields c =
-    let p = err_from_is_err_and c.from_residual-in_err-fields.result c.from_residual-in_err-fields.ensures.1 in
+pub returns-in_err-sections : goal.returns-in_err-sections
+returns-in_err-sections c =
+    let p = err_from_is_err_and c.from_residual-in_err-sections.result c.from_residual-in_err-sections.ensures.1 in
     let fixed = rw c.in-Some.is at c.in_ok-fixed.ensures in
     let len = len_is c.in-Some.fixed c.args.bytes.now _ fixed.1 c.whole_len-len.ensures in
-    rw (p.1, p.2) (whole_framed c.args.bytes.now _ fixed.0 len c.if-bytes-len.false c.if-bytes-len-2.false ∙ c.in_err-fields.ensures.fields)
+    rw (p.1, p.2) (whole_framed c.args.bytes.now _ fixed.0 len c.if-bytes-len.false c.if-bytes-len-2.false ∙ c.in_err-sections.ensures)
 
 pub invariant_of-result : goal.invariant_of-result
 invariant_of-result c =
     let fixed = rw c.in-Some.is at c.in_ok-fixed.ensures in
     let len = len_is c.in-Some.fixed c.args.bytes.now _ fixed.1 c.whole_len-len.ensures in
     let same = whole_framed c.args.bytes.now _ fixed.0 len c.if-bytes-len.false c.if-bytes-len-2.false in
-    let found = c.in_ok-fields.ensures.fields in (
-      nothing_behind c.args.bytes.now _ _ c.in_ok-fields.ensures.body c.if-bytes-len-2.false c.if-bytes-len.false,
-      kept_first c.in-Some.fixed c.in_ok-fields.fields c.args.bytes.now fixed.1 (found.0, same ∙ found.1, found.2),
-    )
+    kept_first c.in-Some.fixed c.in_ok-sections.sections c.args.bytes.now _ fixed.1 same c.in_ok-sections.ensures
 
 pub returns : goal.returns
 returns c =
     let fixed = rw c.in-Some.is at c.in_ok-fixed.ensures in
     let len = len_is c.in-Some.fixed c.args.bytes.now _ fixed.1 c.whole_len-len.ensures in
     let same = whole_framed c.args.bytes.now _ fixed.0 len c.if-bytes-len.false c.if-bytes-len-2.false in
-    let found = c.in_ok-fields.ensures.fields in
-    (refl, (_, same ∙ found.1))
+    (refl, (_, same ∙ c.in_ok-sections.ensures.2))
