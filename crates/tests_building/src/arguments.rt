@@ -15,7 +15,10 @@ fn one_behind_the_other(rt: HostRuntime) -> Result<(), Fail> {
     let fixed = "6c040001 10000000 01000000 39000000";
     let signature = "08016700 03737562 00000000 00000000";
     let body = "01000000 61000000 07000000 01000000";
-    assert_eq!(rt; bytes, bytes_of(rt.alloc(), &[fixed, FIELDS, signature, body])?);
+    assert_eq!(rt;
+        bytes,
+        bytes_of(rt.alloc(), &[fixed, FIELDS, signature, body])?
+    );
     Ok(())
 }
 

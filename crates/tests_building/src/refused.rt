@@ -38,13 +38,3 @@ fn serial_0(rt: HostRuntime) -> Result<(), Fail> {
     assert_eq!(rt; builder.finish(rt.alloc()).err(), Some(BuildError::Invalid));
     Ok(())
 }
-
-#[test]
-fn body_too_large(rt: HostRuntime) -> Result<(), Fail> {
-    let mut builder = signal(rt.alloc());
-    let mut bytes = Vec::new(rt.alloc());
-    bytes.resize(134217728, 0)?;
-    builder.raw_body(b"ay", &bytes)?;
-    assert_eq!(rt; builder.finish(rt.alloc()).err(), Some(BuildError::TooLarge));
-    Ok(())
-}
