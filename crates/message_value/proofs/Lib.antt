@@ -20,3 +20,5 @@ pub mod ShownSteps
 pub mod ArgumentTurns
 pub mod SmallValues
 pub mod FaultOrder
+pub mod MovedValues
+pub mod AppendedMembers

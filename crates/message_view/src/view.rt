@@ -13,12 +13,9 @@ use crate::field::FieldCode;
 use crate::fields::Fields;
 use crate::fixed::{FIXED_LEN, Fixed};
 use crate::kind::Kind;
-use message_value::{Args, Cursor, MsgError, Order, are_zeros, check_members, padding};
+use message_value::{Args, Cursor, MAX_LEVELS, MsgError, Order, are_zeros, check_members, padding};
 use signature::Signature;
 use std::marker::Model;
-
-/// The deepest nesting of values.
-const MAX_LEVELS: usize = 64;
 
 /// What a message has behind its fixed part.
 #[derive(Drop)]

@@ -1,0 +1,4 @@
+pub mod Asked
+pub mod Building
+pub mod ErrorName
+pub mod Words

@@ -1,0 +1,136 @@
+// The arguments of a builder.
+
+ghost use Rattle.std.specs.Prelude.{◌≡◌, ◌++◌, ◌∷◌, [], length, take, Ok};
+ghost use Rattle.signature.specs.DataType.{basic};
+ghost use Rattle.message_value.specs.Value.{text, number};
+ghost use Rattle.message_build.specs.Words.{Completes};
+
+use crate::appending::{push_number, push_string};
+use crate::builder::Builder;
+use crate::error::BuildError;
+use crate::given::Given;
+use crate::strings::push_strings;
+use std::alloc::AllocError;
+
+/// Appends to one list once another has grown; where either is refused, that one is cut back.
+fn complete(
+    pushed: Result<(), AllocError>,
+    grown: &mut Vec<u8>,
+    len: usize,
+    list: &mut Vec<u8>,
+    more: &[u8],
+) -> Result<(), AllocError>
+    ensures { Completes pushed result grown.old.items grown.new.items len list.old.items list.new.items more.now }
+{
+    let completed = match pushed {
+        Ok(()) => list.extend_from_slice(more),
+        Err(refused) => Err(refused),
+    };
+    if completed.is_err() {
+        grown.truncate(len);
+    }
+    completed
+}
+
+impl<'a> Builder<'a> {
+    ghost use Rattle.std.specs.Prelude.{◌≡◌, if◌then◌else◌};
+    ghost use Rattle.signature.specs.DataType.{basic, array};
+    ghost use Rattle.message_value.specs.Value.{text, number, elements};
+    ghost use Rattle.message_build.specs.Words.{Adds, with_argument, with_raw, string_values};
+
+    /// Adds a string.
+    ///
+    /// # Errors
+    ///
+    /// `NoMemory`, and then nothing is added.
+    pub fn arg_str(&mut self, string: &str) -> Result<(), BuildError>
+        ensures { Adds result self.old self.new (with_argument self.old (basic 115) (text string.now)) }
+    {
+        if !self.given.takes_arguments() {
+            self.given = Given::Spoiled;
+            return Ok(());
+        }
+        let len = self.body.len();
+        let pushed = push_string(&mut self.body, string.as_bytes());
+        complete(pushed, &mut self.body, len, &mut self.signature, b"s")?;
+        self.given = Given::Arguments;
+        Ok(())
+    }
+
+    /// Adds a number.
+    ///
+    /// # Errors
+    ///
+    /// `NoMemory`, and then nothing is added.
+    pub fn arg_u32(&mut self, n: u32) -> Result<(), BuildError>
+        ensures { Adds result self.old self.new (with_argument self.old (basic 117) (number n)) }
+    {
+        if !self.given.takes_arguments() {
+            self.given = Given::Spoiled;
+            return Ok(());
+        }
+        let len = self.body.len();
+        let pushed = push_number(&mut self.body, n);
+        complete(pushed, &mut self.body, len, &mut self.signature, b"u")?;
+        self.given = Given::Arguments;
+        Ok(())
+    }
+
+    /// Adds a boolean.
+    ///
+    /// # Errors
+    ///
+    /// `NoMemory`, and then nothing is added.
+    pub fn arg_bool(&mut self, b: bool) -> Result<(), BuildError>
+        ensures { Adds result self.old self.new (with_argument self.old (basic 98) (number (if b then 1 else 0))) }
+    {
+        if !self.given.takes_arguments() {
+            self.given = Given::Spoiled;
+            return Ok(());
+        }
+        let len = self.body.len();
+        let bits = if b { 1 } else { 0 };
+        let pushed = push_number(&mut self.body, bits);
+        complete(pushed, &mut self.body, len, &mut self.signature, b"b")?;
+        self.given = Given::Arguments;
+        Ok(())
+    }
+
+    /// Adds an array of strings.
+    ///
+    /// # Errors
+    ///
+    /// `NoMemory`, and then nothing is added.
+    pub fn arg_strs(&mut self, strings: &[&str]) -> Result<(), BuildError>
+        ensures { Adds result self.old self.new (with_argument self.old (array (basic 115)) (elements (string_values strings.now))) }
+    {
+        if !self.given.takes_arguments() {
+            self.given = Given::Spoiled;
+            return Ok(());
+        }
+        let len = self.body.len();
+        let pushed = push_strings(&mut self.body, strings);
+        complete(pushed, &mut self.body, len, &mut self.signature, b"as")?;
+        self.given = Given::Arguments;
+        Ok(())
+    }
+
+    /// Gives the whole body: its signature and its bytes.
+    ///
+    /// # Errors
+    ///
+    /// `NoMemory`, and then nothing is given.
+    pub fn raw_body(&mut self, signature: &[u8], bytes: &[u8]) -> Result<(), BuildError>
+        ensures { Adds result self.old self.new (with_raw self.old signature.now bytes.now) }
+    {
+        if !self.given.is_nothing() {
+            self.given = Given::Spoiled;
+            return Ok(());
+        }
+        let len = self.body.len();
+        let pushed = self.body.extend_from_slice(bytes);
+        complete(pushed, &mut self.body, len, &mut self.signature, signature)?;
+        self.given = Given::Raw;
+        Ok(())
+    }
+}

@@ -1,0 +1,91 @@
+// The bytes of a message that is built.
+
+ghost use Rattle.std.specs.Prelude.{◌≡◌, ℕ, ◌+◌, ◌≤◌, true, [], length, IfOk};
+ghost use Rattle.message_value.specs.declared.order.Order.TheVariants.{Little};
+ghost use Rattle.message_value.specs.Fits.{max_array_len};
+ghost use Rattle.message_view.specs.Spelling.{fixed_len, fields_bytes};
+ghost use Rattle.message_build.specs.Building.{Finishes};
+ghost use Rattle.message_build.specs.Words.{Appends, fixed_bytes, spelled, listed, asked, fields_of, are_allowed};
+
+use crate::appending::{align, push_word};
+use crate::body::is_body;
+use crate::error::BuildError;
+use crate::field::{HeaderField, are_allowed};
+use crate::fields::{FIXED_LEN, fields_end, push_fields};
+use crate::given::Given;
+use crate::header::Header;
+use message_value::padding;
+use std::alloc::{AllocError, Global};
+
+/// The longest message.
+const MAX_MESSAGE_LEN: usize = 134217728;
+
+/// What stands in front of the fields: the order, the kind, the flags, the version of the protocol, the
+/// body's length, the serial, and the length of the fields.
+fn push_fixed(
+    bytes: &mut Vec<u8>,
+    header: &Header<'_>,
+    fields_len: usize,
+    body_len: usize,
+) -> Result<(), AllocError>
+    ensures { Appends result bytes.old.items bytes.new.items (fixed_bytes header.now fields_len body_len) }
+{
+    bytes.extend_from_slice(&[b'l', header.kind.byte(), header.flags, 1])?;
+    push_word(bytes, body_len)?;
+    push_word(bytes, header.serial as usize)?;
+    push_word(bytes, fields_len)
+}
+
+/// The message with these fields, which end at a place, and this body.
+fn message(
+    alloc: Global,
+    header: &Header<'_>,
+    fields: &[Option<HeaderField<'_>>],
+    end: usize,
+    body: &[u8],
+) -> Result<Vec<u8>, AllocError>
+    requires allowed { are_allowed fields.now ≡ true }
+    requires end { end ≡ fixed_len + length (fields_bytes Little fixed_len (fields_of fields.now)) }
+    requires short { end ≤ fixed_len + max_array_len }
+    requires body { length body.now ≤ 134217728 }
+    ensures { IfOk result (λ v. v.items ≡ spelled header.now (fields_of fields.now) body.now) }
+{
+    let mut bytes = Vec::with_capacity(alloc, end + padding(8, end) + body.len())?;
+    push_fixed(&mut bytes, header, end - FIXED_LEN, body.len())?;
+    push_fields(&mut bytes, fields)?;
+    align(&mut bytes, 8)?;
+    bytes.extend_from_slice(body)?;
+    Ok(bytes)
+}
+
+/// The message that was asked for, or why there is none.
+pub(crate) fn built(
+    alloc: Global,
+    header: &Header<'_>,
+    signature: &[u8],
+    body: &[u8],
+    given: Given,
+) -> Result<Vec<u8>, BuildError>
+    ensures { Finishes (asked header.now signature.now body.now given) (listed result) }
+{
+    let fields = header.fields(signature);
+    if given.is_spoiled() {
+        return Err(BuildError::Invalid);
+    }
+    if !header.is_sound() {
+        return Err(BuildError::Invalid);
+    }
+    if !are_allowed(&fields) {
+        return Err(BuildError::Invalid);
+    }
+    let Some(end) = fields_end(&fields) else {
+        return Err(BuildError::TooLarge);
+    };
+    if body.len() > MAX_MESSAGE_LEN - (end + padding(8, end)) {
+        return Err(BuildError::TooLarge);
+    }
+    if !is_body(signature, body) {
+        return Err(BuildError::Invalid);
+    }
+    Ok(message(alloc, header, &fields, end, body)?)
+}

@@ -1,0 +1,9 @@
+//! Tests of built messages. Each is named after its worked example, or after what it shows.
+#![tactic(auto)]
+
+#[cfg(test)]
+mod arguments;
+#[cfg(test)]
+mod refused;
+#[cfg(test)]
+mod signals;
