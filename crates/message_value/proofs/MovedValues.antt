@@ -182,10 +182,11 @@ mutual
       let moved = value_bytes order b (basic k) key in
       let behind : Alike (a + length first) (b + length moved) = behind_alike a b first moved start (value_moved order a b start (basic k) key) in
       let whole = entry_bytes order p k v key value in
-      let other = entry_bytes order q k v key value in
-      (bare_fits_moved order levels (aligned (alignment_of (basic k)) a) (aligned (alignment_of (basic k)) b) (aligned_alike a b start (basic k)) (basic k) key has.0,
-       bare_fits_moved order levels (aligned (alignment_of v) (a + length first)) (aligned (alignment_of v) (b + length moved)) (aligned_alike (a + length first) (b + length moved) behind v) v value has.1,
-       entries_fit_moved order levels (p + length whole) (q + length other) (behind_alike p q whole other s (entry_moved order p q s k v key value)) k v es has.2)
+      let other = entry_bytes order q k v key value in (
+        bare_fits_moved order levels (aligned (alignment_of (basic k)) a) (aligned (alignment_of (basic k)) b) (aligned_alike a b start (basic k)) (basic k) key has.0,
+        bare_fits_moved order levels (aligned (alignment_of v) (a + length first)) (aligned (alignment_of v) (b + length moved)) (aligned_alike (a + length first) (b + length moved) behind v) v value has.1,
+        entries_fit_moved order levels (p + length whole) (q + length other) (behind_alike p q whole other s (entry_moved order p q s k v key value)) k v es has.2,
+      )
 
   pub members_fit_moved : (order : Order) (levels p q : ℕ) → Alike p q → (types : DataTypes) (vs : Values) → MembersFit order levels p types vs → MembersFit order levels q types vs
   members_fit_moved order levels p q s no_types no_values has = tt
