@@ -1,11 +1,15 @@
 //! What the benchmark of messages calls from C.
 #![tactic(auto)]
 
+ghost use Rattle.std.specs.Prelude.{◌<◌};
+
 use message_view::View;
 
 /// The sum of the serials of the messages in a stream, each of which has so many bytes, and of the number of
 /// their members' bytes.
-fn read_each(stream: &[u8], len: usize) -> u64 {
+fn read_each(stream: &[u8], len: usize) -> u64
+    requires { 0 < len }
+{
     let mut sum = 0u64;
     for message in stream.chunks_exact(len) {
         if let Ok(view) = View::read(message) {
