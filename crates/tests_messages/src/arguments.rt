@@ -84,10 +84,12 @@ fn sixty_four_arguments(rt: HostRuntime) -> Result<(), Fail> {
     assert_eq!(rt; bytes.len(), 646);
     let view = View::read(bytes.as_slice())?;
     assert_eq!(rt; view.body().len(), 510);
-    assert_eq!(rt; view.args().count(), 64);
-    let last = view.args().last().ok_or("no argument")?;
+    let last = view.args().nth(63).ok_or("63 arguments at most")?;
+    assert_eq!(rt; last.code, b's');
     assert_eq!(rt; last.place, 644);
+    assert_eq!(rt; last.len, 1);
     assert_eq!(rt; last.text, Some("x"));
+    assert!(rt; view.args().nth(64).is_none());
     Ok(())
 }
 

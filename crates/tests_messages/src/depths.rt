@@ -16,7 +16,7 @@ fn variants(alloc: Global, count: usize) -> Result<Vec<u8>, Fail> {
 }
 
 #[test]
-fn nested_variants(rt: HostRuntime) -> Result<(), Fail> {
+fn signatures_and_depth(rt: HostRuntime) -> Result<(), Fail> {
     for (count, len, fault) in [
         (1, 4, None),
         (64, 193, None),
@@ -31,7 +31,7 @@ fn nested_variants(rt: HostRuntime) -> Result<(), Fail> {
 }
 
 /// 32 structs round 32 arrays of what a code stands for.
-fn deep_signature(alloc: Global, code: char) -> Result<String, Fail> {
+fn structs_of_arrays(alloc: Global, code: char) -> Result<String, Fail> {
     let mut text = String::new(alloc);
     for c in ['(', 'a'] {
         for _ in 0..32 {
@@ -56,16 +56,16 @@ fn lengths(alloc: Global, first: u32) -> Result<Vec<u8>, Fail> {
 }
 
 #[test]
-fn deep_signatures(rt: HostRuntime) -> Result<(), Fail> {
+fn deep_signature(rt: HostRuntime) -> Result<(), Fail> {
     let empty = lengths(rt.alloc(), 124)?;
     for code in ['y', 'v'] {
-        let signature = deep_signature(rt.alloc(), code)?;
+        let signature = structs_of_arrays(rt.alloc(), code)?;
         let bytes = with_body(rt.alloc(), signature.as_str(), empty.as_slice())?;
         assert_eq!(rt; View::read(bytes.as_slice()).err(), None, "{code}");
     }
     let mut one = lengths(rt.alloc(), 128)?;
     one.extend_from_slice(&[1, b'y', 0, 0])?;
-    let signature = deep_signature(rt.alloc(), 'v')?;
+    let signature = structs_of_arrays(rt.alloc(), 'v')?;
     let bytes = with_body(rt.alloc(), signature.as_str(), one.as_slice())?;
     assert_eq!(rt; View::read(bytes.as_slice()).err(), Some(MsgError::Depth));
     Ok(())

@@ -5,6 +5,8 @@
 #[cfg(test)]
 mod arguments;
 #[cfg(test)]
+mod basic_bodies;
+#[cfg(test)]
 mod bodies;
 #[cfg(test)]
 mod depths;
