@@ -6,3 +6,4 @@ pub mod Fixed
 pub mod Reading
 pub mod Words
 pub mod Slots
+pub mod Places

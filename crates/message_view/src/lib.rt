@@ -3,6 +3,7 @@
 #![tactic(auto)]
 
 mod content;
+mod extent;
 mod field;
 mod fields;
 mod fixed;
@@ -10,6 +11,7 @@ mod frame;
 mod kind;
 mod view;
 
+pub use extent::{Extent, TextField};
 pub use frame::frame_len;
 pub use kind::Kind;
 pub use message_value::{Arg, Args, MsgError, Order};

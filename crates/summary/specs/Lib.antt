@@ -1,2 +1,4 @@
 pub mod Layout
 pub mod Sets
+pub mod ImageBytes
+pub mod Shown

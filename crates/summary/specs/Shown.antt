@@ -1,0 +1,48 @@
+-- What the loads of an image say of its message.
+use Rattle.std.specs.Prelude.{◌≡◌, ℕ, ◌+◌, ◌*◌, ◌/◌, ◌<◌, List, ◌++◌, length, Option, Some, None, IfSome, slice_get, slice_index}
+use Rattle.bpf_code.specs.Loads.{load_word}
+use Rattle.message_value.specs.Arguments.{Argument}
+use Rattle.message_view.specs.Header.{kind_byte}
+use Rattle.message_view.specs.Message.{Message, path_of, interface_of, member_of, error_name_of, destination_of, sender_of}
+use Rattle.message_view.specs.Spelling.{arguments_of}
+use Rattle.summary.specs.declared.edition.Edition.{Edition}
+use Rattle.summary.specs.declared.edition.Edition.TheVariants.{One, Two}
+
+-- the text lies at a place of the image
+abbrev pub Lies : List ℕ → ℕ → List ℕ → Type 0
+Lies image place text = (front : List ℕ) × (behind : List ℕ) × (image ≡ front ++ (text ++ behind)) × (length front ≡ place)
+
+-- two words from a place on tell the place and the length of a text that is there
+pub record Tells (image : List ℕ) (at : ℕ) (text : List ℕ) : Type 0 where
+  pub place : ℕ
+  pub behind_start : 0 < place
+  pub place_word : load_word image at ≡ Some place
+  pub len_word : load_word image (at + 4) ≡ Some (length text)
+  pub lies : Lies image place text
+
+-- of a text that is absent both are 0
+abbrev pub ShowsText : List ℕ → ℕ → Option (List ℕ) → Type 0
+ShowsText image at None = (load_word image at ≡ Some 0) × (load_word image (at + 4) ≡ Some 0)
+ShowsText image at (Some text) = Tells image at text
+
+-- three words from a place on tell the type, the place and the length of an argument
+abbrev pub ShowsArgument : List ℕ → ℕ → Option Argument → Type 0
+ShowsArgument image at None = load_word image at ≡ Some 0
+ShowsArgument image at (Some a) = (load_word image at ≡ Some a.code) × IfSome a.text (Tells image (at + 4))
+
+-- how many slots a summary tells of
+abbrev pub slots_of : Edition → ℕ
+slots_of One = 512
+slots_of Two = 1024
+
+-- The image shows the message, whose sender owns the names of the slots.
+pub record Shows (edition : Edition) (image : List ℕ) (m : Message) (slots : List ℕ) : Type 0 where
+  pub kind : load_word image 4 ≡ Some (kind_byte m.kind)
+  pub path : ShowsText image 24 (path_of m)
+  pub interface : ShowsText image 32 (interface_of m)
+  pub member : ShowsText image 40 (member_of m)
+  pub error_name : ShowsText image 48 (error_name_of m)
+  pub destination : ShowsText image 56 (destination_of m)
+  pub sender : ShowsText image 64 (sender_of m)
+  pub argument : (n : ℕ) → n < 64 → ShowsArgument image (72 + 12 * n) (slice_get (arguments_of m) n)
+  pub owned : (slot : ℕ) → slot < slots_of edition → load_word image (840 + 4 * (slot / 32)) ≡ Some (slice_index slots (slot / 32))
