@@ -12,8 +12,13 @@ use Rattle.summary.specs.declared.edition.Edition.TheVariants.{One, Two}
 abbrev pub Lies : List ℕ → ℕ → List ℕ → Type 0
 Lies image place text = (front : List ℕ) × (behind : List ℕ) × (image ≡ front ++ (text ++ behind)) × (length front ≡ place)
 
+-- each is a byte
+abbrev pub AreBytes : List ℕ → Type 0
+AreBytes bytes = (i : ℕ) → slice_index bytes i < 256
+
 -- two words from a place on tell the place and the length of a text that is there
 pub record Tells (image : List ℕ) (at : ℕ) (text : List ℕ) : Type 0 where
+  pub bytes : AreBytes text
   pub place : ℕ
   pub behind_start : 0 < place
   pub place_word : load_word image at ≡ Some place
