@@ -1,0 +1,87 @@
+-- The pieces of programs that rules are compiled to. A program is written from its last instruction to its
+-- first: each piece stands in front of the rest, so that each jump has its target already. Of any rest the last
+-- instruction is the one that says no match.
+use Rattle.std.specs.Prelude.{ℕ, ◌+◌, ◌-◌, ◌*◌, List, [], ◌∷◌, length, ◌==◌, if◌then◌else◌, Bool}
+use Rattle.bpf_code.specs.declared.instruction.Ins.{Ins}
+use Rattle.bpf_code.specs.declared.operation.Op.TheVariants.{LoadImage, LoadIndexed, IndexFromA, ReturnConstant, Branch}
+use Rattle.bpf_code.specs.declared.operation.Width.{Width}
+use Rattle.bpf_code.specs.declared.operation.Width.TheVariants.{Word, Half, Byte}
+use Rattle.bpf_code.specs.declared.operation.Operand.TheVariants.{Constant}
+use Rattle.bpf_code.specs.declared.operation.Test.{Test}
+use Rattle.bpf_code.specs.declared.operation.Test.TheVariants.{Equal, Above, AtLeast}
+use Rattle.bpf_code.specs.Table.{code_of}
+
+-- ---- instructions
+
+-- A becomes the word of the image at a place
+abbrev pub image_word : ℕ → Ins
+image_word at = record { code = code_of (LoadImage Word); jt = 0; jf = 0; k = at }
+
+-- A becomes what stands so many bytes behind X
+abbrev pub indexed : Width → ℕ → Ins
+indexed width k = record { code = code_of (LoadIndexed width); jt = 0; jf = 0; k = k }
+
+-- X becomes A
+abbrev pub index_from_a : Ins
+index_from_a = record { code = code_of IndexFromA; jt = 0; jf = 0; k = 0 }
+
+abbrev pub returns : ℕ → Ins
+returns verdict = record { code = code_of ReturnConstant; jt = 0; jf = 0; k = verdict }
+
+-- a comparison of A with a number, and how many instructions it goes over where it holds and where it doesn't
+abbrev pub branch : Test → ℕ → ℕ → ℕ → Ins
+branch test k yes no = record { code = code_of (Branch test Constant); jt = yes; jf = no; k = k }
+
+-- ---- pieces
+
+-- no match where the comparison doesn't hold
+abbrev pub want : Test → ℕ → List Ins → List Ins
+want test k rest = branch test k 0 (length rest - 1) ∷ rest
+
+-- on to what stands behind the piece where the comparison holds
+abbrev pub settle : Test → ℕ → List Ins → List Ins → List Ins
+settle test k behind rest = branch test k (length rest - length behind) 0 ∷ rest
+
+-- two and four bytes as a number, the highest first
+abbrev pub two : ℕ → ℕ → ℕ
+two a b = a * 256 + b
+
+abbrev pub four : ℕ → ℕ → ℕ → ℕ → ℕ
+four a b c d = ((a * 256 + b) * 256 + c) * 256 + d
+
+-- the bytes from so many behind X on are these: four of them at a time, then what is left
+abbrev pub same_bytes : ℕ → List ℕ → List Ins → List Ins
+same_bytes at [] rest = rest
+same_bytes at (a ∷ []) rest = indexed Byte at ∷ want Equal a rest
+same_bytes at (a ∷ b ∷ []) rest = indexed Half at ∷ want Equal (two a b) rest
+same_bytes at (a ∷ b ∷ c ∷ []) rest = indexed Half at ∷ want Equal (two a b) (indexed Byte (at + 2) ∷ want Equal c rest)
+same_bytes at (a ∷ b ∷ c ∷ d ∷ more) rest = indexed Word at ∷ want Equal (four a b c d) (same_bytes (at + 4) more rest)
+
+-- ---- texts, whose place and length the image tells in the two words from a place on
+
+-- the length passes a comparison
+abbrev pub has_len : Test → ℕ → ℕ → List Ins → List Ins
+has_len test n at rest = image_word (at + 4) ∷ want test n rest
+
+-- the text is there
+abbrev pub is_there : ℕ → List Ins → List Ins
+is_there at rest = image_word at ∷ want Above 0 rest
+
+-- a length of 0 doesn't say whether the text is there
+abbrev pub is_there_if : Bool → ℕ → List Ins → List Ins
+is_there_if empty at rest = if empty then is_there at rest else rest
+
+-- X becomes the text's place
+abbrev pub index_text : ℕ → List Ins → List Ins
+index_text at rest = image_word at ∷ index_from_a ∷ rest
+
+-- the text is this value
+abbrev pub is_text : ℕ → List ℕ → List Ins → List Ins
+is_text at value rest =
+    has_len Equal (length value) at (is_there_if (length value == 0) at (index_text at (same_bytes 0 value rest)))
+
+-- the text is this value, or begins with it and a separator
+abbrev pub in_namespace : ℕ → ℕ → List ℕ → List Ins → List Ins
+in_namespace at separator value rest =
+    has_len AtLeast (length value) at (is_there_if (length value == 0) at (index_text at (same_bytes 0 value (image_word (at + 4) ∷ settle Equal (length value) rest (indexed Byte (length value) ∷ want Equal separator rest)))))
+

@@ -1,0 +1,35 @@
+-- Texts cut behind each `/`, and the piece of a program that compares paths.
+use Rattle.std.specs.Prelude.{ℕ, ◌+◌, List, [], ◌∷◌, length, ◌==◌, if◌then◌else◌}
+use Rattle.bpf_code.specs.declared.instruction.Ins.{Ins}
+use Rattle.bpf_code.specs.declared.operation.Test.TheVariants.{Equal, AtLeast}
+use Rattle.match_rule.specs.Bytes.{ends_with}
+use Rattle.rule_compile.specs.Code.{image_word, settle, same_bytes, has_len, index_text}
+
+-- a byte in front of the first part
+abbrev pub with_front : ℕ → List (List ℕ) → List (List ℕ)
+with_front b [] = (b ∷ []) ∷ []
+with_front b (part ∷ more) = (b ∷ part) ∷ more
+
+-- the parts of a text: each ends with a `/`, but for the last one, which may have none
+abbrev pub parts_of : List ℕ → List (List ℕ)
+parts_of [] = []
+parts_of (b ∷ bs) = if b == 47 then (b ∷ []) ∷ parts_of bs else with_front b (parts_of bs)
+
+-- on to what stands behind the piece where the text ends here
+abbrev pub may_end : ℕ → ℕ → List Ins → List Ins → List Ins
+may_end at n behind rest = image_word (at + 4) ∷ settle Equal n behind rest
+
+-- The text goes on from a place with these parts of a value: it may end behind each `/`, and go on behind the
+-- value where that ends with one.
+abbrev pub along : ℕ → ℕ → List (List ℕ) → List Ins → List Ins
+along at place [] rest = rest
+along at place (part ∷ []) rest =
+    if ends_with 47 part then has_len AtLeast (place + length part) at (same_bytes place part rest)
+    else has_len Equal (place + length part) at (same_bytes place part rest)
+along at place (part ∷ next ∷ more) rest =
+    has_len AtLeast (place + length part) at (same_bytes place part (may_end at (place + length part) rest (along at (place + length part) (next ∷ more) rest)))
+
+-- the text equals the value, or one of them ends with `/` and begins the other
+abbrev pub is_nested : ℕ → List ℕ → List Ins → List Ins
+is_nested at value rest =
+    if length value == 0 then has_len Equal 0 at rest else index_text at (along at 0 (parts_of value) rest)

@@ -1,0 +1,5 @@
+pub mod Code
+pub mod Folders
+pub mod RuleCode
+pub mod Compiled
+pub mod Numbers

@@ -1,0 +1,70 @@
+ghost use Rattle.std.specs.Prelude.{◌≡◌};
+ghost use Rattle.rule_compile.specs.Numbers.{compile_error_number, compile_error_name};
+
+use std::alloc::{AllocError, AllocFailed};
+use std::error::Error;
+use std::fmt;
+
+/// Why a rule isn't compiled.
+#[derive(Clone, Copy, Debug, PartialEq, Eq)]
+pub enum CompileError {
+    /// The program might have more than 4,096 instructions: the rule weighs more than that.
+    TooLong,
+    /// Memory was refused.
+    NoMemory,
+}
+
+impl CompileError {
+    /// The error's number, from 1.
+    pub fn number(self) -> u8
+        ensures { result ≡ compile_error_number self }
+    {
+        match self {
+            CompileError::TooLong => 1,
+            CompileError::NoMemory => 2,
+        }
+    }
+
+    /// The error's name, which is also what `{}` prints.
+    pub fn name(self) -> &'static str
+        ensures { result.now ≡ compile_error_name self }
+    {
+        match self {
+            CompileError::TooLong => "TooLong",
+            CompileError::NoMemory => "NoMemory",
+        }
+    }
+}
+
+impl fmt::Display for CompileError {
+    ghost use Rattle.std.specs.Prelude.{Some};
+
+    ghost output = { λ error. Some (compile_error_name error) };
+
+    fn fmt<W: fmt::Write>(&self, f: &mut fmt::Formatter<W>) -> fmt::Result {
+        let name = self.name();
+        f.write_str(name)
+    }
+}
+
+impl Error for CompileError {}
+
+impl From<AllocError> for CompileError {
+    ghost use Rattle.rule_compile.specs.declared.error.CompileError.TheVariants.{NoMemory};
+
+    ghost from_gives = { λ _ error. error ≡ NoMemory };
+
+    fn from(_refused: AllocError) -> CompileError {
+        CompileError::NoMemory
+    }
+}
+
+impl<T: Drop> From<AllocFailed<T>> for CompileError {
+    ghost use Rattle.rule_compile.specs.declared.error.CompileError.TheVariants.{NoMemory};
+
+    ghost from_gives = { λ _ error. error ≡ NoMemory };
+
+    fn from(_refused: AllocFailed<T>) -> CompileError {
+        CompileError::NoMemory
+    }
+}

@@ -1,0 +1,7 @@
+//! Match rules as programs. The layers above use what `compile` ensures: the verdict of the program on the image
+//! of a message is nonzero exactly where the rule holds of the message.
+#![tactic(auto)]
+
+mod error;
+
+pub use error::CompileError;
