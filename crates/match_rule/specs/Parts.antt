@@ -1,12 +1,13 @@
 -- What the parts in front said: their conditions, and what one of them said of eavesdropping.
-use Rattle.std.specs.Prelude.{ℕ, Bool, true, false, not, ◌&&◌, List, [], ◌∷◌, ◌++◌, map, Option, Some, None, unwrap_or, Result, Ok}
-use Rattle.std.specs.List.{list_any}
+use Rattle.std.specs.Prelude.{ℕ, Bool, true, false, not, ◌&&◌, List, [], ◌∷◌, ◌++◌, map, Option, Some, None, unwrap_or, nat_le, Result, Ok}
+use Rattle.std.specs.List.{list_all, list_any}
 use Rattle.match_rule.specs.declared.fault.RuleError.{RuleError}
 use Rattle.match_rule.specs.declared.condition.Condition.{Condition}
-use Rattle.match_rule.specs.declared.condition.Condition.TheVariants.{Sender}
+use Rattle.match_rule.specs.declared.condition.Condition.TheVariants.{Sender, Arg, ArgPath}
 use Rattle.match_rule.specs.declared.term.Term.{Term}
 use Rattle.match_rule.specs.declared.term.Term.TheVariants.{Asks, Eavesdrop}
 use Rattle.match_rule.specs.declared.parts.Parts.{Parts}
+use Rattle.match_rule.specs.Key.{max_arg}
 use Rattle.match_rule.specs.RuleTree.{RuleTree}
 use Rattle.match_rule.specs.Grammar.{rule_with}
 use Rattle.match_rule.specs.Reading.{◌>>=◌, terms_at}
@@ -40,3 +41,12 @@ is_sender _ = false
 abbrev pub has_one_sender : List Condition → Bool
 has_one_sender [] = true
 has_one_sender (c ∷ cs) = not (is_sender c && list_any is_sender cs) && has_one_sender cs
+
+-- an argument that a condition is about has a number that a rule may ask for
+abbrev pub has_small_number : Condition → Bool
+has_small_number (Arg n value) = nat_le n max_arg
+has_small_number (ArgPath n value) = nat_le n max_arg
+has_small_number _ = true
+
+abbrev pub have_small_numbers : List Condition → Bool
+have_small_numbers conditions = list_all has_small_number conditions

@@ -30,7 +30,7 @@ returns verdict = record { code = code_of ReturnConstant; jt = 0; jf = 0; k = ve
 
 -- a comparison of A with a number, and how many instructions it goes over where it holds and where it doesn't
 abbrev pub branch : Test → ℕ → ℕ → ℕ → Ins
-branch test k yes no = record { code = code_of (Branch test Constant); jt = yes; jf = no; k = k }
+branch test k hit miss = record { code = code_of (Branch test Constant); jt = hit; jf = miss; k = k }
 
 -- ---- pieces
 

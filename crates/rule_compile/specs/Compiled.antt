@@ -1,5 +1,5 @@
 -- What a compiled rule is.
-use Rattle.std.specs.Prelude.{◌≡◌, ◌↔◌, ℕ, ◌<◌, Bool, List, Option, Some, None, IfSome, is_some, unwrap_or}
+use Rattle.std.specs.Prelude.{◌≡◌, ◌↔◌, ℕ, ◌<◌, Bool, List, Option, IfSome, is_some, unwrap_or}
 use Rattle.bpf_code.specs.declared.instruction.Ins.{Ins}
 use Rattle.bpf_code.specs.Steps.{Ends}
 use Rattle.message_view.specs.Message.{Message}
