@@ -1,3 +1,6 @@
 pub mod SlotBits
 pub mod WordPlaces
 mod Examples
+pub mod SummaryWords
+pub mod TextStands
+pub mod TextPlaces
