@@ -4,3 +4,4 @@ mod Examples
 pub mod SummaryWords
 pub mod TextStands
 pub mod TextPlaces
+pub mod ArgumentPlaces
