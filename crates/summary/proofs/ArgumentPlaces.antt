@@ -10,10 +10,13 @@ use Rattle.message_value.specs.declared.order.Order.{Order}
 use Rattle.message_value.specs.Order.{word_bytes}
 use Rattle.message_value.specs.Value.{Value, Values, no_values, one_value}
 use Rattle.message_value.specs.Value.{text as text_value}
-use Rattle.message_value.specs.Spelling.{padding, aligned, zeros, text_bytes, bare_bytes, value_bytes, members_bytes}
+use Rattle.message_value.specs.Spelling.{padding, aligned, zeros, bare_bytes, value_bytes, members_bytes}
+use Rattle.message_value.specs.Fits.{max_levels, BareFits, MembersFit}
 use Rattle.message_value.specs.Arguments.{Argument, text_start, argument_of, arguments_from}
 use Rattle.message_value.proofs.WordBytes.{length-word_bytes}
 use Rattle.message_value.proofs.ReadItems.{length-zeros}
+use Rattle.summary.specs.Shown.{AreBytes}
+use Rattle.summary.proofs.TextBytes.{text_bytes}
 use Rattle.summary.proofs.TextStands.{Stands, stands_here, stands_before, stands_behind, stands_within}
 
 -- ---- one argument
@@ -83,39 +86,39 @@ code_below (struct t ts) fits = omega arith
 -- ---- values
 
 -- a text behind its length
-text_has : (b : Bool) (order : Order) (code start : ℕ) (text : List ℕ) → code < 256
+text_has : (b : Bool) (order : Order) (code start : ℕ) (text : List ℕ) → code < 256 → AreBytes text
     → HasPlace (cond b (length text ∷ (text ++ 0 ∷ [])) (word_bytes order (length text) ++ (text ++ 0 ∷ []))) start (record { code = code; place = start + cond b 1 4; len = length text; text = Some text })
-text_has true order code start text small = record {
+text_has true order code start text small are = record {
   code = small;
   within = omega (arith, length-append text (0 ∷ []));
-  stands = (refl, stands_here (length text ∷ []) text (0 ∷ []) start (start + 1) refl);
+  stands = (refl, stands_here (length text ∷ []) text (0 ∷ []) start (start + 1) are refl);
 }
-text_has false order code start text small = record {
+text_has false order code start text small are = record {
   code = small;
   within = omega (arith, length-append text (0 ∷ []), length-append (word_bytes order (length text)) (text ++ 0 ∷ []), length-word_bytes order (length text));
-  stands = (refl, stands_here (word_bytes order (length text)) text (0 ∷ []) start (start + 4) (ap (λ (n : ℕ). start + n) (length-word_bytes order (length text))));
+  stands = (refl, stands_here (word_bytes order (length text)) text (0 ∷ []) start (start + 4) are (ap (λ (n : ℕ). start + n) (length-word_bytes order (length text))));
 }
 
 -- any other value
 whole_has : (bytes : List ℕ) (start code : ℕ) → code < 256 → HasPlace bytes start (record { code = code; place = start; len = length bytes; text = None })
 whole_has bytes start code small = record { code = small; within = omega arith; stands = tt }
 
-bare_has : (order : Order) (start : ℕ) (type : DataType) (value : Value) → Fits 0 0 type → HasPlace (bare_bytes order start type value) start (argument_of order start type value)
-bare_has order start (basic code) (text_value text) fits = text_has (eqb code 103) order code start text (code_below (basic code) fits)
-bare_has order start type value fits = whole_has (bare_bytes order start type value) start (get_or (spelling type) 0 0) (code_below type fits)
+bare_has : (order : Order) (start : ℕ) (type : DataType) (value : Value) → Fits 0 0 type → BareFits order max_levels start type value → HasPlace (bare_bytes order start type value) start (argument_of order start type value)
+bare_has order start (basic code) (text_value text) typed fits = text_has (eqb code 103) order code start text (code_below (basic code) typed) (text_bytes code text fits.0)
+bare_has order start type value typed fits = whole_has (bare_bytes order start type value) start (get_or (spelling type) 0 0) (code_below type typed)
 
 -- behind its padding
-value_has : (order : Order) (place : ℕ) (type : DataType) (value : Value) → Fits 0 0 type → HasPlace (value_bytes order place type value) place (argument_of order (aligned (alignment_of type) place) type value)
-value_has order place type value fits =
+value_has : (order : Order) (place : ℕ) (type : DataType) (value : Value) → Fits 0 0 type → BareFits order max_levels (aligned (alignment_of type) place) type value → HasPlace (value_bytes order place type value) place (argument_of order (aligned (alignment_of type) place) type value)
+value_has order place type value typed fits =
     let start : ℕ = aligned (alignment_of type) place in
-    place_behind (zeros (padding (alignment_of type) place)) (bare_bytes order start type value) (padding (alignment_of type) place) place (argument_of order start type value) (length-zeros (padding (alignment_of type) place)) (bare_has order start type value fits)
+    place_behind (zeros (padding (alignment_of type) place)) (bare_bytes order start type value) (padding (alignment_of type) place) place (argument_of order start type value) (length-zeros (padding (alignment_of type) place)) (bare_has order start type value typed fits)
 
 -- one value behind the other
-pub arguments_have : (order : Order) (place : ℕ) (types : DataTypes) (values : Values) → AllFit 0 0 types → HavePlaces (members_bytes order place types values) place (arguments_from order place types values)
-arguments_have order place (one_more t ts) (one_value v vs) fit =
+pub arguments_have : (order : Order) (place : ℕ) (types : DataTypes) (values : Values) → AllFit 0 0 types → MembersFit order max_levels place types values → HavePlaces (members_bytes order place types values) place (arguments_from order place types values)
+arguments_have order place (one_more t ts) (one_value v vs) typed fit =
     let first : List ℕ = value_bytes order place t v in
     let more : List ℕ = members_bytes order (place + length first) ts vs in (
-      place_before first more place (argument_of order (aligned (alignment_of t) place) t v) (value_has order place t v fit.0),
-      places_behind first more (length first) place (arguments_from order (place + length first) ts vs) refl (arguments_have order (place + length first) ts vs fit.1),
+      place_before first more place (argument_of order (aligned (alignment_of t) place) t v) (value_has order place t v typed.0 fit.0),
+      places_behind first more (length first) place (arguments_from order (place + length first) ts vs) refl (arguments_have order (place + length first) ts vs typed.1 fit.1),
     )
-arguments_have order place _ _ fit = tt
+arguments_have order place _ _ typed fit = tt

@@ -5,3 +5,4 @@ pub mod SummaryWords
 pub mod TextStands
 pub mod TextPlaces
 pub mod ArgumentPlaces
+pub mod TextBytes

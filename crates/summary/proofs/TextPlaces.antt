@@ -3,11 +3,13 @@ use Rattle.std.proofs.Common.{◌≡◌, ℕ, zero, suc, ◌+◌, ◌-◌, ◌*�
 use Rattle.std.proofs.lemmas.Bool.{eqb-true}
 use Rattle.std.proofs.lemmas.List.{length-append}
 use Rattle.signature.specs.DataType.{DataType, basic}
+use Rattle.signature.specs.Alignment.{alignment_of}
 use Rattle.message_value.specs.declared.order.Order.{Order}
 use Rattle.message_value.specs.Order.{word_bytes, order_byte}
 use Rattle.message_value.specs.Value.{Value, number, elements, entries, members, of_type}
 use Rattle.message_value.specs.Value.{text as text_value}
 use Rattle.message_value.specs.Spelling.{padding, aligned, zeros, signature_bytes, value_bytes}
+use Rattle.message_value.specs.Fits.{BareFits}
 use Rattle.message_value.proofs.WordBytes.{length-word_bytes}
 use Rattle.message_value.proofs.ReadItems.{length-zeros}
 use Rattle.message_view.specs.declared.extent.Extent.{Extent}
@@ -17,7 +19,9 @@ use Rattle.message_view.specs.Header.{kind_byte, code_of}
 use Rattle.message_view.specs.Message.{Field, Message, field_with, text_in}
 use Rattle.message_view.specs.Spelling.{fixed_len, field_front, field_value_place, field_bytes, fields_bytes, header_bytes, body_bytes, message_bytes}
 use Rattle.message_view.specs.Places.{text_field_code, text_extent, extent_from, extent_of}
-use Rattle.message_view.specs.Valid.{Valid, IsAllowed, AreFields}
+use Rattle.message_view.specs.Valid.{Valid, IsAllowed, AreFields, levels_in_field}
+use Rattle.summary.specs.Shown.{AreBytes}
+use Rattle.summary.proofs.TextBytes.{text_bytes}
 use Rattle.summary.proofs.TextStands.{Stands, stands_here, stands_before, stands_behind}
 
 -- ---- a text among bytes
@@ -40,18 +44,18 @@ is_typed Destination field allowed = allowed.0
 is_typed Sender field allowed = allowed.0
 
 -- a text stands behind its padding and its length
-long_text_stands : (order : Order) (place : ℕ) (text : List ℕ) → Stands (zeros (padding 4 place) ++ (word_bytes order (length text) ++ (text ++ 0 ∷ []))) place (aligned 4 place + 4) text
-long_text_stands order place text =
+long_text_stands : (order : Order) (place : ℕ) (text : List ℕ) → AreBytes text → Stands (zeros (padding 4 place) ++ (word_bytes order (length text) ++ (text ++ 0 ∷ []))) place (aligned 4 place + 4) text
+long_text_stands order place text are =
     stands_behind (zeros (padding 4 place)) (word_bytes order (length text) ++ (text ++ 0 ∷ [])) text (padding 4 place) place (aligned 4 place + 4) (length-zeros (padding 4 place))
-    (stands_here (word_bytes order (length text)) text (0 ∷ []) (aligned 4 place) (aligned 4 place + 4) (ap (λ (n : ℕ). aligned 4 place + n) (length-word_bytes order (length text))))
+    (stands_here (word_bytes order (length text)) text (0 ∷ []) (aligned 4 place) (aligned 4 place + 4) are (ap (λ (n : ℕ). aligned 4 place + n) (length-word_bytes order (length text))))
 
-value_stands : (field : TextField) (order : Order) (place : ℕ) (text : List ℕ) → Stands (value_bytes order place (basic (text_type field)) (text_value text)) place (aligned 4 place + 4) text
-value_stands Path order place text = long_text_stands order place text
-value_stands Interface order place text = long_text_stands order place text
-value_stands Member order place text = long_text_stands order place text
-value_stands ErrorName order place text = long_text_stands order place text
-value_stands Destination order place text = long_text_stands order place text
-value_stands Sender order place text = long_text_stands order place text
+value_stands : (known : TextField) (order : Order) (place : ℕ) (text : List ℕ) → AreBytes text → Stands (value_bytes order place (basic (text_type known)) (text_value text)) place (aligned 4 place + 4) text
+value_stands Path order place text are = long_text_stands order place text are
+value_stands Interface order place text are = long_text_stands order place text are
+value_stands Member order place text are = long_text_stands order place text are
+value_stands ErrorName order place text are = long_text_stands order place text are
+value_stands Destination order place text are = long_text_stands order place text are
+value_stands Sender order place text are = long_text_stands order place text are
 
 -- What is said of the text of a field among bytes that begin at a place: where it stands, and its length.
 abbrev pub Said : List ℕ → ℕ → Option Extent → Option (List ℕ) → Type 0
@@ -74,19 +78,25 @@ said_behind first bytes n start (Some extent) (Some text) is said = (said.0, sta
 
 -- ---- the fields
 
-field_stands : (known : TextField) (order : Order) (place code : ℕ) (type : DataType) (text : List ℕ) → type ≡ basic (text_type known)
+field_stands : (known : TextField) (order : Order) (place code : ℕ) (type : DataType) (text : List ℕ) → AreBytes text → type ≡ basic (text_type known)
     → Stands (field_bytes order place (record { code = code; type = type; value = text_value text })) place (aligned 4 (field_value_place place (record { code = code; type = type; value = text_value text })) + 4) text
-field_stands known order place code type text is =
+field_stands known order place code type text are is =
     let front : List ℕ = code ∷ signature_bytes type in
     let at : ℕ = aligned 8 place + length front in
-    let value : Stands (value_bytes order at type (text_value text)) at (aligned 4 at + 4) text = subst (λ (t : DataType). Stands (value_bytes order at t (text_value text)) at (aligned 4 at + 4) text) (sym is) (value_stands known order at text) in
+    let value : Stands (value_bytes order at type (text_value text)) at (aligned 4 at + 4) text = subst (λ (t : DataType). Stands (value_bytes order at t (text_value text)) at (aligned 4 at + 4) text) (sym is) (value_stands known order at text are) in
     stands_behind (zeros (padding 8 place)) (front ++ value_bytes order at type (text_value text)) text (padding 8 place) place (aligned 4 at + 4) (length-zeros (padding 8 place))
     (stands_behind front (value_bytes order at type (text_value text)) text (length front) (aligned 8 place) (aligned 4 at + 4) refl value)
 
-field_said : (known : TextField) (order : Order) (place code : ℕ) (type : DataType) (value : Value) → type ≡ basic (text_type known)
+-- a text that fits its type
+fitting_bytes : (order : Order) (place code : ℕ) (type : DataType) (text : List ℕ) → type ≡ basic code → BareFits order levels_in_field place type (text_value text) → AreBytes text
+fitting_bytes order place code type text is fits =
+    let has : BareFits order levels_in_field place (basic code) (text_value text) = subst (λ (t : DataType). BareFits order levels_in_field place t (text_value text)) is fits in
+    text_bytes code text has.0
+
+field_said : (known : TextField) (order : Order) (place at code : ℕ) (type : DataType) (value : Value) → type ≡ basic (text_type known) → BareFits order levels_in_field at type value
     → Said (field_bytes order place (record { code = code; type = type; value = value })) place (text_extent place (record { code = code; type = type; value = value })) (text_in (Some value))
-field_said known order place code type (text_value text) is = (refl, field_stands known order place code type text is)
-field_said known order place code type _ is = tt
+field_said known order place at code type (text_value text) is fits = (refl, field_stands known order place code type text (fitting_bytes order at (text_type known) type text is fits) is)
+field_said known order place at code type _ is fits = tt
 
 either_said : (b : Bool) (bytes : List ℕ) (start : ℕ) (x y : Option Extent) (v : Value) (w : Option Value) → (b ≡ true → Said bytes start x (text_in (Some v))) → (b ≡ false → Said bytes start y (text_in w)) → Said bytes start (cond b x y) (text_in (cond b (Some v) w))
 either_said true bytes start x y v w first other = first refl
@@ -103,7 +113,7 @@ fields_said known order place (field ∷ fields) are =
     either_said (eqb field.code code) (first ++ more) place (text_extent place field) (extent_from order (place + length first) code fields) field.value (field_with code fields)
     (λ e.
     let allowed : IsAllowed (code_of code) field = subst (λ (c : ℕ). IsAllowed (code_of c) field) (eqb-true field.code code e) are.0.allowed in
-    said_before first more place (text_extent place field) (text_in (Some field.value)) (field_said known order place field.code field.type field.value (is_typed known field allowed)))
+    said_before first more place (text_extent place field) (text_in (Some field.value)) (field_said known order place (aligned (alignment_of field.type) (field_value_place place field)) field.code field.type field.value (is_typed known field allowed) are.0.shaped))
     (λ e. said_behind first more (length first) place (extent_from order (place + length first) code fields) (text_in (field_with code fields)) refl (fields_said known order (place + length first) fields are.2))
 
 -- ---- the message
