@@ -3,21 +3,21 @@ use Rattle.std.proofs.Common.{◌≡◌, ℕ, ◌+◌, ◌<◌, ◌≤◌, Bool,
 use Rattle.std.specs.List.{list_any, list_all}
 use Rattle.std.proofs.lemmas.Bool.{eqb-true, ltb-true, or_cases, and_parts}
 use Rattle.std.proofs.lemmas.List.{length-append}
-use Rattle.signature.specs.Code.{is_basic, basic_codes}
-use Rattle.signature.specs.DataType.{DataType, DataTypes, basic, variant, array, dict, struct, no_types, one_more, spelling, Fits, AllFit}
+use Rattle.signature.specs.Code.{basic_codes}
+use Rattle.signature.specs.DataType.{DataType, DataTypes, basic, variant, array, dict, struct, one_more, spelling, Fits, AllFit}
 use Rattle.signature.specs.Alignment.{alignment_of}
 use Rattle.message_value.specs.declared.order.Order.{Order}
 use Rattle.message_value.specs.Order.{word_bytes}
-use Rattle.message_value.specs.Value.{Value, Values, no_values, one_value}
+use Rattle.message_value.specs.Value.{Value, Values, one_value}
 use Rattle.message_value.specs.Value.{text as text_value}
 use Rattle.message_value.specs.Spelling.{padding, aligned, zeros, bare_bytes, value_bytes, members_bytes}
 use Rattle.message_value.specs.Fits.{max_levels, BareFits, MembersFit}
-use Rattle.message_value.specs.Arguments.{Argument, text_start, argument_of, arguments_from}
+use Rattle.message_value.specs.Arguments.{Argument, argument_of, arguments_from}
 use Rattle.message_value.proofs.WordBytes.{length-word_bytes}
 use Rattle.message_value.proofs.ReadItems.{length-zeros}
 use Rattle.summary.specs.Shown.{AreBytes}
 use Rattle.summary.proofs.TextBytes.{text_bytes}
-use Rattle.summary.proofs.TextStands.{Stands, stands_here, stands_before, stands_behind, stands_within}
+use Rattle.summary.proofs.TextStands.{Stands, stands_here, stands_before, stands_behind}
 
 -- ---- one argument
 

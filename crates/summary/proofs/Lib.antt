@@ -6,3 +6,4 @@ pub mod TextStands
 pub mod TextPlaces
 pub mod ArgumentPlaces
 pub mod TextBytes
+pub mod ImageShows

@@ -1,12 +1,11 @@
 -- Where the texts of the known fields lie in a message's bytes.
-use Rattle.std.proofs.Common.{◌≡◌, ℕ, zero, suc, ◌+◌, ◌-◌, ◌*◌, ◌^◌, ◌<◌, ◌≤◌, Bool, true, false, cond, eqb, List, [], ◌∷◌, ◌++◌, length, Option, Some, None, option_map, refl, sym, ap, subst, ◌∙◌, inl, inr, append_assoc, arith}
+use Rattle.std.proofs.Common.{◌≡◌, ℕ, ◌+◌, Bool, true, false, cond, eqb, List, [], ◌∷◌, ◌++◌, length, Option, Some, None, refl, sym, ap, subst}
 use Rattle.std.proofs.lemmas.Bool.{eqb-true}
-use Rattle.std.proofs.lemmas.List.{length-append}
 use Rattle.signature.specs.DataType.{DataType, basic}
 use Rattle.signature.specs.Alignment.{alignment_of}
 use Rattle.message_value.specs.declared.order.Order.{Order}
 use Rattle.message_value.specs.Order.{word_bytes, order_byte}
-use Rattle.message_value.specs.Value.{Value, number, elements, entries, members, of_type}
+use Rattle.message_value.specs.Value.{Value}
 use Rattle.message_value.specs.Value.{text as text_value}
 use Rattle.message_value.specs.Spelling.{padding, aligned, zeros, signature_bytes, value_bytes}
 use Rattle.message_value.specs.Fits.{BareFits}
@@ -17,7 +16,7 @@ use Rattle.message_view.specs.declared.extent.TextField.{TextField}
 use Rattle.message_view.specs.declared.extent.TextField.TheVariants.{Path, Interface, Member, ErrorName, Destination, Sender}
 use Rattle.message_view.specs.Header.{kind_byte, code_of}
 use Rattle.message_view.specs.Message.{Field, Message, field_with, text_in}
-use Rattle.message_view.specs.Spelling.{fixed_len, field_front, field_value_place, field_bytes, fields_bytes, header_bytes, body_bytes, message_bytes}
+use Rattle.message_view.specs.Spelling.{fixed_len, field_value_place, field_bytes, fields_bytes, header_bytes, body_bytes, message_bytes}
 use Rattle.message_view.specs.Places.{text_field_code, text_extent, extent_from, extent_of}
 use Rattle.message_view.specs.Valid.{Valid, IsAllowed, AreFields, levels_in_field}
 use Rattle.summary.specs.Shown.{AreBytes}
