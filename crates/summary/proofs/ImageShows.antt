@@ -151,19 +151,23 @@ message_places bytes m valid =
 
 length-texts_words : (edition : Edition) (m : Message) → length (texts_words edition m) ≡ 12
 length-texts_words edition m =
-    let p = text_words edition m Path in
-    let i = text_words edition m Interface in
-    let n = text_words edition m Member in
-    let e = text_words edition m ErrorName in
-    let d = text_words edition m Destination in
-    let s = text_words edition m Sender in
+    let path = text_words edition m Path in
+    let interface = text_words edition m Interface in
+    let member = text_words edition m Member in
+    let error_name = text_words edition m ErrorName in
+    let destination = text_words edition m Destination in
+    let from_sender = text_words edition m Sender in
+    let from_destination = destination ++ from_sender in
+    let from_error_name = error_name ++ from_destination in
+    let from_member = member ++ from_error_name in
+    let from_interface = interface ++ from_member in
     omega (
       arith,
-      length-append p (i ++ (n ++ (e ++ (d ++ s)))),
-      length-append i (n ++ (e ++ (d ++ s))),
-      length-append n (e ++ (d ++ s)),
-      length-append e (d ++ s),
-      length-append d s,
+      length-append path from_interface,
+      length-append interface from_member,
+      length-append member from_error_name,
+      length-append error_name from_destination,
+      length-append destination from_sender,
       length-extent_words edition (extent_of Path m),
       length-extent_words edition (extent_of Interface m),
       length-extent_words edition (extent_of Member m),
@@ -204,27 +208,27 @@ words_show edition image bytes m slots valid all small is follow =
     let arguments : List Argument = arguments_of m in
     let last : List ℕ = owned_words edition slots ++ serial_words edition m in
     let rest : List ℕ = arguments_words edition 64 arguments ++ last in
-    let s : List ℕ = text_words edition m Sender in
-    let d : List ℕ = text_words edition m Destination ++ s in
-    let e : List ℕ = text_words edition m ErrorName ++ d in
-    let n : List ℕ = text_words edition m Member ++ e in
-    let i : List ℕ = text_words edition m Interface ++ n in
+    let from_sender : List ℕ = text_words edition m Sender in
+    let from_destination : List ℕ = text_words edition m Destination ++ from_sender in
+    let from_error_name : List ℕ = text_words edition m ErrorName ++ from_destination in
+    let from_member : List ℕ = text_words edition m Member ++ from_error_name in
+    let from_interface : List ℕ = text_words edition m Interface ++ from_member in
     let f24 : Follow image 24 (texts_words edition m ++ rest) more = next_follow image 0 6 24 (head_words edition m) (texts_words edition m ++ rest) more refl refl follow in
-    let path = text_follow image edition 24 32 (extent_of Path m) i rest more refl f24 in
-    let interface = text_follow image edition 32 40 (extent_of Interface m) n rest more refl path.1 in
-    let member = text_follow image edition 40 48 (extent_of Member m) e rest more refl interface.1 in
-    let error_name = text_follow image edition 48 56 (extent_of ErrorName m) d rest more refl member.1 in
-    let destination = text_follow image edition 56 64 (extent_of Destination m) s rest more refl error_name.1 in
+    let path = text_follow image edition 24 32 (extent_of Path m) from_interface rest more refl f24 in
+    let interface = text_follow image edition 32 40 (extent_of Interface m) from_member rest more refl path.1 in
+    let member = text_follow image edition 40 48 (extent_of Member m) from_error_name rest more refl interface.1 in
+    let error_name = text_follow image edition 48 56 (extent_of ErrorName m) from_destination rest more refl member.1 in
+    let destination = text_follow image edition 56 64 (extent_of Destination m) from_sender rest more refl error_name.1 in
     let f72 : Follow image 72 rest more = next_follow image 24 12 72 (texts_words edition m) rest more (length-texts_words edition m) refl f24 in
     let f840 : Follow image 840 last more = next_follow image 72 192 840 (arguments_words edition 64 arguments) last more (length-arguments_words edition 64 arguments) refl f72 in
     let kind_small : kind_byte m.kind < 2 ^ 32 = omega (arith, valid.kind_fits) in
     record {
       kind = one_follows image 0 1 (kind_byte m.kind) 4 (summary_words edition m slots) more follow (omega arith) refl kind_small refl;
-      path = text_shown image edition more (i ++ rest) more 24 (extent_of Path m) (text_of Path m) is path.0 (texts_said Path bytes m valid);
-      interface = text_shown image edition more (n ++ rest) more 32 (extent_of Interface m) (text_of Interface m) is interface.0 (texts_said Interface bytes m valid);
-      member = text_shown image edition more (e ++ rest) more 40 (extent_of Member m) (text_of Member m) is member.0 (texts_said Member bytes m valid);
-      error_name = text_shown image edition more (d ++ rest) more 48 (extent_of ErrorName m) (text_of ErrorName m) is error_name.0 (texts_said ErrorName bytes m valid);
-      destination = text_shown image edition more (s ++ rest) more 56 (extent_of Destination m) (text_of Destination m) is destination.0 (texts_said Destination bytes m valid);
+      path = text_shown image edition more (from_interface ++ rest) more 24 (extent_of Path m) (text_of Path m) is path.0 (texts_said Path bytes m valid);
+      interface = text_shown image edition more (from_member ++ rest) more 32 (extent_of Interface m) (text_of Interface m) is interface.0 (texts_said Interface bytes m valid);
+      member = text_shown image edition more (from_error_name ++ rest) more 40 (extent_of Member m) (text_of Member m) is member.0 (texts_said Member bytes m valid);
+      error_name = text_shown image edition more (from_destination ++ rest) more 48 (extent_of ErrorName m) (text_of ErrorName m) is error_name.0 (texts_said ErrorName bytes m valid);
+      destination = text_shown image edition more (from_sender ++ rest) more 56 (extent_of Destination m) (text_of Destination m) is destination.0 (texts_said Destination bytes m valid);
       sender = text_shown image edition more rest more 64 (extent_of Sender m) (text_of Sender m) is destination.1 (texts_said Sender bytes m valid);
       argument = λ k below. argument_shown image edition more last more 64 arguments k 72 (72 + 12 * k) is below refl f72 (message_places bytes m valid);
       owned = λ slot below. slot_shown image edition slots (serial_words edition m) more slot all (small (slot / 32)) below f840;
