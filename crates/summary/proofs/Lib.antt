@@ -1,3 +1,9 @@
 pub mod SlotBits
 pub mod WordPlaces
 mod Examples
+pub mod SummaryWords
+pub mod TextStands
+pub mod TextPlaces
+pub mod ArgumentPlaces
+pub mod TextBytes
+pub mod ImageShows

@@ -5,10 +5,12 @@
 mod edition;
 mod image;
 mod joined;
+mod laws;
 mod slots;
 mod summary_bytes;
 
 pub use edition::Edition;
 pub use image::Image;
+pub use laws::image_shows_message;
 pub use slots::Slots;
 pub use summary_bytes::Summary;

@@ -1,0 +1,243 @@
+-- The loads of an image show its message.
+use Rattle.std.proofs.Common.{◌≡◌, ℕ, zero, suc, ◌+◌, ◌*◌, ◌/◌, ◌^◌, ◌<◌, ◌≤◌, List, [], ◌∷◌, ◌++◌, length, get_or, take, Option, Some, None, IfSome, refl, ap, subst, ◌∙◌, append_assoc, arith}
+use Rattle.std.specs.Prelude.{slice_get}
+use Rattle.std.proofs.lemmas.List.{length-append, length-take-le, get_or-take, get_or_append_left}
+use Rattle.bpf_code.specs.Loads.{load_word}
+use Rattle.message_value.specs.Order.{order_byte, word_bytes}
+use Rattle.message_value.specs.Spelling.{padding, zeros}
+use Rattle.message_value.specs.Arguments.{Argument}
+use Rattle.message_value.proofs.WordBytes.{length-word_bytes}
+use Rattle.message_value.proofs.ReadItems.{length-zeros}
+use Rattle.message_view.specs.declared.extent.Extent.{Extent}
+use Rattle.message_view.specs.declared.extent.TextField.TheVariants.{Path, Interface, Member, ErrorName, Destination, Sender}
+use Rattle.message_view.specs.Header.{kind_byte}
+use Rattle.message_view.specs.Message.{Message}
+use Rattle.message_view.specs.Places.{extent_of}
+use Rattle.message_view.specs.Spelling.{body_place, header_bytes, body_bytes, arguments_of, message_bytes}
+use Rattle.message_view.specs.Valid.{Valid}
+use Rattle.summary.specs.declared.edition.Edition.{Edition}
+use Rattle.summary.specs.declared.edition.Edition.TheVariants.{One, Two}
+use Rattle.summary.specs.Layout.{size_of}
+use Rattle.summary.specs.ImageBytes.{extent_words, text_words, argument_words, arguments_words, owned_words, serial_words, head_words, texts_words, summary_words, summary_bytes, image_bytes}
+use Rattle.summary.specs.Shown.{Tells, ShowsText, ShowsArgument, slots_of, Shows}
+use Rattle.summary.proofs.SummaryWords.{Follow, length-words_bytes, all_follow, next_follow, one_follows}
+use Rattle.summary.proofs.TextStands.{Stands, stands_behind, stands_moved, stands_within, stands_lies}
+use Rattle.summary.proofs.TextPlaces.{Said, text_of, texts_said}
+use Rattle.summary.proofs.ArgumentPlaces.{TextStands, HavePlaces, places_behind, arguments_have}
+
+-- ---- a summary and a message
+
+-- An image: a summary of an edition's size, and a message behind it.
+record IsImage (image : List ℕ) (edition : Edition) (message : List ℕ) : Type 0 where
+  summary : List ℕ
+  parts : image ≡ summary ++ message
+  size : length summary ≡ size_of edition
+  fits : length message ≤ 134217728
+
+size_above : (edition : Edition) → 0 < size_of edition
+size_above One = omega arith
+size_above Two = omega arith
+
+size_below : (edition : Edition) → size_of edition ≤ 976
+size_below One = omega arith
+size_below Two = omega arith
+
+-- a text of the message stands further back in the image
+image_stands : (image : List ℕ) (edition : Edition) (message text : List ℕ) (place : ℕ) → IsImage image edition message → Stands message 0 place text → Stands image 0 (size_of edition + place) text
+image_stands image edition message text place is stands =
+    rw is.parts (stands_behind is.summary message text (size_of edition) 0 (size_of edition + place) is.size (stands_moved message text (size_of edition) 0 place stands))
+
+-- two words tell of a text
+text_told : (image : List ℕ) (edition : Edition) (message text words more : List ℕ) (start i at place len : ℕ) → IsImage image edition message → Follow image start words more → i + 1 < length words → start + 4 * i ≡ at
+    → get_or words i 0 ≡ size_of edition + place → get_or words (i + 1) 0 ≡ len → len ≡ length text → Stands message 0 place text → Tells image at text
+text_told image edition message text words more start i at place len is follow inside there place_is len_is same stands =
+    let within : place + length text ≤ 0 + length message = stands_within message text 0 place stands in
+    let small : size_of edition + place < 2 ^ 32 = omega (arith, within, is.fits, size_below edition) in
+    let short : length text < 2 ^ 32 = omega (arith, within, is.fits) in
+    record {
+      bytes = stands.made;
+      place = size_of edition + place;
+      behind_start = omega (arith, size_above edition);
+      place_word = one_follows image start i (size_of edition + place) at words more follow (omega arith) place_is small there;
+      len_word = one_follows image start (i + 1) (length text) (at + 4) words more follow inside (len_is ∙ same) short (omega arith);
+      lies = stands_lies image text (size_of edition + place) (image_stands image edition message text place is stands);
+    }
+
+-- ---- fields
+
+-- the words of a field's text show it
+text_shown : (image : List ℕ) (edition : Edition) (message words more : List ℕ) (at : ℕ) (extent : Option Extent) (text : Option (List ℕ)) → IsImage image edition message → Follow image at (extent_words edition extent ++ words) more → Said message 0 extent text → ShowsText image at text
+text_shown image edition message words more at None None is follow said =
+    (one_follows image at 0 0 at (0 ∷ 0 ∷ words) more follow (omega arith) refl (omega arith) (omega arith), one_follows image at 1 0 (at + 4) (0 ∷ 0 ∷ words) more follow (omega arith) refl (omega arith) (omega arith))
+text_shown image edition message words more at None (Some text) is follow said = absurd said
+text_shown image edition message words more at (Some extent) None is follow said = absurd said
+text_shown image edition message words more at (Some extent) (Some text) is follow said =
+    text_told image edition message text ((size_of edition + extent.place) ∷ extent.len ∷ words) more at 0 at extent.place extent.len is follow (omega arith) (omega arith) refl refl said.0 said.1
+
+length-extent_words : (edition : Edition) (extent : Option Extent) → length (extent_words edition extent) ≡ 2
+length-extent_words edition None = refl
+length-extent_words edition (Some extent) = refl
+
+-- ---- arguments
+
+length-arguments_words : (edition : Edition) (count : ℕ) (arguments : List Argument) → length (arguments_words edition count arguments) ≡ 3 * count
+length-arguments_words edition zero arguments = refl
+length-arguments_words edition (suc count) [] = omega (arith, length-arguments_words edition count [])
+length-arguments_words edition (suc count) (a ∷ more) = omega (arith, length-arguments_words edition count more)
+
+argument_told : (image : List ℕ) (edition : Edition) (message words more : List ℕ) (start at code place len : ℕ) (text : Option (List ℕ)) → IsImage image edition message → Follow image start (code ∷ (size_of edition + place) ∷ len ∷ words) more → start + 4 ≡ at → TextStands message 0 place len text → IfSome text (Tells image at)
+argument_told image edition message words more start at code place len None is follow there stands = tt
+argument_told image edition message words more start at code place len (Some text) is follow there stands =
+    text_told image edition message text (code ∷ (size_of edition + place) ∷ len ∷ words) more start 1 at place len is follow (omega arith) (omega arith) refl refl stands.0 stands.1
+
+argument_shown : (image : List ℕ) (edition : Edition) (message words more : List ℕ) (count : ℕ) (arguments : List Argument) (n start at : ℕ) → IsImage image edition message → n < count → start + 12 * n ≡ at
+    → Follow image start (arguments_words edition count arguments ++ words) more → HavePlaces message 0 arguments → ShowsArgument image at (slice_get arguments n)
+argument_shown image edition message words more zero arguments n start at is below there follow have = absurd (omega arith)
+argument_shown image edition message words more (suc count) [] zero start at is below there follow have =
+    one_follows image start 0 0 at (0 ∷ 0 ∷ 0 ∷ (arguments_words edition count [] ++ words)) more follow (omega arith) refl (omega arith) (omega arith)
+argument_shown image edition message words more (suc count) [] (suc n) start at is below there follow have =
+    argument_shown image edition message words more count [] n (start + 12) at is (omega arith) (omega arith)
+    (next_follow image start 3 (start + 12) (0 ∷ 0 ∷ 0 ∷ []) (arguments_words edition count [] ++ words) more refl refl follow) tt
+argument_shown image edition message words more (suc count) (a ∷ others) zero start at is below there follow have =
+    let rest : List ℕ = arguments_words edition count others ++ words in
+    let small : a.code < 2 ^ 32 = omega (arith, have.0.code) in (
+      one_follows image start 0 a.code at (argument_words edition a ++ rest) more follow (omega arith) refl small (omega arith),
+      argument_told image edition message rest more start (at + 4) a.code a.place a.len a.text is follow (omega arith) have.0.stands,
+    )
+argument_shown image edition message words more (suc count) (a ∷ others) (suc n) start at is below there follow have =
+    argument_shown image edition message words more count others n (start + 12) at is (omega arith) (omega arith)
+    (next_follow image start 3 (start + 12) (argument_words edition a) (arguments_words edition count others ++ words) more refl refl follow) have.1
+
+-- ---- slots
+
+-- the ownership words of an edition are the first of all
+owned_word : (edition : Edition) (slots : List ℕ) (slot : ℕ) → slot < slots_of edition → get_or (owned_words edition slots) (slot / 32) 0 ≡ get_or slots (slot / 32) 0
+owned_word One slots slot below = get_or-take 16 slots (slot / 32) 0 (omega arith)
+owned_word Two slots slot below = refl
+
+owned_inside : (edition : Edition) (slots : List ℕ) (slot : ℕ) → length slots ≡ 32 → slot < slots_of edition → slot / 32 < length (owned_words edition slots)
+owned_inside One slots slot all below = let n : length (take 16 slots) ≡ 16 = length-take-le 16 slots (omega arith) in omega arith
+owned_inside Two slots slot all below = omega arith
+
+slot_shown : (image : List ℕ) (edition : Edition) (slots words more : List ℕ) (slot : ℕ) → length slots ≡ 32 → get_or slots (slot / 32) 0 < 2 ^ 32 → slot < slots_of edition
+    → Follow image 840 (owned_words edition slots ++ words) more → load_word image (840 + 4 * (slot / 32)) ≡ Some (get_or slots (slot / 32) 0)
+slot_shown image edition slots words more slot all small below follow =
+    let inside = owned_inside edition slots slot all below in
+    one_follows image 840 (slot / 32) (get_or slots (slot / 32) 0) (840 + 4 * (slot / 32)) (owned_words edition slots ++ words) more follow (omega (arith, inside, length-append (owned_words edition slots) words))
+    (get_or_append_left (owned_words edition slots) words 0 (slot / 32) inside ∙ owned_word edition slots slot below) small refl
+
+-- ---- messages
+
+-- the places of a message's arguments
+message_places : (bytes : List ℕ) (m : Message) → Valid bytes m → HavePlaces (message_bytes m) 0 (arguments_of m)
+message_places bytes m valid =
+    let header : List ℕ = header_bytes m in
+    let body : List ℕ = body_bytes m in
+    let pad : List ℕ = zeros (padding 8 (length header)) in
+    let w0 : List ℕ = word_bytes m.order (length body) in
+    let w1 : List ℕ = word_bytes m.order m.serial in
+    let w2 : List ℕ = word_bytes m.order (length header) in
+    let r3 : List ℕ = header ++ (pad ++ body) in
+    let all : List Argument = arguments_of m in
+    places_behind (order_byte m.order ∷ kind_byte m.kind ∷ m.flags ∷ 1 ∷ []) (w0 ++ (w1 ++ (w2 ++ r3))) 4 0 all refl
+    (places_behind w0 (w1 ++ (w2 ++ r3)) 4 4 all (length-word_bytes m.order (length body))
+    (places_behind w1 (w2 ++ r3) 4 8 all (length-word_bytes m.order m.serial)
+    (places_behind w2 r3 4 12 all (length-word_bytes m.order (length header))
+    (places_behind header (pad ++ body) (length header) 16 all refl
+    (places_behind pad body (padding 8 (length header)) (16 + length header) all (length-zeros (padding 8 (length header)))
+    (arguments_have m.order (body_place (length header)) m.types m.arguments valid.types.fits valid.arguments))))))
+
+-- ---- the words of a summary
+
+length-texts_words : (edition : Edition) (m : Message) → length (texts_words edition m) ≡ 12
+length-texts_words edition m =
+    let path = text_words edition m Path in
+    let interface = text_words edition m Interface in
+    let member = text_words edition m Member in
+    let error_name = text_words edition m ErrorName in
+    let destination = text_words edition m Destination in
+    let from_sender = text_words edition m Sender in
+    let from_destination = destination ++ from_sender in
+    let from_error_name = error_name ++ from_destination in
+    let from_member = member ++ from_error_name in
+    let from_interface = interface ++ from_member in
+    omega (
+      arith,
+      length-append path from_interface,
+      length-append interface from_member,
+      length-append member from_error_name,
+      length-append error_name from_destination,
+      length-append destination from_sender,
+      length-extent_words edition (extent_of Path m),
+      length-extent_words edition (extent_of Interface m),
+      length-extent_words edition (extent_of Member m),
+      length-extent_words edition (extent_of ErrorName m),
+      length-extent_words edition (extent_of Destination m),
+      length-extent_words edition (extent_of Sender m),
+    )
+
+-- so many words behind the arguments
+last_words : (edition : Edition) (m : Message) (slots : List ℕ) → length slots ≡ 32 → 840 + 4 * length (owned_words edition slots ++ serial_words edition m) ≡ size_of edition
+last_words One m slots all = omega (arith, length-append (take 16 slots) (serial_words One m), length-take-le 16 slots (omega arith))
+last_words Two m slots all = omega (arith, length-append slots (serial_words Two m))
+
+length-summary_bytes : (edition : Edition) (m : Message) (slots : List ℕ) → length slots ≡ 32 → length (summary_bytes edition m slots) ≡ size_of edition
+length-summary_bytes edition m slots all =
+    let texts = texts_words edition m in
+    let arguments = arguments_words edition 64 (arguments_of m) in
+    let last = owned_words edition slots ++ serial_words edition m in
+    omega (arith, length-words_bytes (summary_words edition m slots), length-append (head_words edition m) (texts ++ (arguments ++ last)), length-append texts (arguments ++ last), length-append arguments last, length-texts_words edition m, length-arguments_words edition 64 (arguments_of m), last_words edition m slots all)
+
+-- ---- images
+
+-- the words of a text stand in front of the others, not within brackets
+inner_follow : (image : List ℕ) (at : ℕ) (a b c more : List ℕ) → Follow image at ((a ++ b) ++ c) more → Follow image at (a ++ (b ++ c)) more
+inner_follow image at a b c more follow = subst (λ (words : List ℕ). Follow image at words more) (append_assoc a b c) follow
+
+-- the words of the first text, and of those behind it
+text_follow : (image : List ℕ) (edition : Edition) (at behind : ℕ) (extent : Option Extent) (texts words more : List ℕ) → at + 8 ≡ behind → Follow image at ((extent_words edition extent ++ texts) ++ words) more
+    → Follow image at (extent_words edition extent ++ (texts ++ words)) more × Follow image behind (texts ++ words) more
+text_follow image edition at behind extent texts words more there follow =
+    let first = inner_follow image at (extent_words edition extent) texts words more follow in
+    (first, next_follow image at 2 behind (extent_words edition extent) (texts ++ words) more (length-extent_words edition extent) there first)
+
+words_show : (edition : Edition) (image bytes : List ℕ) (m : Message) (slots : List ℕ) → Valid bytes m → length slots ≡ 32 → ((i : ℕ) → get_or slots i 0 < 2 ^ 32)
+    → IsImage image edition (message_bytes m) → Follow image 0 (summary_words edition m slots) (message_bytes m) → Shows edition image m slots
+words_show edition image bytes m slots valid all small is follow =
+    let more : List ℕ = message_bytes m in
+    let arguments : List Argument = arguments_of m in
+    let last : List ℕ = owned_words edition slots ++ serial_words edition m in
+    let rest : List ℕ = arguments_words edition 64 arguments ++ last in
+    let from_sender : List ℕ = text_words edition m Sender in
+    let from_destination : List ℕ = text_words edition m Destination ++ from_sender in
+    let from_error_name : List ℕ = text_words edition m ErrorName ++ from_destination in
+    let from_member : List ℕ = text_words edition m Member ++ from_error_name in
+    let from_interface : List ℕ = text_words edition m Interface ++ from_member in
+    let f24 : Follow image 24 (texts_words edition m ++ rest) more = next_follow image 0 6 24 (head_words edition m) (texts_words edition m ++ rest) more refl refl follow in
+    let path = text_follow image edition 24 32 (extent_of Path m) from_interface rest more refl f24 in
+    let interface = text_follow image edition 32 40 (extent_of Interface m) from_member rest more refl path.1 in
+    let member = text_follow image edition 40 48 (extent_of Member m) from_error_name rest more refl interface.1 in
+    let error_name = text_follow image edition 48 56 (extent_of ErrorName m) from_destination rest more refl member.1 in
+    let destination = text_follow image edition 56 64 (extent_of Destination m) from_sender rest more refl error_name.1 in
+    let f72 : Follow image 72 rest more = next_follow image 24 12 72 (texts_words edition m) rest more (length-texts_words edition m) refl f24 in
+    let f840 : Follow image 840 last more = next_follow image 72 192 840 (arguments_words edition 64 arguments) last more (length-arguments_words edition 64 arguments) refl f72 in
+    let kind_small : kind_byte m.kind < 2 ^ 32 = omega (arith, valid.kind_fits) in
+    record {
+      kind = one_follows image 0 1 (kind_byte m.kind) 4 (summary_words edition m slots) more follow (omega arith) refl kind_small refl;
+      path = text_shown image edition more (from_interface ++ rest) more 24 (extent_of Path m) (text_of Path m) is path.0 (texts_said Path bytes m valid);
+      interface = text_shown image edition more (from_member ++ rest) more 32 (extent_of Interface m) (text_of Interface m) is interface.0 (texts_said Interface bytes m valid);
+      member = text_shown image edition more (from_error_name ++ rest) more 40 (extent_of Member m) (text_of Member m) is member.0 (texts_said Member bytes m valid);
+      error_name = text_shown image edition more (from_destination ++ rest) more 48 (extent_of ErrorName m) (text_of ErrorName m) is error_name.0 (texts_said ErrorName bytes m valid);
+      destination = text_shown image edition more (from_sender ++ rest) more 56 (extent_of Destination m) (text_of Destination m) is destination.0 (texts_said Destination bytes m valid);
+      sender = text_shown image edition more rest more 64 (extent_of Sender m) (text_of Sender m) is destination.1 (texts_said Sender bytes m valid);
+      argument = λ k below. argument_shown image edition more last more 64 arguments k 72 (72 + 12 * k) is below refl f72 (message_places bytes m valid);
+      owned = λ slot below. slot_shown image edition slots (serial_words edition m) more slot all (small (slot / 32)) below f840;
+    }
+
+-- The image of a valid message shows it.
+pub image_shows : (edition : Edition) (bytes : List ℕ) (m : Message) (slots : List ℕ) → Valid bytes m → length slots ≡ 32 → ((i : ℕ) → get_or slots i 0 < 2 ^ 32) → Shows edition (image_bytes edition m slots) m slots
+image_shows edition bytes m slots valid all small =
+    let fits : length (message_bytes m) ≤ 134217728 = omega (arith, ap (λ (x : List ℕ). length x) valid.spelled, valid.fits) in
+    words_show edition (image_bytes edition m slots) bytes m slots valid all small
+    (record { summary = summary_bytes edition m slots; parts = refl; size = length-summary_bytes edition m slots all; fits = fits })
+    (all_follow (summary_words edition m slots) (message_bytes m))
