@@ -5,10 +5,12 @@
 mod edition;
 mod image;
 mod joined;
+mod parts;
 mod slots;
 mod summary_bytes;
+mod words;
 
 pub use edition::Edition;
 pub use image::Image;
 pub use slots::Slots;
-pub use summary_bytes::Summary;
+pub use summary_bytes::{Summary, summarise};
