@@ -1,3 +1,5 @@
 pub mod SlotBits
 pub mod WordPlaces
+pub mod WordLists
+pub mod BodyPlaces
 mod Examples
