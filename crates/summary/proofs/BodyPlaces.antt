@@ -12,10 +12,3 @@ body_behind bytes body now m valid is is_body =
     let whole = ap length is ∙ ap length valid.spelled ∙ length-laid m.order (kind_byte m.kind) m.flags m.serial (header_bytes m) (body_bytes m) in
     let len = ap length is_body in
     omega (arith, whole, len)
-
-pub body_inside : (bytes body now : List ℕ) (m : Message) → Valid now m → bytes ≡ now → body ≡ body_bytes m → (length body ≤ length bytes) × (length bytes ≤ 134217728)
-body_inside bytes body now m valid is is_body =
-    let whole = ap length is ∙ ap length valid.spelled ∙ length-laid m.order (kind_byte m.kind) m.flags m.serial (header_bytes m) (body_bytes m) in
-    let len = ap length is_body in
-    let fits : length bytes ≤ 134217728 = omega (arith, ap length is, valid.fits) in
-    (omega (arith, whole, len), fits)

@@ -2,4 +2,5 @@ pub mod SlotBits
 pub mod WordPlaces
 pub mod WordLists
 pub mod BodyPlaces
+pub mod Assembled
 mod Examples
