@@ -17,7 +17,7 @@ put_front bytes word size at n within fits four is =
 zeros_left : (bytes : List ℕ) (len more : ℕ) → drop len bytes ≡ replicate (976 - len) 0 → drop (len + more) bytes ≡ replicate (976 - (len + more)) 0
 zeros_left bytes len more zeros =
     let fewer : 976 - len - more ≡ 976 - (len + more) = omega arith in
-    sym (drop-drop more len bytes) ∙ ap (drop more) zeros ∙ drop-replicate more (976 - len) 0 ∙ ap (λ (k : ℕ). replicate {A = ℕ} k 0) fewer
+    rw (← drop-drop more len bytes, zeros, drop-replicate {X = ℕ} more (976 - len) 0, fewer) refl
 
 -- a word that is written where the zeros begin leaves zeros
 pub zeros_behind : (bytes word : List ℕ) (len n : ℕ) → length bytes ≡ 976 → len + 4 ≤ 976 → length word ≡ 4 → n ≡ 4 → drop len bytes ≡ replicate (976 - len) 0 → drop (len + 4) (put_mid len n bytes word) ≡ replicate (976 - (len + 4)) 0

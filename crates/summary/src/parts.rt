@@ -1,4 +1,4 @@
-// The parts of a summary. No sum of a place and a summary's size wraps: the bytes of a word are those of the sum.
+// The parts of a summary.
 
 ghost use Rattle.std.specs.Prelude.{◌≡◌, ◌+◌, ◌*◌, ◌≤◌, ◌++◌, length, min};
 ghost use Rattle.std.specs.Int.{w32, to_be_bytes};
@@ -29,7 +29,8 @@ fn order_byte(order: Order) -> u8
     }
 }
 
-/// A place of the message, counted from the image's start.
+/// A place of the message, counted from the image's start. The sum never wraps, since a message is far shorter than
+/// 2^32 bytes; its bytes are those of the sum either way, so nothing is asked of the place.
 #[inline(always)]
 fn place_in_image(edition: Edition, place: u32) -> u32
     ensures { to_be_bytes w32 result ≡ to_be_bytes w32 (size_of edition + place) }
