@@ -2,6 +2,7 @@
 
 ghost use Rattle.std.specs.Prelude.{◌≡◌, ℕ, List, length, Some, Ok};
 ghost use Rattle.signature.specs.DataType.{DataTypes, SigText};
+ghost use Rattle.message_value.specs.Words.{AreBytes};
 ghost use Rattle.message_view.specs.Message.{Message, Field};
 ghost use Rattle.message_view.specs.Valid.{Valid};
 ghost use Rattle.message_view.specs.Fixed.{whole_len};
@@ -83,6 +84,11 @@ fn framed<'a>(fixed: &Fixed, bytes: &'a [u8]) -> Result<Sections<'a>, MsgError>
     })
 }
 
+/// The numbers of a slice of bytes are bytes.
+fn are_bytes(bytes: &[u8])
+    ensures { AreBytes bytes.now }
+{}
+
 /// A valid message, whose parts lie in the bytes that it was read from.
 #[derive(Drop)]
 pub struct View<'a> {
@@ -163,8 +169,11 @@ impl<'a> View<'a> {
 
     /// The bytes of the message.
     pub fn raw(&self) -> &'a [u8]
-        ensures { result.now ≡ self.now }
+        ensures value { result.now ≡ self.now }
+        // A view is always of a message.
+        ensures spells { (m : Message) × Valid self.now m }
     {
+        are_bytes(self.bytes);
         self.bytes
     }
 

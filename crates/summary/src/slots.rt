@@ -41,4 +41,11 @@ impl Slots {
     {
         slot < 1024 && (self.words[slot as usize / 32] >> (slot % 32)) & 1 == 1
     }
+
+    /// The words of the bits: slot s is bit s mod 32 of word s / 32.
+    pub(crate) fn words(&self) -> &[u32; 32]
+        ensures { result.now ≡ self.now }
+    {
+        &self.words
+    }
 }
