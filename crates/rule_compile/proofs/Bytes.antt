@@ -1,8 +1,7 @@
 -- The bytes of a text that lies in an image, and the piece that compares them.
-use Rattle.std.proofs.Common.{◌≡◌, ℕ, zero, suc, ◌+◌, ◌*◌, ◌<◌, ◌≤◌, Bool, true, false, List, [], ◌∷◌, ◌++◌, length, drop, get_or, Option, Some, None, ◌⊎◌, ◌↔◌, inl, inr, refl, sym, ap, ◌∙◌, arith, subst, slice_index}
+use Rattle.std.proofs.Common.{◌≡◌, ℕ, suc, ◌+◌, ◌*◌, ◌<◌, ◌≤◌, List, [], ◌∷◌, ◌++◌, length, drop, Some, ◌↔◌, refl, sym, ap, ◌∙◌, arith, subst, slice_index}
 use Rattle.std.proofs.lemmas.Bool.{eqb-true, eq-eqb, le-leb}
 use Rattle.std.proofs.lemmas.List.{length-append, get_or-append-add, get_or_append_left, drop_more}
-use Rattle.bpf_code.specs.declared.instruction.Ins.{Ins}
 use Rattle.bpf_code.specs.declared.operation.Width.{Width}
 use Rattle.bpf_code.specs.declared.operation.Width.TheVariants.{Word, Half, Byte}
 use Rattle.bpf_code.specs.declared.operation.Test.TheVariants.{Equal}
@@ -117,13 +116,13 @@ four_same a b c d e f g h sb sc sd sf sg sh is =
 -- ---- a piece that compares some bytes
 
 -- X is the text's place
-abbrev At : ℕ → ℕ → Type 0
+abbrev pub At : ℕ → ℕ → Type 0
 At place x = x ≡ place
 
-extends_indexed : (width : Width) (at k : ℕ) → Extends (λ rest. indexed width at ∷ want Equal k rest)
+pub extends_indexed : (width : Width) (at k : ℕ) → Extends (λ rest. indexed width at ∷ want Equal k rest)
 extends_indexed width at k = extends_more (want Equal k) (λ _. indexed width at) (extends_want Equal k)
 
-tests_byte : (image : List ℕ) (place : ℕ) (text : List ℕ) (at a : ℕ) → Lies image place text → at + 1 ≤ length text → Tests image (At place) (slice_index text at ≡ a) (λ rest. indexed Byte at ∷ want Equal a rest)
+pub tests_byte : (image : List ℕ) (place : ℕ) (text : List ℕ) (at a : ℕ) → Lies image place text → at + 1 ≤ length text → Tests image (At place) (slice_index text at ≡ a) (λ rest. indexed Byte at ∷ want Equal a rest)
 tests_byte image place text at a lies inside =
     tests_same image (At place) _ _ (λ rest. indexed Byte at ∷ want Equal a rest) (eqb-true (slice_index text at) a, eq-eqb (slice_index text at) a) (tests_indexed image place Byte at (slice_index text at) Equal a (loads_byte image place text at lies inside))
 

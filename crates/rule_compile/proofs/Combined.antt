@@ -1,5 +1,5 @@
 -- Pieces of programs joined: what they test together.
-use Rattle.std.proofs.Common.{◌≡◌, ℕ, ◌+◌, ◌-◌, length, Bool, true, false, List, [], ◌∷◌, ◌++◌, Option, Some, None, ◌⊎◌, ◌↔◌, inl, inr, refl, sym, ap, ◌∙◌, subst}
+use Rattle.std.proofs.Common.{◌≡◌, ℕ, ◌+◌, ◌-◌, length, true, false, List, [], ◌∷◌, ◌++◌, Some, ◌⊎◌, ◌↔◌, inl, inr, refl, sym, ap, ◌∙◌, subst}
 use Rattle.std.proofs.lemmas.Bool.{cases_Bool, true≢false}
 use Rattle.std.proofs.lemmas.List.{append_assoc}
 use Rattle.bpf_code.specs.declared.instruction.Ins.{Ins}
@@ -8,7 +8,7 @@ use Rattle.bpf_code.specs.declared.operation.Test.{Test}
 use Rattle.bpf_code.specs.Loads.{load, load_word}
 use Rattle.bpf_code.specs.Effects.{passes}
 use Rattle.rule_compile.specs.Code.{image_word, indexed, index_from_a, returns, branch, want, settle, index_text}
-use Rattle.rule_compile.proofs.Pieces.{RunsTo, Guarded, Leads, Any, Tests}
+use Rattle.rule_compile.proofs.Pieces.{Guarded, Any, Tests}
 use Rattle.rule_compile.proofs.Runs.{runs_image_word, runs_indexed, runs_index_from_a, runs_want, stops_want, runs_settle, stays_settle}
 
 -- ---- pieces stand in front of their rest
