@@ -5,16 +5,13 @@ use Rattle.std.proofs.lemmas.List.{append-nil, length-append, length-drop, drop-
 use Rattle.match_rule.specs.Bytes.{ends_with}
 use Rattle.match_rule.specs.Holds.{Begins, AreNested}
 use Rattle.rule_compile.specs.Folders.{with_front, parts_of}
-
--- the text goes on at a place with the bytes of a part
-abbrev pub Goes : List ℕ → ℕ → List ℕ → Type 0
-Goes text place part = (behind : List ℕ) × (drop place text ≡ part ++ behind)
+use Rattle.rule_compile.proofs.Bytes.{Stands}
 
 -- the text goes on at a place with the parts of a value, or ends behind one of them
 abbrev pub AlongParts : List ℕ → ℕ → List (List ℕ) → Type 0
 AlongParts text place [] = Unit {0}
-AlongParts text place (part ∷ []) = MatchBool (ends_with 47 part) ((place + length part ≤ length text) × Goes text place part) ((length text ≡ place + length part) × Goes text place part)
-AlongParts text place (part ∷ next ∷ more) = (place + length part ≤ length text) × Goes text place part × ((length text ≡ place + length part) ⊎ AlongParts text (place + length part) (next ∷ more))
+AlongParts text place (part ∷ []) = MatchBool (ends_with 47 part) ((place + length part ≤ length text) × Stands text place part) ((length text ≡ place + length part) × Stands text place part)
+AlongParts text place (part ∷ next ∷ more) = (place + length part ≤ length text) × Stands text place part × ((length text ≡ place + length part) ⊎ AlongParts text (place + length part) (next ∷ more))
 
 -- ---- of what is left of a text
 
@@ -153,7 +150,7 @@ along_meets : (parts : List (List ℕ)) (text : List ℕ) (place : ℕ) → plac
 along_meets [] text place fits = (λ w. w, λ w. w)
 along_meets (part ∷ []) text place fits = go (ends_with 47 part)
   where
-    go : (slash : Bool) → MatchBool slash ((place + length part ≤ length text) × Goes text place part) ((length text ≡ place + length part) × Goes text place part) ↔ MatchBool slash (Begins (drop place text) part) (drop place text ≡ part)
+    go : (slash : Bool) → MatchBool slash ((place + length part ≤ length text) × Stands text place part) ((length text ≡ place + length part) × Stands text place part) ↔ MatchBool slash (Begins (drop place text) part) (drop place text ≡ part)
     go true = (λ w. w.1, λ w. (let h = left_len text place part w.0 fits w.1 in omega arith, w))
     go false = (λ w. forth w.0 w.1.0 w.1.1, λ e. (let h = left_len text place part [] fits (e ∙ sym (append-nil part)) in omega arith, ([], e ∙ sym (append-nil part))))
       where
