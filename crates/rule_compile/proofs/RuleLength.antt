@@ -4,13 +4,11 @@ use Rattle.std.specs.Prelude.{◌/◌, ◌%◌, ◌^◌, ◌&&◌, ◌==◌, if�
 use Rattle.std.specs.Str.{bytes_eq}
 use Rattle.std.proofs.lemmas.List.Sums.{sum_by-cons}
 use Rattle.bpf_code.specs.declared.instruction.Ins.{Ins}
-use Rattle.bpf_code.specs.declared.operation.Op.TheVariants.{Branch}
-use Rattle.bpf_code.specs.declared.operation.Operand.TheVariants.{Constant}
 use Rattle.bpf_code.specs.declared.operation.Width.{Width}
 use Rattle.bpf_code.specs.declared.operation.Width.TheVariants.{Word, Half, Byte}
 use Rattle.bpf_code.specs.declared.operation.Test.{Test}
 use Rattle.bpf_code.specs.declared.operation.Test.TheVariants.{Equal, Above, AtLeast, SharesBit}
-use Rattle.bpf_code.specs.Table.{op_of, code_of}
+use Rattle.bpf_code.specs.Table.{op_of}
 use Rattle.jump_islands.specs.Draft.{DraftTree, instructions_of}
 use Rattle.jump_islands.specs.PlainLength.{is_far, count, span, size_of, sizes_of, plain_length}
 use Rattle.match_rule.specs.Bytes.{ends_with}
@@ -19,9 +17,9 @@ use Rattle.match_rule.specs.declared.condition.Condition.TheVariants.{Kind, Send
 use Rattle.match_rule.specs.RuleTree.{RuleTree, is_owned_name, slashes, condition_weight, weight_of}
 use Rattle.message_view.specs.Header.{kind_byte}
 use Rattle.match_rule.specs.Condition.{kind_meant}
-use Rattle.rule_compile.specs.Code.{image_word, indexed, index_from_a, returns, branch, want, settle, two, four, same_bytes, has_len, is_there, is_there_if, index_text, is_text, in_namespace}
+use Rattle.rule_compile.specs.Code.{image_word, indexed, index_from_a, branch, want, settle, two, four, same_bytes, has_len, is_there, is_there_if, index_text, is_text, in_namespace}
 use Rattle.rule_compile.specs.Folders.{with_front, parts_of, may_end, along, is_nested}
-use Rattle.rule_compile.specs.RuleCode.{argument_at, has_type, has_text_type, owns, path_namespace, condition_code, rank_of, ranks, of_rank, from_rank, offered, verdicts, rule_code}
+use Rattle.rule_compile.specs.RuleCode.{argument_at, has_type, has_text_type, owns, path_namespace, condition_code, rank_of, of_rank, from_rank, offered, verdicts, rule_code}
 
 -- ---- single instructions
 

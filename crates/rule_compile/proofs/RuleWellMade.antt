@@ -1,6 +1,6 @@
 -- The program of a rule is well made: its jumps stay inside, and each load and return is an accepted one.
-use Rattle.std.proofs.Common.{◌≡◌, ℕ, zero, suc, ◌+◌, ◌-◌, ◌*◌, ◌<◌, ◌≤◌, Bool, true, false, List, [], ◌∷◌, length, Option, Some, None, refl, sym, subst, arith}
-use Rattle.std.specs.Prelude.{◌/◌, ◌%◌, ◌^◌, ◌&&◌, ◌==◌, if◌then◌else◌}
+use Rattle.std.proofs.Common.{◌≡◌, ℕ, zero, suc, ◌+◌, ◌-◌, ◌*◌, ◌<◌, ◌≤◌, Bool, true, false, List, [], ◌∷◌, length, Option, Some, None, refl, subst, arith}
+use Rattle.std.specs.Prelude.{◌/◌, ◌%◌, ◌^◌, ◌==◌, if◌then◌else◌}
 use Rattle.std.specs.Option.{IsSomeAnd}
 use Rattle.std.specs.Str.{bytes_eq}
 use Rattle.std.specs.List.{slice_get}
@@ -69,6 +69,7 @@ in_front ins op rest row fine none s = record {
     fine_at : (place : ℕ) → place < length (ins ∷ rest) → At (ins ∷ rest) place (IsFine (length (ins ∷ rest)) place)
     fine_at zero inside = rw row fine
     fine_at (suc p) inside = at_map rest p (IsFine (length rest) p) (IsFine (length (ins ∷ rest)) (suc p)) (fine_moved (length rest) p) (s.fine p (omega arith))
+
     quiet_at : (place k : ℕ) → At (ins ∷ rest) place (Reads k) → ⊥
     quiet_at zero k h = none k (rw row at h)
     quiet_at (suc p) k h = s.quiet p k h
@@ -115,6 +116,7 @@ last_sound = record { some = omega arith; fine = fine_at; last = tt; quiet = qui
     fine_at : (place : ℕ) → place < 1 → At (returns 0 ∷ []) place (IsFine 1 place)
     fine_at zero inside = record { constant = tt; scratch = tt; jump = tt; load = tt }
     fine_at (suc p) inside = absurd (omega arith)
+
     quiet_at : (place k : ℕ) → At (returns 0 ∷ []) place (Reads k) → ⊥
     quiet_at zero k h = h
     quiet_at (suc p) k h = h
