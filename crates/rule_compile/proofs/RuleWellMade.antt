@@ -5,6 +5,7 @@ use Rattle.std.specs.Option.{IsSomeAnd}
 use Rattle.std.specs.Str.{bytes_eq}
 use Rattle.std.specs.List.{slice_get}
 use Rattle.std.proofs.lemmas.Bool.{and_parts, leb-true}
+use Rattle.std.proofs.lemmas.Option.{slice_get_within}
 use Rattle.bpf_code.specs.declared.instruction.Ins.{Ins}
 use Rattle.bpf_code.specs.declared.operation.Op.{Op}
 use Rattle.bpf_code.specs.declared.operation.Op.TheVariants.{LoadImage, LoadIndexed, IndexFromA, ReturnConstant, Jump, Branch}
@@ -200,7 +201,7 @@ path_sound : (value : List ℕ) (rest : List Ins) → IsSound rest → IsSound (
 path_sound value rest s =
     choice_sound (bytes_eq value (47 ∷ [])) (is_there 24 rest) (in_namespace 24 47 value rest) (there_sound 24 rest (omega arith) s) (namespace_sound 24 47 value rest (omega arith) s)
 
-condition_sound : (slot : ℕ) (c : Condition) (rest : List Ins) → slot < 1024 → has_small_number c ≡ true → IsSound rest → IsSound (condition_code slot c rest)
+pub condition_sound : (slot : ℕ) (c : Condition) (rest : List Ins) → slot < 1024 → has_small_number c ≡ true → IsSound rest → IsSound (condition_code slot c rest)
 condition_sound slot (Kind kind) rest small e s = image_sound 4 (want Equal (kind_byte (kind_meant kind)) rest) (omega arith) (want_sound Equal (kind_byte (kind_meant kind)) rest s)
 condition_sound slot (Sender name) rest small e s =
     choice_sound (is_owned_name name) (owns slot rest) (is_text 64 name rest) (owns_sound slot rest small s) (is_text_sound 64 name rest (omega arith) s)
@@ -217,6 +218,15 @@ condition_sound slot (ArgPath n value) rest small e s =
     text_type_sound n (is_nested (argument_at n + 4) value rest) h (nested_sound (argument_at n + 4) value rest (omega arith) s)
 condition_sound slot (Arg0Namespace value) rest small e s =
     type_sound 0 115 (in_namespace (argument_at 0 + 4) 46 value rest) (omega arith) (namespace_sound (argument_at 0 + 4) 46 value rest (omega arith) s)
+
+-- ---- the distances of a branch
+
+pub branch_inside : (code : List Ins) (place : ℕ) (test : Test) (k hit miss : ℕ) → IsSound code → slice_get code place ≡ Some (branch test k hit miss) → (place + 1 + hit < length code) × (place + 1 + miss < length code)
+branch_inside code place test k hit miss s at =
+    let inside : place < length code = slice_get_within code place (branch test k hit miss) at in
+    let row = branch_row test in
+    let fine : IsFine (length code) place (Branch test Constant) (branch test k hit miss) = rw (at, row) at (s.fine place inside) in
+    fine.jump
 
 -- ---- rules
 
