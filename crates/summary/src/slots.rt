@@ -1,5 +1,5 @@
 ghost use Rattle.std.specs.Prelude.{◌≡◌, ◌<◌, ℕ, false, ◌||◌, ◌==◌};
-ghost use Rattle.summary.specs.Sets.{has_slot};
+ghost use Rattle.summary.specs.Sets.{has_slot, IsSet};
 
 use std::marker::Model;
 
@@ -22,7 +22,8 @@ impl Model for Slots {
 impl Slots {
     /// No slot.
     pub fn empty() -> Slots
-        ensures { (slot : ℕ) → has_slot result slot ≡ false }
+        ensures none { (slot : ℕ) → has_slot result slot ≡ false }
+        ensures set { IsSet result }
     {
         Slots { words: [0; 32] }
     }
@@ -30,7 +31,8 @@ impl Slots {
     /// The slot, and those that were there.
     pub fn insert(&mut self, slot: u16)
         requires { slot < 1024 }
-        ensures { (other : ℕ) → has_slot self.new other ≡ ((other == slot) || has_slot self.old other) }
+        ensures inserted { (other : ℕ) → has_slot self.new other ≡ ((other == slot) || has_slot self.old other) }
+        ensures set { IsSet self.new }
     {
         self.words[slot as usize / 32] |= 1 << (slot % 32);
     }
