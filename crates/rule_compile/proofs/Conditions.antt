@@ -9,6 +9,7 @@ use Rattle.bpf_code.specs.declared.instruction.Ins.{Ins}
 use Rattle.bpf_code.specs.declared.operation.Test.TheVariants.{Equal, SharesBit}
 use Rattle.bpf_code.specs.Loads.{load_word}
 use Rattle.bpf_code.specs.Effects.{passes}
+use Rattle.message_value.specs.Arguments.{Argument}
 use Rattle.message_view.specs.declared.kind.Kind as kinds
 use Rattle.message_view.specs.Header.{kind_byte, kind_of}
 use Rattle.message_view.specs.Message.{Message, path_of, interface_of, member_of, destination_of, sender_of}
@@ -24,7 +25,7 @@ use Rattle.match_rule.specs.Parts.{has_small_number}
 use Rattle.match_rule.specs.RuleTree.{is_owned_name}
 use Rattle.summary.specs.declared.edition.Edition.TheVariants.{Two}
 use Rattle.summary.specs.Sets.{has_slot}
-use Rattle.summary.specs.Shown.{AreBytes, Tells, ShowsText, Shows}
+use Rattle.summary.specs.Shown.{AreBytes, Tells, ShowsText, ShowsArgument, Shows}
 use Rattle.rule_compile.specs.Code.{image_word, want, is_there, is_text, in_namespace}
 use Rattle.rule_compile.specs.Folders.{is_nested}
 use Rattle.rule_compile.specs.RuleCode.{argument_at, has_type, has_text_type, owns, path_namespace, condition_code}
@@ -32,6 +33,7 @@ use Rattle.rule_compile.proofs.Pieces.{Any, Tests}
 use Rattle.rule_compile.proofs.Combined.{Extends, extends_more, extends_then, extends_want, tests_same, tests_word}
 use Rattle.rule_compile.proofs.Texts.{extends_is_there, tests_is_there, extends_is_text, tests_is_text, extends_in_namespace, tests_in_namespace}
 use Rattle.rule_compile.proofs.TextArguments.{IsText, argument_has_text}
+use Rattle.rule_compile.proofs.NestedPaths.{extends_is_nested, is_nested_tests}
 use Rattle.rule_compile.proofs.Arguments.{extends_has_type, tests_has_type, extends_has_text_type, tests_has_text_type, Passes, tests_argument}
 
 -- ---- the kind
@@ -103,3 +105,98 @@ tests_path_namespace image path value false is shows bytes =
 extends_path_namespace : (value : List ℕ) (root : Bool) → Extends (λ rest. if root then is_there 24 rest else in_namespace 24 47 value rest)
 extends_path_namespace value true = extends_is_there 24
 extends_path_namespace value false = extends_in_namespace 24 47 value
+
+-- ---- arguments
+
+same_text : (a b : List ℕ) → Some a ≡ Some b → a ≡ b
+same_text a b h = cc
+
+-- what the code of an argument's condition needs to know
+record Known (image : List ℕ) (m : Message) (n : ℕ) : Type 0 where
+  pub shows : ShowsArgument image (argument_at n) (slice_get (arguments_of m) n)
+  pub has : (a : Argument) → slice_get (arguments_of m) n ≡ Some a → IsText a.code → (t : List ℕ) × (a.text ≡ Some t)
+
+tests_arg : (image : List ℕ) (m : Message) (n : ℕ) (value : List ℕ) → Known image m n → AreBytes value → Tests image Any (HasArg m n 115 value) (λ rest. has_type n 115 (is_text (argument_at n + 4) value rest))
+tests_arg image m n value known bytes =
+    tests_same image Any _ _ (λ rest. has_type n 115 (is_text (argument_at n + 4) value rest)) (
+      λ p. (p.0, p.2, p.3, p.4 ∙ p.5),
+      λ h. (h.0, value, h.1, h.2, h.3, refl),
+    ) (tests_argument image (argument_at n) (slice_get (arguments_of m) n) (λ w. w ≡ 115) (λ t. Some t ≡ Some value) (has_type n 115) (is_text (argument_at n + 4) value) known.shows (tests_has_type image n 115) (λ e. omega arith) (λ a is code. known.has a is (inl code)) (extends_is_text (argument_at n + 4) value) (λ t tells. tests_is_text image (argument_at n + 4) (Some t) value tells bytes))
+
+abbrev HasPath : Message → ℕ → List ℕ → Type 0
+HasPath m n value = (text : List ℕ) × (HasArg m n 115 text ⊎ HasArg m n 111 text) × AreNested text value
+
+path_had : (m : Message) (n : ℕ) (value : List ℕ) → Passes (slice_get (arguments_of m) n) IsText (λ t. AreNested t value) ↔ HasPath m n value
+path_had m n value = (
+  λ p. (p.1, elim p.3 [ inl e ↦ inl (p.0, p.2, e, p.4) | inr e ↦ inr (p.0, p.2, e, p.4) ], p.5),
+  λ w. elim w.1 [ inl h ↦ (h.0, w.0, h.1, inl h.2, h.3, w.2) | inr h ↦ (h.0, w.0, h.1, inr h.2, h.3, w.2) ],
+)
+
+tests_arg_path : (image : List ℕ) (m : Message) (n : ℕ) (value : List ℕ) → Known image m n → AreBytes value → Tests image Any (HasPath m n value) (λ rest. has_text_type n (is_nested (argument_at n + 4) value rest))
+tests_arg_path image m n value known bytes =
+    tests_same image Any _ _ (λ rest. has_text_type n (is_nested (argument_at n + 4) value rest)) (path_had m n value) (tests_argument image (argument_at n) (slice_get (arguments_of m) n) IsText (λ t. AreNested t value) (has_text_type n) (is_nested (argument_at n + 4) value) known.shows (tests_has_text_type image n) (λ text. elim text [ inl e ↦ omega arith | inr e ↦ omega arith ]) known.has (extends_is_nested (argument_at n + 4) value) (λ t tells. is_nested_tests image (argument_at n + 4) t value tells bytes))
+
+abbrev HasNamespace : Message → ℕ → List ℕ → Type 0
+HasNamespace m n value = (text : List ℕ) × HasArg m n 115 text × InNamespace text value
+
+tests_arg_namespace : (image : List ℕ) (m : Message) (n : ℕ) (value : List ℕ) → Known image m n → AreBytes value → Tests image Any (HasNamespace m n value) (λ rest. has_type n 115 (in_namespace (argument_at n + 4) 46 value rest))
+tests_arg_namespace image m n value known bytes =
+    tests_same image Any _ _ (λ rest. has_type n 115 (in_namespace (argument_at n + 4) 46 value rest)) (
+      λ p. (p.1, (p.0, p.2, p.3, p.4), p.5),
+      λ w. let h = w.1 in (h.0, w.0, h.1, h.2, h.3, w.2),
+    ) (tests_argument image (argument_at n) (slice_get (arguments_of m) n) (λ w. w ≡ 115) (λ t. InNamespace t value) (has_type n 115) (in_namespace (argument_at n + 4) 46 value) known.shows (tests_has_type image n 115) (λ e. omega arith) (λ a is code. known.has a is (inl code)) (extends_in_namespace (argument_at n + 4) 46 value) (λ t tells. tests_same image Any _ _ (in_namespace (argument_at n + 4) 46 value) (
+      λ p. subst (λ (s : List ℕ). InNamespace s value) (sym (same_text t p.0 p.1)) p.2,
+      λ q. (t, refl, q),
+    ) (tests_in_namespace image (argument_at n + 4) 46 (Some t) value tells bytes)))
+
+-- ---- each condition
+
+pub extends_condition : (slot : ℕ) (c : Condition) → Extends (condition_code slot c)
+extends_condition slot (Kind kind) =
+    extends_more (want Equal (kind_byte (kind_meant kind))) (λ _. image_word 4) (extends_want Equal (kind_byte (kind_meant kind)))
+extends_condition slot (Sender name) = go (is_owned_name name)
+  where
+    go : (is_owned : Bool) → Extends (λ rest. if is_owned then owns slot rest else is_text 64 name rest)
+    go true = extends_owns slot
+    go false = extends_is_text 64 name
+extends_condition slot (Interface name) = extends_is_text 32 name
+extends_condition slot (Member name) = extends_is_text 40 name
+extends_condition slot (Path path) = extends_is_text 24 path
+extends_condition slot (PathNamespace value) = extends_path_namespace value (bytes_eq value (47 ∷ []))
+extends_condition slot (Destination name) = extends_is_text 56 name
+extends_condition slot (Arg n value) =
+    extends_then (has_type n 115) (is_text (argument_at n + 4) value) (extends_has_type n 115) (extends_is_text (argument_at n + 4) value)
+extends_condition slot (ArgPath n value) =
+    extends_then (has_text_type n) (is_nested (argument_at n + 4) value) (extends_has_text_type n) (extends_is_nested (argument_at n + 4) value)
+extends_condition slot (Arg0Namespace value) =
+    extends_then (has_type 0 115) (in_namespace (argument_at 0 + 4) 46 value) (extends_has_type 0 115) (extends_in_namespace (argument_at 0 + 4) 46 value)
+
+-- the owned names have the name of a condition on the sender exactly where the slot is among the slots
+abbrev pub SlotFits : List ℕ → ℕ → (List ℕ → Bool) → Condition → Type 0
+SlotFits slots slot owned (Sender name) = is_owned_name name ≡ true → owned name ≡ has_slot slots slot
+SlotFits slots slot owned _ = Unit {0}
+
+known : (image bytes : List ℕ) (m : Message) (slots : List ℕ) (n : ℕ) → Valid bytes m → Shows Two image m slots → n < 64 → Known image m n
+known image bytes m slots n valid shows small = record { shows = shows.argument n small; has = λ a is text. argument_has_text bytes m n a valid is text }
+
+pub tests_condition : (image bytes : List ℕ) (m : Message) (slots : List ℕ) (owned : List ℕ → Bool) (slot : ℕ) (c : Condition) → Valid bytes m → Shows Two image m slots → slot < 1024 → SlotFits slots slot owned c → has_small_number c ≡ true → AreBytes (value_of c) → Tests image Any (ConditionHolds c m owned) (condition_code slot c)
+tests_condition image bytes m slots owned slot (Kind kind) valid shows slot_small fits small are =
+    tests_kind image m.kind kind shows.kind valid.kind
+tests_condition image bytes m slots owned slot (Sender name) valid shows slot_small fits small are =
+    tests_sender image slots slot name (sender_of m) (is_owned_name name) (owned name) (shows.owned slot slot_small) shows.sender are fits
+tests_condition image bytes m slots owned slot (Interface name) valid shows slot_small fits small are =
+    tests_is_text image 32 (interface_of m) name shows.interface are
+tests_condition image bytes m slots owned slot (Member name) valid shows slot_small fits small are =
+    tests_is_text image 40 (member_of m) name shows.member are
+tests_condition image bytes m slots owned slot (Path path) valid shows slot_small fits small are =
+    tests_is_text image 24 (path_of m) path shows.path are
+tests_condition image bytes m slots owned slot (PathNamespace value) valid shows slot_small fits small are =
+    tests_path_namespace image (path_of m) value (bytes_eq value (47 ∷ [])) refl shows.path are
+tests_condition image bytes m slots owned slot (Destination name) valid shows slot_small fits small are =
+    tests_is_text image 56 (destination_of m) name shows.destination are
+tests_condition image bytes m slots owned slot (Arg n value) valid shows slot_small fits small are =
+    tests_arg image m n value (known image bytes m slots n valid shows (let l = leb-true n 63 small in omega arith)) are
+tests_condition image bytes m slots owned slot (ArgPath n value) valid shows slot_small fits small are =
+    tests_arg_path image m n value (known image bytes m slots n valid shows (let l = leb-true n 63 small in omega arith)) are
+tests_condition image bytes m slots owned slot (Arg0Namespace value) valid shows slot_small fits small are =
+    tests_arg_namespace image m 0 value (known image bytes m slots 0 valid shows (omega arith)) are
