@@ -1,11 +1,11 @@
 -- The pieces that test an argument: its type, and then its text.
-use Rattle.std.proofs.Common.{◌≡◌, ℕ, ◌+◌, ◌*◌, ◌<◌, Bool, true, false, List, [], ◌∷◌, ◌++◌, length, eqb, Option, Some, None, ◌⊎◌, ◌↔◌, inl, inr, refl, sym, ap, ◌∙◌, arith, subst, slice_get, IfSome}
-use Rattle.std.proofs.lemmas.Bool.{cases_Bool, true≢false, eqb-true, eqb-false, eq-eqb, ne_eqb}
+use Rattle.std.proofs.Common.{◌≡◌, ℕ, ◌+◌, List, [], ◌∷◌, eqb, Option, Some, None, inl, inr, refl, sym, ◌∙◌, subst, IfSome}
+use Rattle.std.proofs.lemmas.Bool.{cases_Bool, eqb-true, eqb-false, eq-eqb, ne_eqb}
 use Rattle.bpf_code.specs.declared.instruction.Ins.{Ins}
 use Rattle.bpf_code.specs.declared.operation.Test.TheVariants.{Equal}
 use Rattle.bpf_code.specs.Loads.{load_word}
 use Rattle.message_value.specs.Arguments.{Argument}
-use Rattle.summary.specs.Shown.{AreBytes, Tells, ShowsArgument}
+use Rattle.summary.specs.Shown.{Tells, ShowsArgument}
 use Rattle.rule_compile.specs.Code.{image_word, want, settle}
 use Rattle.rule_compile.specs.RuleCode.{argument_at, has_type, has_text_type}
 use Rattle.rule_compile.proofs.Pieces.{Any, Tests}
@@ -29,20 +29,20 @@ extends_has_text_type n = extends_settle (want Equal 111) (argument_at n) Equal 
 pub tests_has_text_type : (image : List ℕ) (n w : ℕ) → load_word image (argument_at n) ≡ Some w → Tests image Any (IsText w) (has_text_type n)
 tests_has_text_type image n w is = elim (cases_Bool (eqb w 115)) [
   | inl string ↦ record {
-      decided = inl (inl (eqb-true w 115 string));
-      guarded = guards (has_text_type n) (extends_has_text_type n);
-      passes = λ rest v g leads _ a x fits. runs_image_word (settle Equal 115 rest (want Equal 111 rest)) image (argument_at n) w a x v is (runs_settle (_ ∷ []) rest (want Equal 111 rest) image Equal 115 w x v refl string (leads w x fits));
-      fails = λ rest g none. absurd (none (inl (eqb-true w 115 string)));
-    }
+    decided = inl (inl (eqb-true w 115 string));
+    guarded = guards (has_text_type n) (extends_has_text_type n);
+    passes = λ rest v g leads _ a x fits. runs_image_word (settle Equal 115 rest (want Equal 111 rest)) image (argument_at n) w a x v is (runs_settle (_ ∷ []) rest (want Equal 111 rest) image Equal 115 w x v refl string (leads w x fits));
+    fails = λ rest g none. absurd (none (inl (eqb-true w 115 string)));
+  }
   | inr other ↦ record {
-      decided = elim (cases_Bool (eqb w 111)) [
-        | inl path ↦ inl (inr (eqb-true w 111 path))
-        | inr no_path ↦ inr (λ text. elim text [ inl e ↦ eqb-false w 115 other e | inr e ↦ eqb-false w 111 no_path e ])
-      ];
-      guarded = guards (has_text_type n) (extends_has_text_type n);
-      passes = λ rest v g leads text a x fits. runs_image_word (settle Equal 115 rest (want Equal 111 rest)) image (argument_at n) w a x v is (stays_settle rest (want Equal 111 rest) image Equal 115 w x v other (runs_want rest image Equal 111 w x v (elim text [ inl e ↦ absurd (eqb-false w 115 other e) | inr e ↦ eq-eqb w 111 e ]) (leads w x fits)));
-      fails = λ rest g none a x fits. runs_image_word (settle Equal 115 rest (want Equal 111 rest)) image (argument_at n) w a x 0 is (stays_settle rest (want Equal 111 rest) image Equal 115 w x 0 other (stops_want rest image Equal 111 w x g (ne_eqb w 111 (λ e. none (inr e)))));
-    }
+    decided = elim (cases_Bool (eqb w 111)) [
+      | inl path ↦ inl (inr (eqb-true w 111 path))
+      | inr no_path ↦ inr (λ text. elim text [ inl e ↦ eqb-false w 115 other e | inr e ↦ eqb-false w 111 no_path e ])
+    ];
+    guarded = guards (has_text_type n) (extends_has_text_type n);
+    passes = λ rest v g leads text a x fits. runs_image_word (settle Equal 115 rest (want Equal 111 rest)) image (argument_at n) w a x v is (stays_settle rest (want Equal 111 rest) image Equal 115 w x v other (runs_want rest image Equal 111 w x v (elim text [ inl e ↦ absurd (eqb-false w 115 other e) | inr e ↦ eq-eqb w 111 e ]) (leads w x fits)));
+    fails = λ rest g none a x fits. runs_image_word (settle Equal 115 rest (want Equal 111 rest)) image (argument_at n) w a x 0 is (stays_settle rest (want Equal 111 rest) image Equal 115 w x 0 other (stops_want rest image Equal 111 w x g (ne_eqb w 111 (λ e. none (inr e)))));
+  }
 ]
 
 -- ---- the type, and then the text
@@ -64,7 +64,7 @@ tests_argument image at (Some a) C Q h f shows head absent has extends tail =
     tests_same image Any _ _ (λ rest. h (f rest)) (
       λ both. (a, both.1.0, refl, both.0, both.1.1, both.1.2),
       λ p. let e : p.0 ≡ a = sym (same_argument a p.0 p.2) in
-      (subst (λ (b : Argument). C b.code) e p.3, (p.1, subst (λ (b : Argument). b.text ≡ Some p.1) e p.4, p.5)),
+          (subst (λ (b : Argument). C b.code) e p.3, (p.1, subst (λ (b : Argument). b.text ≡ Some p.1) e p.4, p.5)),
     ) (tests_then image Any (C a.code) ((t : List ℕ) × (a.text ≡ Some t) × Q t) h f (head a.code shows.0) extends (λ c. let t = has a refl c in tests_same image Any (Q t.0) _ f (
       λ q. (t.0, t.1, q),
       λ r. subst Q (same_text r.0 t.0 (sym r.1 ∙ t.1)) r.2,

@@ -1,11 +1,10 @@
 -- What the code of a condition does: it tests whether the condition holds.
-use Rattle.std.proofs.Common.{◌≡◌, ℕ, zero, suc, ◌+◌, ◌*◌, ◌/◌, ◌%◌, ◌^◌, ◌<◌, ◌≤◌, Bool, true, false, not, List, [], ◌∷◌, ◌++◌, length, eqb, Option, Some, None, ◌⊎◌, ◌↔◌, inl, inr, refl, sym, ap, ◌∙◌, arith, subst, slice_get, slice_index, MatchBool, if◌then◌else◌, bit_and, bytes_eq}
+use Rattle.std.proofs.Common.{◌≡◌, ℕ, zero, suc, ◌+◌, ◌*◌, ◌/◌, ◌%◌, ◌^◌, ◌<◌, Bool, true, false, not, List, [], ◌∷◌, eqb, Option, Some, None, ◌⊎◌, ◌↔◌, inl, inr, refl, sym, ap, ◌∙◌, arith, subst, slice_get, slice_index, MatchBool, if◌then◌else◌, bytes_eq}
 use Rattle.std.specs.Int.{bit_at}
-use Rattle.std.proofs.lemmas.Bool.{false≢true, eqb-true, eqb-false, eq-eqb, ne_eqb, leb-true}
+use Rattle.std.proofs.lemmas.Bool.{false≢true, eqb-true, eq-eqb, ne_eqb, leb-true}
 use Rattle.std.proofs.lemmas.Nat.{pow_pos}
 use Rattle.std.proofs.lemmas.Nat.Bits.{and_pow, bit_at-lt}
 use Rattle.std.proofs.lemmas.Slice.Eq.{bytes_eq-Decides}
-use Rattle.bpf_code.specs.declared.instruction.Ins.{Ins}
 use Rattle.bpf_code.specs.declared.operation.Test.TheVariants.{Equal, SharesBit}
 use Rattle.bpf_code.specs.Loads.{load_word}
 use Rattle.bpf_code.specs.Effects.{passes}
@@ -20,15 +19,15 @@ use Rattle.match_rule.specs.declared.kind_name.KindName.TheVariants.{Signal, Met
 use Rattle.match_rule.specs.declared.condition.Condition.{Condition}
 use Rattle.match_rule.specs.declared.condition.Condition.TheVariants.{Kind, Sender, Interface, Member, Path, PathNamespace, Destination, Arg, ArgPath, Arg0Namespace}
 use Rattle.match_rule.specs.Condition.{kind_meant, value_of}
-use Rattle.match_rule.specs.Holds.{Begins, InPathNamespace, InNamespace, AreNested, HasArg, ConditionHolds}
+use Rattle.match_rule.specs.Holds.{InPathNamespace, InNamespace, AreNested, HasArg, ConditionHolds}
 use Rattle.match_rule.specs.Parts.{has_small_number}
 use Rattle.match_rule.specs.RuleTree.{is_owned_name}
 use Rattle.summary.specs.declared.edition.Edition.TheVariants.{Two}
 use Rattle.summary.specs.Sets.{has_slot}
-use Rattle.summary.specs.Shown.{AreBytes, Tells, ShowsText, ShowsArgument, Shows}
+use Rattle.summary.specs.Shown.{AreBytes, ShowsText, ShowsArgument, Shows}
 use Rattle.rule_compile.specs.Code.{image_word, want, is_there, is_text, in_namespace}
 use Rattle.rule_compile.specs.Folders.{is_nested}
-use Rattle.rule_compile.specs.RuleCode.{argument_at, has_type, has_text_type, owns, path_namespace, condition_code}
+use Rattle.rule_compile.specs.RuleCode.{argument_at, has_type, has_text_type, owns, condition_code}
 use Rattle.rule_compile.proofs.Pieces.{Any, Tests}
 use Rattle.rule_compile.proofs.Combined.{Extends, extends_more, extends_then, extends_want, tests_same, tests_word}
 use Rattle.rule_compile.proofs.Texts.{extends_is_there, tests_is_there, extends_is_text, tests_is_text, extends_in_namespace, tests_in_namespace}
@@ -79,9 +78,6 @@ tests_sender image slots slot name sender false owned word shows bytes agrees =
     tests_is_text image 64 sender name shows bytes
 
 -- ---- the namespace of a path
-
-root_named : (path value : List ℕ) → value ≡ 47 ∷ [] → InPathNamespace path value
-root_named path value e = inr (inr e)
 
 tests_path : (image : List ℕ) (path : Option (List ℕ)) → ShowsText image 24 path → Tests image Any ((p : List ℕ) × (path ≡ Some p)) (is_there 24)
 tests_path image None shows =

@@ -1,8 +1,8 @@
 -- What the program of a rule does: it says whether the rule holds.
-use Rattle.std.proofs.Common.{◌≡◌, ℕ, zero, suc, ◌+◌, ◌<◌, ◌≤◌, Bool, true, false, not, ◌&&◌, List, [], ◌∷◌, ◌++◌, length, get_or, eqb, Option, Some, None, ◌⊎◌, ◌↔◌, inl, inr, refl, sym, ap, ◌∙◌, arith, subst, if◌then◌else◌, All, IfSome}
-use Rattle.std.proofs.lemmas.Bool.{false≢true, true≢false, cases_Bool, cases_eq, eqb-true, eqb-false, eq-eqb, and_parts}
+use Rattle.std.proofs.Common.{◌≡◌, ℕ, zero, suc, ◌+◌, ◌<◌, ◌≤◌, Bool, true, false, not, ◌&&◌, List, [], ◌∷◌, get_or, eqb, Option, Some, None, ◌⊎◌, ◌↔◌, inl, inr, refl, arith, if◌then◌else◌, All, IfSome}
+use Rattle.std.proofs.lemmas.Bool.{false≢true, true≢false, cases_eq, eqb-true, eqb-false, and_parts}
 use Rattle.std.proofs.lemmas.List.Elements.{All-nil, All-cons, All-head, All-tail}
-use Rattle.std.specs.List.{list_all, list_any}
+use Rattle.std.specs.List.{list_any}
 use Rattle.std.specs.Prelude.{unwrap_or}
 use Rattle.bpf_code.specs.declared.instruction.Ins.{Ins}
 use Rattle.bpf_code.specs.declared.operation.Test.TheVariants.{Equal}
@@ -22,7 +22,7 @@ use Rattle.summary.specs.Shown.{AreBytes, ShowsText, Shows}
 use Rattle.rule_compile.specs.Code.{image_word, want, returns}
 use Rattle.rule_compile.specs.Compiled.{IsSlotOf, AgreeOn}
 use Rattle.rule_compile.specs.RuleCode.{condition_code, rank_of, ranks, of_rank, from_rank, offered, verdicts, rule_code}
-use Rattle.rule_compile.proofs.Pieces.{RunsTo, Guarded, Leads, Any, Tests}
+use Rattle.rule_compile.proofs.Pieces.{Guarded, Any, Tests}
 use Rattle.rule_compile.proofs.Runs.{runs_returns}
 use Rattle.rule_compile.proofs.Combined.{Extends, extends_none, extends_more, extends_then, extends_want, guards, tests_none, tests_same, tests_both, tests_word}
 use Rattle.rule_compile.proofs.Conditions.{extends_condition, SlotFits, tests_condition}

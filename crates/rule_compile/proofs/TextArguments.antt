@@ -1,5 +1,5 @@
 -- A string or an object path among the arguments of a valid message has a text.
-use Rattle.std.proofs.Common.{◌≡◌, ℕ, zero, suc, ◌+◌, Bool, true, false, List, [], ◌∷◌, length, Option, Some, None, ◌⊎◌, inl, inr, refl, sym, ap, ◌∙◌, subst, slice_get}
+use Rattle.std.proofs.Common.{◌≡◌, ℕ, zero, suc, ◌+◌, true, false, List, length, Some, ◌⊎◌, inl, inr, refl, sym, ◌∙◌, subst, slice_get}
 use Rattle.std.proofs.lemmas.Bool.{false≢true}
 use Rattle.signature.specs.DataType.{DataType, DataTypes, basic, variant, array, dict, struct, no_types, one_more}
 use Rattle.signature.specs.Alignment.{alignment_of}
