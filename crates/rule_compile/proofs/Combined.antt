@@ -57,17 +57,17 @@ tests_same image X P Q f same t = record {
 pub tests_then : (image : List ℕ) (X : ℕ → Type 0) (P Q : Type 0) (f g : List Ins → List Ins) → Tests image X P f → Extends g → (P → Tests image X Q g) → Tests image X (P × Q) (λ rest. f (g rest))
 tests_then image X P Q f g first extends next = elim first.decided [
   | inl p ↦ (let t = next p in record {
-      decided = elim t.decided [ inl q ↦ inl (p, q) | inr n ↦ inr (λ both. n both.1) ];
-      guarded = λ rest h. first.guarded (g rest) (guards g extends rest h);
-      passes = λ rest v h leads both. first.passes (g rest) v (guards g extends rest h) (t.passes rest v h leads both.1) p;
-      fails = λ rest h n. first.passes (g rest) 0 (guards g extends rest h) (t.fails rest h (λ q. n (p, q))) p;
-    })
+    decided = elim t.decided [ inl q ↦ inl (p, q) | inr n ↦ inr (λ both. n both.1) ];
+    guarded = λ rest h. first.guarded (g rest) (guards g extends rest h);
+    passes = λ rest v h leads both. first.passes (g rest) v (guards g extends rest h) (t.passes rest v h leads both.1) p;
+    fails = λ rest h n. first.passes (g rest) 0 (guards g extends rest h) (t.fails rest h (λ q. n (p, q))) p;
+  })
   | inr none ↦ record {
-      decided = inr (λ both. none both.0);
-      guarded = λ rest h. first.guarded (g rest) (guards g extends rest h);
-      passes = λ rest v h leads both. absurd (none both.0);
-      fails = λ rest h n. first.fails (g rest) (guards g extends rest h) none;
-    }
+    decided = inr (λ both. none both.0);
+    guarded = λ rest h. first.guarded (g rest) (guards g extends rest h);
+    passes = λ rest v h leads both. absurd (none both.0);
+    fails = λ rest h n. first.fails (g rest) (guards g extends rest h) none;
+  }
 ]
 
 -- both pieces do their work wherever they stand
@@ -114,17 +114,17 @@ extends_settle f at test k extends =
 pub tests_settle : (image : List ℕ) (X : ℕ → Type 0) (P : Type 0) (f : List Ins → List Ins) (at w : ℕ) (test : Test) (k : ℕ) → load_word image at ≡ Some w → Extends f → (passes test w k ≡ false → Tests image X P f) → Tests image X ((passes test w k ≡ true) ⊎ P) (λ rest. image_word at ∷ settle test k rest (f rest))
 tests_settle image X P f at w test k is extends other = elim (cases_Bool (passes test w k)) [
   | inl h ↦ record {
-      decided = inl (inl h);
-      guarded = guards (λ rest. image_word at ∷ settle test k rest (f rest)) (extends_settle f at test k extends);
-      passes = λ rest v g leads _ a x fits. let e = extends rest in runs_image_word (settle test k rest (f rest)) image at w a x v is (runs_settle e.0 rest (f rest) image test k w x v e.1 h (leads w x fits));
-      fails = λ rest g n. absurd (n (inl h));
-    }
+    decided = inl (inl h);
+    guarded = guards (λ rest. image_word at ∷ settle test k rest (f rest)) (extends_settle f at test k extends);
+    passes = λ rest v g leads _ a x fits. let e = extends rest in runs_image_word (settle test k rest (f rest)) image at w a x v is (runs_settle e.0 rest (f rest) image test k w x v e.1 h (leads w x fits));
+    fails = λ rest g n. absurd (n (inl h));
+  }
   | inr h ↦ (let t = other h in record {
-      decided = elim t.decided [ inl p ↦ inl (inr p) | inr n ↦ inr (λ both. elim both [ inl e ↦ true≢false (sym e ∙ h) | inr p ↦ n p ]) ];
-      guarded = guards (λ rest. image_word at ∷ settle test k rest (f rest)) (extends_settle f at test k extends);
-      passes = λ rest v g leads both a x fits. runs_image_word (settle test k rest (f rest)) image at w a x v is (stays_settle rest (f rest) image test k w x v h (t.passes rest v g leads (elim both [ inl e ↦ absurd (true≢false (sym e ∙ h)) | inr p ↦ p ]) w x fits));
-      fails = λ rest g n a x fits. runs_image_word (settle test k rest (f rest)) image at w a x 0 is (stays_settle rest (f rest) image test k w x 0 h (t.fails rest g (λ p. n (inr p)) w x fits));
-    })
+    decided = elim t.decided [ inl p ↦ inl (inr p) | inr n ↦ inr (λ both. elim both [ inl e ↦ true≢false (sym e ∙ h) | inr p ↦ n p ]) ];
+    guarded = guards (λ rest. image_word at ∷ settle test k rest (f rest)) (extends_settle f at test k extends);
+    passes = λ rest v g leads both a x fits. runs_image_word (settle test k rest (f rest)) image at w a x v is (stays_settle rest (f rest) image test k w x v h (t.passes rest v g leads (elim both [ inl e ↦ absurd (true≢false (sym e ∙ h)) | inr p ↦ p ]) w x fits));
+    fails = λ rest g n a x fits. runs_image_word (settle test k rest (f rest)) image at w a x 0 is (stays_settle rest (f rest) image test k w x 0 h (t.fails rest g (λ p. n (inr p)) w x fits));
+  })
 ]
 
 pub extends_index_text : (f : List Ins → List Ins) (at : ℕ) → Extends f → Extends (λ rest. index_text at (f rest))

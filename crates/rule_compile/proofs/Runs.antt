@@ -61,7 +61,6 @@ op_behind front more image v n p a x words ins None later h = absurd h
 op_behind front more image v n p a x words ins (Some op) later h =
     effect_behind front more image v n p a x words ins.k (effect_of op ins image a x (words ins.k)) later h
 
-
 ins_behind : (front more : List Ins) (image : List ℕ) (v n p a x : ℕ) (words : ℕ → Option ℕ) (o : Option Ins) → Later front more image v n → IsSomeAnd (option_and_then (λ ins. step_at ins image (state p a x words)) o) (λ next. Arrives next v n (EndsFrom more image v n)) → IsSomeAnd (option_and_then (λ ins. step_at ins image (state (length front + p) a x words)) o) (λ next. Arrives next v n (EndsFrom (front ++ more) image v n))
 ins_behind front more image v n p a x words None later h = absurd h
 ins_behind front more image v n p a x words (Some ins) later h =

@@ -125,8 +125,8 @@ Separated text n separator = (n < length text) × (slice_index text n ≡ separa
 tests_closed : (image : List ℕ) (at : ℕ) (text : List ℕ) (n separator : ℕ) → (tells : Tells image at text) → n ≤ length text → Tests image (At tells.place) ((eqb (length text) n ≡ true) ⊎ Separated text n separator) (closed at n separator)
 tests_closed image at text n separator tells few =
     tests_settle image (At tells.place) (Separated text n separator) (λ rest. indexed Byte n ∷ want Equal separator rest) (at + 4) (length text) Equal n tells.len_word (extends_indexed Byte n separator) (
-      λ differs. let less : n < length text = let ne = eqb-false (length text) n differs in omega arith in
-      tests_same image (At tells.place) _ _ (λ rest. indexed Byte n ∷ want Equal separator rest) (λ e. (less, e), λ both. both.1) (tests_byte image tells.place text n separator tells.lies (omega arith))
+    λ differs. let less : n < length text = let ne = eqb-false (length text) n differs in omega arith in
+    tests_same image (At tells.place) _ _ (λ rest. indexed Byte n ∷ want Equal separator rest) (λ e. (less, e), λ both. both.1) (tests_byte image tells.place text n separator tells.lies (omega arith))
     )
 
 abbrev Named : List ℕ → List ℕ → ℕ → Type 0

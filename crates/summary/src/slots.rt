@@ -11,12 +11,15 @@ pub struct Slots {
 
 impl Model for Slots {
     ghost use Rattle.std.specs.Prelude.{ℕ, List};
+    ghost use Rattle.summary.specs.Sets.{IsSet};
 
     ghost Value = { List ℕ };
 
     ghost view = { λ s. s.words };
 
     ghost inverse = { λ words. record { words = words } };
+
+    ghost invariant = { λ s. IsSet s.words };
 }
 
 impl Slots {
