@@ -1,6 +1,6 @@
 -- The extents that are kept of the fields that were read.
-use Rattle.std.proofs.Common.{◌≡◌, ℕ, ◌+◌, ◌<◌, ◌≢◌, Bool, true, false, cond, eqb, List, [], ◌∷◌, ◌++◌, length, map, get_or, Option, Some, None, Result, Ok, Err, refl, sym, ap, subst, ◌∙◌, add-zero, arith, get_or-set_same, get_or-set_other}
-use Rattle.std.specs.Prelude.{option_map, slice_set, slice_index_or, IfOk}
+use Rattle.std.proofs.Common.{◌≡◌, ℕ, ◌+◌, ◌<◌, ◌≢◌, Bool, true, false, eqb, List, [], ◌∷◌, ◌++◌, length, map, Option, Some, None, Result, Ok, Err, refl, sym, ap, subst, ◌∙◌, add-zero, arith, get_or-set_same, get_or-set_other}
+use Rattle.std.specs.Prelude.{option_map, slice_set, slice_index_or}
 use Rattle.std.proofs.lemmas.Bool.{eqb-true, eqb-false, eq-eqb, ne_eqb}
 use Rattle.std.proofs.Math.ListN.{get_or-map, length-map}
 use Rattle.std.proofs.lemmas.List.{map-set}
@@ -128,7 +128,7 @@ front_next order start front fields kept old middle behind byte code content is 
     let once : field_with (code_byte code) front ≡ None = once_at (code_of (code_byte code)) (code_byte code) front code r.once (code_again code) in
     let nine : length (lying fields) ≡ 9 = length-map fields.slots lies_in ∙ sym (length-map fields.slots (option_map value_of)) ∙ ap (λ (x : Slots). length x) is.shows in
     let own : (name : TextField) → named_code name ≡ code → lies_in (Some content) ≡ text_extent old.place field = λ name same.
-        before ∙ subst (λ (c : FieldCode). behind.place ≡ old.place + length (field_bytes order old.place (field_of (code_byte code) (basic (type_code c)) (value_of content))) → extent_before behind.place (value_of content) ≡ text_extent old.place (field_of (code_byte code) (basic (type_code c)) (value_of content))) same (name_before order old.place (code_byte code) behind.place name (value_of content)) r.takes.place in
+    before ∙ subst (λ (c : FieldCode). behind.place ≡ old.place + length (field_bytes order old.place (field_of (code_byte code) (basic (type_code c)) (value_of content))) → extent_before behind.place (value_of content) ≡ text_extent old.place (field_of (code_byte code) (basic (type_code c)) (value_of content))) same (name_before order old.place (code_byte code) behind.place name (value_of content)) r.takes.place in
     let more = extents_more order start front (lying fields) code field old.place (lies_in (Some content)) nine refl once is.place own is.lie in
     (field, n.0, front_push order start front fields kept old behind field is n.0 n.1 (rw lies more))
 

@@ -1,26 +1,23 @@
 -- Where the texts of the known fields lie, one field after the other.
-use Rattle.std.proofs.Common.{◌≡◌, ℕ, ◌+◌, ◌-◌, ◌<◌, Bool, true, false, cond, eqb, List, [], ◌∷◌, ◌++◌, length, Some, None, Result, Ok, refl, sym, ap, subst, ◌∙◌, arith}
-use Rattle.std.proofs.lemmas.Bool.{eqb-true, ne_eqb}
+use Rattle.std.proofs.Common.{◌≡◌, ℕ, ◌+◌, ◌-◌, ◌<◌, Bool, true, false, cond, eqb, List, [], ◌∷◌, ◌++◌, length, None, Ok, refl, ap, subst, ◌∙◌, arith}
 use Rattle.std.proofs.lemmas.List.{length-append}
 use Rattle.signature.specs.DataType.{basic}
 use Rattle.signature.specs.Alignment.{alignment_of}
 use Rattle.message_value.specs.declared.order.Order.{Order}
-use Rattle.message_value.specs.declared.fault.MsgError.{MsgError}
 use Rattle.message_value.specs.Order.{word_bytes}
 use Rattle.message_value.specs.Value.{Value, number, text, elements, entries, members, of_type}
-use Rattle.message_value.specs.Spelling.{padding, aligned, zeros, text_bytes, signature_bytes, value_bytes, bare_bytes}
-use Rattle.message_value.specs.Reading.{◌>>=◌, At, byte_at, word_at, text_at, short_text_at, long_text_at, text_value_at}
+use Rattle.message_value.specs.Spelling.{padding, aligned, zeros, text_bytes, value_bytes, bare_bytes}
+use Rattle.message_value.specs.Reading.{At, byte_at, word_at, text_at, short_text_at, long_text_at, text_value_at}
 use Rattle.message_value.proofs.OkSteps.{bind_ok, found_none, ok_is}
 use Rattle.message_value.proofs.WordBytes.{length-word_bytes}
 use Rattle.message_value.proofs.ReadItems.{length-zeros, length-padded}
 use Rattle.message_value.proofs.ReadTexts.{text_takes}
-use Rattle.message_view.specs.declared.extent.Extent.{Extent}
 use Rattle.message_view.specs.declared.extent.TextField.{TextField}
 use Rattle.message_view.specs.declared.extent.TextField.TheVariants as names
 use Rattle.message_view.specs.Header.{type_code}
 use Rattle.message_view.specs.Message.{Field, field_with}
 use Rattle.message_view.specs.Spelling.{field_front, field_value_place, field_bytes, fields_bytes}
-use Rattle.message_view.specs.Places.{text_field_code, text_extent, extent_from}
+use Rattle.message_view.specs.Places.{text_extent, extent_from}
 use Rattle.message_view.specs.Slots.{named_code}
 use Rattle.message_view.specs.Words.{extent_before}
 use Rattle.message_view.proofs.ReadFields.{field_of}
