@@ -10,6 +10,7 @@ ghost use Rattle.message_view.specs.Reading.{framed_message, header_fault, argum
 ghost use Rattle.message_view.specs.Slots.{slots_of};
 ghost use Rattle.message_view.specs.Words.{ReadsFixed, ReadsFramed, Passes, shown};
 
+use crate::extent::{Extent, TextField};
 use crate::field::FieldCode;
 use crate::fields::Fields;
 use crate::fixed::{FIXED_LEN, Fixed};
@@ -105,13 +106,14 @@ pub struct View<'a> {
 impl<'a> Model for View<'a> {
     ghost use Rattle.std.specs.Prelude.{ℕ, List, map};
     ghost use Rattle.message_view.specs.Message.{text_in, number_in};
-    ghost use Rattle.message_view.specs.Words.{IsKept, shown};
+    ghost use Rattle.message_view.specs.Slots.{extents_in};
+    ghost use Rattle.message_view.specs.Words.{IsKept, shown, lying};
 
     ghost Value = { List ℕ };
 
     ghost view = { λ v. v.bytes.now };
 
-    ghost invariant = { λ v. IsKept v.bytes.now v.body.now v.signature (record { order = v.order; kind = v.kind; flags = v.flags; serial = v.serial; texts = map text_in (shown v.fields); numbers = map number_in (shown v.fields) }) };
+    ghost invariant = { λ v. IsKept v.bytes.now v.body.now v.signature (record { order = v.order; kind = v.kind; flags = v.flags; serial = v.serial; texts = map text_in (shown v.fields); numbers = map number_in (shown v.fields); extents = extents_in (lying v.fields) }) };
 }
 
 impl<'a> View<'a> {
@@ -121,6 +123,7 @@ impl<'a> View<'a> {
     ghost use Rattle.message_view.specs.Reading.{body_at, message_at};
     ghost use Rattle.message_view.specs.Slots.{slot_of, slots_of};
     ghost use Rattle.message_view.specs.Spelling.{body_bytes, arguments_of};
+    ghost use Rattle.message_view.specs.Places.{extent_of};
     ghost use Rattle.message_view.specs.Words.{ReadsView};
 
     /// The message or the first fault, as reading gives it.
@@ -260,6 +263,13 @@ impl<'a> View<'a> {
         ensures { (m : Message) → Valid self.now m → result ≡ reply_serial_of m }
     {
         self.fields.number(FieldCode::ReplySerial)
+    }
+
+    /// Where the text of a field lies, if the field is there.
+    pub fn extent(&self, field: TextField) -> Option<Extent>
+        ensures { (m : Message) → Valid self.now m → result ≡ extent_of field m }
+    {
+        self.fields.extent(field.code())
     }
 
     /// The bytes behind the header and its padding: the arguments, with the padding between them.
