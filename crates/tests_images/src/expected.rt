@@ -1,5 +1,7 @@
 // What images are compared with: a summary as a list of its words that aren't 0, each with its place.
 
+ghost use Rattle.std.specs.Prelude.{◌≤◌};
+
 use std::alloc::{AllocError, Global};
 use std::process::Abort;
 use summary::{Edition, Image};
