@@ -32,11 +32,12 @@ impl Model for Rule {
 }
 
 impl Rule {
-    ghost use Rattle.std.specs.Prelude.{◌≡◌, ◌⊎◌, ◌↔◌, ℕ, Bool, List, IfOk, IfErr, Ok, Err, IsTrue, option_map};
+    ghost use Rattle.std.specs.Prelude.{◌≡◌, ◌≤◌, ◌⊎◌, ◌↔◌, ℕ, Bool, true, List, IfOk, IfErr, Ok, Err, IsTrue, option_map};
     ghost use Rattle.message_view.specs.Message.{Message};
     ghost use Rattle.message_view.specs.Valid.{Valid};
     ghost use Rattle.match_rule.specs.declared.fault.RuleError.TheVariants.{NoMemory};
     ghost use Rattle.match_rule.specs.RuleTree.{RuleTree, sender_name_of, weight_of};
+    ghost use Rattle.match_rule.specs.Parts.{has_one_sender};
     ghost use Rattle.match_rule.specs.Holds.{Holds, Agrees};
     ghost use Rattle.match_rule.specs.Grammar.{ReadsAs};
     ghost use Rattle.match_rule.specs.Reading.{Gives, rule_at};
@@ -62,7 +63,9 @@ impl Rule {
 
     /// Its conditions, in the order of the text.
     pub fn conditions(&self) -> &[Condition]
-        ensures { result.now ≡ self.now.conditions }
+        ensures value { result.now ≡ self.now.conditions }
+        ensures light { weight_of self.now ≤ 41992 }
+        ensures one_sender { has_one_sender self.now.conditions ≡ true }
     {
         &self.conditions
     }

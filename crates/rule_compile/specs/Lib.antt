@@ -2,4 +2,5 @@ pub mod Code
 pub mod Folders
 pub mod RuleCode
 pub mod Compiled
+pub mod Items
 pub mod Numbers

@@ -3,5 +3,6 @@
 #![tactic(auto)]
 
 mod error;
+mod piece;
 
 pub use error::CompileError;
