@@ -70,6 +70,13 @@ impl Rule {
         &self.conditions
     }
 
+    /// Whether it has `eavesdrop='true'`.
+    pub fn eavesdrops(&self) -> bool
+        ensures { result ≡ self.now.eavesdrops }
+    {
+        self.eavesdrops
+    }
+
     /// Whether it holds of a message, whose sender is or isn't the primary owner of the rule's sender name.
     pub fn holds(&self, view: &View<'_>, owns: bool) -> bool
         ensures { (m : Message) (owned : List ℕ → Bool) → Valid view.now m → Agrees self.now owned owns → (IsTrue result ↔ Holds self.now m owned) }

@@ -2,7 +2,11 @@
 //! of a message is nonzero exactly where the rule holds of the message.
 #![tactic(auto)]
 
+mod condition;
 mod error;
+mod folders;
 mod piece;
+mod ranking;
+mod text;
 
 pub use error::CompileError;
