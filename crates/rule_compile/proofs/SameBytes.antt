@@ -1,5 +1,6 @@
 -- The pieces that compare bytes, by how many bytes there are.
-use Rattle.std.proofs.Common.{◌≡◌, ℕ, ◌+◌, ◌<◌, ◌≤◌, List, [], ◌∷◌, length, get_or, drop, refl, sym, ap, ◌∙◌, add_assoc, arith}
+use Rattle.std.proofs.Common.{◌≡◌, ℕ, ◌+◌, ◌<◌, ◌≤◌, List, [], ◌∷◌, length, get_or, drop, refl, sym, ap, ◌∙◌, add_assoc, arith, length-drop}
+use Rattle.std.proofs.lemmas.List.{drop-drop}
 use Rattle.bpf_code.specs.declared.instruction.Ins.{Ins}
 use Rattle.bpf_code.specs.declared.operation.Width.TheVariants.{Word, Half, Byte}
 use Rattle.bpf_code.specs.declared.operation.Test.TheVariants.{Equal}
@@ -34,3 +35,8 @@ same_more at (a ∷ []) rest e = absurd (omega (arith, e))
 same_more at (a ∷ b ∷ []) rest e = absurd (omega (arith, e))
 same_more at (a ∷ b ∷ c ∷ []) rest e = absurd (omega (arith, e))
 same_more at (a ∷ b ∷ c ∷ d ∷ value) rest e = refl
+
+-- four bytes more, in front of those from a place on
+pub same_before : (at start : ℕ) (value : List ℕ) (rest : List Ins) → start + 4 ≤ length value → same_bytes (at + start) (drop start value) rest ≡ indexed Word (at + start) ∷ want Equal (four (get_or (drop start value) 0 0) (get_or (drop start value) 1 0) (get_or (drop start value) 2 0) (get_or (drop start value) 3 0)) (same_bytes (at + (start + 4)) (drop (start + 4) value) rest)
+same_before at start value rest e =
+    same_more (at + start) (drop start value) rest (simp length-drop (omega arith)) ∙ ap (λ (more : List Ins). indexed Word (at + start) ∷ want Equal (four (get_or (drop start value) 0 0) (get_or (drop start value) 1 0) (get_or (drop start value) 2 0) (get_or (drop start value) 3 0)) more) (ap (λ (from : ℕ). same_bytes from (drop 4 (drop start value)) rest) (add_assoc at start 4) ∙ ap (λ (left : List ℕ). same_bytes (at + (start + 4)) left rest) (drop-drop 4 start value))

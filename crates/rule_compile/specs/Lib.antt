@@ -3,4 +3,5 @@ pub mod Folders
 pub mod RuleCode
 pub mod Compiled
 pub mod Items
+pub mod Drafting
 pub mod Numbers

@@ -3,6 +3,7 @@
 #![tactic(auto)]
 
 mod condition;
+mod drafting;
 mod error;
 mod folders;
 mod piece;
