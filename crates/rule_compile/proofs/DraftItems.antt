@@ -1,9 +1,10 @@
 -- The draft of items: its lines, what its labels are bound to, and the instructions that it has.
-use Rattle.std.proofs.Common.{◌≡◌, ◌≢◌, ℕ, zero, suc, ◌+◌, ◌-◌, ◌<◌, ◌≤◌, List, [], ◌∷◌, ◌++◌, length, get_or, take, Option, Some, None, refl, sym, ap, ◌∙◌, subst, arith, add-zero, zero-add, add-one, length-append, length-take, get_or-set_same, get_or-set_other, ◌⊎◌, inl, inr, lt_or_le}
+use Rattle.std.proofs.Common.{◌≡◌, ◌≢◌, ℕ, zero, suc, ◌+◌, ◌-◌, ◌<◌, ◌≤◌, List, [], ◌∷◌, ◌++◌, length, get_or, take, reverse, Option, Some, None, refl, sym, ap, ◌∙◌, subst, arith, add-zero, zero-add, add-one, length-append, length-take, get_or-set_same, get_or-set_other, ◌⊎◌, inl, inr}
 use Rattle.std.specs.Prelude.{slice_get, slice_set, IfSome}
 use Rattle.std.specs.Option.{option_flatten, option_map_or, IsSomeAnd}
 use Rattle.std.proofs.Math.Seq.{take-suc, take-length}
-use Rattle.std.proofs.Math.ListN.{length-set}
+use Rattle.std.proofs.Math.Nat.{eq-or-lt_of_le}
+use Rattle.std.proofs.lemmas.List.{length-set, get_or-reverse, length-reverse}
 use Rattle.bpf_code.specs.declared.instruction.Ins.{Ins}
 use Rattle.bpf_code.specs.declared.operation.Op.TheVariants.{Branch as BranchOp}
 use Rattle.bpf_code.specs.declared.operation.Operand.TheVariants.{Constant}
@@ -13,7 +14,7 @@ use Rattle.jump_islands.specs.declared.line.Line.{Line}
 use Rattle.jump_islands.specs.Draft.{DraftTree, instructions_of, instructions_from, place_of, distance, IsAhead, LabelsAhead, IsClosed}
 use Rattle.rule_compile.specs.declared.piece.Item.{Item}
 use Rattle.rule_compile.specs.declared.piece.Item.TheVariants.{Plain, Branch}
-use Rattle.rule_compile.specs.Items.{ins_of, instructions, AreInside}
+use Rattle.rule_compile.specs.Items.{ins_of, instructions, IsInside, AreInside}
 use Rattle.rule_compile.specs.Drafting.{label_at, line_of, with_item}
 
 -- the lines of items from a place on
@@ -42,20 +43,20 @@ pub none_drafted : (items : List Item) (draft : DraftTree) → draft.lines ≡ [
 none_drafted items draft empty many = record { lines = empty; many = many; bound = λ place h. absurd (omega (arith, h)) }
 
 lt_or_same : (a b : ℕ) → a < b + 1 → (a < b) ⊎ (a ≡ b)
-lt_or_same a b h = elim (lt_or_le a b) [ | inl less ↦ inl less | inr more ↦ inr (omega arith) ]
+lt_or_same a b h = elim (eq-or-lt_of_le {n = a} {m = b} (omega arith)) [ inl same ↦ inr same | inr less ↦ inl less ]
 
 -- one item more
-pub more_drafted : (items : List Item) (done : ℕ) (draft : DraftTree) (item : Item) → done < length items → item ≡ get_or items done item → Drafted items done draft → Drafted items (done + 1) (with_item done item draft)
-more_drafted items done draft item within is so =
+pub more_drafted : (items : List Item) (done : ℕ) (draft : DraftTree) (item d : Item) → done < length items → item ≡ get_or items done d → Drafted items done draft → Drafted items (done + 1) (with_item done item draft)
+more_drafted items done draft item d within is so =
     let at : length draft.lines ≡ done = ap length so.lines ∙ length_lines 0 (take done items) ∙ (let e : length (take done items) ≡ done = grind (arith, length-take) in e) in
     let size : length (take done items) ≡ done = grind (arith, length-take) in
-    let longer : take (done + 1) items ≡ take done items ++ item ∷ [] = ap (λ (i : ℕ). take i items) (add-one done) ∙ take-suc items done item within ∙ ap (λ (x : Item). take done items ++ x ∷ []) (sym is) in
+    let longer : take (done + 1) items ≡ take done items ++ item ∷ [] = ap (λ (i : ℕ). take i items) (add-one done) ∙ take-suc items done d within ∙ ap (λ (x : Item). take done items ++ x ∷ []) (sym is) in
     record {
       lines = ap (λ (lines : List Line). lines ++ line_of done item ∷ []) so.lines ∙ ap (λ (i : ℕ). lines_from 0 (take done items) ++ line_of i item ∷ []) (sym (zero-add (length (take done items)) ∙ size)) ∙ sym (lines_more 0 (take done items) item) ∙ ap (lines_from 0) (sym longer);
       many = length-set _ _ _ ∙ so.many;
       bound = λ place h.
           elim (lt_or_same place done h) [
-            | inl earlier ↦ let other : place ≢ done = omega arith in get_or-set_other draft.bound done place (Some (length draft.lines)) None other ∙ so.bound place earlier
+            inl earlier ↦ let other : place ≢ done = omega arith in get_or-set_other draft.bound done place (Some (length draft.lines)) None other ∙ so.bound place earlier
             | inr same ↦ rw same (get_or-set_same draft.bound done (Some (length draft.lines)) None (omega (arith, so.many)) ∙ ap Some at)
           ];
     }
@@ -104,15 +105,33 @@ closed_from draft place end (item ∷ items) e bound inside (suc i) =
     let same : place + 1 + i ≡ place + suc i = omega arith in
     subst At same (closed_from draft (place + 1) end items (omega (arith, e)) bound inside.1 i)
 
-all_items : (items : List Item) (draft : DraftTree) → Drafted items (length items) draft → draft.lines ≡ lines_from 0 items
-all_items items draft so = so.lines ∙ ap (lines_from 0) (take-length items)
+all_items : (items : List Item) (done : ℕ) (draft : DraftTree) → done ≡ length items → Drafted items done draft → draft.lines ≡ lines_from 0 items
+all_items items done draft e so =
+    so.lines ∙ ap (λ (i : ℕ). lines_from 0 (take i items)) e ∙ ap (lines_from 0) (take-length items)
 
-pub drafted_same : (items : List Item) (draft : DraftTree) → Drafted items (length items) draft → AreInside items → instructions_of draft ≡ instructions items
-drafted_same items draft so inside =
-    ap (instructions_from draft 0) (all_items items draft so) ∙ same_from draft 0 (length items) items (zero-add (length items)) so.bound inside
+all_bound : (items : List Item) (done : ℕ) (draft : DraftTree) → done ≡ length items → Drafted items done draft → AreBound draft (length items)
+all_bound items done draft e so = λ place h. so.bound place (omega arith)
 
-pub drafted_closed : (items : List Item) (draft : DraftTree) → Drafted items (length items) draft → AreInside items → IsClosed draft
-drafted_closed items draft so inside = λ place.
+pub drafted_same : (items : List Item) (done : ℕ) (draft : DraftTree) → done ≡ length items → Drafted items done draft → AreInside items → instructions_of draft ≡ instructions items
+drafted_same items done draft e so inside =
+    ap (instructions_from draft 0) (all_items items done draft e so) ∙ same_from draft 0 (length items) items (zero-add (length items)) (all_bound items done draft e so) inside
+
+pub drafted_closed : (items : List Item) (done : ℕ) (draft : DraftTree) → done ≡ length items → Drafted items done draft → AreInside items → IsClosed draft
+drafted_closed items done draft e so inside = λ place.
     let At : List Line → Type 0 = λ lines. IfSome (slice_get lines place) (LabelsAhead draft place) in
     let From : ℕ → Type 0 = λ at. IfSome (slice_get (lines_from 0 items) place) (LabelsAhead draft at) in
-    subst At (sym (all_items items draft so)) (subst From (zero-add place) (closed_from draft 0 (length items) items (zero-add (length items)) so.bound inside place))
+    subst At (sym (all_items items done draft e so)) (subst From (zero-add place) (closed_from draft 0 (length items) items (zero-add (length items)) (all_bound items done draft e so) inside place))
+
+-- an item's jumps stay inside what stands behind it
+inside_at : (items : List Item) (place behind : ℕ) (d : Item) → place + 1 + behind ≡ length items → AreInside items → IsInside behind (get_or items place d)
+inside_at [] place behind d e inside = absurd (omega (arith, e))
+inside_at (item ∷ items) zero behind d e inside =
+    let same : length items ≡ behind = omega (arith, e) in
+    let In : ℕ → Type 0 = λ many. IsInside many item in
+    subst In same inside.0
+inside_at (item ∷ items) (suc place) behind d e inside = inside_at items place behind d (omega (arith, e)) inside.1
+
+pub inside_behind : (items : List Item) (place : ℕ) (d : Item) → place < length items → AreInside (reverse items) → IsInside (length items - 1 - place) (get_or items (length items - 1 - place) d)
+inside_behind items place d h inside =
+    let In : Item → Type 0 = λ item. IsInside (length items - 1 - place) item in
+    subst In (get_or-reverse items place d h) (inside_at (reverse items) place (length items - 1 - place) d (omega (arith, length-reverse items)) inside)

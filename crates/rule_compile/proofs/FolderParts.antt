@@ -1,5 +1,6 @@
 -- The parts of a text, cut off one by one, and the piece that goes along them.
 use Rattle.std.proofs.Common.{◌≡◌, ◌≢◌, ℕ, zero, suc, ◌+◌, ◌-◌, ◌<◌, ◌≤◌, Bool, true, false, cond, eqb, List, [], ◌∷◌, length, get_or, take, drop, refl, sym, ap, ◌∙◌, arith, length-take, length-drop}
+use Rattle.std.proofs.Math.Seq.{take-length}
 use Rattle.std.proofs.lemmas.List.{get_or-drop, drop-drop}
 use Rattle.std.proofs.lemmas.Bool.{eq-eqb, ne_eqb}
 use Rattle.bpf_code.specs.declared.instruction.Ins.{Ins}
@@ -34,6 +35,10 @@ some_parts [] h = absurd (omega (arith, h))
 some_parts (b ∷ bs) h =
     elim (eqb b 47) as (λ t. 0 < length (cond t ((b ∷ []) ∷ parts_of bs) (with_front b (parts_of bs)))) [ true ↦ omega arith | false ↦ some_front b (parts_of bs) ]
 
+-- what a slice up to the end has
+pub rest_of : (text : List ℕ) (start : ℕ) → take (length text - start) (drop start text) ≡ drop start text
+rest_of text start = ap (λ (n : ℕ). take n (drop start text)) (sym (length-drop start text)) ∙ take-length (drop start text)
+
 -- a part of a text in front of others
 abbrev pub inner : ℕ → ℕ → List ℕ → List Ins → List Ins → List Ins
 inner at place part behind rest =
@@ -61,7 +66,7 @@ along_before at start end text rest before within one slash =
     let same : drop (suc n) left ≡ drop end text = drop-drop (suc n) start text ∙ ap (λ (i : ℕ). drop i text) to in
     let cut_so : parts_of left ≡ take (end - start) left ∷ parts_of (drop end text) = cut ∙ ap (λ (i : ℕ). take i left ∷ parts_of (drop (suc n) left)) size ∙ ap (λ (others : List ℕ). take (end - start) left ∷ parts_of others) same in
     let behind : 0 < length (drop end text) = rw length-drop (omega arith) in
-    let here : start + length (take (end - start) left) ≡ end = rw length_part (omega arith) in
+    let here : start + length (take (end - start) left) ≡ end = rw (length_part text start end (omega arith) (omega arith)) (omega arith) in
     ap (λ (parts : List (List ℕ)). along at start parts rest) cut_so ∙ along_more at start (take (end - start) left) (parts_of (drop end text)) rest (some_parts (drop end text) behind) ∙ ap (λ (i : ℕ). inner at start (take (end - start) left) rest (along at i (parts_of (drop end text)) rest)) here
 
 -- the last part of a text

@@ -2,6 +2,7 @@
 //! of a message is nonzero exactly where the rule holds of the message.
 #![tactic(auto)]
 
+mod compiling;
 mod condition;
 mod drafting;
 mod error;
@@ -10,4 +11,5 @@ mod piece;
 mod ranking;
 mod text;
 
+pub use compiling::compile;
 pub use error::CompileError;

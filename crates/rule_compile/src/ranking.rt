@@ -6,7 +6,7 @@ ghost use Rattle.rule_compile.specs.RuleCode.{rank_of, ranks, of_rank, from_rank
 use crate::condition::DESTINATION;
 use crate::piece::Code;
 use bpf_code::Test;
-use match_rule::{Condition, Rule};
+use match_rule::Condition;
 use std::alloc::{AllocError, Global};
 
 /// How many ranks there are.
@@ -66,12 +66,18 @@ impl Code {
     }
 }
 
-/// The program of a rule, whose jumps may go over any number of instructions.
-pub(crate) fn rule_code(alloc: Global, rule: &Rule, slot: u16) -> Result<Code, AllocError>
-    ensures { IfOk result (λ code. code ≡ rule_code slot rule.now) }
+/// The program of a rule of these conditions, whose jumps may go over any number of instructions.
+pub(crate) fn rule_code(
+    alloc: Global,
+    slot: u16,
+    conditions: &[Condition],
+    eavesdrops: bool,
+) -> Result<Code, AllocError>
+    requires { sum_by condition_weight conditions.now < 2 ^ 32 }
+    ensures { IfOk result (λ code. code ≡ rule_code slot (record { conditions = conditions.now; eavesdrops = eavesdrops })) }
 {
     let mut code = Code::verdicts(alloc)?;
-    code.offered(rule.eavesdrops())?;
-    code.all_ranks(slot, rule.conditions())?;
+    code.offered(eavesdrops)?;
+    code.all_ranks(slot, conditions)?;
     Ok(code)
 }

@@ -2,14 +2,14 @@ use Rattle.std.proofs.Common.{◌≡◌, ◌+◌, ◌-◌, ◌∷◌, ℕ, List,
 use Rattle.bpf_code.specs.declared.instruction.Ins.{Ins}
 use Rattle.bpf_code.specs.declared.operation.Test.TheVariants.{Equal, AtLeast}
 use Rattle.rule_compile.specs.Code.{image_word, branch, same_bytes, has_len}
-use Rattle.rule_compile.proofs.FolderParts.{inner, along_before, along_last}
+use Rattle.rule_compile.proofs.FolderParts.{rest_of, inner, along_before, along_last}
 use Rattle.rule_compile.proofs.piece.Code.along.Goals as goal
 
 pub loop-start-init : goal.loop-start-init
 loop-start-init c =
     let from = c.part_start-start.ensures in
     (
-      c.in_ok-last_part.ensures ∙ sym (along_last c.args.at c.part_start-start.result c.args.value.now c.args.self.now from.before from.one),
+      (rw (rest_of c.args.value.now c.part_start-start.result) at c.in_ok-last_part.ensures) ∙ sym (along_last c.args.at c.part_start-start.result c.args.value.now c.args.self.now from.before from.one),
       from.before,
       from.behind,
     )

@@ -3,6 +3,7 @@ use Rattle.bpf_code.specs.declared.instruction.Ins.{Ins}
 use Rattle.bpf_code.specs.declared.operation.Test.TheVariants.{Equal}
 use Rattle.bpf_code.specs.declared.operation.Width.TheVariants.{Word}
 use Rattle.rule_compile.specs.Code.{indexed, want, four, same_bytes}
+use Rattle.rule_compile.proofs.FolderParts.{rest_of}
 use Rattle.rule_compile.proofs.SameBytes.{same_before}
 use Rattle.rule_compile.proofs.piece.Code.same_bytes.Goals as goal
 
@@ -17,7 +18,7 @@ loop-start-preserved c =
     let now : c.loop-start.self ≡ same_bytes (at + (start + 4)) (drop (start + 4) value) old =
         c.loop-start.invariant.0 ∙ ap (λ (i : ℕ). same_bytes (at + i) (drop i value) old) back in
     (
-      c.in_ok-same_word.ensures ∙ ap (λ (more : List Ins). indexed Word (at + start) ∷ want Equal (four (get_or front 0 0) (get_or front 1 0) (get_or front 2 0) (get_or front 3 0)) more) now ∙ sym (same_before at start value old (omega arith)),
+      (rw (rest_of value start) at c.in_ok-same_word.ensures) ∙ ap (λ (more : List Ins). indexed Word (at + start) ∷ want Equal (four (get_or front 0 0) (get_or front 1 0) (get_or front 2 0) (get_or front 3 0)) more) now ∙ sym (same_before at start value old (omega arith)),
       omega arith,
       omega arith,
     )
