@@ -56,7 +56,7 @@ more_drafted items done draft item d within is so =
       many = length-set _ _ _ ∙ so.many;
       bound = λ place h.
           elim (lt_or_same place done h) [
-            inl earlier ↦ let other : place ≢ done = omega arith in get_or-set_other draft.bound done place (Some (length draft.lines)) None other ∙ so.bound place earlier
+            | inl earlier ↦ let other : place ≢ done = omega arith in get_or-set_other draft.bound done place (Some (length draft.lines)) None other ∙ so.bound place earlier
             | inr same ↦ rw same (get_or-set_same draft.bound done (Some (length draft.lines)) None (omega (arith, so.many)) ∙ ap Some at)
           ];
     }

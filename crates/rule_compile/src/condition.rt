@@ -17,13 +17,18 @@ const KIND: u32 = 4;
 
 /// The places of the words of texts in an image.
 const PATH: u16 = 24;
+
 const INTERFACE: u16 = 32;
+
 const MEMBER: u16 = 40;
+
 pub(crate) const DESTINATION: u16 = 56;
+
 const SENDER: u16 = 64;
 
 /// The place of the words of the first argument, and how far those of the next one are.
 const ARGUMENTS: u16 = 72;
+
 const ARGUMENT_LEN: u16 = 12;
 
 /// The place of the first word of ownership bits.

@@ -55,7 +55,12 @@ pub(crate) fn draft_of(alloc: Global, code: &Code) -> Result<Draft, LowerError>
     let mut draft = Draft::new(alloc);
     let labels = labels_of(alloc, &mut draft, items.len())?;
     for place in 0..items.len() {
-        add_item(&mut draft, labels.as_slice(), place, items[items.len() - 1 - place])?;
+        add_item(
+            &mut draft,
+            labels.as_slice(),
+            place,
+            items[items.len() - 1 - place],
+        )?;
     }
     Ok(draft)
 }
