@@ -27,4 +27,5 @@ pub use key::Key;
 pub use kind_name::KindName;
 pub use laws::{equal_as_sets, one_reading};
 pub use rule::Rule;
+pub use sender::is_owned_name;
 pub use text::Text;

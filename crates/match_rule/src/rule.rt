@@ -34,12 +34,13 @@ impl Model for Rule {
 }
 
 impl Rule {
-    ghost use Rattle.std.specs.Prelude.{◌≡◌, ◌⊎◌, ◌↔◌, ℕ, Bool, true, List, All, IfOk, IfErr, Ok, Err, IsTrue, option_map};
+    ghost use Rattle.std.specs.Prelude.{◌≡◌, ◌≤◌, ◌⊎◌, ◌↔◌, ℕ, Bool, true, List, All, IfOk, IfErr, Ok, Err, IsTrue, option_map};
     ghost use Rattle.message_value.specs.Words.{AreBytes};
     ghost use Rattle.message_view.specs.Message.{Message};
     ghost use Rattle.message_view.specs.Valid.{Valid};
     ghost use Rattle.match_rule.specs.declared.fault.RuleError.TheVariants.{NoMemory};
     ghost use Rattle.match_rule.specs.RuleTree.{RuleTree, sender_name_of, weight_of};
+    ghost use Rattle.match_rule.specs.Parts.{has_one_sender};
     ghost use Rattle.match_rule.specs.Holds.{Holds, Agrees};
     ghost use Rattle.match_rule.specs.Grammar.{ReadsAs};
     ghost use Rattle.match_rule.specs.Reading.{Gives, rule_at};
@@ -67,15 +68,24 @@ impl Rule {
 
     /// Its conditions, in the order of the text.
     pub fn conditions(&self) -> &[Condition]
-        ensures conditions { result.now ≡ self.now.conditions }
+        ensures value { result.now ≡ self.now.conditions }
         // An argument has a number of at most 63.
         ensures numbers { have_small_numbers self.now.conditions ≡ true }
         // At most one asks for a sender.
         ensures one_sender { has_one_sender self.now.conditions ≡ true }
         // Each byte of a value is below 256.
         ensures bytes { All (λ c. AreBytes (value_of c)) self.now.conditions }
+        // What a rule weighs at most.
+        ensures light { weight_of self.now ≤ 41992 }
     {
         &self.conditions
+    }
+
+    /// Whether it has `eavesdrop='true'`.
+    pub fn eavesdrops(&self) -> bool
+        ensures { result ≡ self.now.eavesdrops }
+    {
+        self.eavesdrops
     }
 
     /// Whether it holds of a message, whose sender is or isn't the primary owner of the rule's sender name.

@@ -10,7 +10,7 @@ const BUS_NAME: &str = "org.freedesktop.DBus";
 
 /// Whether a name is one that a connection owns and that no message's SENDER field has: neither a unique
 /// name nor that of the bus.
-pub(crate) fn is_owned_name(name: &str) -> bool
+pub fn is_owned_name(name: &str) -> bool
     ensures { result ≡ is_owned_name name.now }
 {
     match name.as_bytes() {

@@ -147,7 +147,7 @@ slots_fit slots slot owned (Sender name ∷ cs) one agrees =
 slots_fit slots slot owned (c ∷ cs) one agrees =
     All-cons (SlotFits slots slot owned) c cs tt (slots_fit slots slot owned cs one agrees)
 
-slot_small : (slot : Option ℕ) → IfSome slot (λ s. s < 1024) → unwrap_or slot 0 < 1024
+pub slot_small : (slot : Option ℕ) → IfSome slot (λ s. s < 1024) → unwrap_or slot 0 < 1024
 slot_small None small = omega arith
 slot_small (Some s) small = small
 

@@ -2,4 +2,6 @@ pub mod Code
 pub mod Folders
 pub mod RuleCode
 pub mod Compiled
+pub mod Items
+pub mod Drafting
 pub mod Numbers

@@ -1,6 +1,7 @@
 ghost use Rattle.std.specs.Prelude.{◌≡◌};
 ghost use Rattle.rule_compile.specs.Numbers.{compile_error_number, compile_error_name};
 
+use jump_islands::LowerError;
 use std::alloc::{AllocError, AllocFailed};
 use std::error::Error;
 use std::fmt;
@@ -66,5 +67,18 @@ impl<T: Drop> From<AllocFailed<T>> for CompileError {
 
     fn from(_refused: AllocFailed<T>) -> CompileError {
         CompileError::NoMemory
+    }
+}
+
+impl From<LowerError> for CompileError {
+    ghost use Rattle.rule_compile.specs.Numbers.{error_of};
+
+    ghost from_gives = { λ refused error. error ≡ error_of refused };
+
+    fn from(refused: LowerError) -> CompileError {
+        match refused {
+            LowerError::TooMany => CompileError::TooLong,
+            LowerError::NoMemory => CompileError::NoMemory,
+        }
     }
 }

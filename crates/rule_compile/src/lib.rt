@@ -2,6 +2,14 @@
 //! of a message is nonzero exactly where the rule holds of the message.
 #![tactic(auto)]
 
+mod compiling;
+mod condition;
+mod drafting;
 mod error;
+mod folders;
+mod piece;
+mod ranking;
+mod text;
 
+pub use compiling::compile;
 pub use error::CompileError;

@@ -1,0 +1,7 @@
+use Rattle.std.proofs.Common.{◌≡◌, drop}
+use Rattle.rule_compile.specs.RuleCode.{of_rank}
+use Rattle.rule_compile.proofs.piece.Code.of_rank.Given as goal
+
+-- the conditions from the place on are tested
+abbrev pub invariant-loop-place : goal.invariant-loop-place
+invariant-loop-place l = l.self ≡ of_rank l.slot l.rank (drop l.place l.conditions) l.fn.self

@@ -1,0 +1,38 @@
+// What compiles rules.
+ghost use Rattle.std.specs.Prelude.{◌≡◌, IfOk, IfErr};
+ghost use Rattle.bpf_code.specs.Program.{WellFormed};
+ghost use Rattle.rule_compile.specs.Compiled.{IsSlotOf, IsCompiled, IsRefusal};
+
+use crate::drafting::draft_of;
+use crate::error::CompileError;
+use crate::ranking::rule_code;
+use bpf_code::Ins;
+use bpf_verify::{Verified, verify};
+use jump_islands::lower;
+use match_rule::Rule;
+use std::alloc::Global;
+
+/// A well-formed program, which is accepted.
+fn accepted(program: Vec<Ins>) -> Verified
+    requires { WellFormed program.items }
+    ensures { result ≡ program.items }
+{
+    match verify(program) {
+        Ok(verified) => verified,
+        Err(_) => unreachable!(),
+    }
+}
+
+/// The program of a rule, for images of edition 2: its verdict is nonzero exactly where the rule holds of the message.
+/// A rule that asks for an owned name as the sender has a slot, whose bit in the image tells of it.
+pub fn compile(alloc: Global, rule: &Rule, slot: Option<u16>) -> Result<Verified, CompileError>
+    requires { IsSlotOf slot rule.now }
+    ensures compiled { IfOk result (λ program. IsCompiled rule.now slot program) }
+    ensures refused { IfErr result (IsRefusal rule.now) }
+{
+    let slot = slot.unwrap_or(0);
+    let code = rule_code(alloc, slot, rule.conditions(), rule.eavesdrops())?;
+    let draft = draft_of(alloc, &code)?;
+    let program = lower(alloc, &draft)?;
+    Ok(accepted(program))
+}
