@@ -44,6 +44,7 @@ named_code names.ErrorName = ErrorName
 named_code names.Destination = Destination
 named_code names.Sender = Sender
 
+-- each text field
 abbrev pub text_fields : List TextField
 text_fields = names.Path ∷ names.Interface ∷ names.Member ∷ names.ErrorName ∷ names.Destination ∷ names.Sender ∷ []
 
@@ -51,6 +52,7 @@ text_fields = names.Path ∷ names.Interface ∷ names.Member ∷ names.ErrorNam
 abbrev pub Extents : Type 0
 Extents = List (Option Extent)
 
+-- before any text was read
 abbrev pub no_extents : Extents
 no_extents = None ∷ None ∷ None ∷ None ∷ None ∷ None ∷ None ∷ None ∷ None ∷ []
 

@@ -42,6 +42,7 @@ abbrev pub extent_before : ℕ → Value → Option Extent
 extent_before behind (text bytes) = Some (record { place = behind - 1 - length bytes; len = length bytes })
 extent_before behind _ = None
 
+-- the text of a content, if it is one, lies there
 abbrev pub LiesBefore : ℕ → Content → Type 0
 LiesBefore behind content = lies_in (Some content) ≡ extent_before behind (value_of content)
 
