@@ -5,7 +5,6 @@ ghost use Rattle.std.specs.Int.{w32, to_be_bytes};
 ghost use Rattle.message_value.specs.Order.{order_byte};
 ghost use Rattle.message_value.specs.ShownArguments.{shown_arg};
 ghost use Rattle.message_view.specs.Message.{Message};
-ghost use Rattle.message_view.specs.Places.{extent_of};
 ghost use Rattle.message_view.specs.Valid.{Valid};
 ghost use Rattle.summary.specs.ImageBytes.{words_bytes, extent_words, argument_words, arguments_words, texts_words, owned_words, serial_words};
 ghost use Rattle.summary.specs.Layout.{size_of};
@@ -54,13 +53,6 @@ pub fn put_head(words: &mut Words, view: &View<'_>, edition: Edition)
     words.put_zeros(1);
 }
 
-// STAND-IN
-fn extent(view: &View<'_>, field: TextField) -> Option<Extent>
-    ensures { (m : Message) → Valid view.now m → result ≡ extent_of field m }
-{
-    None
-}
-
 /// Where a text lies, zeros for one that is absent.
 #[inline(always)]
 fn put_extent(words: &mut Words, edition: Edition, extent: Option<Extent>)
@@ -83,12 +75,12 @@ pub fn put_texts(words: &mut Words, view: &View<'_>, edition: Edition)
     ensures bytes { (m : Message) → Valid view.now m → words.new ≡ words.old ++ words_bytes (texts_words edition m) }
     ensures long { length words.new ≡ length words.old + 48 }
 {
-    put_extent(words, edition, extent(view, TextField::Path));
-    put_extent(words, edition, extent(view, TextField::Interface));
-    put_extent(words, edition, extent(view, TextField::Member));
-    put_extent(words, edition, extent(view, TextField::ErrorName));
-    put_extent(words, edition, extent(view, TextField::Destination));
-    put_extent(words, edition, extent(view, TextField::Sender));
+    put_extent(words, edition, view.extent(TextField::Path));
+    put_extent(words, edition, view.extent(TextField::Interface));
+    put_extent(words, edition, view.extent(TextField::Member));
+    put_extent(words, edition, view.extent(TextField::ErrorName));
+    put_extent(words, edition, view.extent(TextField::Destination));
+    put_extent(words, edition, view.extent(TextField::Sender));
 }
 
 /// Where an argument lies.
