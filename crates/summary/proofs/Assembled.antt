@@ -7,7 +7,7 @@ use Rattle.message_view.specs.Message.{Message}
 use Rattle.message_view.specs.Spelling.{arguments_of}
 use Rattle.summary.specs.declared.edition.Edition.{Edition}
 use Rattle.summary.specs.Layout.{with_word}
-use Rattle.summary.specs.ImageBytes.{words_bytes, head_words, texts_words, arguments_words, owned_words, serial_words, summary_bytes}
+use Rattle.summary.specs.ImageBytes.{words_bytes, texts_words, arguments_words, owned_words, serial_words, summary_bytes}
 use Rattle.summary.specs.Parts.{head_with}
 use Rattle.summary.proofs.WordLists.{then_words}
 

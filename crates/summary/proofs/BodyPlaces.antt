@@ -1,6 +1,5 @@
 -- Where the body of a message lies in its bytes.
-use Rattle.std.proofs.Common.{◌≡◌, ℕ, ◌+◌, ◌-◌, ◌≤◌, ◌∙◌, ap, List, length, arith}
-use Rattle.message_value.specs.Order.{order_byte}
+use Rattle.std.proofs.Common.{◌≡◌, ℕ, ◌-◌, ◌∙◌, ap, List, length, arith}
 use Rattle.message_view.specs.Header.{kind_byte}
 use Rattle.message_view.specs.Message.{Message}
 use Rattle.message_view.specs.Spelling.{body_place, header_bytes, body_bytes}

@@ -1,11 +1,10 @@
 -- The bytes of words that are written one behind the other.
-use Rattle.std.proofs.Common.{◌≡◌, ℕ, zero, suc, ◌+◌, ◌-◌, ◌*◌, ◌<◌, ◌≤◌, List, [], ◌∷◌, ◌++◌, length, take, get_or, replicate, min, refl, sym, ap, ◌∙◌, append_assoc, arith, ◌⊎◌, inl, inr}
+use Rattle.std.proofs.Common.{◌≡◌, ℕ, zero, suc, ◌+◌, ◌*◌, ◌<◌, List, [], ◌∷◌, ◌++◌, length, take, get_or, replicate, min, refl, sym, ap, ◌∙◌, append_assoc, arith, ◌⊎◌, inl, inr}
 use Rattle.std.specs.Int.{w32, to_be_bytes}
 use Rattle.std.proofs.lemmas.Grind.{flat_map-append}
 use Rattle.std.proofs.lemmas.List.{append-nil, flat_map_more, take_more, length-append, length-replicate}
 use Rattle.message_value.specs.Arguments.{Argument}
 use Rattle.summary.specs.declared.edition.Edition.{Edition}
-use Rattle.summary.specs.Layout.{size_of}
 use Rattle.summary.specs.ImageBytes.{words_bytes, argument_words, arguments_words}
 
 -- one more word

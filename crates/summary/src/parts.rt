@@ -5,7 +5,6 @@ ghost use Rattle.std.specs.Int.{w32, to_be_bytes};
 ghost use Rattle.message_value.specs.Order.{order_byte};
 ghost use Rattle.message_value.specs.ShownArguments.{shown_arg};
 ghost use Rattle.message_view.specs.Message.{Message};
-ghost use Rattle.message_view.specs.Places.{extent_of};
 ghost use Rattle.message_view.specs.Valid.{Valid};
 ghost use Rattle.summary.specs.ImageBytes.{words_bytes, extent_words, argument_words, arguments_words, texts_words, owned_words, serial_words};
 ghost use Rattle.summary.specs.Layout.{size_of};

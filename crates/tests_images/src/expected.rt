@@ -33,7 +33,11 @@ fn said_at(said: &[Word], place: u32) -> u32 {
 pub(crate) fn assert_words(rt: &impl Abort, image: &Image<'_>, edition: Edition, said: &[Word]) {
     for index in 0..word_count(edition) {
         let place = 4 * index;
-        assert_eq!(rt; image.word(u64::from(place)), Some(said_at(said, place)), "{place}");
+        assert_eq!(rt;
+            image.word(u64::from(place)),
+            Some(said_at(said, place)),
+            "{place}"
+        );
     }
 }
 

@@ -40,7 +40,12 @@ fn assert_image(
     let joined = joined(alloc, edition, words, bytes.as_slice())?;
     assert_eq!(rt; image.len(), joined.len() as u64);
     assert_loads(rt, &image, joined.as_slice(), seam.saturating_sub(5));
-    assert_loads(rt, &image, joined.as_slice(), joined.len().saturating_sub(5));
+    assert_loads(
+        rt,
+        &image,
+        joined.as_slice(),
+        joined.len().saturating_sub(5),
+    );
     Ok(())
 }
 

@@ -42,7 +42,11 @@ fn one_slot(rt: HostRuntime) -> Result<(), Fail> {
         let two = Image::new(&view, &owned, Edition::Two);
         for index in 0..32u16 {
             let place = u64::from(840 + 4 * index);
-            let word = if slot / 32 == index { 1 << (slot % 32) } else { 0 };
+            let word = if slot / 32 == index {
+                1 << (slot % 32)
+            } else {
+                0
+            };
             if index < 16 {
                 assert_eq!(&rt; one.word(place), Some(word), "{slot}");
             }

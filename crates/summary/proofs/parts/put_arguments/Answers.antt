@@ -1,5 +1,4 @@
-use Rattle.std.proofs.Common.{◌≡◌, ◌+◌, ◌-◌, ◌*◌, ◌++◌, ◌⊎◌, List, [], ◌∷◌, length, inl, inr, arith}
-use Rattle.message_value.specs.Arguments.{Argument}
+use Rattle.std.proofs.Common.{◌≡◌, ◌+◌, ◌-◌, ◌++◌, ◌⊎◌, [], ◌∷◌, length, inl, inr, arith}
 use Rattle.message_value.specs.ShownArguments.{shown_arg}
 use Rattle.summary.specs.ImageBytes.{words_bytes, arguments_words}
 use Rattle.summary.proofs.WordLists.{argument_step, count_step, arguments_end, length_end}

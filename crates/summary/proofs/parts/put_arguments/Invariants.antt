@@ -7,7 +7,7 @@ invariant-loop-left l = record {
   few : l.left ≤ 64;
   room : length l.words + 12 * l.left ≡ length l.initial.words + 768;
   bytes : l.words ++ words_bytes (arguments_words l.edition l.left l.args) ≡ l.initial.words ++ words_bytes (arguments_words l.edition 64 l.initial.args);
-  count : min (length l.args) l.left + 64 ≡ min (length l.initial.args) 64 + l.left
+  count : min (length l.args) l.left + 64 ≡ min (length l.initial.args) 64 + l.left;
 }
 
 abbrev pub decreases-loop-left : goal.decreases-loop-left

@@ -1,4 +1,4 @@
-use Rattle.std.proofs.Common.{◌≡◌, ◌+◌, ◌-◌, ◌∙◌, ℕ, [], ◌∷◌, length, ap}
+use Rattle.std.proofs.Common.{◌≡◌, ◌+◌, ◌∙◌, ℕ, [], ◌∷◌, length, ap}
 use Rattle.std.specs.Int.{w32, to_be_bytes}
 use Rattle.message_value.specs.Order.{order_byte}
 use Rattle.message_value.specs.declared.order.Order.{Order}

@@ -1,4 +1,4 @@
-use Rattle.std.proofs.Common.{◌≡◌, ◌+◌, ◌*◌, ◌≤◌, List, ◌++◌, length, ap, ◌∙◌, arith, replicate, ℕ}
+use Rattle.std.proofs.Common.{◌+◌, ◌*◌, ◌≤◌, List, ◌++◌, ap, ◌∙◌, arith, replicate, ℕ}
 use Rattle.summary.specs.ImageBytes.{words_bytes}
 use Rattle.summary.proofs.WordPlaces.{length_shown, more_zeros, more_left}
 use Rattle.summary.proofs.words.Words.put_zeros.Goals as goal
