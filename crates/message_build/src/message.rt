@@ -14,11 +14,11 @@ use crate::field::{HeaderField, are_allowed};
 use crate::fields::{FIXED_LEN, fields_end, push_fields};
 use crate::given::Given;
 use crate::header::Header;
-use message_value::padding;
+use message_value::{Order, padding};
 use std::alloc::{AllocError, Global};
 
 /// The longest message.
-const MAX_MESSAGE_LEN: usize = 134217728;
+pub(crate) const MAX_MESSAGE_LEN: usize = 134217728;
 
 /// What stands in front of the fields: the order, the kind, the flags, the version of the protocol, the
 /// body's length, the serial, and the length of the fields.
@@ -31,9 +31,9 @@ fn push_fixed(
     ensures { Appends result bytes.old.items bytes.new.items (fixed_bytes header.now fields_len body_len) }
 {
     bytes.extend_from_slice(&[b'l', header.kind.byte(), header.flags, 1])?;
-    push_word(bytes, body_len)?;
-    push_word(bytes, header.serial as usize)?;
-    push_word(bytes, fields_len)
+    push_word(bytes, Order::Little, body_len)?;
+    push_word(bytes, Order::Little, header.serial as usize)?;
+    push_word(bytes, Order::Little, fields_len)
 }
 
 /// The message with these fields, which end at a place, and this body.
