@@ -33,3 +33,10 @@ pushed_field r order old mid ext new f code byte first second is_code is_type ha
     let here = subst (λ (k : ℕ). Appends r ext new (value_bytes order k f.type f.value)) place has in
     let inner = appends_then r mid ext new (field_front f) (value_bytes order (field_value_place (length old) f) f.type f.value) same here in
     appends_then r old mid new pad (field_front f ++ value_bytes order (field_value_place (length old) f) f.type f.value) first inner
+
+-- what is in front stays there
+pub front_kept : (old mid new a : List ℕ) → take (length old) mid ≡ old → new ≡ mid ++ a → take (length old) new ≡ old
+front_kept old mid new a front is =
+    let rest = drop (length old) mid in
+    let whole : new ≡ old ++ (rest ++ a) = is ∙ ap (λ (l : List ℕ). l ++ a) (sym (take-append-drop (length old) mid)) ∙ ap (λ (l : List ℕ). (l ++ rest) ++ a) front ∙ append_assoc old rest a in
+    ap (λ (l : List ℕ). take (length old) l) whole ∙ take-append_seam old (rest ++ a)

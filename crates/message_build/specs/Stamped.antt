@@ -6,8 +6,8 @@ use Rattle.message_view.specs.Header.{code_of}
 use Rattle.message_view.specs.Message.{Field, Message}
 use Rattle.message_view.specs.Valid.{Valid}
 use Rattle.message_build.specs.Building.{IsTooLarge}
-use Rattle.message_build.specs.declared.stamp.StampError.{StampError}
-use Rattle.message_build.specs.declared.stamp.StampError.TheVariants.{TooLarge, NoMemory}
+use Rattle.message_build.specs.declared.stamping.StampError.{StampError}
+use Rattle.message_build.specs.declared.stamping.StampError.TheVariants.{TooLarge, NoMemory}
 
 -- the field SENDER
 abbrev pub sender_field : List ℕ → Field

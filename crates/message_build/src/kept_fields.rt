@@ -1,13 +1,12 @@
 // The header fields of a message that are copied.
 
-ghost use Rattle.std.specs.Prelude.{◌≡◌, ◌+◌, ◌<◌, ◌≤◌, ◌++◌, ℕ, List, length, take, drop, filter, IfOk, IfSome};
-ghost use Rattle.message_value.specs.Spelling.{padding, zeros};
+ghost use Rattle.std.specs.Prelude.{◌≡◌, ◌+◌, ◌-◌, ◌<◌, ◌≤◌, ◌++◌, ℕ, List, length, take, drop, filter, IfOk, IfSome, MatchOption};
 ghost use Rattle.message_value.specs.Words.{Reads};
 ghost use Rattle.message_view.specs.Message.{Field};
-ghost use Rattle.message_view.specs.Spelling.{field_bytes, fields_bytes};
-ghost use Rattle.message_view.specs.Valid.{IsField, AreFields};
+ghost use Rattle.message_view.specs.Spelling.{fields_bytes};
+ghost use Rattle.message_view.specs.Valid.{AreFields};
 ghost use Rattle.message_build.specs.Stamped.{is_kept};
-ghost use Rattle.message_build.specs.StampWords.{begun_at, is_kept_code, IsFound};
+ghost use Rattle.message_build.specs.StampWords.{begun_at, is_kept_code, kept_bytes, IsFound, IsBehind, LiesAt};
 ghost use Rattle.message_build.specs.Words.{Appends};
 
 use crate::appending::align;
@@ -44,19 +43,30 @@ fn skip_field(cursor: &mut Cursor<'_>, order: Order) -> Result<Begun, MsgError>
     Ok(Begun { code, place })
 }
 
+/// The bytes from one place to another, if they are there.
+pub(crate) fn between(bytes: &[u8], from: usize, to: usize) -> Option<&[u8]>
+    ensures { from ≤ to → to ≤ length bytes.entry.now → MatchOption result ⊥ (λ found. found.now ≡ take (to - from) (drop from bytes.entry.now)) }
+{
+    bytes.get(from..to)
+}
+
 /// The next field of an array, in which the cursor's places are counted from its first byte; or None behind
 /// the last one.
 fn next_field<'a>(array: &'a [u8], cursor: &mut Cursor<'_>, order: Order) -> Option<Found<'a>>
     ensures shorter { IfSome result (λ _. length cursor.new.rest < length cursor.old.rest) }
-    ensures found { (field : Field) (more : List ℕ) → IsField order cursor.old.place field → cursor.old.rest ≡ field_bytes order cursor.old.place field ++ more → drop cursor.old.place array.entry.now ≡ cursor.old.rest → IsFound result order field }
-    ensures behind { (field : Field) (more : List ℕ) → IsField order cursor.old.place field → cursor.old.rest ≡ field_bytes order cursor.old.place field ++ more → (cursor.new.place ≡ cursor.old.place + length (field_bytes order cursor.old.place field)) × (cursor.new.rest ≡ more) }
+    ensures found { (field : Field) (more : List ℕ) → LiesAt order array.entry.now cursor.old field more → IsFound result order field }
+    ensures behind { (field : Field) (more : List ℕ) → LiesAt order array.entry.now cursor.old field more → IsBehind order cursor.old field more cursor.new }
 {
-    let begun = skip_field(cursor, order).ok()?;
-    let bytes = array.get(begun.place..cursor.place())?;
-    Some(Found {
-        code: begun.code,
-        bytes,
-    })
+    match skip_field(cursor, order) {
+        Ok(begun) => {
+            let bytes = between(array, begun.place, cursor.place())?;
+            Some(Found {
+                code: begun.code,
+                bytes,
+            })
+        }
+        Err(_) => None,
+    }
 }
 
 /// Whether the fields of a code are copied: those that have a meaning, but for SENDER.
@@ -69,10 +79,13 @@ fn is_kept(code: u8) -> bool
     }
 }
 
-/// A field where it may stand.
+/// A field where it may stand, if it is copied.
 fn push_found(bytes: &mut Vec<u8>, found: &Found<'_>) -> Result<(), AllocError>
-    ensures { Appends result bytes.old.items bytes.new.items (zeros (padding 8 (length bytes.old.items)) ++ found.now.bytes.now) }
+    ensures { Appends result bytes.old.items bytes.new.items (kept_bytes (length bytes.old.items) found.now) }
 {
+    if !is_kept(found.code) {
+        return Ok(());
+    }
     align(bytes, 8)?;
     bytes.extend_from_slice(found.bytes)
 }
@@ -90,9 +103,7 @@ pub(crate) fn push_kept(
 {
     let mut cursor = Cursor::new(0, array, MsgError::ArrayLength);
     while let Some(found) = next_field(array, &mut cursor, order) {
-        if is_kept(found.code) {
-            push_found(bytes, &found)?;
-        }
+        push_found(bytes, &found)?;
     }
     Ok(())
 }

@@ -13,9 +13,9 @@ mod given;
 mod header;
 mod kept_fields;
 mod message;
-mod stamp;
+mod stamping;
 mod strings;
 
 pub use builder::Builder;
 pub use error::BuildError;
-pub use stamp::StampError;
+pub use stamping::{StampError, stamp};
