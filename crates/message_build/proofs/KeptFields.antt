@@ -1,6 +1,6 @@
 -- The fields of a stamped message: each is a field where it stands, none comes twice, and each code but
 -- SENDER's has the same value.
-use Rattle.std.proofs.Common.{◌≡◌, ℕ, ◌+◌, ◌≤◌, Bool, true, false, cond, eqb, lit<, List, [], ◌∷◌, ◌++◌, length, filter, Option, Some, None, is_some, refl, sym, ap, ◌∙◌, append_assoc, arith}
+use Rattle.std.proofs.Common.{◌≡◌, ℕ, ◌+◌, ◌≤◌, Bool, true, false, cond, eqb, lit<, List, [], ◌∷◌, ◌++◌, length, filter, Option, Some, None, is_some, refl, sym, ap, subst, ◌∙◌, append_assoc, arith}
 use Rattle.std.specs.Prelude.{◌&&◌, not}
 use Rattle.std.proofs.lemmas.Bool.{and_parts, eqb-true}
 use Rattle.std.proofs.lemmas.List.{length-append, append-nil}
@@ -9,7 +9,6 @@ use Rattle.message_value.specs.declared.order.Order.{Order}
 use Rattle.message_value.specs.Value.{Value}
 use Rattle.message_view.specs.declared.kind.Kind.{Kind}
 use Rattle.message_view.specs.declared.kind.Kind.TheVariants as kinds
-use Rattle.message_view.specs.declared.field.FieldCode.{FieldCode}
 use Rattle.message_view.specs.Header.{code_of, has_required}
 use Rattle.message_view.specs.Message.{Field, field_with, text_in, or_empty, signature_in}
 use Rattle.message_view.specs.Spelling.{field_bytes, fields_bytes}
@@ -31,23 +30,23 @@ not_seven code e = go (eqb 7 code) refl
   where
     go : (b : Bool) → eqb 7 code ≡ b → b ≡ false
     go false h = refl
-    go true h = let same : 7 ≡ code = eqb-true 7 code h in let kept : is_kept_code 7 ≡ true = rw same e in cc
+    go true h = let same : 7 ≡ code = eqb-true 7 code h in let kept : is_kept_code 7 ≡ true = subst (λ (n : ℕ). is_kept_code n ≡ true) (sym same) e in cc
 
 -- a code but SENDER's has the same value
 pub same_with : (code : ℕ) (fields : List Field) (sender : List ℕ) → is_kept_code code ≡ true → field_with code (stamped_list fields sender) ≡ field_with code fields
 same_with code [] sender e = let other = not_seven code e in rw other refl
-same_with code (f ∷ fs) sender e = go (is_kept f) (eqb f.code code) refl refl
+same_with code (f ∷ fs) sender e = go (same_with code fs sender e) (is_kept f) (eqb f.code code) refl refl
   where
-    go : (k b : Bool) → is_kept f ≡ k → eqb f.code code ≡ b → field_with code (cond k (f ∷ filter is_kept fs) (filter is_kept fs) ++ sender_field sender ∷ []) ≡ cond b (Some f.value) (field_with code fs)
-    go true b is same = ap (λ (c : Bool). cond c (Some f.value) (field_with code (stamped_list fs sender))) same ∙ ap (λ (o : Option Value). cond b (Some f.value) o) (same_with code fs sender e)
-    go false false is same = same_with code fs sender e
-    go false true is same = absurd (let code_is : f.code ≡ code = eqb-true f.code code same in let kept : is_kept f ≡ true = ap is_kept_code code_is ∙ e in let no : true ≡ false = sym kept ∙ is in cc)
+    go : field_with code (stamped_list fs sender) ≡ field_with code fs → (k b : Bool) → is_kept f ≡ k → eqb f.code code ≡ b → field_with code (cond k (f ∷ filter is_kept fs) (filter is_kept fs) ++ sender_field sender ∷ []) ≡ cond b (Some f.value) (field_with code fs)
+    go others true b is same = ap (λ (c : Bool). cond c (Some f.value) (field_with code (stamped_list fs sender))) same ∙ ap (λ (o : Option Value). cond b (Some f.value) o) others
+    go others false false is same = others
+    go others false true is same = absurd (let code_is : f.code ≡ code = eqb-true f.code code same in let kept : is_kept f ≡ true = ap is_kept_code code_is ∙ e in let no : true ≡ false = sym kept ∙ is in cc)
 
 -- ---- each is a field
 
-known_once : (o : Option FieldCode) (code : ℕ) (fields others : List Field) → IsOnce o code fields → field_with code others ≡ field_with code fields → IsOnce o code others
-known_once (Some known) code fields others once same = same ∙ once
-known_once None code fields others once same = tt
+known_once : (code : ℕ) (fields others : List Field) → field_with code others ≡ field_with code fields → IsOnce (code_of code) code fields → IsOnce (code_of code) code others
+known_once code fields others same =
+    elim (code_of code) as (λ k. IsOnce k code fields → IsOnce k code others) [ Some known ↦ λ once. same ∙ once | None ↦ λ once. tt ]
 
 pub sender_is : (order : Order) (place : ℕ) (sender : List ℕ) → is_bus_name sender ≡ true → IsField order place (sender_field sender)
 sender_is order place sender e =
@@ -55,16 +54,16 @@ sender_is order place sender e =
     record { code_above = lit< tt; code_fits = lit< tt; typed = one_string; shaped = (string.plain, omega (arith, string.short)); allowed = (refl, (e, refl)) }
 
 pub stamped_are : (order : Order) (p q : ℕ) (fields : List Field) (sender : List ℕ) → is_bus_name sender ≡ true → AreFields order p fields → AreFields order q (stamped_list fields sender)
-stamped_are order p q [] sender e are = (sender_is order q sender e, tt, tt)
-stamped_are order p q (f ∷ fs) sender e are = go (is_kept f) refl
+stamped_are order p q [] sender e are = (sender_is order q sender e, refl, tt)
+stamped_are order p q (f ∷ fs) sender e are = go (λ at. stamped_are order (p + length (field_bytes order p f)) at fs sender e are.2) (is_kept f) refl
   where
-    go : (k : Bool) → is_kept f ≡ k → AreFields order q (cond k (f ∷ filter is_kept fs) (filter is_kept fs) ++ sender_field sender ∷ [])
-    go true is = (
+    go : ((at : ℕ) → AreFields order at (stamped_list fs sender)) → (k : Bool) → is_kept f ≡ k → AreFields order q (cond k (f ∷ filter is_kept fs) (filter is_kept fs) ++ sender_field sender ∷ [])
+    go others true is = (
       field_moved order p q f are.0,
-      known_once (code_of f.code) f.code fs (stamped_list fs sender) are.1 (same_with f.code fs sender is),
-      stamped_are order (p + length (field_bytes order p f)) (q + length (field_bytes order q f)) fs sender e are.2,
+      known_once f.code fs (stamped_list fs sender) (same_with f.code fs sender is) are.1,
+      others (q + length (field_bytes order q f)),
     )
-    go false is = stamped_are order (p + length (field_bytes order p f)) q fs sender e are.2
+    go others false is = others q
 
 -- the fields that a kind requires are there
 pub required_same : (kind : Kind) (fields : List Field) (sender : List ℕ) → has_required kind (stamped_list fields sender) ≡ has_required kind fields

@@ -11,3 +11,4 @@ pub mod BegunFields
 pub mod KeptLoop
 pub mod KeptFields
 pub mod StampedMessages
+pub mod HeaderArrays

@@ -1,5 +1,5 @@
 -- Stamped messages: what was written is the stamped message, or that is above the limits.
-use Rattle.std.proofs.Common.{◌≡◌, ℕ, ◌+◌, ◌-◌, ◌%◌, ◌<◌, ◌≤◌, true, List, [], ◌∷◌, ◌++◌, length, take, drop, filter, refl, sym, ap, subst, ◌∙◌, append_assoc, inl, inr, arith}
+use Rattle.std.proofs.Common.{◌≡◌, ℕ, ◌+◌, ◌-◌, ◌%◌, ◌<◌, ◌≤◌, true, List, [], ◌∷◌, ◌++◌, length, take, drop, filter, Err, refl, sym, ap, subst, ◌∙◌, append_assoc, inl, inr, arith}
 use Rattle.std.proofs.lemmas.List.{length-append, take_at, drop_at}
 use Rattle.signature.specs.DataType.{SigText}
 use Rattle.signature.specs.Name.{is_bus_name}
@@ -13,13 +13,16 @@ use Rattle.message_view.specs.declared.kind.Kind.{Kind}
 use Rattle.message_view.specs.Header.{kind_byte}
 use Rattle.message_view.specs.Message.{Field, Message}
 use Rattle.message_view.specs.Spelling.{body_place, field_bytes, fields_bytes, header_bytes, body_bytes, message_bytes}
-use Rattle.message_view.specs.Valid.{Valid, max_message_len}
+use Rattle.message_view.specs.Valid.{AreFields, Valid, max_message_len}
 use Rattle.message_build.specs.declared.header.Header.{Header}
 use Rattle.message_build.specs.Building.{IsTooLarge}
-use Rattle.message_build.specs.Stamped.{is_kept, sender_field, stamped}
-use Rattle.message_build.specs.StampWords.{stamped_fields}
+use Rattle.message_build.specs.declared.stamping.StampError.{StampError}
+use Rattle.message_build.specs.declared.stamping.StampError.TheVariants.{TooLarge, NoMemory}
+use Rattle.message_build.specs.Stamped.{is_kept, sender_field, stamped, Stamps}
+use Rattle.message_build.specs.StampWords.{HeadsStamped, stamped_fields}
 use Rattle.message_build.specs.Words.{fixed_bytes}
-use Rattle.message_build.proofs.KeptFields.{stamped_are, required_same, signature_same, sender_last}
+use Rattle.message_build.proofs.KeptFields.{stamped_are, are_moved, required_same, signature_same, sender_last}
+use Rattle.message_build.proofs.MovedFields.{fields_moved}
 
 -- ---- the header
 
@@ -183,3 +186,15 @@ pub message_too_large : (raw : List ℕ) (m : Message) (sender : List ℕ) (orde
 message_too_large raw m sender order h body head r is long =
     let sum : length head + length body ≡ length (message_bytes (stamped m sender)) = sym (length-append head body) ∙ ap (λ (l : List ℕ). length l) (stamped_spelled raw m sender order h body head r is) in
     inr (subst (λ (n : ℕ). max_message_len < n) sum long)
+
+-- the fields of a message, counted from their array's beginning
+pub fields_at_0 : (m : Message) (order : Order) → order ≡ m.order → AreFields m.order 16 m.fields → AreFields order 0 m.fields
+fields_at_0 m order is are = subst (λ (o : Order). AreFields o 0 m.fields) (sym is) (are_moved m.order 16 0 m.fields are)
+
+pub array_at_0 : (m : Message) (order : Order) (array : List ℕ) → order ≡ m.order → array ≡ header_bytes m → array ≡ fields_bytes order 0 m.fields
+array_at_0 m order array is lies = lies ∙ fields_moved m.order 16 0 (record { is = refl }) m.fields ∙ ap (λ (o : Order). fields_bytes o 0 m.fields) (sym is)
+
+-- why there is no header
+pub refused : (e : StampError) (raw : List ℕ) (m : Message) (sender : List ℕ) (order : Order) (h : Header) (body : List ℕ) → IsRead raw m sender order h body → HeadsStamped (Err e) order h (length body) (stamped_fields order m.fields sender) → Stamps m sender (Err e)
+refused TooLarge raw m sender order h body read long = fields_too_large raw m sender order h body read long
+refused NoMemory raw m sender order h body read long = tt

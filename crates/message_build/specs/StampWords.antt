@@ -59,9 +59,9 @@ abbrev pub stamped_fields : Order → List Field → List ℕ → List ℕ
 stamped_fields order fields sender = fields_bytes order fixed_len (filter is_kept fields ++ sender_field sender ∷ [])
 
 -- what the fields of a stamped message are, with what is in front and behind; or that they are too long
-abbrev pub HeadsStamped : {A : Type 0} → Result (Vec ℕ A) StampError → Order → Header → ℕ → List ℕ → Type 0
-HeadsStamped (Ok v) order h body_len fields =
-    (length fields ≤ max_array_len) × (v.items ≡ fixed_bytes order h (length fields) body_len ++ (fields ++ zeros (padding 8 (length fields))))
+abbrev pub HeadsStamped : Result (List ℕ) StampError → Order → Header → ℕ → List ℕ → Type 0
+HeadsStamped (Ok bytes) order h body_len fields =
+    (length fields ≤ max_array_len) × (bytes ≡ fixed_bytes order h (length fields) body_len ++ (fields ++ zeros (padding 8 (length fields))))
 HeadsStamped (Err TooLarge) order h body_len fields = max_array_len < length fields
 HeadsStamped (Err NoMemory) order h body_len fields = Unit {0}
 

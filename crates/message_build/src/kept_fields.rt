@@ -45,7 +45,8 @@ fn skip_field(cursor: &mut Cursor<'_>, order: Order) -> Result<Begun, MsgError>
 
 /// The bytes from one place to another, if they are there.
 pub(crate) fn between(bytes: &[u8], from: usize, to: usize) -> Option<&[u8]>
-    ensures { from ≤ to → to ≤ length bytes.entry.now → MatchOption result ⊥ (λ found. found.now ≡ take (to - from) (drop from bytes.entry.now)) }
+    ensures len { IfSome result (λ found. from + length found.now ≡ to) }
+    ensures found { from ≤ to → to ≤ length bytes.entry.now → MatchOption result ⊥ (λ found. found.now ≡ take (to - from) (drop from bytes.entry.now)) }
 {
     bytes.get(from..to)
 }

@@ -141,7 +141,7 @@ fn stamped_header(
     requires empty { bytes.items ≡ [] }
     requires short { length array.now ≤ 67108864 }
     ensures bound { IfOk result (λ v. length v.items ≤ 67108904) }
-    ensures heads { (fields : List Field) → AreFields order 0 fields → array.now ≡ fields_bytes order 0 fields → HeadsStamped result order header.now body_len (stamped_fields order fields sender.now) }
+    ensures heads { (fields : List Field) → AreFields order 0 fields → array.now ≡ fields_bytes order 0 fields → HeadsStamped (stamp_listed result) order header.now body_len (stamped_fields order fields sender.now) }
 {
     push_fixed(&mut bytes, order, header, 0, body_len)?;
     push_kept(&mut bytes, order, array)?;

@@ -6,7 +6,7 @@ pub returns-in_err-bytes-in-Ok-clause-found : goal.returns-in_err-bytes-in-Ok-cl
 returns-in_err-bytes-in-Ok-clause-found c = λ field more l.
     let w = went c.args.order c.args.array.now c.args.cursor.now field more c.in-Ok.begun c.skip_field.new.cursor l c.in-Ok.ensures in
     let fits = went_fits _ _ _ _ _ _ _ c.place.result w c.place.ensures in
-    absurd (c.in_err-bytes-in-Ok.ensures fits.0 fits.1)
+    absurd (c.in_err-bytes-in-Ok.ensures.found fits.0 fits.1)
 
 pub returns-in_err-bytes-in-Ok-clause-behind : goal.returns-in_err-bytes-in-Ok-clause-behind
 returns-in_err-bytes-in-Ok-clause-behind c = λ field more l.
@@ -20,7 +20,7 @@ pub returns-in_ok-bytes-in-Ok-clause-found : goal.returns-in_ok-bytes-in-Ok-clau
 returns-in_ok-bytes-in-Ok-clause-found c = λ field more l.
     let w = went c.args.order c.args.array.now c.args.cursor.now field more c.in-Ok.begun c.skip_field.new.cursor l c.in-Ok.ensures in
     let fits = went_fits _ _ _ _ _ _ _ c.place.result w c.place.ensures in
-    (w.code, c.in_ok-bytes-in-Ok.ensures fits.0 fits.1 ∙ went_between _ _ _ _ _ _ _ c.place.result w c.place.ensures)
+    (w.code, c.in_ok-bytes-in-Ok.ensures.found fits.0 fits.1 ∙ went_between _ _ _ _ _ _ _ c.place.result w c.place.ensures)
 
 pub returns-in_ok-bytes-in-Ok-clause-behind : goal.returns-in_ok-bytes-in-Ok-clause-behind
 returns-in_ok-bytes-in-Ok-clause-behind c = λ field more l.
