@@ -1,5 +1,5 @@
 -- Stamped messages: what was written is the stamped message, or that is above the limits.
-use Rattle.std.proofs.Common.{◌≡◌, ℕ, ◌+◌, ◌-◌, ◌%◌, ◌<◌, ◌≤◌, true, List, [], ◌∷◌, ◌++◌, length, take, drop, filter, Err, refl, sym, ap, subst, ◌∙◌, append_assoc, inl, inr, arith}
+use Rattle.std.proofs.Common.{◌≡◌, ℕ, ◌+◌, ◌-◌, ◌%◌, ◌<◌, ◌≤◌, true, List, [], ◌∷◌, ◌++◌, length, take, drop, filter, Result, Err, refl, sym, ap, subst, ◌∙◌, append_assoc, inl, inr, arith}
 use Rattle.std.proofs.lemmas.List.{length-append, take_at, drop_at}
 use Rattle.signature.specs.DataType.{SigText}
 use Rattle.signature.specs.Name.{is_bus_name}
@@ -20,7 +20,7 @@ use Rattle.message_build.specs.declared.stamping.StampError.{StampError}
 use Rattle.message_build.specs.declared.stamping.StampError.TheVariants.{TooLarge, NoMemory}
 use Rattle.message_build.specs.Stamped.{is_kept, sender_field, stamped, Stamps}
 use Rattle.message_build.specs.StampWords.{HeadsStamped, stamped_fields}
-use Rattle.message_build.specs.Words.{fixed_bytes}
+use Rattle.message_build.specs.Words.{bare_header, fixed_bytes}
 use Rattle.message_build.proofs.KeptFields.{stamped_are, are_moved, required_same, signature_same, sender_last}
 use Rattle.message_build.proofs.MovedFields.{fields_moved}
 
@@ -125,6 +125,18 @@ pub record IsRead (raw : List ℕ) (m : Message) (sender : List ℕ) (order : Or
   pub serial : h.serial ≡ m.serial
   pub body_is : body ≡ body_bytes m
 
+pub is_read : (raw : List ℕ) (m : Message) (sender : List ℕ) (order : Order) (kind : Kind) (flags serial : ℕ) (h : Header) (body : List ℕ) → Valid raw m → is_bus_name sender ≡ true
+    → order ≡ m.order → kind ≡ m.kind → flags ≡ m.flags → serial ≡ m.serial → h ≡ bare_header kind flags serial → body ≡ body_bytes m → IsRead raw m sender order h body
+is_read raw m sender order kind flags serial h body v named order_is kind_is flags_is serial_is bare body_is = record {
+  valid = v;
+  named = named;
+  order_is = order_is;
+  kind = ap (λ (x : Header). x.kind) bare ∙ kind_is;
+  flags = ap (λ (x : Header). x.flags) bare ∙ flags_is;
+  serial = ap (λ (x : Header). x.serial) bare ∙ serial_is;
+  body_is = body_is;
+}
+
 -- a message of these parts
 abbrev message_with : Order → Kind → ℕ → ℕ → List ℕ → List ℕ → List ℕ
 message_with order kind flags serial all body =
@@ -187,12 +199,17 @@ message_too_large raw m sender order h body head r is long =
     let sum : length head + length body ≡ length (message_bytes (stamped m sender)) = sym (length-append head body) ∙ ap (λ (l : List ℕ). length l) (stamped_spelled raw m sender order h body head r is) in
     inr (subst (λ (n : ℕ). max_message_len < n) sum long)
 
--- the fields of a message, counted from their array's beginning
-pub fields_at_0 : (m : Message) (order : Order) → order ≡ m.order → AreFields m.order 16 m.fields → AreFields order 0 m.fields
-fields_at_0 m order is are = subst (λ (o : Order). AreFields o 0 m.fields) (sym is) (are_moved m.order 16 0 m.fields are)
-
-pub array_at_0 : (m : Message) (order : Order) (array : List ℕ) → order ≡ m.order → array ≡ header_bytes m → array ≡ fields_bytes order 0 m.fields
-array_at_0 m order array is lies = lies ∙ fields_moved m.order 16 0 (record { is = refl }) m.fields ∙ ap (λ (o : Order). fields_bytes o 0 m.fields) (sym is)
+-- The header of a message's fields: they lie in an array, and are counted from its beginning.
+pub headed : (raw : List ℕ) (m : Message) (sender : List ℕ) (order : Order) (h : Header) (body array bytes : List ℕ) (answer : Result (List ℕ) StampError) → IsRead raw m sender order h body
+    → bytes ≡ raw → (Valid bytes m → order ≡ m.order → array ≡ header_bytes m)
+    → ((fields : List Field) → AreFields order 0 fields → array ≡ fields_bytes order 0 fields → HeadsStamped answer order h (length body) (stamped_fields order fields sender))
+    → HeadsStamped answer order h (length body) (stamped_fields order m.fields sender)
+headed raw m sender order h body array bytes answer r same found heads =
+    let v = r.valid in
+    let lies : array ≡ header_bytes m = found (subst (λ (l : List ℕ). Valid l m) (sym same) v) r.order_is in
+    let are : AreFields order 0 m.fields = subst (λ (o : Order). AreFields o 0 m.fields) (sym r.order_is) (are_moved m.order 16 0 m.fields v.fields) in
+    let is : array ≡ fields_bytes order 0 m.fields = lies ∙ fields_moved m.order 16 0 (record { is = refl }) m.fields ∙ ap (λ (o : Order). fields_bytes o 0 m.fields) (sym r.order_is) in
+    heads m.fields are is
 
 -- why there is no header
 pub refused : (e : StampError) (raw : List ℕ) (m : Message) (sender : List ℕ) (order : Order) (h : Header) (body : List ℕ) → IsRead raw m sender order h body → HeadsStamped (Err e) order h (length body) (stamped_fields order m.fields sender) → Stamps m sender (Err e)

@@ -93,11 +93,7 @@ fn push_found(bytes: &mut Vec<u8>, found: &Found<'_>) -> Result<(), AllocError>
 
 /// The fields of an array that are copied, in their order. The array begins at a multiple of 8, so that
 /// places may be counted from there.
-pub(crate) fn push_kept(
-    bytes: &mut Vec<u8>,
-    order: Order,
-    array: &[u8],
-) -> Result<(), AllocError>
+pub(crate) fn push_kept(bytes: &mut Vec<u8>, order: Order, array: &[u8]) -> Result<(), AllocError>
     requires { length array.now ≤ 67108864 }
     ensures front { take (length bytes.old.items) bytes.new.items ≡ bytes.old.items }
     ensures kept { (fields : List Field) → AreFields order 0 fields → array.now ≡ fields_bytes order 0 fields → IfOk result (λ _. bytes.new.items ≡ bytes.old.items ++ fields_bytes order (length bytes.old.items) (filter is_kept fields)) }

@@ -7,3 +7,5 @@ mod arguments;
 mod refused;
 #[cfg(test)]
 mod signals;
+#[cfg(test)]
+mod stamps;
