@@ -1,5 +1,5 @@
 -- Messages stamped with their sender.
-use Rattle.std.specs.Prelude.{◌≡◌, ◌⊎◌, ℕ, Bool, not, ◌&&◌, ◌==◌, List, [], ◌∷◌, ◌++◌, filter, is_some, Result, Ok, Err}
+use Rattle.std.specs.Prelude.{ℕ, Bool, not, ◌&&◌, ◌==◌, List, [], ◌∷◌, ◌++◌, filter, is_some, Result, Ok, Err}
 use Rattle.signature.specs.DataType.{basic}
 use Rattle.message_value.specs.Value.{text}
 use Rattle.message_view.specs.Header.{code_of}

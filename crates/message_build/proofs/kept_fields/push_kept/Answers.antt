@@ -1,5 +1,3 @@
-use Rattle.std.proofs.Common.{◌++◌}
-use Rattle.message_build.specs.StampWords.{kept_bytes}
 use Rattle.message_build.proofs.Appended.{front_kept}
 use Rattle.message_build.proofs.KeptLoop.{goes_on, at_end}
 use Rattle.message_build.proofs.kept_fields.push_kept.Goals as goal

@@ -1,5 +1,4 @@
-use Rattle.std.proofs.Common.{◌≡◌, ◌+◌, ℕ, List, [], ◌∷◌, ◌++◌, length, take, drop, get_or, sym, ap, ◌∙◌}
-use Rattle.message_value.specs.Order.{word_bytes}
+use Rattle.std.proofs.Common.{◌≡◌, ◌+◌, ℕ, List, ◌++◌, length, take, drop, get_or, sym, ap, ◌∙◌}
 use Rattle.message_value.proofs.WordBytes.{length-word_bytes}
 use Rattle.message_build.proofs.FourBytes.{four_set, four_bytes}
 use Rattle.message_build.proofs.strings.set_word.Goals as goal
