@@ -3,6 +3,7 @@
 use crate::signals::{FIELDS, bytes_of};
 use message_build::{StampError, stamp};
 use message_view::View;
+use std::alloc::Global;
 use std::test::Fail;
 
 /// SENDER `:1.1` in little-endian order, with the zeros up to a multiple of 8.
@@ -60,7 +61,10 @@ fn stamped_again(rt: HostRuntime) -> Result<(), Fail> {
     let fixed = "6c040201 07000000 05000000 45000000";
     assert_eq!(rt;
         stamped,
-        bytes_of(rt.alloc(), &[fixed, member, path, interface, signature, SENDER, body])?
+        bytes_of(
+            rt.alloc(),
+            &[fixed, member, path, interface, signature, SENDER, body]
+        )?
     );
     Ok(())
 }
@@ -81,31 +85,50 @@ fn stamped_twice(rt: HostRuntime) -> Result<(), Fail> {
 fn stamp_errors(rt: HostRuntime) -> Result<(), Fail> {
     assert_eq!(rt; StampError::TooLarge.number(), 1);
     assert_eq!(rt; StampError::NoMemory.number(), 2);
-    assert_eq!(rt; format!(in rt.alloc(); "{}", StampError::TooLarge)?.as_str(), "TooLarge");
-    assert_eq!(rt; format!(in rt.alloc(); "{}", StampError::NoMemory)?.as_str(), "NoMemory");
+    assert_eq!(rt;
+        format!(in rt.alloc(); "{}", StampError::TooLarge)?.as_str(),
+        "TooLarge"
+    );
+    assert_eq!(rt;
+        format!(in rt.alloc(); "{}", StampError::NoMemory)?.as_str(),
+        "NoMemory"
+    );
     Ok(())
+}
+
+/// The signal with serial 1, PATH `/a`, INTERFACE `a.b` and MEMBER `c`.
+fn signal_bytes() -> [u8; 64] {
+    [
+        0x6c, 4, 0, 1, 0, 0, 0, 0, 1, 0, 0, 0, 0x2a, 0, 0, 0, 1, 1, 0x6f, 0, 2, 0, 0, 0, 0x2f,
+        0x61, 0, 0, 0, 0, 0, 0, 2, 1, 0x73, 0, 3, 0, 0, 0, 0x61, 0x2e, 0x62, 0, 0, 0, 0, 0, 3, 1,
+        0x73, 0, 1, 0, 0, 0, 0x63, 0, 0, 0, 0, 0, 0, 0,
+    ]
+}
+
+/// The same with SENDER `:1.1`.
+fn stamped_bytes() -> [u8; 80] {
+    [
+        0x6c, 4, 0, 1, 0, 0, 0, 0, 1, 0, 0, 0, 0x3d, 0, 0, 0, 1, 1, 0x6f, 0, 2, 0, 0, 0, 0x2f,
+        0x61, 0, 0, 0, 0, 0, 0, 2, 1, 0x73, 0, 3, 0, 0, 0, 0x61, 0x2e, 0x62, 0, 0, 0, 0, 0, 3, 1,
+        0x73, 0, 1, 0, 0, 0, 0x63, 0, 0, 0, 0, 0, 0, 0, 7, 1, 0x73, 0, 4, 0, 0, 0, 0x3a, 0x31,
+        0x2e, 0x31, 0, 0, 0, 0,
+    ]
+}
+
+/// The signal, stamped.
+fn stamped_signal(alloc: Global) -> Result<Vec<u8>, StampError> {
+    match View::read(&signal_bytes()) {
+        Ok(view) => stamp(alloc, &view, ":1.1"),
+        Err(_) => Err(StampError::TooLarge),
+    }
 }
 
 // Want of memory is NoMemory, and never a part of the answer. To be run with one allocation after another
 // refused.
 #[test]
 fn stamp_with_refusals(rt: HostRuntime) {
-    let bytes = [
-        0x6c, 4, 0, 1, 0, 0, 0, 0, 1, 0, 0, 0, 0x2a, 0, 0, 0, 1, 1, 0x6f, 0, 2, 0, 0, 0, 0x2f,
-        0x61, 0, 0, 0, 0, 0, 0, 2, 1, 0x73, 0, 3, 0, 0, 0, 0x61, 0x2e, 0x62, 0, 0, 0, 0, 0, 3, 1,
-        0x73, 0, 1, 0, 0, 0, 0x63, 0, 0, 0, 0, 0, 0, 0,
-    ];
-    let expected = [
-        0x6c, 4, 0, 1, 0, 0, 0, 0, 1, 0, 0, 0, 0x3d, 0, 0, 0, 1, 1, 0x6f, 0, 2, 0, 0, 0, 0x2f,
-        0x61, 0, 0, 0, 0, 0, 0, 2, 1, 0x73, 0, 3, 0, 0, 0, 0x61, 0x2e, 0x62, 0, 0, 0, 0, 0, 3, 1,
-        0x73, 0, 1, 0, 0, 0, 0x63, 0, 0, 0, 0, 0, 0, 0, 7, 1, 0x73, 0, 4, 0, 0, 0, 0x3a, 0x31,
-        0x2e, 0x31, 0, 0, 0, 0,
-    ];
-    match View::read(&bytes) {
-        Ok(view) => match stamp(rt.alloc(), &view, ":1.1") {
-            Ok(stamped) => assert_eq!(rt; stamped.as_slice(), expected.as_slice()),
-            Err(e) => assert_eq!(rt; e, StampError::NoMemory),
-        },
-        Err(e) => assert_eq!(rt; Some(e), None),
+    match stamped_signal(rt.alloc()) {
+        Ok(stamped) => assert_eq!(rt; stamped.as_slice(), stamped_bytes().as_slice()),
+        Err(e) => assert_eq!(rt; e, StampError::NoMemory),
     }
 }
