@@ -59,7 +59,7 @@ both_true a b p q = rw (p, q) refl
 one_path : IsOneType (basic 111)
 one_path = (record { spelled = refl; fits = refl }, omega arith)
 
-one_string : IsOneType (basic 115)
+pub one_string : IsOneType (basic 115)
 one_string = (record { spelled = refl; fits = refl }, omega arith)
 
 one_number : IsOneType (basic 117)

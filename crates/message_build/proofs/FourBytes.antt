@@ -1,5 +1,5 @@
 -- Four bytes of a list, written one by one.
-use Rattle.std.proofs.Common.{◌≡◌, ℕ, ◌+◌, ◌-◌, ◌≤◌, List, [], ◌∷◌, ◌++◌, length, take, drop, refl, sym, ap, ◌∙◌, arith}
+use Rattle.std.proofs.Common.{◌≡◌, ℕ, ◌+◌, ◌-◌, ◌≤◌, List, [], ◌∷◌, ◌++◌, length, take, drop, get_or, refl, sym, ap, ◌∙◌, arith}
 use Rattle.std.proofs.Math.ListN.{set}
 use Rattle.std.proofs.lemmas.List.{set-append_right, take-append-drop, length-append, length-take-le, drop-drop}
 
@@ -33,3 +33,12 @@ four_set xs at a b c d le =
   where
     behind : (xs : List ℕ) (at : ℕ) → drop 4 (drop at xs) ≡ drop (at + 4) xs
     behind xs at = simp drop-drop
+
+-- a list of four
+pub four_bytes : (xs : List ℕ) → length xs ≡ 4 → xs ≡ get_or xs 0 0 ∷ get_or xs 1 0 ∷ get_or xs 2 0 ∷ get_or xs 3 0 ∷ []
+four_bytes [] e = absurd (omega arith)
+four_bytes (a ∷ []) e = absurd (omega arith)
+four_bytes (a ∷ b ∷ []) e = absurd (omega arith)
+four_bytes (a ∷ b ∷ c ∷ []) e = absurd (omega arith)
+four_bytes (a ∷ b ∷ c ∷ d ∷ []) e = refl
+four_bytes (a ∷ b ∷ c ∷ d ∷ e' ∷ xs) e = absurd (omega arith)

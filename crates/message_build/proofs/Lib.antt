@@ -6,3 +6,9 @@ pub mod SetFields
 pub mod MessageLaws
 pub mod BodyLaws
 pub mod FourBytes
+pub mod MovedFields
+pub mod BegunFields
+pub mod KeptLoop
+pub mod KeptFields
+pub mod StampedMessages
+pub mod HeaderArrays

@@ -142,7 +142,7 @@ length-spelled : (h : Header) (fs : List Field) (body : List ℕ) → length (sp
 length-spelled h fs body =
     let all = fields_bytes Little fixed_len fs in
     let pad = zeros (padding 8 (length all)) in
-    omega (arith, length-append (fixed_bytes h (length all) (length body)) (all ++ (pad ++ body)), length-append all (pad ++ body), length-append pad body, length-zeros (padding 8 (length all)))
+    omega (arith, length-append (fixed_bytes Little h (length all) (length body)) (all ++ (pad ++ body)), length-append all (pad ++ body), length-append pad body, length-zeros (padding 8 (length all)))
 
 asked_bytes : (h : Header) (s body : List ℕ) (given : Given) (m : Message) → Asks (asked h s body given) m → message_bytes m ≡ spelled h (fields_set h s) body
 asked_bytes h s body given m asks = ap (λ (x : Message). message_bytes x) (is_the h s body given m asks) ∙ bytes_are h s body m.types m.arguments asks.arguments
@@ -198,14 +198,14 @@ built_valid h s body given xs end bytes is range hold whole sound allowed end_is
 -- ---- what is written
 
 pub assembled : (h : Header) (fs : List Field) (body b0 b1 b2 b3 b4 : List ℕ) (end : ℕ) → end ≡ fixed_len + length (fields_bytes Little fixed_len fs) → b0 ≡ []
-    → b1 ≡ b0 ++ fixed_bytes h (end - 16) (length body) → b2 ≡ b1 ++ fields_bytes Little (length b1) fs → b3 ≡ b2 ++ zeros (padding 8 (length b2)) → b4 ≡ b3 ++ body
+    → b1 ≡ b0 ++ fixed_bytes Little h (end - 16) (length body) → b2 ≡ b1 ++ fields_bytes Little (length b1) fs → b3 ≡ b2 ++ zeros (padding 8 (length b2)) → b4 ≡ b3 ++ body
     → b4 ≡ spelled h fs body
 assembled h fs body b0 b1 b2 b3 b4 end is e0 e1 e2 e3 e4 =
     let all = fields_bytes Little fixed_len fs in
     let n = length all in
     let len : end - 16 ≡ n = omega arith in
-    let fixed = fixed_bytes h n (length body) in
-    let f1 : b1 ≡ fixed = e1 ∙ ap (λ (l : List ℕ). l ++ fixed_bytes h (end - 16) (length body)) e0 ∙ ap (λ (k : ℕ). fixed_bytes h k (length body)) len in
+    let fixed = fixed_bytes Little h n (length body) in
+    let f1 : b1 ≡ fixed = e1 ∙ ap (λ (l : List ℕ). l ++ fixed_bytes Little h (end - 16) (length body)) e0 ∙ ap (λ (k : ℕ). fixed_bytes Little h k (length body)) len in
     let l1 : length b1 ≡ fixed_len = ap (λ (l : List ℕ). length l) f1 in
     let f2 : b2 ≡ fixed ++ all = e2 ∙ ap (λ (k : ℕ). b1 ++ fields_bytes Little k fs) l1 ∙ ap (λ (l : List ℕ). l ++ all) f1 in
     let l2 : length b2 ≡ fixed_len + n = ap (λ (l : List ℕ). length l) f2 ∙ length-append fixed all in

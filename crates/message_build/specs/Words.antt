@@ -6,7 +6,8 @@ use Rattle.std.specs.Str.{bytes_eq}
 use Rattle.signature.specs.DataType.{DataType, DataTypes, basic, spelling, SigText}
 use Rattle.signature.specs.Name.{is_path, is_interface, is_member, is_bus_name}
 use Rattle.signature.specs.Trees.{types_of}
-use Rattle.message_value.specs.Order.{word_bytes}
+use Rattle.message_value.specs.declared.order.Order.{Order}
+use Rattle.message_value.specs.Order.{order_byte, word_bytes}
 use Rattle.message_value.specs.Value.{Value, Values, number, text, no_values, one_value}
 use Rattle.message_value.specs.Spelling.{padding, zeros, value_bytes, members_bytes}
 use Rattle.message_value.specs.Fits.{max_array_len, max_levels, MembersFit}
@@ -181,15 +182,15 @@ IsBody signature body = (types : DataTypes) × (values : Values) × BodyOf types
 -- ---- messages
 
 -- the bytes in front of the fields
-abbrev pub fixed_bytes : Header → ℕ → ℕ → List ℕ
-fixed_bytes h fields_len body_len =
-    (108 ∷ kind_byte h.kind ∷ h.flags ∷ 1 ∷ []) ++ (word_bytes Little body_len ++ (word_bytes Little h.serial ++ word_bytes Little fields_len))
+abbrev pub fixed_bytes : Order → Header → ℕ → ℕ → List ℕ
+fixed_bytes order h fields_len body_len =
+    (order_byte order ∷ kind_byte h.kind ∷ h.flags ∷ 1 ∷ []) ++ (word_bytes order body_len ++ (word_bytes order h.serial ++ word_bytes order fields_len))
 
 -- a message of these fields
 abbrev pub spelled : Header → List Field → List ℕ → List ℕ
 spelled h fields body =
     let all = fields_bytes Little fixed_len fields in
-    fixed_bytes h (length all) (length body) ++ (all ++ (zeros (padding 8 (length all)) ++ body))
+    fixed_bytes Little h (length all) (length body) ++ (all ++ (zeros (padding 8 (length all)) ++ body))
 
 -- the bytes of a result
 abbrev pub listed : {A : Type 0} → Result (Vec ℕ A) BuildError → Result (List ℕ) BuildError

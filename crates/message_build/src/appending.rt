@@ -8,7 +8,7 @@ ghost use Rattle.message_value.specs.Value.{number, text};
 ghost use Rattle.message_value.specs.Spelling.{padding, zeros, text_bytes, value_bytes};
 ghost use Rattle.message_build.specs.Words.{Appends};
 
-use message_value::padding;
+use message_value::{Order, padding};
 use std::alloc::AllocError;
 
 /// Zeros up to a multiple.
@@ -20,30 +20,44 @@ pub(crate) fn align(bytes: &mut Vec<u8>, alignment: usize) -> Result<(), AllocEr
     bytes.extend_from_slice(&zeros[..padding(alignment, bytes.len())])
 }
 
-/// The four low bytes of a number, the lowest first. A length that they can't hold is only met in a message
-/// above the limits.
-pub(crate) fn push_word(bytes: &mut Vec<u8>, n: usize) -> Result<(), AllocError>
-    ensures { Appends result bytes.old.items bytes.new.items (word_bytes Little n) }
+/// The four low bytes of a number. A length that they can't hold is only met in a message above the limits.
+pub(crate) fn word_of(order: Order, n: usize) -> [u8; 4]
+    ensures { result ≡ word_bytes order n }
 {
     let low_first = n.to_le_bytes();
-    bytes.extend_from_slice(&low_first[..4])
+    let low = [low_first[0], low_first[1], low_first[2], low_first[3]];
+    match order {
+        Order::Little => low,
+        Order::Big => [low[3], low[2], low[1], low[0]],
+    }
+}
+
+/// The four low bytes of a number.
+pub(crate) fn push_word(bytes: &mut Vec<u8>, order: Order, n: usize) -> Result<(), AllocError>
+    ensures { Appends result bytes.old.items bytes.new.items (word_bytes order n) }
+{
+    bytes.extend_from_slice(&word_of(order, n))
 }
 
 /// A text with its length in four bytes, and a zero.
-pub(crate) fn push_text(bytes: &mut Vec<u8>, text: &[u8]) -> Result<(), AllocError>
-    ensures { Appends result bytes.old.items bytes.new.items (text_bytes Little 115 text.now) }
+pub(crate) fn push_text(bytes: &mut Vec<u8>, order: Order, text: &[u8]) -> Result<(), AllocError>
+    ensures { Appends result bytes.old.items bytes.new.items (text_bytes order 115 text.now) }
 {
-    push_word(bytes, text.len())?;
+    push_word(bytes, order, text.len())?;
     bytes.extend_from_slice(text)?;
     bytes.extend_from_slice(&[0])
 }
 
 /// A string or a path as a value, with the zeros before it.
-pub(crate) fn push_string(bytes: &mut Vec<u8>, string: &[u8]) -> Result<(), AllocError>
-    ensures { Appends result bytes.old.items bytes.new.items (value_bytes Little (length bytes.old.items) (basic 115) (text string.now)) }
+pub(crate) fn push_string(
+    bytes: &mut Vec<u8>,
+    order: Order,
+    string: &[u8],
+) -> Result<(), AllocError>
+    ensures { Appends result bytes.old.items bytes.new.items (value_bytes order (length bytes.old.items) (basic 115) (text string.now)) }
 {
     align(bytes, 4)?;
-    push_text(bytes, string)
+    push_text(bytes, order, string)
 }
 
 /// A number of four bytes as a value, with the zeros before it.
@@ -51,7 +65,7 @@ pub(crate) fn push_number(bytes: &mut Vec<u8>, n: u32) -> Result<(), AllocError>
     ensures { Appends result bytes.old.items bytes.new.items (value_bytes Little (length bytes.old.items) (basic 117) (number n)) }
 {
     align(bytes, 4)?;
-    push_word(bytes, n as usize)
+    push_word(bytes, Order::Little, n as usize)
 }
 
 /// A signature with its length in a byte, and a zero.

@@ -10,6 +10,7 @@ use crate::builder::Builder;
 use crate::error::BuildError;
 use crate::given::Given;
 use crate::strings::push_strings;
+use message_value::Order;
 use std::alloc::AllocError;
 
 /// Appends to one list once another has grown; where either is refused, that one is cut back.
@@ -51,7 +52,7 @@ impl<'a> Builder<'a> {
             return Ok(());
         }
         let len = self.body.len();
-        let pushed = push_string(&mut self.body, string.as_bytes());
+        let pushed = push_string(&mut self.body, Order::Little, string.as_bytes());
         complete(pushed, &mut self.body, len, &mut self.signature, b"s")?;
         self.given = Given::Arguments;
         Ok(())

@@ -10,7 +10,7 @@ ghost use Rattle.message_view.specs.Spelling.{field_bytes};
 ghost use Rattle.message_build.specs.Words.{Appends, Ends, field_of, is_allowed, may_be, are_allowed};
 
 use crate::appending::{align, push_number, push_signature, push_string};
-use message_value::padding;
+use message_value::{Order, padding};
 use signature::{Signature, check_bus_name, check_interface, check_member, check_path};
 use std::alloc::AllocError;
 
@@ -132,7 +132,7 @@ impl HeaderField<'_> {
             | HeaderField::Member(text)
             | HeaderField::ErrorName(text)
             | HeaderField::Destination(text)
-            | HeaderField::Sender(text) => push_string(bytes, text.as_bytes()),
+            | HeaderField::Sender(text) => push_string(bytes, Order::Little, text.as_bytes()),
         }
     }
 

@@ -1,4 +1,5 @@
-//! Building D-Bus messages. What a builder gives is valid, and is what it was asked for.
+//! Building D-Bus messages. What a builder gives is valid, and is what it was asked for. A message that is
+//! stamped stays the same but for its sender.
 #![tactic(auto)]
 
 mod appending;
@@ -10,8 +11,11 @@ mod field;
 mod fields;
 mod given;
 mod header;
+mod kept_fields;
 mod message;
+mod stamping;
 mod strings;
 
 pub use builder::Builder;
 pub use error::BuildError;
+pub use stamping::{StampError, stamp};

@@ -3,6 +3,7 @@
 ghost use Rattle.std.specs.Prelude.{◌≡◌, ℕ, ◌+◌, ◌≤◌, true, [], length, IfOk};
 ghost use Rattle.message_value.specs.declared.order.Order.TheVariants.{Little};
 ghost use Rattle.message_value.specs.Fits.{max_array_len};
+ghost use Rattle.message_value.specs.Order.{order_byte};
 ghost use Rattle.message_view.specs.Spelling.{fixed_len, fields_bytes};
 ghost use Rattle.message_build.specs.Building.{Finishes};
 ghost use Rattle.message_build.specs.Words.{Appends, fixed_bytes, spelled, listed, asked, fields_of, are_allowed};
@@ -14,26 +15,37 @@ use crate::field::{HeaderField, are_allowed};
 use crate::fields::{FIXED_LEN, fields_end, push_fields};
 use crate::given::Given;
 use crate::header::Header;
-use message_value::padding;
+use message_value::{Order, padding};
 use std::alloc::{AllocError, Global};
 
 /// The longest message.
-const MAX_MESSAGE_LEN: usize = 134217728;
+pub(crate) const MAX_MESSAGE_LEN: usize = 134217728;
+
+/// The byte that stands for an order in front of a message.
+fn order_byte(order: Order) -> u8
+    ensures { result ≡ order_byte order }
+{
+    match order {
+        Order::Little => b'l',
+        Order::Big => b'B',
+    }
+}
 
 /// What stands in front of the fields: the order, the kind, the flags, the version of the protocol, the
 /// body's length, the serial, and the length of the fields.
-fn push_fixed(
+pub(crate) fn push_fixed(
     bytes: &mut Vec<u8>,
+    order: Order,
     header: &Header<'_>,
     fields_len: usize,
     body_len: usize,
 ) -> Result<(), AllocError>
-    ensures { Appends result bytes.old.items bytes.new.items (fixed_bytes header.now fields_len body_len) }
+    ensures { Appends result bytes.old.items bytes.new.items (fixed_bytes order header.now fields_len body_len) }
 {
-    bytes.extend_from_slice(&[b'l', header.kind.byte(), header.flags, 1])?;
-    push_word(bytes, body_len)?;
-    push_word(bytes, header.serial as usize)?;
-    push_word(bytes, fields_len)
+    bytes.extend_from_slice(&[order_byte(order), header.kind.byte(), header.flags, 1])?;
+    push_word(bytes, order, body_len)?;
+    push_word(bytes, order, header.serial as usize)?;
+    push_word(bytes, order, fields_len)
 }
 
 /// The message with these fields, which end at a place, and this body.
@@ -51,7 +63,13 @@ fn message(
     ensures { IfOk result (λ v. v.items ≡ spelled header.now (fields_of fields.now) body.now) }
 {
     let mut bytes = Vec::with_capacity(alloc, end + padding(8, end) + body.len())?;
-    push_fixed(&mut bytes, header, end - FIXED_LEN, body.len())?;
+    push_fixed(
+        &mut bytes,
+        Order::Little,
+        header,
+        end - FIXED_LEN,
+        body.len(),
+    )?;
     push_fields(&mut bytes, fields)?;
     align(&mut bytes, 8)?;
     bytes.extend_from_slice(body)?;

@@ -8,7 +8,8 @@ ghost use Rattle.message_value.specs.Value.{elements};
 ghost use Rattle.message_value.specs.Spelling.{elements_bytes, value_bytes};
 ghost use Rattle.message_build.specs.Words.{Appends, string_values};
 
-use crate::appending::{align, push_string, push_word};
+use crate::appending::{align, push_string, push_word, word_of};
+use message_value::Order;
 use std::alloc::AllocError;
 
 /// How many bytes the length of an array has.
@@ -19,21 +20,21 @@ fn push_elements(bytes: &mut Vec<u8>, strings: &[&str]) -> Result<(), AllocError
     ensures { Appends result bytes.old.items bytes.new.items (elements_bytes Little (length bytes.old.items) (basic 115) (string_values strings.now)) }
 {
     for string in strings {
-        push_string(bytes, string.as_bytes())?;
+        push_string(bytes, Order::Little, string.as_bytes())?;
     }
     Ok(())
 }
 
 /// Writes the four low bytes of a length over four bytes.
-fn set_word(bytes: &mut Vec<u8>, at: usize, n: usize)
+pub(crate) fn set_word(bytes: &mut Vec<u8>, at: usize, order: Order, n: usize)
     requires { at + 4 ≤ length bytes.old.items }
-    ensures { bytes.new.items ≡ take at bytes.old.items ++ (word_bytes Little n ++ drop (at + 4) bytes.old.items) }
+    ensures { bytes.new.items ≡ take at bytes.old.items ++ (word_bytes order n ++ drop (at + 4) bytes.old.items) }
 {
-    let low_first = n.to_le_bytes();
-    bytes[at] = low_first[0];
-    bytes[at + 1] = low_first[1];
-    bytes[at + 2] = low_first[2];
-    bytes[at + 3] = low_first[3];
+    let word = word_of(order, n);
+    bytes[at] = word[0];
+    bytes[at + 1] = word[1];
+    bytes[at + 2] = word[2];
+    bytes[at + 3] = word[3];
 }
 
 /// An array of strings as a value, with the zeros before it.
@@ -42,9 +43,9 @@ pub(crate) fn push_strings(bytes: &mut Vec<u8>, strings: &[&str]) -> Result<(), 
 {
     align(bytes, 4)?;
     let at = bytes.len();
-    push_word(bytes, 0)?;
+    push_word(bytes, Order::Little, 0)?;
     push_elements(bytes, strings)?;
     let len = bytes.len() - (at + LENGTH_LEN);
-    set_word(bytes, at, len);
+    set_word(bytes, at, Order::Little, len);
     Ok(())
 }

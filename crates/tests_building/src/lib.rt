@@ -9,3 +9,5 @@ mod refusals;
 mod refused;
 #[cfg(test)]
 mod signals;
+#[cfg(test)]
+mod stamps;

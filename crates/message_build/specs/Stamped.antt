@@ -1,0 +1,36 @@
+-- Messages stamped with their sender.
+use Rattle.std.specs.Prelude.{ℕ, Bool, not, ◌&&◌, ◌==◌, List, [], ◌∷◌, ◌++◌, filter, is_some, Result, Ok, Err}
+use Rattle.signature.specs.DataType.{basic}
+use Rattle.message_value.specs.Value.{text}
+use Rattle.message_view.specs.Header.{code_of}
+use Rattle.message_view.specs.Message.{Field, Message}
+use Rattle.message_view.specs.Valid.{Valid}
+use Rattle.message_build.specs.Building.{IsTooLarge}
+use Rattle.message_build.specs.declared.stamping.StampError.{StampError}
+use Rattle.message_build.specs.declared.stamping.StampError.TheVariants.{TooLarge, NoMemory}
+
+-- the field SENDER
+abbrev pub sender_field : List ℕ → Field
+sender_field sender = record { code = 7; type = basic 115; value = text sender }
+
+-- a field that has a meaning, and isn't SENDER
+abbrev pub is_kept : Field → Bool
+is_kept field = is_some (code_of field.code) && not (field.code == 7)
+
+-- The message with the known fields in their order without SENDER, then SENDER; all else is the same.
+abbrev pub stamped : Message → List ℕ → Message
+stamped m sender = record {
+  order = m.order;
+  kind = m.kind;
+  flags = m.flags;
+  serial = m.serial;
+  fields = filter is_kept m.fields ++ sender_field sender ∷ [];
+  types = m.types;
+  arguments = m.arguments;
+}
+
+-- Valid bytes of the stamped message; or its spelling is above the limits; or memory ran out.
+abbrev pub Stamps : Message → List ℕ → Result (List ℕ) StampError → Type 0
+Stamps m sender (Ok bytes) = Valid bytes (stamped m sender)
+Stamps m sender (Err TooLarge) = IsTooLarge (stamped m sender)
+Stamps m sender (Err NoMemory) = Unit {0}
