@@ -238,7 +238,12 @@ fn sender_names(rt: HostRuntime) -> Result<(), Fail> {
 }
 
 /// A text of so many bytes of one kind between two parts.
-fn filled(alloc: Global, front: &str, byte: char, count: usize) -> Result<String, AllocError> {
+pub(crate) fn filled(
+    alloc: Global,
+    front: &str,
+    byte: char,
+    count: usize,
+) -> Result<String, AllocError> {
     let mut text = String::from_str(alloc, front)?;
     for _ in 0..count {
         text.push(byte)?;

@@ -6,6 +6,8 @@ mod argument_samples;
 #[cfg(test)]
 mod arguments;
 #[cfg(test)]
+mod compiled;
+#[cfg(test)]
 mod equality;
 #[cfg(test)]
 mod keys;

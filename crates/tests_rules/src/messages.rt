@@ -1,5 +1,6 @@
 // Of which messages rules hold.
 
+use crate::compiled::matches;
 use crate::samples::{
     AT_EXAMPLE, AT_FOO, AT_FOO_BAR, AT_FOOBAR, S1, S1_OF_BUS, S1_OF_ONE, S1_TO_ONE,
 };
@@ -8,12 +9,18 @@ use message_view::View;
 use std::alloc::Global;
 use std::test::Fail;
 
-/// Whether a rule holds of a message, whose sender is or isn't the owner of the rule's sender name.
+/// Whether a rule holds of a message, whose sender is or isn't the owner of the rule's sender name: by the plain test
+/// and by the rule's program.
 pub(crate) fn holds_of(alloc: Global, text: &str, message: &str, owns: bool) -> Result<bool, Fail> {
     let rule = Rule::read(alloc, text)?;
     let bytes = hex::decode(alloc, message)?;
     let view = View::read(bytes.as_slice()).ok().ok_or("no message")?;
-    Ok(rule.holds(&view, owns))
+    let found = rule.holds(&view, owns);
+    if matches(alloc, &rule, &view, owns)? == found {
+        Ok(found)
+    } else {
+        Err("the rule's program says otherwise")?
+    }
 }
 
 /// Whether a rule holds of a message in both orders, whatever the sender owns.
