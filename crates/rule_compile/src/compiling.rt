@@ -1,4 +1,4 @@
-// What compiles rules.
+// Rules as accepted programs.
 ghost use Rattle.std.specs.Prelude.{◌≡◌, IfOk, IfErr};
 ghost use Rattle.bpf_code.specs.Program.{WellFormed};
 ghost use Rattle.rule_compile.specs.Compiled.{IsSlotOf, IsCompiled, IsRefusal};
@@ -23,8 +23,10 @@ fn accepted(program: Vec<Ins>) -> Verified
     }
 }
 
-/// The program of a rule, for images of edition 2: its verdict is nonzero exactly where the rule holds of the message.
-/// A rule that asks for an owned name as the sender has a slot, whose bit in the image tells of it.
+/// The program of a rule, for images of edition 2: its verdict is nonzero exactly where the rule holds of the message
+/// (D-Bus Specification, "Match Rules"). A rule that asks for an owned name as the sender has a slot, whose bit in the
+/// image tells whether the sender owns the name. It is `TooLong` only where the rule weighs more than 4,096, and
+/// `NoMemory` where memory was refused.
 pub fn compile(alloc: Global, rule: &Rule, slot: Option<u16>) -> Result<Verified, CompileError>
     requires { IsSlotOf slot rule.now }
     ensures compiled { IfOk result (λ program. IsCompiled rule.now slot program) }

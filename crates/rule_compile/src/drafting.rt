@@ -25,7 +25,7 @@ fn labels_of(alloc: Global, draft: &mut Draft, count: usize) -> Result<Vec<Label
     Ok(labels)
 }
 
-/// Adds the line of an item, at a place that isn't the last one of a jump.
+/// Adds the line of the item at a place, whose jumps go to places behind it.
 fn add_item(draft: &mut Draft, labels: &[Label], place: usize, item: Item) -> Result<(), LowerError>
     requires labels { AreLabels labels.now (length draft.old.bound) }
     requires inside { (behind : ℕ) × (place + 1 + behind ≡ length labels.now) × IsInside behind item }
