@@ -1,5 +1,5 @@
 -- A set of slots that has none is 32 words of 0.
-use Rattle.std.proofs.Common.{◌≡◌, ℕ, ◌+◌, ◌*◌, ◌/◌, ◌%◌, ◌^◌, ◌<◌, Bool, true, false, List, [], ◌∷◌, length, get_or, replicate, inl, inr, refl, sym, ap, ◌∙◌, arith, w32, eqb}
+use Rattle.std.proofs.Common.{◌≡◌, ℕ, suc, ◌+◌, ◌*◌, ◌/◌, ◌%◌, ◌^◌, ◌<◌, Bool, true, false, List, [], ◌∷◌, length, get_or, replicate, inl, inr, refl, sym, ap, ◌∙◌, arith, w32, eqb}
 use Rattle.std.specs.Int.{bit_at, trailing_zeros}
 use Rattle.std.proofs.lemmas.Bool.{cases_lt, eq-eqb}
 use Rattle.std.proofs.lemmas.Nat.Bits.{bit_at-trailing_zeros}
@@ -23,7 +23,7 @@ zeros : (words : List ℕ) → ((i : ℕ) → get_or words i 0 ≡ 0) → words 
 zeros [] none = refl
 zeros (word ∷ words) none =
     let first : word ≡ 0 = none 0 in
-    let rest = zeros words (λ i. none (i + 1)) in
+    let rest = zeros words (λ i. none (suc i)) in
     cc
 
 word_of_slots : (slots : List ℕ) → ((slot : ℕ) → has_slot slots slot ≡ false) → (i j : ℕ) → j < 32 → eqb (bit_at (get_or slots i 0) j) 1 ≡ false
