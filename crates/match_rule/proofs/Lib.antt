@@ -7,6 +7,8 @@ pub mod KeptParts
 pub mod Spelled
 pub mod Found
 pub mod OneSender
+pub mod SmallNumbers
+pub mod ValueBytes
 pub mod ReadRules
 pub mod Namespaces
 pub mod TextArgs

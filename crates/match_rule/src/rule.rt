@@ -20,19 +20,22 @@ pub struct Rule {
 }
 
 impl Model for Rule {
-    ghost use Rattle.std.specs.Prelude.{◌≤◌, ◌≡◌, true};
+    ghost use Rattle.std.specs.Prelude.{◌≤◌, ◌≡◌, true, All};
+    ghost use Rattle.message_value.specs.Words.{AreBytes};
+    ghost use Rattle.match_rule.specs.Condition.{value_of};
     ghost use Rattle.match_rule.specs.RuleTree.{RuleTree, weight_of};
-    ghost use Rattle.match_rule.specs.Parts.{has_one_sender};
+    ghost use Rattle.match_rule.specs.Parts.{has_one_sender, have_small_numbers};
 
     ghost Value = { RuleTree };
 
     ghost view = { λ r. record { conditions = r.conditions.items; eavesdrops = r.eavesdrops } };
 
-    ghost invariant = { λ r. weight_of (record { conditions = r.conditions.items; eavesdrops = r.eavesdrops }) ≤ 41992 × (has_one_sender r.conditions.items ≡ true) };
+    ghost invariant = { λ r. weight_of (record { conditions = r.conditions.items; eavesdrops = r.eavesdrops }) ≤ 41992 × (has_one_sender r.conditions.items ≡ true) × (have_small_numbers r.conditions.items ≡ true) × All (λ c. AreBytes (value_of c)) r.conditions.items };
 }
 
 impl Rule {
-    ghost use Rattle.std.specs.Prelude.{◌≡◌, ◌⊎◌, ◌↔◌, ℕ, Bool, List, IfOk, IfErr, Ok, Err, IsTrue, option_map};
+    ghost use Rattle.std.specs.Prelude.{◌≡◌, ◌⊎◌, ◌↔◌, ℕ, Bool, true, List, All, IfOk, IfErr, Ok, Err, IsTrue, option_map};
+    ghost use Rattle.message_value.specs.Words.{AreBytes};
     ghost use Rattle.message_view.specs.Message.{Message};
     ghost use Rattle.message_view.specs.Valid.{Valid};
     ghost use Rattle.match_rule.specs.declared.fault.RuleError.TheVariants.{NoMemory};
@@ -40,6 +43,8 @@ impl Rule {
     ghost use Rattle.match_rule.specs.Holds.{Holds, Agrees};
     ghost use Rattle.match_rule.specs.Grammar.{ReadsAs};
     ghost use Rattle.match_rule.specs.Reading.{Gives, rule_at};
+    ghost use Rattle.match_rule.specs.Condition.{value_of};
+    ghost use Rattle.match_rule.specs.Parts.{has_one_sender, have_small_numbers};
 
     /// Reads a rule.
     pub fn read(alloc: Global, text: &str) -> Result<Rule, RuleError>
@@ -62,7 +67,13 @@ impl Rule {
 
     /// Its conditions, in the order of the text.
     pub fn conditions(&self) -> &[Condition]
-        ensures { result.now ≡ self.now.conditions }
+        ensures conditions { result.now ≡ self.now.conditions }
+        // An argument has a number of at most 63.
+        ensures numbers { have_small_numbers self.now.conditions ≡ true }
+        // At most one asks for a sender.
+        ensures one_sender { has_one_sender self.now.conditions ≡ true }
+        // Each byte of a value is below 256.
+        ensures bytes { All (λ c. AreBytes (value_of c)) self.now.conditions }
     {
         &self.conditions
     }

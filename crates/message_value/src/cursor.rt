@@ -78,7 +78,7 @@ impl<'a> Cursor<'a> {
     }
 
     /// Where it stands, in four bytes.
-    pub(crate) fn place_word(&self) -> u32
+    pub fn place_word(&self) -> u32
         ensures place { result ≡ self.now.place }
         ensures bound { result ≤ 134217728 }
     {

@@ -1,5 +1,5 @@
 -- A message behind its fixed part, by the slices that the code reads.
-use Rattle.std.proofs.Common.{◌≡◌, ℕ, ◌+◌, ◌-◌, List, [], length, take, drop, Some, None, Result, Ok, Err, refl, sym, ap, ◌∙◌, arith}
+use Rattle.std.proofs.Common.{◌≡◌, ℕ, ◌+◌, ◌-◌, List, [], length, take, drop, Some, None, Result, Ok, Err, refl, sym, ap, subst, ◌∙◌, arith}
 use Rattle.std.proofs.lemmas.List.{drop-drop, length-drop}
 use Rattle.message_value.specs.declared.order.Order.{Order}
 use Rattle.message_value.specs.declared.fault.MsgError.{MsgError}
@@ -10,11 +10,11 @@ use Rattle.message_value.specs.Words.{Gives}
 use Rattle.message_view.specs.declared.fields.Fields.{Fields}
 use Rattle.message_view.specs.declared.fixed.Fixed.{Fixed}
 use Rattle.message_view.specs.Message.{Field}
-use Rattle.message_view.specs.Slots.{slots_of}
+use Rattle.message_view.specs.Slots.{slots_of, AreExtents}
 use Rattle.message_view.specs.Spelling.{body_place}
 use Rattle.message_view.specs.Fixed.{order_in, fields_len, whole_len}
 use Rattle.message_view.specs.Reading.{header_fault, header_padding, types_in, arguments_at, in_body, body_at, message_of, fields_of, fields_from, framed_message}
-use Rattle.message_view.specs.Words.{body_of, IsFixed, shown}
+use Rattle.message_view.specs.Words.{body_of, IsFixed, shown, lying}
 
 -- what a reader of the fields was given, by what it answered
 gave_fault : (fault : MsgError) (whole : Result (List Field) MsgError) → Gives {X = Fields} shown slots_of (Err fault) whole → whole ≡ Err fault
@@ -89,3 +89,7 @@ unfolding framed_message
 body_passes fixed fields bytes cursor found is header place passed =
     let arguments : arguments_at (order_in bytes) (types_in header.front) (body_at bytes) ≡ Ok found = ap (λ (o : Order). arguments_at o (types_in header.front) (body_at bytes)) (sym is.order) ∙ ap (arguments_at fixed.order (types_in header.front)) (sym place) ∙ passed in
     rw (is.kind, header.read, header.passes, arguments) refl
+
+-- where its texts lie
+pub extents_there : (fixed : Fixed) (fields : Fields) (bytes : List ℕ) (front : List Field) → IsFixed fixed bytes → AreExtents fixed.order 16 front (lying fields) → AreExtents (order_in bytes) 16 front (lying fields)
+extents_there fixed fields bytes front is are = subst (λ (o : Order). AreExtents o 16 front (lying fields)) is.order are

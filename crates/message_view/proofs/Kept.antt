@@ -1,5 +1,5 @@
 -- What the slots of the known fields keep.
-use Rattle.std.proofs.Common.{◌≡◌, ℕ, ◌++◌, [], ◌∷◌, Bool, true, false, cond, eqb, List, Option, Some, None, Result, Ok, Err, map, refl, sym, ap, ◌∙◌}
+use Rattle.std.proofs.Common.{◌≡◌, ℕ, ◌++◌, [], ◌∷◌, Bool, true, false, cond, eqb, List, Option, Some, None, Ok, Err, map, refl, sym, ap, ◌∙◌}
 use Rattle.std.specs.Prelude.{◌==◌, option_map, slice_set, slice_index_or}
 use Rattle.std.proofs.lemmas.Bool.{eq-eqb, ne_eqb}
 use Rattle.std.proofs.Math.ListN.{get_or-map, set}
@@ -9,7 +9,6 @@ use Rattle.message_value.specs.declared.order.Order.{Order}
 use Rattle.message_value.specs.declared.fault.MsgError.{MsgError}
 use Rattle.message_value.specs.Value.{Value}
 use Rattle.message_value.specs.Reading.{At}
-use Rattle.message_value.specs.Words.{Checks}
 use Rattle.message_view.specs.declared.content.Content.{Content}
 use Rattle.message_view.specs.declared.field.FieldCode.{FieldCode}
 use Rattle.message_view.specs.declared.field.FieldCode.TheVariants as codes
@@ -17,7 +16,7 @@ use Rattle.message_view.specs.Header.{code_byte, code_of, type_code}
 use Rattle.message_view.specs.Message.{Field, field_with}
 use Rattle.message_view.specs.Reading.{code_at, content_at, field_at}
 use Rattle.message_view.specs.Slots.{Slots, slot_of, slots_of}
-use Rattle.message_view.specs.Words.{value_of, KeepsNext}
+use Rattle.message_view.specs.Words.{value_of}
 use Rattle.message_view.proofs.ReadFields.{code_byte-code_of, once_at, field_of, code_takes}
 
 -- a slot shows its value
@@ -85,28 +84,29 @@ slots_same front field unknown =
 -- a known field that was read, with the slots behind it
 pub kept_next : (order : Order) (front : List Field) (old middle behind : At) (byte : ℕ) (code : FieldCode) (value : Value) (slots kept : Slots) → slots ≡ slots_of front → kept ≡ slice_set slots (slot_of code) (Some value)
     → Some code ≡ code_of byte → code_at front old ≡ Ok (byte, middle) → content_at order (Some code) middle ≡ Ok ((basic (type_code code), value), behind)
-    → (field : Field) × (field_at order front old ≡ Ok (field, behind)) × (kept ≡ slots_of (front ++ field ∷ []))
+    → (field_at order front old ≡ Ok (field_of (code_byte code) (basic (type_code code)) value, behind)) × (kept ≡ slots_of (front ++ field_of (code_byte code) (basic (type_code code)) value ∷ []))
 unfolding field_at
 kept_next order front old middle behind byte code value slots kept is put named coded valued =
     let byte_is : code_byte code ≡ byte = code_byte-code_of byte code (sym named) in
     let content : content_at order (code_of byte) middle ≡ Ok ((basic (type_code code), value), behind) = rw (← named) valued in
     let once : field_with (code_byte code) front ≡ None = ap (λ (k : ℕ). field_with k front) byte_is ∙ once_at (code_of byte) byte front code (code_takes front old (byte, middle) coded).3 (sym named) in (
-      field_of (code_byte code) (basic (type_code code)) value,
       rw (coded, content) (ap (λ (k : ℕ). Ok (field_of k (basic (type_code code)) value, behind)) (sym byte_is)),
       put ∙ rw is (slots_more front code (basic (type_code code)) value once),
     )
 
--- what a reader of a field's content answers, where nothing is known of the field
-pub passed_next : {X : Type 0} (order : Order) (front : List Field) (old middle behind : At) (byte : ℕ) (result : Result X MsgError) (slots : Slots) → slots ≡ slots_of front
-    → None ≡ code_of byte → code_at front old ≡ Ok (byte, middle) → Checks result behind (content_at order None middle)
-    → KeepsNext result slots behind front (field_at order front old)
+-- a field of which nothing is known
+pub passed_next : (order : Order) (front : List Field) (old middle behind : At) (byte : ℕ) (slots : Slots) (type : DataType) (value : Value) → slots ≡ slots_of front
+    → None ≡ code_of byte → code_at front old ≡ Ok (byte, middle) → content_at order None middle ≡ Ok ((type, value), behind)
+    → (field_at order front old ≡ Ok (field_of byte type value, behind)) × (slots ≡ slots_of (front ++ field_of byte type value ∷ []))
 unfolding field_at
-passed_next order front old middle behind byte (Ok x) slots is unknown coded checks =
-    let content : content_at order (code_of byte) middle ≡ Ok (checks.0, behind) = rw (← unknown) checks.1 in
-    let field = field_of byte checks.0.0 checks.0.1 in
-    (field, rw (coded, content) refl, is ∙ slots_same front field (sym unknown))
-passed_next order front old middle behind byte (Err fault) slots is unknown coded checks =
-    let content : content_at order (code_of byte) middle ≡ Err fault = rw (← unknown) checks in
+passed_next order front old middle behind byte slots type value is unknown coded passed =
+    let content : content_at order (code_of byte) middle ≡ Ok ((type, value), behind) = rw (← unknown) passed in
+    (rw (coded, content) refl, is ∙ slots_same front (field_of byte type value) (sym unknown))
+
+pub passed_fault : (order : Order) (front : List Field) (old middle : At) (byte : ℕ) (fault : MsgError) → None ≡ code_of byte → code_at front old ≡ Ok (byte, middle) → content_at order None middle ≡ Err fault → field_at order front old ≡ Err fault
+unfolding field_at
+passed_fault order front old middle byte fault unknown coded failed =
+    let content : content_at order (code_of byte) middle ≡ Err fault = rw (← unknown) failed in
     rw (coded, content) refl
 
 pub no_code : (order : Order) (front : List Field) (old : At) (fault : MsgError) → code_at front old ≡ Err fault → field_at order front old ≡ Err fault

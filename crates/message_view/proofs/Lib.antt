@@ -8,6 +8,8 @@ pub mod BodyTypes
 pub mod OneMessage
 pub mod FrontMessage
 pub mod Kept
+pub mod TextPlaces
+pub mod KeptExtents
 pub mod FieldContents
 pub mod Loop
 pub mod Framed

@@ -1,28 +1,30 @@
 -- The loop over the array of fields: what is kept so far, and what is left to read.
-use Rattle.std.proofs.Common.{◌≡◌, ℕ, zero, suc, ◌<◌, ◌≤◌, true, false, List, [], ◌∷◌, ◌++◌, length, Result, Ok, Err, refl, sym, ◌∙◌, arith}
+use Rattle.std.proofs.Common.{◌≡◌, ℕ, zero, suc, ◌<◌, ◌≤◌, true, false, List, [], ◌∷◌, ◌++◌, length, Result, Ok, Err, refl, sym, subst, ◌∙◌, arith}
 use Rattle.std.specs.Prelude.{◌==◌}
 use Rattle.std.proofs.lemmas.Bool.{eq-eqb}
 use Rattle.message_value.specs.declared.order.Order.{Order}
 use Rattle.message_value.specs.declared.fault.MsgError.{MsgError}
 use Rattle.message_view.specs.declared.fields.Fields.{Fields}
 use Rattle.message_view.specs.Message.{Field}
-use Rattle.message_view.specs.Slots.{Slots, no_slots, slots_of}
+use Rattle.message_view.specs.Slots.{no_slots, no_extents, slots_of, AreExtents}
 use Rattle.message_value.specs.Reading.{At, ◌>>=◌}
-use Rattle.message_value.specs.Words.{Gives}
+use Rattle.message_value.specs.Words.{AreBytes, Gives}
 use Rattle.message_view.specs.Reading.{field_at, fields_from}
-use Rattle.message_view.specs.Words.{shown}
+use Rattle.message_view.specs.Words.{shown, lying, IsFront}
+use Rattle.message_value.proofs.OkSteps.{ok_is}
 use Rattle.message_view.proofs.FieldTurns.{field_shorter}
+use Rattle.message_view.proofs.KeptExtents.{front_none}
 
--- The slots are those of the fields in front, and reading goes on behind them to what the whole array reads as.
-pub record SoFar (order : Order) (slots : Slots) (at : At) (whole : Result (List Field) MsgError) : Type 0 where
+-- What is kept is that of the fields in front, and reading goes on behind them to what the whole array reads as.
+pub record SoFar (order : Order) (start : ℕ) (fields : Fields) (at : At) (whole : Result (List Field) MsgError) : Type 0 where
   pub front : List Field
   pub turns : ℕ
   pub enough : length at.rest ≤ turns
-  pub kept : slots ≡ slots_of front
+  pub is : IsFront order start front fields at
   pub same : fields_from turns order front at ≡ whole
 
-pub at_start : (order : Order) (slots : Slots) (at : At) → slots ≡ no_slots → SoFar order slots at (fields_from (length at.rest) order [] at)
-at_start order slots at none = record { front = []; turns = length at.rest; enough = omega arith; kept = none; same = refl }
+pub at_start : (order : Order) (fields : Fields) (at : At) → shown fields ≡ no_slots → lying fields ≡ no_extents → AreBytes at.rest → SoFar order at.place fields at (fields_from (length at.rest) order [] at)
+at_start order fields at shows lie fits = record { front = []; turns = length at.rest; enough = omega arith; is = front_none order at.place fields at shows lie fits refl; same = refl }
 
 -- one turn, where bytes are left
 turn : (turns : ℕ) (order : Order) (front : List Field) (at : At) → length at.rest ≤ turns → (length at.rest == 0) ≡ false
@@ -30,17 +32,17 @@ turn : (turns : ℕ) (order : Order) (front : List Field) (at : At) → length a
 turn zero order front at enough some = absurd (let none : (length at.rest == 0) ≡ true = eq-eqb _ _ (omega arith) in cc)
 turn (suc before) order front at enough some = (before, refl, rw some refl)
 
-pub goes_on : (order : Order) (slots after : Slots) (at behind : At) (whole : Result (List Field) MsgError) (so_far : SoFar order slots at whole) → (length at.rest == 0) ≡ false
-    → (field : Field) × (field_at order so_far.front at ≡ Ok (field, behind)) × (after ≡ slots_of (so_far.front ++ field ∷ [])) → SoFar order after behind whole × (length behind.rest < length at.rest)
-goes_on order slots after at behind whole so_far some next =
+pub goes_on : (order : Order) (start : ℕ) (fields after : Fields) (at behind : At) (whole : Result (List Field) MsgError) (so_far : SoFar order start fields at whole) → (length at.rest == 0) ≡ false
+    → (field : Field) × (field_at order so_far.front at ≡ Ok (field, behind)) × IsFront order start (so_far.front ++ field ∷ []) after behind → SoFar order start after behind whole × (length behind.rest < length at.rest)
+goes_on order start fields after at behind whole so_far some next =
     let t = turn so_far.turns order so_far.front at so_far.enough some in
     let fewer = field_shorter order so_far.front at (next.0, behind) next.1 in
     let same : fields_from t.0 order (so_far.front ++ next.0 ∷ []) behind ≡ whole = sym (t.2 ∙ rw next.1 refl) ∙ so_far.same in
-    (record { front = so_far.front ++ next.0 ∷ []; turns = t.0; enough = omega arith; kept = next.2; same = same }, fewer)
+    (record { front = so_far.front ++ next.0 ∷ []; turns = t.0; enough = omega arith; is = next.2; same = same }, fewer)
 
-pub stops : (order : Order) (slots : Slots) (at : At) (whole : Result (List Field) MsgError) (fault : MsgError) (so_far : SoFar order slots at whole) → (length at.rest == 0) ≡ false
+pub stops : (order : Order) (start : ℕ) (fields : Fields) (at : At) (whole : Result (List Field) MsgError) (fault : MsgError) (so_far : SoFar order start fields at whole) → (length at.rest == 0) ≡ false
     → field_at order so_far.front at ≡ Err fault → whole ≡ Err fault
-stops order slots at whole fault so_far some failed =
+stops order start fields at whole fault so_far some failed =
     let t = turn so_far.turns order so_far.front at so_far.enough some in
     sym so_far.same ∙ t.2 ∙ rw failed refl
 
@@ -48,7 +50,13 @@ empty_front : (turns : ℕ) (order : Order) (front : List Field) (at : At) → (
 empty_front zero order front at none = refl
 empty_front (suc turns) order front at none = rw none refl
 
-pub at_end : (order : Order) (fields : Fields) (at : At) (whole : Result (List Field) MsgError) → SoFar order (shown fields) at whole → (length at.rest == 0) ≡ true → Gives {X = Fields} shown slots_of (Ok fields) whole
-at_end order fields at whole so_far none =
-    let is : whole ≡ Ok so_far.front = sym so_far.same ∙ empty_front so_far.turns order so_far.front at none in
-    rw is so_far.kept
+all_front : (order : Order) (start : ℕ) (fields : Fields) (at : At) (whole : Result (List Field) MsgError) (so_far : SoFar order start fields at whole) → (length at.rest == 0) ≡ true → whole ≡ Ok so_far.front
+all_front order start fields at whole so_far none = sym so_far.same ∙ empty_front so_far.turns order so_far.front at none
+
+pub at_end : (order : Order) (start : ℕ) (fields : Fields) (at : At) (whole : Result (List Field) MsgError) → SoFar order start fields at whole → (length at.rest == 0) ≡ true → Gives {X = Fields} shown slots_of (Ok fields) whole
+at_end order start fields at whole so_far none = rw (all_front order start fields at whole so_far none) so_far.is.shows
+
+pub extents_end : (order : Order) (start : ℕ) (fields : Fields) (at : At) (whole : Result (List Field) MsgError) (front : List Field) → SoFar order start fields at whole → (length at.rest == 0) ≡ true → whole ≡ Ok front → AreExtents order start front (lying fields)
+extents_end order start fields at whole front so_far none is =
+    let same : so_far.front ≡ front = ok_is so_far.front front (sym (all_front order start fields at whole so_far none) ∙ is) in
+    subst (λ (x : List Field). AreExtents order start x (lying fields)) same so_far.is.lie

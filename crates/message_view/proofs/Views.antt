@@ -1,5 +1,5 @@
 -- What a view keeps is its message's.
-use Rattle.std.proofs.Common.{◌≡◌, ℕ, ◌+◌, ◌-◌, ◌<◌, ◌≤◌, List, length, map, get_or, Some, None, Result, Ok, Err, false, ltb, refl, sym, ap, ◌∙◌, arith}
+use Rattle.std.proofs.Common.{◌≡◌, ℕ, ◌+◌, ◌-◌, ◌<◌, ◌≤◌, List, length, map, get_or, Option, Some, None, Result, Ok, Err, false, ltb, refl, sym, ap, ◌∙◌, arith}
 use Rattle.std.specs.Prelude.{slice_index_or, IfOk, IsOk}
 use Rattle.std.proofs.Math.ListN.{get_or-map}
 use Rattle.std.proofs.lemmas.Bool.{lt-ltb, le-ltb}
@@ -20,8 +20,13 @@ use Rattle.message_value.specs.Arguments.{Argument, arguments_from}
 use Rattle.message_view.specs.Spelling.{body_place, header_bytes, body_bytes, arguments_of}
 use Rattle.message_view.specs.Fixed.{fields_len, whole_len, framing}
 use Rattle.message_view.specs.Reading.{in_body, body_at, message_of, framed_message, message_at}
-use Rattle.message_view.specs.Slots.{Slots, Kept, kept_of, slots_of}
-use Rattle.message_view.specs.Words.{body_of, IsFixed, IsKept, ReadsFramed, ReadsView, shown}
+use Rattle.message_view.specs.Slots.{Slots, Extents, text_fields, extent_in, extents_in, AreExtents, Kept, kept_of, slots_of}
+use Rattle.message_view.specs.Places.{extent_of}
+use Rattle.message_view.specs.declared.kind.Kind.{Kind}
+use Rattle.message_view.specs.declared.extent.Extent.{Extent}
+use Rattle.message_view.specs.declared.extent.TextField.{TextField}
+use Rattle.message_view.specs.declared.extent.TextField.TheVariants as names
+use Rattle.message_view.specs.Words.{body_of, IsFixed, IsKept, ReadsFramed, ReadsView, shown, lying}
 use Rattle.message_view.proofs.Framed.{cursor_is}
 use Rattle.message_view.proofs.OneMessage.{valid_lies, valid_reads, reads_valid, message_whole, members_read, fault_invalid}
 
@@ -58,15 +63,21 @@ whole_framed bytes len is len_is low high =
 
 -- ---- what is kept
 
+abbrev kept_like : Order → Kind → ℕ → ℕ → Slots → List (Option Extent) → Kept
+kept_like order kind flags serial slots extents = record { order = order; kind = kind; flags = flags; serial = serial; texts = map text_in slots; numbers = map number_in slots; extents = extents }
+
+extents_are : (m : Message) (extents : Extents) → AreExtents m.order 16 m.fields extents → extents_in extents ≡ map (λ field. extent_of field m) text_fields
+extents_are m extents are = cc (are names.Path, are names.Interface, are names.Member, are names.ErrorName, are names.Destination, are names.Sender)
+
 -- of a message that was read
 pub kept_first : (fixed : Fixed) (sections : Sections) (bytes : List ℕ) (read : Result Message MsgError) → IsFixed fixed bytes → message_at bytes ≡ read → ReadsFramed (Ok sections) fixed.kind bytes read
-    → IsKept bytes sections.body.now sections.signature (record { order = fixed.order; kind = fixed.kind; flags = fixed.flags; serial = fixed.serial; texts = map text_in (shown sections.fields); numbers = map number_in (shown sections.fields) })
+    → IsKept bytes sections.body.now sections.signature (kept_like fixed.order fixed.kind fixed.flags fixed.serial (shown sections.fields) (extents_in (lying sections.fields)))
 kept_first fixed sections bytes read is same found =
     let m = message_of bytes fixed.kind found.0 found.1 in
     record {
       message = m;
       read = same ∙ found.2;
-      is = rw (is.order, is.flags, is.serial, found.3) refl;
+      is = ap (kept_like fixed.order fixed.kind fixed.flags fixed.serial (shown sections.fields)) (extents_are m (lying sections.fields) found.6) ∙ rw (is.order, is.flags, is.serial, found.3) refl;
       typed = found.4;
       behind = found.5;
     }
@@ -89,6 +100,14 @@ text_kept xs ys i same = sym (get_or-map text_in xs i None) ∙ ap (λ texts. ge
 
 pub number_kept : (xs ys : Slots) (i : ℕ) → map number_in xs ≡ map number_in ys → number_in (slice_index_or xs i None) ≡ number_in (slice_index_or ys i None)
 number_kept xs ys i same = sym (get_or-map number_in xs i None) ∙ ap (λ numbers. get_or numbers i None) same ∙ get_or-map number_in ys i None
+
+pub extent_kept : (extents : Extents) (m : Message) (field : TextField) → extents_in extents ≡ map (λ field. extent_of field m) text_fields → extent_in extents field ≡ extent_of field m
+extent_kept extents m names.Path same = ap (λ (xs : List (Option Extent)). get_or xs 0 None) same
+extent_kept extents m names.Interface same = ap (λ (xs : List (Option Extent)). get_or xs 1 None) same
+extent_kept extents m names.Member same = ap (λ (xs : List (Option Extent)). get_or xs 2 None) same
+extent_kept extents m names.ErrorName same = ap (λ (xs : List (Option Extent)). get_or xs 3 None) same
+extent_kept extents m names.Destination same = ap (λ (xs : List (Option Extent)). get_or xs 4 None) same
+extent_kept extents m names.Sender same = ap (λ (xs : List (Option Extent)). get_or xs 5 None) same
 
 -- ---- what reading found
 

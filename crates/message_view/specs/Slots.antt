@@ -1,11 +1,15 @@
 -- The known fields in the order of their codes.
-use Rattle.std.specs.Prelude.{ℕ, List, [], ◌∷◌, map, Option, None}
+use Rattle.std.specs.Prelude.{◌≡◌, ℕ, List, [], ◌∷◌, map, slice_index_or, Option, None}
 use Rattle.message_value.specs.declared.order.Order.{Order}
 use Rattle.message_view.specs.declared.kind.Kind.{Kind}
 use Rattle.message_view.specs.declared.field.FieldCode.{FieldCode}
 use Rattle.message_view.specs.declared.field.FieldCode.TheVariants.{Path, Interface, Member, ErrorName, ReplySerial, Destination, Sender, Signature, UnixFds}
 use Rattle.message_value.specs.Value.{Value}
 use Rattle.message_view.specs.Message.{Field, field_with, text_in, number_in, Message}
+use Rattle.message_view.specs.declared.extent.Extent.{Extent}
+use Rattle.message_view.specs.declared.extent.TextField.{TextField}
+use Rattle.message_view.specs.declared.extent.TextField.TheVariants as names
+use Rattle.message_view.specs.Places.{text_field_code, extent_from, extent_of}
 
 -- where a field's value is kept
 abbrev pub slot_of : FieldCode → ℕ
@@ -31,7 +35,38 @@ slots_of fields =
     field_with 1 fields ∷ field_with 2 fields ∷ field_with 3 fields ∷ field_with 4 fields ∷ field_with 5 fields
     ∷ field_with 6 fields ∷ field_with 7 fields ∷ field_with 8 fields ∷ field_with 9 fields ∷ []
 
--- what is kept of a message beside its bytes: the text or the number of each known field
+-- the field that a text field is
+abbrev pub named_code : TextField → FieldCode
+named_code names.Path = Path
+named_code names.Interface = Interface
+named_code names.Member = Member
+named_code names.ErrorName = ErrorName
+named_code names.Destination = Destination
+named_code names.Sender = Sender
+
+abbrev pub text_fields : List TextField
+text_fields = names.Path ∷ names.Interface ∷ names.Member ∷ names.ErrorName ∷ names.Destination ∷ names.Sender ∷ []
+
+-- the extents of the texts in their slots
+abbrev pub Extents : Type 0
+Extents = List (Option Extent)
+
+abbrev pub no_extents : Extents
+no_extents = None ∷ None ∷ None ∷ None ∷ None ∷ None ∷ None ∷ None ∷ None ∷ []
+
+-- where the text of a field lies
+abbrev pub extent_in : Extents → TextField → Option Extent
+extent_in extents field = slice_index_or extents (slot_of (named_code field)) None
+
+-- those of the fields that are texts
+abbrev pub extents_in : Extents → List (Option Extent)
+extents_in extents = map (extent_in extents) text_fields
+
+-- they are those of the fields from a place on
+abbrev pub AreExtents : Order → ℕ → List Field → Extents → Type 0
+AreExtents order place fields extents = (name : TextField) → extent_in extents name ≡ extent_from order place (text_field_code name) fields
+
+-- what is kept of a message beside its bytes: the text or the number of each known field, and where the texts lie
 pub record Kept : Type 0 where
   pub order : Order
   pub kind : Kind
@@ -39,7 +74,8 @@ pub record Kept : Type 0 where
   pub serial : ℕ
   pub texts : List (Option (List ℕ))
   pub numbers : List (Option ℕ)
+  pub extents : List (Option Extent)
 
 -- of a message that has these slots
 abbrev pub kept_of : Message → Slots → Kept
-kept_of m slots = record { order = m.order; kind = m.kind; flags = m.flags; serial = m.serial; texts = map text_in slots; numbers = map number_in slots }
+kept_of m slots = record { order = m.order; kind = m.kind; flags = m.flags; serial = m.serial; texts = map text_in slots; numbers = map number_in slots; extents = map (λ field. extent_of field m) text_fields }

@@ -1,12 +1,12 @@
 -- Words that the contracts of the readers use.
-use Rattle.std.specs.Prelude.{◌≡◌, ℕ, List, [], ◌∷◌, ◌++◌, length, drop, map, option_map, slice_index, ◌≤◌, Option, Some, None, Result, Ok, Err}
+use Rattle.std.specs.Prelude.{◌≡◌, ℕ, ◌+◌, ◌-◌, List, [], ◌∷◌, ◌++◌, length, drop, map, option_map, slice_index, ◌≤◌, Option, Some, None, Result, Ok, Err}
 use Rattle.signature.specs.DataType.{SigText}
 use Rattle.message_value.specs.declared.fault.MsgError.{MsgError}
 use Rattle.message_value.specs.declared.text.TextType.TheVariants as texts
 use Rattle.message_value.specs.Value.{Value, Values, number, text}
 use Rattle.message_value.specs.Fits.{max_array_len}
 use Rattle.message_value.specs.Reading.{At}
-use Rattle.message_value.specs.Words.{text_code}
+use Rattle.message_value.specs.Words.{text_code, AreBytes}
 use Rattle.message_view.specs.declared.kind.Kind.{Kind}
 use Rattle.message_view.specs.declared.fixed.Fixed.{Fixed}
 use Rattle.message_view.specs.declared.content.Content.{Content}
@@ -21,14 +21,29 @@ use Rattle.message_view.specs.Message.{Field, Message}
 use Rattle.message_view.specs.Header.{kind_of}
 use Rattle.message_view.specs.Fixed.{order_in, serial_in, fields_len, body_len, whole_len, framing}
 use Rattle.message_view.specs.Valid.{max_message_len}
-use Rattle.message_view.specs.Spelling.{fixed_len, body_place}
+use Rattle.message_view.specs.Spelling.{fixed_len, body_place, fields_bytes}
+use Rattle.message_value.specs.declared.order.Order.{Order}
 use Rattle.message_view.specs.Reading.{types_in, message_of, message_at}
-use Rattle.message_view.specs.Slots.{Slots, Kept, kept_of, slots_of}
+use Rattle.message_view.specs.Slots.{Slots, Extents, AreExtents, Kept, kept_of, slots_of}
+use Rattle.message_view.specs.declared.extent.Extent.{Extent}
 
 -- a field's content as the value that it is
 abbrev pub value_of : Content → Value
-value_of (Text t) = text t.now
+value_of (Text t extent) = text t.now
 value_of (Number n) = number n
+
+-- where its text lies, if it is one
+abbrev pub lies_in : Option Content → Option Extent
+lies_in (Some (Text t extent)) = Some extent
+lies_in _ = None
+
+-- where a text lies whose zero byte is the last one before a place
+abbrev pub extent_before : ℕ → Value → Option Extent
+extent_before behind (text bytes) = Some (record { place = behind - 1 - length bytes; len = length bytes })
+extent_before behind _ = None
+
+abbrev pub LiesBefore : ℕ → Content → Type 0
+LiesBefore behind content = lies_in (Some content) ≡ extent_before behind (value_of content)
 
 -- the bytes behind the header and its padding
 abbrev pub body_of : List ℕ → List ℕ
@@ -73,11 +88,22 @@ type_code_of types.Number = 117
 abbrev pub shown : Fields → Slots
 shown fields = map (option_map value_of) fields.slots
 
--- What a reader of the next field answers, and the slots that it leaves: reading gives one field behind
--- those in front.
-abbrev pub KeepsNext : {X : Type 0} → Result X MsgError → Slots → At → List Field → Result (Field × At) MsgError → Type 0
-KeepsNext (Ok x) slots behind front read = (field : Field) × (read ≡ Ok (field, behind)) × (slots ≡ slots_of (front ++ field ∷ []))
-KeepsNext (Err fault) slots behind front read = read ≡ Err fault
+-- where the texts lie that are kept of the known fields
+abbrev pub lying : Fields → Extents
+lying fields = map lies_in fields.slots
+
+-- what is kept is that of the fields in front, behind which reading stands
+pub record IsFront (order : Order) (start : ℕ) (front : List Field) (fields : Fields) (at : At) : Type 0 where
+  pub shows : shown fields ≡ slots_of front
+  pub lie : AreExtents order start front (lying fields)
+  pub fits : AreBytes at.rest
+  pub place : at.place ≡ start + length (fields_bytes order start front)
+
+-- What a reader of the next field answers, and what it then keeps: reading gives one field behind those in
+-- front.
+abbrev pub KeepsNext : {X : Type 0} → Result X MsgError → Order → ℕ → List Field → Fields → At → Result (Field × At) MsgError → Type 0
+KeepsNext (Ok x) order start front fields behind read = (field : Field) × (read ≡ Ok (field, behind)) × IsFront order start (front ++ field ∷ []) fields behind
+KeepsNext (Err fault) order start front fields behind read = read ≡ Err fault
 
 -- what a test of some bytes answers, whose value isn't kept
 abbrev pub Passes : {X Y : Type 0} → Result X MsgError → Result Y MsgError → Type 0
@@ -89,6 +115,7 @@ abbrev pub ReadsFramed : Result Sections MsgError → Kind → List ℕ → Resu
 ReadsFramed (Ok found) kind bytes read =
     (front : List Field) × (arguments : Values) × (read ≡ Ok (message_of bytes kind front arguments))
     × (shown found.fields ≡ slots_of front) × SigText (types_in front) found.signature × (found.body.now ≡ body_of bytes)
+    × AreExtents (order_in bytes) fixed_len front (lying found.fields)
 ReadsFramed (Err fault) kind bytes read = read ≡ Err fault
 
 -- what a reader of a view answers, whose value is its bytes

@@ -1,8 +1,10 @@
 // What a header field holds.
 
-/// The value of a known header field: a text or a number.
+use crate::extent::Extent;
+
+/// The value of a known header field: a text and where it lies, or a number.
 #[derive(Clone, Copy, Debug)]
 pub(crate) enum Content<'a> {
-    Text(&'a str),
+    Text(&'a str, Extent),
     Number(u32),
 }

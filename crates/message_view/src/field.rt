@@ -138,9 +138,9 @@ impl FieldCode {
         match content {
             Content::Number(number) if self.is_number_allowed(number) => None,
             Content::Number(_) => Some(self.number_fault()),
-            Content::Text(text) if !self.is_named_well(text) => Some(MsgError::BadName),
-            Content::Text(text) if self.is_reserved(text) => Some(MsgError::Reserved),
-            Content::Text(_) => None,
+            Content::Text(text, _) if !self.is_named_well(text) => Some(MsgError::BadName),
+            Content::Text(text, _) if self.is_reserved(text) => Some(MsgError::Reserved),
+            Content::Text(_, _) => None,
         }
     }
 }

@@ -1,18 +1,19 @@
 // The known fields of a header.
 
-ghost use Rattle.std.specs.Prelude.{◌≡◌, ℕ, ◌+◌, ◌<◌, ◌≤◌, List, [], length, Some, None, option_map, is_some, slice_index_or, slice_set};
+ghost use Rattle.std.specs.Prelude.{◌≡◌, ℕ, ◌+◌, ◌<◌, ◌≤◌, List, [], length, Some, None, option_map, is_some, slice_index_or, slice_set, IfOk, Ok};
 ghost use Rattle.signature.specs.DataType.{DataType, TypeText, SigText, basic};
 ghost use Rattle.signature.specs.Alignment.{alignment_of};
-ghost use Rattle.message_value.specs.Reading.{At, inside, value_at};
-ghost use Rattle.message_value.specs.Words.{Reads, Checks, Gives};
+ghost use Rattle.message_value.specs.Reading.{At, inside, text_value_at, value_at};
+ghost use Rattle.message_value.specs.Words.{Reads, Checks, Gives, text_code};
 ghost use Rattle.message_view.specs.Message.{Field, text_in, number_in, signature_in};
 ghost use Rattle.message_view.specs.Header.{code_byte, type_code, has_required};
 ghost use Rattle.message_view.specs.Valid.{levels_in_field};
-ghost use Rattle.message_view.specs.Slots.{slot_of, slots_of, no_slots};
+ghost use Rattle.message_view.specs.Slots.{slot_of, slots_of, no_slots, no_extents, AreExtents};
 ghost use Rattle.message_view.specs.Reading.{is_basic_of, content_at, code_fault, code_at, field_at, fields_from, types_in};
-ghost use Rattle.message_view.specs.Words.{value_of, type_code_of, shown, KeepsNext};
+ghost use Rattle.message_view.specs.Words.{value_of, type_code_of, shown, lies_in, lying, LiesBefore, IsFront, KeepsNext};
 
 use crate::content::Content;
+use crate::extent::Extent;
 use crate::field::{FieldCode, FieldType};
 use crate::kind::Kind;
 use message_value::{Cursor, MsgError, Order, TextType, check_value};
@@ -25,6 +26,19 @@ const LEVELS_IN_FIELD: usize = 63;
 #[derive(Drop)]
 pub(crate) struct Fields<'a> {
     pub(crate) slots: [Option<Content<'a>>; 9],
+}
+
+/// A text, and where it lies.
+fn read_text<'a>(
+    text_type: TextType,
+    cursor: &mut Cursor<'a>,
+    order: Order,
+) -> Result<Content<'a>, MsgError>
+    ensures read { Reads value_of result cursor.new (text_value_at order (text_code text_type) cursor.old) }
+    ensures lies { IfOk result (LiesBefore cursor.new.place) }
+{
+    let text = text_type.read_value(cursor, order)?;
+    Ok(Content::Text(text, Extent::before(text, cursor.place_word())))
 }
 
 impl FieldType {
@@ -58,14 +72,12 @@ impl FieldType {
     /// A value of this type, behind its padding.
     #[tactic(auto, unfolding(message_value::specs::Reading::value_by, message_value::specs::Reading::number_value_at, message_value::specs::Reading::word_at))]
     fn read_value<'a>(self, cursor: &mut Cursor<'a>, order: Order) -> Result<Content<'a>, MsgError>
-        ensures { Reads value_of result cursor.new (value_at levels_in_field order (basic (type_code_of self)) cursor.old) }
+        ensures read { Reads value_of result cursor.new (value_at levels_in_field order (basic (type_code_of self)) cursor.old) }
+        ensures lies { IfOk result (LiesBefore cursor.new.place) }
     {
         cursor.align(self.alignment())?;
         match self {
-            FieldType::Text(text) => {
-                let found = text.read_value(cursor, order)?;
-                Ok(Content::Text(found))
-            }
+            FieldType::Text(text_type) => read_text(text_type, cursor, order),
             FieldType::Number => {
                 let number = cursor.word(order)?;
                 Ok(Content::Number(number))
@@ -82,7 +94,8 @@ impl FieldCode {
         cursor: &mut Cursor<'a>,
         order: Order,
     ) -> Result<Content<'a>, MsgError>
-        ensures { Reads (λ content. (basic (type_code self), value_of content)) result cursor.new (content_at order (Some self) cursor.old) }
+        ensures read { Reads (λ content. (basic (type_code self), value_of content)) result cursor.new (content_at order (Some self) cursor.old) }
+        ensures lies { IfOk result (LiesBefore cursor.new.place) }
     {
         let value_type = cursor.signature()?;
         let field_type = self.field_type();
@@ -108,20 +121,23 @@ fn skip_content(cursor: &mut Cursor<'_>, order: Order) -> Result<(), MsgError>
 
 impl<'a> Fields<'a> {
     fn new() -> Self
-        ensures { shown result ≡ no_slots }
+        ensures shows { shown result ≡ no_slots }
+        ensures lie { lying result ≡ no_extents }
     {
         Fields { slots: [None; 9] }
     }
 
     /// What a field holds.
     fn get(&self, code: FieldCode) -> Option<Content<'a>>
-        ensures { option_map value_of result ≡ slice_index_or (shown self.now) (slot_of code) None }
+        ensures value { option_map value_of result ≡ slice_index_or (shown self.now) (slot_of code) None }
+        ensures extent { lies_in result ≡ slice_index_or (lying self.now) (slot_of code) None }
     {
         self.slots[code.slot()]
     }
 
     fn put(&mut self, code: FieldCode, content: Content<'a>)
-        ensures { shown self.new ≡ slice_set (shown self.old) (slot_of code) (Some (value_of content.entry)) }
+        ensures shows { shown self.new ≡ slice_set (shown self.old) (slot_of code) (Some (value_of content.entry)) }
+        ensures lie { lying self.new ≡ slice_set (lying self.old) (slot_of code) (lies_in (Some content.entry)) }
     {
         self.slots[code.slot()] = Some(content);
     }
@@ -141,7 +157,7 @@ impl<'a> Fields<'a> {
         ensures { option_map (λ text. text.now) result ≡ text_in (slice_index_or (shown self.now) (slot_of code) None) }
     {
         match self.get(code) {
-            Some(Content::Text(text)) => Some(text),
+            Some(Content::Text(text, _)) => Some(text),
             Some(Content::Number(_)) | None => None,
         }
     }
@@ -152,7 +168,17 @@ impl<'a> Fields<'a> {
     {
         match self.get(code) {
             Some(Content::Number(number)) => Some(number),
-            Some(Content::Text(_)) | None => None,
+            Some(Content::Text(_, _)) | None => None,
+        }
+    }
+
+    /// Where the text of a field lies.
+    pub(crate) fn extent(&self, code: FieldCode) -> Option<Extent>
+        ensures { result ≡ slice_index_or (lying self.now) (slot_of code) None }
+    {
+        match self.get(code) {
+            Some(Content::Text(_, extent)) => Some(extent),
+            Some(Content::Number(_)) | None => None,
         }
     }
 
@@ -201,7 +227,7 @@ impl<'a> Fields<'a> {
 
     /// The next field is kept, if it is known.
     fn read_next(&mut self, cursor: &mut Cursor<'a>, order: Order) -> Result<(), MsgError>
-        ensures { (front : List Field) → shown self.old ≡ slots_of front → KeepsNext result (shown self.new) cursor.new front (field_at order front cursor.old) }
+        ensures { (start : ℕ) (front : List Field) → IsFront order start front self.old cursor.old → KeepsNext result order start front self.new cursor.new (field_at order front cursor.old) }
     {
         let byte = self.next_code(cursor)?;
         let Some(code) = FieldCode::of(byte) else {
@@ -215,7 +241,8 @@ impl<'a> Fields<'a> {
     /// The fields that the array holds, which begins at a place of the message.
     pub(crate) fn read(order: Order, place: usize, bytes: &'a [u8]) -> Result<Fields<'a>, MsgError>
         requires { place + length bytes.now ≤ 134217728 }
-        ensures { Gives shown slots_of result (fields_from (length bytes.entry.now) order [] (inside place bytes.entry.now)) }
+        ensures read { Gives shown slots_of result (fields_from (length bytes.entry.now) order [] (inside place bytes.entry.now)) }
+        ensures lie { (front : List Field) → fields_from (length bytes.entry.now) order [] (inside place bytes.entry.now) ≡ Ok front → IfOk result (λ fields. AreExtents order place front (lying fields)) }
     {
         let mut fields = Fields::new();
         let mut cursor = Cursor::new(place, bytes, MsgError::ArrayLength);

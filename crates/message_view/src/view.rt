@@ -2,6 +2,7 @@
 
 ghost use Rattle.std.specs.Prelude.{◌≡◌, ℕ, List, length, Some, Ok};
 ghost use Rattle.signature.specs.DataType.{DataTypes, SigText};
+ghost use Rattle.message_value.specs.Words.{AreBytes};
 ghost use Rattle.message_view.specs.Message.{Message, Field};
 ghost use Rattle.message_view.specs.Valid.{Valid};
 ghost use Rattle.message_view.specs.Fixed.{whole_len};
@@ -9,6 +10,7 @@ ghost use Rattle.message_view.specs.Reading.{framed_message, header_fault, argum
 ghost use Rattle.message_view.specs.Slots.{slots_of};
 ghost use Rattle.message_view.specs.Words.{ReadsFixed, ReadsFramed, Passes, shown};
 
+use crate::extent::{Extent, TextField};
 use crate::field::FieldCode;
 use crate::fields::Fields;
 use crate::fixed::{FIXED_LEN, Fixed};
@@ -83,6 +85,11 @@ fn framed<'a>(fixed: &Fixed, bytes: &'a [u8]) -> Result<Sections<'a>, MsgError>
     })
 }
 
+/// The numbers of a slice of bytes are bytes.
+fn are_bytes(bytes: &[u8])
+    ensures { AreBytes bytes.now }
+{}
+
 /// A valid message, whose parts lie in the bytes that it was read from.
 #[derive(Drop)]
 pub struct View<'a> {
@@ -99,13 +106,14 @@ pub struct View<'a> {
 impl<'a> Model for View<'a> {
     ghost use Rattle.std.specs.Prelude.{ℕ, List, map};
     ghost use Rattle.message_view.specs.Message.{text_in, number_in};
-    ghost use Rattle.message_view.specs.Words.{IsKept, shown};
+    ghost use Rattle.message_view.specs.Slots.{extents_in};
+    ghost use Rattle.message_view.specs.Words.{IsKept, shown, lying};
 
     ghost Value = { List ℕ };
 
     ghost view = { λ v. v.bytes.now };
 
-    ghost invariant = { λ v. IsKept v.bytes.now v.body.now v.signature (record { order = v.order; kind = v.kind; flags = v.flags; serial = v.serial; texts = map text_in (shown v.fields); numbers = map number_in (shown v.fields) }) };
+    ghost invariant = { λ v. IsKept v.bytes.now v.body.now v.signature (record { order = v.order; kind = v.kind; flags = v.flags; serial = v.serial; texts = map text_in (shown v.fields); numbers = map number_in (shown v.fields); extents = extents_in (lying v.fields) }) };
 }
 
 impl<'a> View<'a> {
@@ -115,6 +123,7 @@ impl<'a> View<'a> {
     ghost use Rattle.message_view.specs.Reading.{body_at, message_at};
     ghost use Rattle.message_view.specs.Slots.{slot_of, slots_of};
     ghost use Rattle.message_view.specs.Spelling.{body_bytes, arguments_of};
+    ghost use Rattle.message_view.specs.Places.{extent_of};
     ghost use Rattle.message_view.specs.Words.{ReadsView};
 
     /// The message or the first fault, as reading gives it.
@@ -163,8 +172,11 @@ impl<'a> View<'a> {
 
     /// The bytes of the message.
     pub fn raw(&self) -> &'a [u8]
-        ensures { result.now ≡ self.now }
+        ensures value { result.now ≡ self.now }
+        // A view is always of a message.
+        ensures spells { (m : Message) × Valid self.now m }
     {
+        are_bytes(self.bytes);
         self.bytes
     }
 
@@ -251,6 +263,13 @@ impl<'a> View<'a> {
         ensures { (m : Message) → Valid self.now m → result ≡ reply_serial_of m }
     {
         self.fields.number(FieldCode::ReplySerial)
+    }
+
+    /// Where the text of a field lies, if the field is there.
+    pub fn extent(&self, field: TextField) -> Option<Extent>
+        ensures { (m : Message) → Valid self.now m → result ≡ extent_of field m }
+    {
+        self.fields.extent(field.code())
     }
 
     /// The bytes behind the header and its padding: the arguments, with the padding between them.

@@ -84,4 +84,3 @@ is_text at value rest =
 abbrev pub in_namespace : ℕ → ℕ → List ℕ → List Ins → List Ins
 in_namespace at separator value rest =
     has_len AtLeast (length value) at (is_there_if (length value == 0) at (index_text at (same_bytes 0 value (image_word (at + 4) ∷ settle Equal (length value) rest (indexed Byte (length value) ∷ want Equal separator rest)))))
-

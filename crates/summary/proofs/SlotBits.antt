@@ -4,7 +4,7 @@ use Rattle.std.proofs.lemmas.Bool.{eq-eqb, ne_eqb, cases_eq, cases_lt}
 use Rattle.std.proofs.lemmas.List.{get_or-set_same, get_or-set_other, get_or-replicate, get_or_past}
 use Rattle.std.proofs.lemmas.Nat.Bits.{bit_at_set_same, bit_at_set_other, bit_at-zero}
 use Rattle.std.proofs.Math.ListN.{length-replicate}
-use Rattle.summary.specs.Sets.{has_slot}
+use Rattle.summary.specs.Sets.{has_slot, IsSet}
 
 zero_at : (n i : ℕ) → ◌≡◌ {A = ℕ} (get_or (replicate n 0) i 0) 0
 zero_at n i =
@@ -46,3 +46,7 @@ one_more words slot other inside =
       | inl e ↦ rw (e, eq-eqb slot slot refl) (same_slot words slot inside)
       | inr ne ↦ rw (ne_eqb other slot ne) (other_slot words slot other inside ne)
     ]
+
+-- no slot at all
+pub zeros_set : (words : List ℕ) → words ≡ replicate 32 0 → IsSet words
+zeros_set words e = record { size = rw e refl; bits = λ i. rw (e, zero_at 32 i) (omega arith) }

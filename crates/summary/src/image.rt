@@ -1,8 +1,14 @@
 ghost use Rattle.std.specs.Prelude.{◌≡◌, ◌+◌, ◌<◌, ◌≤◌, ◌^◌, ◌++◌, length};
 ghost use Rattle.bpf_code.specs.Loads.{load_byte, load_half, load_word};
+ghost use Rattle.message_view.specs.Message.{Message};
+ghost use Rattle.message_view.specs.Valid.{Valid};
+ghost use Rattle.summary.specs.ImageBytes.{image_bytes};
 
+use crate::edition::Edition;
 use crate::joined;
-use crate::summary_bytes::Summary;
+use crate::slots::Slots;
+use crate::summary_bytes::{Summary, summarise};
+use message_view::View;
 use std::marker::Model;
 
 /// What a program reads: a summary and a message's bytes, side by side.
@@ -23,13 +29,15 @@ impl<'a> Model for Image<'a> {
 }
 
 impl<'a> Image<'a> {
-    /// A summary, and a message behind it.
-    pub(crate) fn joined(summary: Summary, message: &'a [u8]) -> Image<'a>
-        requires { length message.now ≤ 2 ^ 27 }
-        ensures { result ≡ summary ++ message.now }
+    /// The image of a message whose sender owns the names of these slots: its summary, and its bytes where they
+    /// lie. No memory is taken.
+    pub fn new(view: &View<'a>, owned: &Slots, edition: Edition) -> Image<'a>
+        ensures { (m : Message) → Valid view.now m → result ≡ image_bytes edition m owned.now }
     {
-        let _ = summary.bytes();
-        Image { summary, message }
+        Image {
+            summary: summarise(view, owned, edition),
+            message: view.raw(),
+        }
     }
 
     /// The number of bytes.

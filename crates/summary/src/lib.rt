@@ -6,11 +6,13 @@ mod edition;
 mod image;
 mod joined;
 mod laws;
+mod parts;
 mod slots;
 mod summary_bytes;
+mod words;
 
 pub use edition::Edition;
 pub use image::Image;
 pub use laws::image_shows_message;
 pub use slots::Slots;
-pub use summary_bytes::Summary;
+pub use summary_bytes::{Summary, summarise};

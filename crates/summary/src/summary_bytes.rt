@@ -1,50 +1,55 @@
-ghost use Rattle.std.specs.Prelude.{◌≡◌, ◌+◌, ◌≤◌, length, replicate};
-ghost use Rattle.summary.specs.Layout.{IsSize, size_of, with_word};
+ghost use Rattle.std.specs.Prelude.{◌≡◌, length};
+ghost use Rattle.message_view.specs.Message.{Message};
+ghost use Rattle.message_view.specs.Valid.{Valid};
+ghost use Rattle.summary.specs.Layout.{IsSize};
+ghost use Rattle.summary.specs.ImageBytes.{summary_bytes};
 
 use crate::edition::Edition;
+use crate::parts::{put_arguments, put_head, put_rest, put_texts};
+use crate::slots::Slots;
+use crate::words::Words;
+use message_view::View;
 use std::marker::Model;
 
 /// The summary of a message: words of four bytes, the highest first.
 #[derive(Drop)]
 pub struct Summary {
-    bytes: [u8; 976],
-    edition: Edition,
+    words: Words,
 }
 
 impl Model for Summary {
-    ghost use Rattle.std.specs.Prelude.{ℕ, List, take};
-    ghost use Rattle.summary.specs.Layout.{size_of};
+    ghost use Rattle.std.specs.Prelude.{ℕ, List, length};
+    ghost use Rattle.summary.specs.Layout.{IsSize};
 
     ghost Value = { List ℕ };
 
-    ghost view = { λ s. take (size_of s.edition) s.bytes };
+    ghost view = { λ s. s.words };
+
+    ghost invariant = { λ s. IsSize (length s.words) };
 }
 
 impl Summary {
-    /// A summary of zeros.
-    pub(crate) fn zeros(edition: Edition) -> Summary
-        ensures { result ≡ replicate (size_of edition) 0 }
-    {
-        Summary {
-            bytes: [0; 976],
-            edition,
-        }
-    }
-
-    /// Sets the word at a place.
-    pub(crate) fn set_word(&mut self, at: usize, value: u32)
-        requires { at + 4 ≤ length self.old }
-        ensures { self.new ≡ with_word self.old at value }
-    {
-        let bytes = &mut self.bytes;
-        bytes[at..at + 4].copy_from_slice(&value.to_be_bytes());
-    }
-
     /// The bytes.
     pub fn bytes(&self) -> &[u8]
         ensures value { result.now ≡ self.now }
         ensures size { IsSize (length self.now) }
     {
-        &self.bytes[..self.edition.size()]
+        self.words.bytes()
     }
+}
+
+/// Where the word with the number of arguments stands.
+const COUNT_PLACE: usize = 20;
+
+/// The summary of a message whose sender owns the names of these slots. No memory is taken.
+pub fn summarise(view: &View<'_>, owned: &Slots, edition: Edition) -> Summary
+    ensures { (m : Message) → Valid view.now m → result ≡ summary_bytes edition m owned.now }
+{
+    let mut words = Words::new();
+    put_head(&mut words, view, edition);
+    put_texts(&mut words, view, edition);
+    let count = put_arguments(&mut words, edition, view.args());
+    words.set(COUNT_PLACE, count as u32);
+    put_rest(&mut words, view, owned, edition);
+    Summary { words }
 }

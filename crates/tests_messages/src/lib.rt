@@ -11,6 +11,8 @@ mod bodies;
 #[cfg(test)]
 mod depths;
 #[cfg(test)]
+mod extents;
+#[cfg(test)]
 mod faults;
 #[cfg(test)]
 mod fields;

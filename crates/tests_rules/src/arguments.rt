@@ -5,7 +5,7 @@ use crate::argument_samples::{
     OBJECT_CC, OBJECT_ROOT, STRING_AA, STRING_AA_FOLDER, STRING_B, STRING_BB, STRING_BB_FOLDER,
     STRING_CC, STRING_CC_FOLDER, STRING_ROOT, THREE,
 };
-use crate::messages::{holds, holds_of};
+use crate::messages::holds;
 use std::alloc::{AllocError, Global};
 use std::test::Fail;
 
@@ -24,8 +24,7 @@ fn arg_path(rt: HostRuntime) -> Result<(), Fail> {
         (OBJECT_CC, true),
         (OBJECT_BB, false),
     ] {
-        let found = holds_of(rt.alloc(), "arg0path='/aa/bb/'", message, false)?;
-        assert_eq!(rt; found, want);
+        assert_eq!(rt; holds(rt.alloc(), "arg0path='/aa/bb/'", message)?, want);
     }
     Ok(())
 }
@@ -40,7 +39,7 @@ fn arg0_namespace(rt: HostRuntime) -> Result<(), Fail> {
         (OBJECT_BB, false),
     ] {
         let text = "arg0namespace='com.example.backend1'";
-        assert_eq!(rt; holds_of(rt.alloc(), text, message, false)?, want);
+        assert_eq!(rt; holds(rt.alloc(), text, message)?, want);
     }
     Ok(())
 }
@@ -70,23 +69,40 @@ fn argument_of_each_number(rt: HostRuntime) -> Result<(), Fail> {
     Ok(())
 }
 
-/// A message with so many strings `x` behind what stands before them.
-fn with_strings(alloc: Global, before: &str, count: usize) -> Result<String, AllocError> {
+/// A message with so many strings of these bytes, the last one without padding, behind what stands before them.
+fn with_strings(
+    alloc: Global,
+    before: &str,
+    string: &str,
+    count: usize,
+) -> Result<String, AllocError> {
     let mut message = String::from_str(alloc, before)?;
     for _ in 1..count {
-        message.push_str("0100000078000000")?;
+        message.push_str(string)?;
+        message.push_str("0000")?;
     }
-    message.push_str("010000007800")?;
+    message.push_str(string)?;
     Ok(message)
+}
+
+/// Whether a rule holds of a message with so many strings `x`, in both orders.
+fn holds_of_strings(
+    alloc: Global,
+    text: &str,
+    before: [&str; 2],
+    count: usize,
+) -> Result<bool, Fail> {
+    let little = with_strings(alloc, before[0], "010000007800", count)?;
+    let big = with_strings(alloc, before[1], "000000017800", count)?;
+    holds(alloc, text, [little.as_str(), big.as_str()])
 }
 
 #[test]
 fn sixty_four_arguments(rt: HostRuntime) -> Result<(), Fail> {
-    let message = with_strings(rt.alloc(), BEFORE_SIXTY_FOUR, 64)?;
+    let message = with_strings(rt.alloc(), BEFORE_SIXTY_FOUR[0], "010000007800", 64)?;
     assert_eq!(rt; message.len(), 2 * 646);
-    assert!(rt; holds_of(rt.alloc(), "arg63='x'", message.as_str(), false)?);
-    let fewer = with_strings(rt.alloc(), BEFORE_SIXTY_THREE, 63)?;
-    assert!(rt; holds_of(rt.alloc(), "arg62='x'", fewer.as_str(), false)?);
-    assert!(rt; !holds_of(rt.alloc(), "arg63='x'", fewer.as_str(), false)?);
+    assert!(rt; holds_of_strings(rt.alloc(), "arg63='x'", BEFORE_SIXTY_FOUR, 64)?);
+    assert!(rt; holds_of_strings(rt.alloc(), "arg62='x'", BEFORE_SIXTY_THREE, 63)?);
+    assert!(rt; !holds_of_strings(rt.alloc(), "arg63='x'", BEFORE_SIXTY_THREE, 63)?);
     Ok(())
 }

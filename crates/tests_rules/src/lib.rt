@@ -12,6 +12,8 @@ mod keys;
 #[cfg(test)]
 mod messages;
 #[cfg(test)]
+mod refusals;
+#[cfg(test)]
 mod samples;
 #[cfg(test)]
 mod texts;

@@ -1,6 +1,6 @@
-use Rattle.std.proofs.Common.{refl}
+use Rattle.std.proofs.Common.{refl, ◌∙◌}
 use Rattle.std.proofs.lemmas.Result.{err_from_is_err_and}
-use Rattle.message_view.proofs.Framed.{array_is, skipped_is, body_is, cursor_is, fields_fail, header_fails, header_passes, body_fails, body_passes}
+use Rattle.message_view.proofs.Framed.{array_is, skipped_is, body_is, cursor_is, fields_fail, header_fails, header_passes, body_fails, body_passes, extents_there}
 use Rattle.message_view.proofs.view.framed.Goals as goal
 
 pub returns-in_err-fields : goal.returns-in_err-fields
@@ -8,14 +8,14 @@ returns-in_err-fields c =
     let p = err_from_is_err_and c.from_residual.result c.from_residual.ensures.1 in
     let is = c.requires.fixed.1 in
     let array = array_is c.args.fixed.now c.args.bytes.now _ _ is c.split_at.ensures.back c.split_at-2.ensures.front c.split_at-2.ensures.front_len in
-    rw (p.1, p.2) (fields_fail c.args.fixed.now c.args.bytes.now _ _ is array c.in_err-fields.ensures)
+    rw (p.1, p.2) (fields_fail c.args.fixed.now c.args.bytes.now _ _ is array c.in_err-fields.ensures.read)
 
 pub returns-in-Some : goal.returns-in-Some
 returns-in-Some c =
     let is = c.requires.fixed.1 in
     let array = array_is c.args.fixed.now c.args.bytes.now _ _ is c.split_at.ensures.back c.split_at-2.ensures.front c.split_at-2.ensures.front_len in
     let skip = skipped_is c.args.fixed.now c.args.bytes.now _ _ _ _ is c.split_at.ensures.back c.split_at-2.ensures.back c.padding.ensures c.split_at-3.ensures.front in
-    header_fails c.args.fixed.now c.in_ok-fields.fields c.args.bytes.now _ _ _ is array c.in_ok-fields.ensures skip (λ front same. c.in-Some.ensures front same)
+    header_fails c.args.fixed.now c.in_ok-fields.fields c.args.bytes.now _ _ _ is array c.in_ok-fields.ensures.read skip (λ front same. c.in-Some.ensures front same)
 
 pub returns-in_err-check_body : goal.returns-in_err-check_body
 returns-in_err-check_body c =
@@ -25,7 +25,7 @@ returns-in_err-check_body c =
     let skip = skipped_is c.args.fixed.now c.args.bytes.now _ _ _ _ is c.split_at.ensures.back c.split_at-2.ensures.back c.padding.ensures c.split_at-3.ensures.front in
     let body = body_is c.args.fixed.now c.args.bytes.now _ _ _ _ is c.split_at.ensures.back c.split_at-2.ensures.back c.padding.ensures c.split_at-3.ensures.back in
     let place = cursor_is c.args.bytes.now _ _ c.new.result c.requires.whole body refl c.new.ensures in
-    let header = header_passes c.args.fixed.now c.in_ok-fields.fields c.args.bytes.now _ _ array c.in_ok-fields.ensures skip (λ front same. c.in_default.ensures front same) in
+    let header = header_passes c.args.fixed.now c.in_ok-fields.fields c.args.bytes.now _ _ array c.in_ok-fields.ensures.read skip (λ front same. c.in_default.ensures front same) in
     rw (p.1, p.2) (body_fails c.args.fixed.now c.in_ok-fields.fields c.args.bytes.now c.new.result _ is header place (c.in_err-check_body.ensures _ (c.signature-signature.ensures header.front header.shows)))
 
 pub returns : goal.returns
@@ -35,7 +35,7 @@ returns c =
     let skip = skipped_is c.args.fixed.now c.args.bytes.now _ _ _ _ is c.split_at.ensures.back c.split_at-2.ensures.back c.padding.ensures c.split_at-3.ensures.front in
     let body = body_is c.args.fixed.now c.args.bytes.now _ _ _ _ is c.split_at.ensures.back c.split_at-2.ensures.back c.padding.ensures c.split_at-3.ensures.back in
     let place = cursor_is c.args.bytes.now _ _ c.new.result c.requires.whole body refl c.new.ensures in
-    let header = header_passes c.args.fixed.now c.in_ok-fields.fields c.args.bytes.now _ _ array c.in_ok-fields.ensures skip (λ front same. c.in_default.ensures front same) in
+    let header = header_passes c.args.fixed.now c.in_ok-fields.fields c.args.bytes.now _ _ array c.in_ok-fields.ensures.read skip (λ front same. c.in_default.ensures front same) in
     let typed = c.signature-signature.ensures header.front header.shows in
     let arguments = c.in_ok-check_body.ensures _ typed in
-    (header.front, arguments.0, body_passes c.args.fixed.now c.in_ok-fields.fields c.args.bytes.now c.new.result arguments.0 is header place arguments.1, header.shows, typed, body)
+    (header.front, arguments.0, body_passes c.args.fixed.now c.in_ok-fields.fields c.args.bytes.now c.new.result arguments.0 is header place arguments.1, header.shows, typed, body, extents_there c.args.fixed.now c.in_ok-fields.fields c.args.bytes.now header.front is (c.in_ok-fields.ensures.lie header.front (array ∙ header.read)))

@@ -5,7 +5,7 @@ use Rattle.match_rule.specs.Parts.{rule_of, tree_at}
 use Rattle.match_rule.proofs.Steps.{gives_err}
 use Rattle.match_rule.proofs.Spelled.{read_of, rule_at-tree}
 use Rattle.match_rule.proofs.Found.{rule_found}
-use Rattle.match_rule.proofs.ReadRules.{tree_weight, one_sender}
+use Rattle.match_rule.proofs.ReadRules.{tree_weight, one_sender, small_numbers, value_bytes}
 use Rattle.match_rule.proofs.rule.Rule.read.Goals as goal
 
 pub returns-in_err-parts-clause-only : goal.returns-in_err-parts-clause-only
@@ -18,6 +18,8 @@ invariant_of-result c =
     let tree : tree_at c.args.text.now ≡ Ok (rule_of c.in_ok-parts.parts) = ap tree_at (sym c.as_bytes.ensures.value) ∙ c.in_ok-parts.ensures in (
       tree_weight c.args.text.now (rule_of c.in_ok-parts.parts) (omega arith) tree,
       one_sender c.args.text.now (rule_of c.in_ok-parts.parts) (omega arith) tree,
+      small_numbers c.args.text.now (rule_of c.in_ok-parts.parts) (omega arith) tree,
+      value_bytes c.args.text.now (rule_of c.in_ok-parts.parts) (omega arith) tree,
     )
 
 pub returns-clause-found : goal.returns-clause-found

@@ -1,0 +1,116 @@
+-- The values of a rule that was read are bytes.
+use Rattle.std.proofs.Common.{◌≡◌, ℕ, zero, suc, ◌+◌, ◌/◌, ◌<◌, Bool, true, false, cond, List, [], ◌∷◌, ◌++◌, refl, sym, ◌∙◌, subst, inl, inr, arith}
+use Rattle.std.specs.Prelude.{Some, All, nat_lt}
+use Rattle.std.specs.List.{list_all}
+use Rattle.std.specs.Str.{IsUtf8, is_utf8}
+use Rattle.std.proofs.lemmas.Bool.{and_parts, ltb-true, false≢true}
+use Rattle.std.proofs.lemmas.List.Elements.{All-cons, All-nil}
+use Rattle.std.proofs.lemmas.Str.{IsUtf8-from_is_utf8, is_utf8-from_IsUtf8}
+use lib.Utf8.{scalar, scalars, next, encode, encodes, scalar_cases}
+use Rattle.message_value.specs.Words.{AreBytes}
+use Rattle.match_rule.specs.declared.key.Key.{Key}
+use Rattle.match_rule.specs.declared.kind_name.KindName.{KindName}
+use Rattle.match_rule.specs.declared.kind_name.KindName.TheVariants.{Signal, MethodCall, MethodReturn, Error}
+use Rattle.match_rule.specs.declared.condition.Condition.{Condition}
+use Rattle.match_rule.specs.declared.condition.Condition.TheVariants.{Kind, Sender, Interface, Member, Path, PathNamespace, Destination, Arg, ArgPath, Arg0Namespace}
+use Rattle.match_rule.specs.declared.term.Term.{Term}
+use Rattle.match_rule.specs.declared.term.Term.TheVariants.{Asks, Eavesdrop}
+use Rattle.match_rule.specs.Condition.{key_of, kind_word, value_of, asks_if, term_with, conditions_in}
+use Rattle.match_rule.specs.Grammar.{Part, pieces_value, AreParts}
+use Rattle.match_rule.proofs.Ascii.{not_text}
+
+bytes_nil : AreBytes []
+bytes_nil zero = omega arith
+bytes_nil (suc i) = omega arith
+
+bytes_cons : (b : ℕ) (bs : List ℕ) → b < 256 → AreBytes bs → AreBytes (b ∷ bs)
+bytes_cons b bs h t zero = h
+bytes_cons b bs h t (suc i) = t i
+
+bytes_append : (xs ys : List ℕ) → AreBytes xs → AreBytes ys → AreBytes (xs ++ ys)
+bytes_append [] ys h g = g
+bytes_append (x ∷ xs) ys h g = bytes_cons x (xs ++ ys) (h 0) (bytes_append xs ys (λ i. h (suc i)) g)
+
+-- ---- UTF-8
+
+next_byte : (bits : ℕ) → next bits < 256
+next_byte bits = omega arith
+
+scalar_low : (c : ℕ) → scalar c ≡ true → c < 1114112
+scalar_low c e = elim (scalar_cases c e) [ inl h ↦ omega arith | inr h ↦ omega arith ]
+
+two_bytes : (a b : ℕ) → a < 256 → b < 256 → AreBytes (a ∷ b ∷ [])
+two_bytes a b h g = bytes_cons a (b ∷ []) h (bytes_cons b [] g bytes_nil)
+
+three_bytes : (a b c : ℕ) → a < 256 → b < 256 → c < 256 → AreBytes (a ∷ b ∷ c ∷ [])
+three_bytes a b c h g f = bytes_cons a (b ∷ c ∷ []) h (two_bytes b c g f)
+
+four_bytes : (a b c d : ℕ) → a < 256 → b < 256 → c < 256 → d < 256 → AreBytes (a ∷ b ∷ c ∷ d ∷ [])
+four_bytes a b c d h g f e = bytes_cons a (b ∷ c ∷ d ∷ []) h (three_bytes b c d g f e)
+
+encode_bytes : (c : ℕ) → c < 1114112 → AreBytes (encode c)
+unfolding encode
+encode_bytes c small = go (nat_lt c 128) (nat_lt c 2048) (nat_lt c 65536) refl refl refl
+  where
+    go : (one two three : Bool) → nat_lt c 128 ≡ one → nat_lt c 2048 ≡ two → nat_lt c 65536 ≡ three → AreBytes (cond one (c ∷ []) (cond two ((192 + c / 64) ∷ next c ∷ []) (cond three ((224 + c / 4096) ∷ next (c / 64) ∷ next c ∷ []) ((240 + c / 262144) ∷ next (c / 4096) ∷ next (c / 64) ∷ next c ∷ []))))
+    go true two three a b d = let h = ltb-true c 128 a in bytes_cons c [] (omega arith) bytes_nil
+    go false true three a b d = let h = ltb-true c 2048 b in two_bytes (192 + c / 64) (next c) (omega arith) (next_byte c)
+    go false false true a b d = let h = ltb-true c 65536 d in three_bytes (224 + c / 4096) (next (c / 64)) (next c) (omega arith) (next_byte (c / 64)) (next_byte c)
+    go false false false a b d = four_bytes (240 + c / 262144) (next (c / 4096)) (next (c / 64)) (next c) (omega arith) (next_byte (c / 4096)) (next_byte (c / 64)) (next_byte c)
+
+encodes_bytes : (cs : List ℕ) → scalars cs ≡ true → AreBytes (encodes cs)
+encodes_bytes [] e = bytes_nil
+encodes_bytes (c ∷ cs) e =
+    let h = and_parts (scalar c) (scalars cs) e in bytes_append (encode c) (encodes cs) (encode_bytes c (scalar_low c h.0)) (encodes_bytes cs h.1)
+
+text_bytes : (text : List ℕ) → IsUtf8 text → AreBytes text
+text_bytes text u = subst AreBytes u.1.1 (encodes_bytes u.0 u.1.0)
+
+-- ---- values
+
+said_text : (key : Key) (value : List ℕ) (term : Term) → term_with key value ≡ Some term → IsUtf8 value
+said_text key value term e = go (is_utf8 value) refl
+  where
+    go : (b : Bool) → is_utf8 value ≡ b → IsUtf8 value
+    go true is = IsUtf8-from_is_utf8 value is
+    go false is = let none = not_text key value (λ u. false≢true (sym is ∙ is_utf8-from_IsUtf8 value u)) in absurd cc
+
+asks_same : (allowed : Bool) (said c : Condition) → asks_if allowed said ≡ Some (Asks c) → said ≡ c
+asks_same true said c e = cc
+asks_same false said c e = cc
+
+-- a condition that is said with a value has it
+same_value : (allowed : Bool) (said c : Condition) → asks_if allowed said ≡ Some (Asks c) → AreBytes (value_of said) → AreBytes (value_of c)
+same_value allowed said c e bytes = subst (λ (d : Condition). AreBytes (value_of d)) (asks_same allowed said c e) bytes
+
+small_bytes : (bs : List ℕ) → list_all (λ b. nat_lt b 256) bs ≡ true → AreBytes bs
+small_bytes [] e = bytes_nil
+small_bytes (b ∷ bs) e = let h = and_parts (nat_lt b 256) (list_all (λ b. nat_lt b 256) bs) e in bytes_cons b bs (ltb-true b 256 h.0) (small_bytes bs h.1)
+
+word_bytes : (kind : KindName) → AreBytes (kind_word kind)
+word_bytes Signal = small_bytes (kind_word Signal) refl
+word_bytes MethodCall = small_bytes (kind_word MethodCall) refl
+word_bytes MethodReturn = small_bytes (kind_word MethodReturn) refl
+word_bytes Error = small_bytes (kind_word Error) refl
+
+said_bytes : (c : Condition) (value : List ℕ) → term_with (key_of c) value ≡ Some (Asks c) → AreBytes value → AreBytes (value_of c)
+said_bytes (Kind kind) value e bytes = word_bytes kind
+said_bytes (Sender name) value e bytes = same_value _ (Sender value) (Sender name) e bytes
+said_bytes (Interface name) value e bytes = same_value _ (Interface value) (Interface name) e bytes
+said_bytes (Member name) value e bytes = same_value _ (Member value) (Member name) e bytes
+said_bytes (Path path) value e bytes = same_value _ (Path value) (Path path) e bytes
+said_bytes (PathNamespace path) value e bytes = same_value _ (PathNamespace value) (PathNamespace path) e bytes
+said_bytes (Destination name) value e bytes = same_value _ (Destination value) (Destination name) e bytes
+said_bytes (Arg n text) value e bytes = same_value _ (Arg n value) (Arg n text) e bytes
+said_bytes (ArgPath n text) value e bytes = same_value _ (ArgPath n value) (ArgPath n text) e bytes
+said_bytes (Arg0Namespace name) value e bytes = same_value _ (Arg0Namespace value) (Arg0Namespace name) e bytes
+
+pub parts_bytes_are : (parts : List Part) (terms : List Term) → AreParts parts terms → All (λ c. AreBytes (value_of c)) (conditions_in terms)
+parts_bytes_are [] [] said = All-nil (λ (c : Condition). AreBytes (value_of c))
+parts_bytes_are [] (term ∷ terms) said = absurd said
+parts_bytes_are (part ∷ parts) [] said = absurd said
+parts_bytes_are (part ∷ parts) (Eavesdrop flag ∷ terms) said = parts_bytes_are parts terms said.1
+parts_bytes_are (part ∷ parts) (Asks c ∷ terms) said =
+    let value = pieces_value part.pieces in
+    let u = said_text (key_of c) value (Asks c) said.0.allowed in
+    All-cons (λ (c : Condition). AreBytes (value_of c)) c (conditions_in terms) (said_bytes c value said.0.allowed (text_bytes value u)) (parts_bytes_are parts terms said.1)

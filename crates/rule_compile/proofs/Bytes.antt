@@ -1,0 +1,174 @@
+-- The bytes of a text that lies in an image, and the piece that compares them.
+use Rattle.std.proofs.Common.{◌≡◌, ℕ, suc, ◌+◌, ◌*◌, ◌<◌, ◌≤◌, List, [], ◌∷◌, ◌++◌, length, drop, Some, ◌↔◌, refl, sym, ap, ◌∙◌, arith, subst, slice_index}
+use Rattle.std.proofs.lemmas.Bool.{eqb-true, eq-eqb, le-leb}
+use Rattle.std.proofs.lemmas.List.{length-append, get_or-append-add, get_or_append_left, drop_more}
+use Rattle.bpf_code.specs.declared.operation.Width.{Width}
+use Rattle.bpf_code.specs.declared.operation.Width.TheVariants.{Word, Half, Byte}
+use Rattle.bpf_code.specs.declared.operation.Test.TheVariants.{Equal}
+use Rattle.bpf_code.specs.Loads.{load_byte, load_half, load_word}
+use Rattle.summary.specs.Shown.{Lies, AreBytes}
+use Rattle.rule_compile.specs.Code.{indexed, want, two, four, same_bytes}
+use Rattle.rule_compile.proofs.Pieces.{Tests}
+use Rattle.rule_compile.proofs.Combined.{Extends, extends_none, extends_more, extends_then, extends_want, tests_none, tests_same, tests_then, tests_indexed}
+
+-- ---- where a text lies
+
+lies_inside : (image : List ℕ) (place : ℕ) (text : List ℕ) → Lies image place text → place + length text ≤ length image
+lies_inside image place text (front, behind, is, at) =
+    omega (arith, ap length is, length-append front (text ++ behind), length-append text behind, at)
+
+lies_at : (image : List ℕ) (place : ℕ) (text : List ℕ) (i : ℕ) → Lies image place text → i < length text → slice_index image (place + i) ≡ slice_index text i
+lies_at image place text i (front, behind, is, at) inside =
+    ap (λ (bytes : List ℕ). slice_index bytes (place + i)) is
+    ∙ ap (λ (p : ℕ). slice_index (front ++ (text ++ behind)) (p + i)) (sym at)
+    ∙ get_or-append-add front (text ++ behind) i 0
+    ∙ get_or_append_left text behind 0 i inside
+
+loads_byte : (image : List ℕ) (place : ℕ) (text : List ℕ) (at : ℕ) → Lies image place text → at + 1 ≤ length text → load_byte image (place + at) ≡ Some (slice_index text at)
+loads_byte image place text at lies inside =
+    let l = lies_inside image place text lies in
+    let h : place + at + 1 ≤ length image = omega arith in
+    let a = lies_at image place text at lies (omega arith) in
+    rw (le-leb (place + at + 1) (length image) h, a) refl
+
+loads_half : (image : List ℕ) (place : ℕ) (text : List ℕ) (at : ℕ) → Lies image place text → at + 2 ≤ length text → load_half image (place + at) ≡ Some (two (slice_index text at) (slice_index text (at + 1)))
+loads_half image place text at lies inside =
+    let l = lies_inside image place text lies in
+    let h : place + at + 2 ≤ length image = omega arith in
+    let a = lies_at image place text at lies (omega arith) in
+    let e : place + at + 1 ≡ place + (at + 1) = omega arith in
+    let b = lies_at image place text (at + 1) lies (omega arith) in
+    rw (le-leb (place + at + 2) (length image) h, a, e, b) refl
+
+loads_word : (image : List ℕ) (place : ℕ) (text : List ℕ) (at : ℕ) → Lies image place text → at + 4 ≤ length text → load_word image (place + at) ≡ Some (four (slice_index text at) (slice_index text (at + 1)) (slice_index text (at + 2)) (slice_index text (at + 3)))
+loads_word image place text at lies inside =
+    let l = lies_inside image place text lies in
+    let h : place + at + 4 ≤ length image = omega arith in
+    let a = lies_at image place text at lies (omega arith) in
+    let e : place + at + 1 ≡ place + (at + 1) = omega arith in
+    let b = lies_at image place text (at + 1) lies (omega arith) in
+    let f : place + at + 2 ≡ place + (at + 2) = omega arith in
+    let c = lies_at image place text (at + 2) lies (omega arith) in
+    let g : place + at + 3 ≡ place + (at + 3) = omega arith in
+    let d = lies_at image place text (at + 3) lies (omega arith) in
+    rw (le-leb (place + at + 4) (length image) h, a, e, b, f, c, g, d) refl
+
+-- ---- a value stands at a place of a text
+
+abbrev pub Stands : List ℕ → ℕ → List ℕ → Type 0
+Stands text at value = (rest : List ℕ) × (drop at text ≡ value ++ rest)
+
+stands_none : (text : List ℕ) (at : ℕ) → Stands text at []
+stands_none text at = (drop at text, refl)
+
+heads : (a b : ℕ) (xs ys : List ℕ) → (a ∷ xs) ≡ (b ∷ ys) → a ≡ b
+heads a b xs ys h = cc
+
+tails : (a b : ℕ) (xs ys : List ℕ) → (a ∷ xs) ≡ (b ∷ ys) → xs ≡ ys
+tails a b xs ys h = cc
+
+stands_more : (text : List ℕ) (at a : ℕ) (more : List ℕ) → at < length text → ((slice_index text at ≡ a) × Stands text (at + 1) more) ↔ Stands text at (a ∷ more)
+stands_more text at a more inside =
+    let e : drop at text ≡ slice_index text at ∷ drop (at + 1) text = drop_more text at 0 inside in (
+      λ both. (both.1.0, e ∙ ap (λ (b : ℕ). b ∷ drop (at + 1) text) both.0 ∙ ap (λ (bs : List ℕ). a ∷ bs) both.1.1),
+      λ stands. (heads _ _ _ _ (sym e ∙ stands.1), (stands.0, tails _ _ _ _ (sym e ∙ stands.1))),
+    )
+
+stands_on : (text : List ℕ) (at to : ℕ) (value : List ℕ) → at ≡ to → Stands text at value → Stands text to value
+stands_on text at to value e stands = subst (λ (p : ℕ). Stands text p value) e stands
+
+stands_two : (text : List ℕ) (at a b : ℕ) (more : List ℕ) → at + 2 ≤ length text → (((slice_index text at ≡ a) × (slice_index text (at + 1) ≡ b)) × Stands text (at + 2) more) ↔ Stands text at (a ∷ b ∷ more)
+stands_two text at a b more inside =
+    let first = stands_more text at a (b ∷ more) (omega arith) in
+    let second = stands_more text (at + 1) b more (omega arith) in
+    let e : at + 1 + 1 ≡ at + 2 = omega arith in (
+      λ both. first.0 (both.0.0, second.0 (both.0.1, stands_on text (at + 2) (at + 1 + 1) more (sym e) both.1)),
+      λ stands. let x = first.1 stands in let y = second.1 x.1 in ((x.0, y.0), stands_on text (at + 1 + 1) (at + 2) more e y.1),
+    )
+
+abbrev AreFour : List ℕ → ℕ → ℕ → ℕ → ℕ → ℕ → Type 0
+AreFour text at a b c d =
+    (slice_index text at ≡ a) × (slice_index text (at + 1) ≡ b) × (slice_index text (at + 2) ≡ c) × (slice_index text (at + 3) ≡ d)
+
+stands_four : (text : List ℕ) (at a b c d : ℕ) (more : List ℕ) → at + 4 ≤ length text → (AreFour text at a b c d × Stands text (at + 4) more) ↔ Stands text at (a ∷ b ∷ c ∷ d ∷ more)
+stands_four text at a b c d more inside =
+    let first = stands_two text at a b (c ∷ d ∷ more) (omega arith) in
+    let second = stands_two text (at + 2) c d more (omega arith) in
+    let e : at + 2 + 2 ≡ at + 4 = omega arith in
+    let f : at + 2 + 1 ≡ at + 3 = omega arith in
+    let there : slice_index text (at + 2 + 1) ≡ slice_index text (at + 3) = ap (λ (p : ℕ). slice_index text p) f in (
+      λ both. first.0 ((both.0.0, both.0.1), second.0 ((both.0.2, there ∙ both.0.3), stands_on text (at + 4) (at + 2 + 2) more (sym e) both.1)),
+      λ stands. let x = first.1 stands in let y = second.1 x.1 in ((x.0.0, x.0.1, y.0.0, sym there ∙ y.0.1), stands_on text (at + 2 + 2) (at + 4) more e y.1),
+    )
+
+-- ---- bytes as numbers
+
+two_same : (a b c d : ℕ) → b < 256 → d < 256 → two a b ≡ two c d → (a ≡ c) × (b ≡ d)
+two_same a b c d small_b small_d e = (omega arith, omega arith)
+
+four_same : (a b c d e f g h : ℕ) → b < 256 → c < 256 → d < 256 → f < 256 → g < 256 → h < 256 → four a b c d ≡ four e f g h → (a ≡ e) × (b ≡ f) × (c ≡ g) × (d ≡ h)
+four_same a b c d e f g h sb sc sd sf sg sh is =
+    let x : ((a * 256 + b) * 256 + c ≡ (e * 256 + f) * 256 + g) × (d ≡ h) = two_same ((a * 256 + b) * 256 + c) d ((e * 256 + f) * 256 + g) h sd sh is in
+    let y : (a * 256 + b ≡ e * 256 + f) × (c ≡ g) = two_same (a * 256 + b) c (e * 256 + f) g sc sg x.0 in
+    let z = two_same a b e f sb sf y.0 in
+    (z.0, z.1, y.1, x.1)
+
+-- ---- a piece that compares some bytes
+
+-- X is the text's place
+abbrev pub At : ℕ → ℕ → Type 0
+At place x = x ≡ place
+
+pub extends_indexed : (width : Width) (at k : ℕ) → Extends (λ rest. indexed width at ∷ want Equal k rest)
+extends_indexed width at k = extends_more (want Equal k) (λ _. indexed width at) (extends_want Equal k)
+
+pub tests_byte : (image : List ℕ) (place : ℕ) (text : List ℕ) (at a : ℕ) → Lies image place text → at + 1 ≤ length text → Tests image (At place) (slice_index text at ≡ a) (λ rest. indexed Byte at ∷ want Equal a rest)
+tests_byte image place text at a lies inside =
+    tests_same image (At place) _ _ (λ rest. indexed Byte at ∷ want Equal a rest) (eqb-true (slice_index text at) a, eq-eqb (slice_index text at) a) (tests_indexed image place Byte at (slice_index text at) Equal a (loads_byte image place text at lies inside))
+
+tests_two : (image : List ℕ) (place : ℕ) (text : List ℕ) (at a b : ℕ) → Lies image place text → AreBytes text → b < 256 → at + 2 ≤ length text → Tests image (At place) ((slice_index text at ≡ a) × (slice_index text (at + 1) ≡ b)) (λ rest. indexed Half at ∷ want Equal (two a b) rest)
+tests_two image place text at a b lies are small inside =
+    let w : ℕ = two (slice_index text at) (slice_index text (at + 1)) in
+    tests_same image (At place) _ _ (λ rest. indexed Half at ∷ want Equal (two a b) rest) (
+      λ e. two_same (slice_index text at) (slice_index text (at + 1)) a b (are (at + 1)) small (eqb-true w (two a b) e),
+      λ both. eq-eqb w (two a b) (rw (both.0, both.1) refl),
+    ) (tests_indexed image place Half at w Equal (two a b) (loads_half image place text at lies inside))
+
+tests_four : (image : List ℕ) (place : ℕ) (text : List ℕ) (at a b c d : ℕ) → Lies image place text → AreBytes text → b < 256 → c < 256 → d < 256 → at + 4 ≤ length text → Tests image (At place) (AreFour text at a b c d) (λ rest. indexed Word at ∷ want Equal (four a b c d) rest)
+tests_four image place text at a b c d lies are small_b small_c small_d inside =
+    let w : ℕ = four (slice_index text at) (slice_index text (at + 1)) (slice_index text (at + 2)) (slice_index text (at + 3)) in
+    tests_same image (At place) _ _ (λ rest. indexed Word at ∷ want Equal (four a b c d) rest) (
+      λ e. four_same (slice_index text at) (slice_index text (at + 1)) (slice_index text (at + 2)) (slice_index text (at + 3)) a b c d (are (at + 1)) (are (at + 2)) (are (at + 3)) small_b small_c small_d (eqb-true w (four a b c d) e),
+      λ each. eq-eqb w (four a b c d) (rw (each.0, each.1, each.2, each.3) refl),
+    ) (tests_indexed image place Word at w Equal (four a b c d) (loads_word image place text at lies inside))
+
+-- ---- the piece that compares all bytes of a value
+
+pub extends_same_bytes : (at : ℕ) (value : List ℕ) → Extends (same_bytes at value)
+extends_same_bytes at [] = extends_none
+extends_same_bytes at (a ∷ []) = extends_indexed Byte at a
+extends_same_bytes at (a ∷ b ∷ []) = extends_indexed Half at (two a b)
+extends_same_bytes at (a ∷ b ∷ c ∷ []) =
+    extends_then (λ rest. indexed Half at ∷ want Equal (two a b) rest) (λ rest. indexed Byte (at + 2) ∷ want Equal c rest) (extends_indexed Half at (two a b)) (extends_indexed Byte (at + 2) c)
+extends_same_bytes at (a ∷ b ∷ c ∷ d ∷ more) =
+    extends_then (λ rest. indexed Word at ∷ want Equal (four a b c d) rest) (same_bytes (at + 4) more) (extends_indexed Word at (four a b c d)) (extends_same_bytes (at + 4) more)
+
+-- The bytes of a text that lies where X points to are those of a value, from a place of the text on.
+pub tests_same_bytes : (image : List ℕ) (place : ℕ) (text : List ℕ) (at : ℕ) (value : List ℕ) → Lies image place text → AreBytes text → AreBytes value → at + length value ≤ length text → Tests image (λ x. x ≡ place) ((rest : List ℕ) × (drop at text ≡ value ++ rest)) (same_bytes at value)
+tests_same_bytes image place text at [] lies are bytes inside =
+    tests_none image (At place) (Stands text at []) (stands_none text at)
+tests_same_bytes image place text at (a ∷ []) lies are bytes inside =
+    let same = stands_more text at a [] (omega arith) in
+    tests_same image (At place) _ _ (same_bytes at (a ∷ [])) (λ e. same.0 (e, stands_none text (at + 1)), λ stands. (same.1 stands).0) (tests_byte image place text at a lies (omega arith))
+tests_same_bytes image place text at (a ∷ b ∷ []) lies are bytes inside =
+    let same = stands_two text at a b [] (omega arith) in
+    tests_same image (At place) _ _ (same_bytes at (a ∷ b ∷ [])) (λ both. same.0 (both, stands_none text (at + 2)), λ stands. (same.1 stands).0) (tests_two image place text at a b lies are (bytes 1) (omega arith))
+tests_same_bytes image place text at (a ∷ b ∷ c ∷ []) lies are bytes inside =
+    let same = stands_two text at a b (c ∷ []) (omega arith) in
+    let last = stands_more text (at + 2) c [] (omega arith) in
+    tests_same image (At place) _ _ (same_bytes at (a ∷ b ∷ c ∷ [])) (
+      λ both. same.0 (both.0, last.0 (both.1, stands_none text (at + 2 + 1))),
+      λ stands. let x = same.1 stands in (x.0, (last.1 x.1).0),
+    ) (tests_then image (At place) _ _ (λ rest. indexed Half at ∷ want Equal (two a b) rest) (λ rest. indexed Byte (at + 2) ∷ want Equal c rest) (tests_two image place text at a b lies are (bytes 1) (omega arith)) (extends_indexed Byte (at + 2) c) (λ _. tests_byte image place text (at + 2) c lies (omega arith)))
+tests_same_bytes image place text at (a ∷ b ∷ c ∷ d ∷ more) lies are bytes inside =
+    tests_same image (At place) _ _ (same_bytes at (a ∷ b ∷ c ∷ d ∷ more)) (stands_four text at a b c d more (omega arith)) (tests_then image (At place) _ _ (λ rest. indexed Word at ∷ want Equal (four a b c d) rest) (same_bytes (at + 4) more) (tests_four image place text at a b c d lies are (bytes 1) (bytes 2) (bytes 3) (omega arith)) (extends_same_bytes (at + 4) more) (λ _. tests_same_bytes image place text (at + 4) more lies are (λ i. bytes (suc (suc (suc (suc i))))) (omega arith)))

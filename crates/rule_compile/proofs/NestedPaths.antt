@@ -1,0 +1,125 @@
+-- What the program of a path's condition tests: whether the paths are nested.
+use Rattle.std.proofs.Common.{◌≡◌, ℕ, zero, suc, ◌+◌, ◌<◌, ◌≤◌, Bool, true, false, List, [], ◌∷◌, length, inl, inr, ◌⊎◌, refl, arith}
+use Rattle.std.specs.Prelude.{◌==◌, ◌↔◌, MatchBool, if◌then◌else◌}
+use Rattle.std.proofs.lemmas.Bool.{eqb-true, eq-eqb}
+use Rattle.bpf_code.specs.declared.instruction.Ins.{Ins}
+use Rattle.bpf_code.specs.declared.operation.Test.{Test}
+use Rattle.bpf_code.specs.declared.operation.Test.TheVariants.{Equal, AtLeast}
+use Rattle.match_rule.specs.Bytes.{ends_with}
+use Rattle.match_rule.specs.Holds.{AreNested}
+use Rattle.summary.specs.Shown.{AreBytes, Tells}
+use Rattle.rule_compile.specs.Code.{same_bytes, has_len, index_text}
+use Rattle.rule_compile.specs.Folders.{with_front, parts_of, may_end, along, is_nested}
+use Rattle.rule_compile.proofs.Pieces.{Any, Tests}
+use Rattle.rule_compile.proofs.Combined.{Extends, extends_none, extends_then, extends_settle, extends_index_text, tests_none, tests_same, tests_then, tests_both, tests_settle, tests_index_text}
+use Rattle.rule_compile.proofs.Bytes.{Stands, At, extends_same_bytes, tests_same_bytes}
+use Rattle.rule_compile.proofs.Texts.{extends_has_len, tests_len_is, tests_len_from}
+use Rattle.rule_compile.proofs.NestedTexts.{AlongParts, nested_along, nested_empty}
+
+-- ---- the bytes of the parts
+
+abbrev PartsAreBytes : List (List ℕ) → Type 0
+PartsAreBytes [] = Unit {0}
+PartsAreBytes (part ∷ more) = AreBytes part × PartsAreBytes more
+
+bytes_more : (b : ℕ) (bs : List ℕ) → b < 256 → AreBytes bs → AreBytes (b ∷ bs)
+bytes_more b bs small are zero = small
+bytes_more b bs small are (suc i) = are i
+
+bytes_none : AreBytes []
+bytes_none i = omega arith
+
+parts_front : (b : ℕ) (parts : List (List ℕ)) → b < 256 → PartsAreBytes parts → PartsAreBytes (with_front b parts)
+parts_front b [] small are = (bytes_more b [] small bytes_none, tt)
+parts_front b (part ∷ more) small are = (bytes_more b part small are.0, are.1)
+
+parts_are_bytes : (value : List ℕ) → AreBytes value → PartsAreBytes (parts_of value)
+parts_are_bytes [] are = tt
+parts_are_bytes (b ∷ bs) are = go (b == 47) (parts_are_bytes bs (λ i. are (suc i)))
+  where
+    go : (slash : Bool) → PartsAreBytes (parts_of bs) → PartsAreBytes (if slash then (b ∷ []) ∷ parts_of bs else with_front b (parts_of bs))
+    go true parts = (bytes_more b [] (are 0) bytes_none, parts)
+    go false parts = parts_front b (parts_of bs) (are 0) parts
+
+-- ---- pieces
+
+-- a length that a part fits into, and the part
+part_tests : (image : List ℕ) (at : ℕ) (text : List ℕ) (place : ℕ) (part : List ℕ) (test : Test) (P : Type 0) (tells : Tells image at text) → AreBytes part → (P → place + length part ≤ length text) → Tests image (At tells.place) P (has_len test (place + length part) at) → Tests image (At tells.place) (P × Stands text place part) (λ rest. has_len test (place + length part) at (same_bytes place part rest))
+part_tests image at text place part test P tells are fits t =
+    tests_then image (At tells.place) P (Stands text place part) (has_len test (place + length part) at) (same_bytes place part) t (extends_same_bytes place part) (λ p. tests_same_bytes image tells.place text place part tells.lies tells.bytes are (fits p))
+
+-- the text ends here, or the piece tests the rest
+ends_here : (image : List ℕ) (X : ℕ → Type 0) (P : Type 0) (f : List Ins → List Ins) (at : ℕ) (text : List ℕ) (n : ℕ) → Tells image at text → Extends f → Tests image X P f → Tests image X ((length text ≡ n) ⊎ P) (λ rest. may_end at n rest (f rest))
+ends_here image X P f at text n tells extends t = tests_same image X _ ((length text ≡ n) ⊎ P) (λ rest. may_end at n rest (f rest)) (forth, back) (tests_settle image X P f (at + 4) (length text) Equal n tells.len_word extends (λ _. t))
+  where
+    forth : ((length text == n) ≡ true) ⊎ P → (length text ≡ n) ⊎ P
+    forth (inl e) = inl (eqb-true (length text) n e)
+    forth (inr p) = inr p
+
+    back : (length text ≡ n) ⊎ P → ((length text == n) ≡ true) ⊎ P
+    back (inl e) = inl (eq-eqb (length text) n e)
+    back (inr p) = inr p
+
+-- ---- along the parts
+
+extends_part : (test : Test) (n at place : ℕ) (part : List ℕ) (f : List Ins → List Ins) → Extends f → Extends (λ rest. has_len test n at (same_bytes place part (f rest)))
+extends_part test n at place part f more =
+    let bytes = extends_then (same_bytes place part) f (extends_same_bytes place part) more in
+    extends_then (has_len test n at) (λ rest. same_bytes place part (f rest)) (extends_has_len test n at) bytes
+
+extends_along : (at place : ℕ) (parts : List (List ℕ)) → Extends (along at place parts)
+extends_along at place [] = extends_none
+extends_along at place (part ∷ []) = go (ends_with 47 part)
+  where
+    go : (slash : Bool) → Extends (λ rest. if slash then has_len AtLeast (place + length part) at (same_bytes place part rest) else has_len Equal (place + length part) at (same_bytes place part rest))
+    go true = extends_part AtLeast (place + length part) at place part (λ rest. rest) extends_none
+    go false = extends_part Equal (place + length part) at place part (λ rest. rest) extends_none
+extends_along at place (part ∷ next ∷ more) =
+    let n = place + length part in
+    let later = extends_settle (along at n (next ∷ more)) (at + 4) Equal n (extends_along at n (next ∷ more)) in
+    extends_part AtLeast n at place part (λ rest. may_end at n rest (along at n (next ∷ more) rest)) later
+
+along_tests : (parts : List (List ℕ)) (image : List ℕ) (at : ℕ) (text : List ℕ) (place : ℕ) → (tells : Tells image at text) → PartsAreBytes parts → Tests image (At tells.place) (AlongParts text place parts) (along at place parts)
+along_tests [] image at text place tells are = tests_none image (At tells.place) (Unit {0}) tt
+along_tests (part ∷ []) image at text place tells are = go (ends_with 47 part)
+  where
+    n : ℕ
+    n = place + length part
+
+    go : (slash : Bool) → Tests image (At tells.place) (MatchBool slash ((n ≤ length text) × Stands text place part) ((length text ≡ n) × Stands text place part)) (λ rest. if slash then has_len AtLeast n at (same_bytes place part rest) else has_len Equal n at (same_bytes place part rest))
+    go true = part_tests image at text place part AtLeast (n ≤ length text) tells are.0 (λ fits. fits) (tests_len_from image (At tells.place) at (length text) n tells.len_word)
+    go false = part_tests image at text place part Equal (length text ≡ n) tells are.0 (λ is. omega arith) (tests_len_is image (At tells.place) at (length text) n tells.len_word)
+along_tests (part ∷ next ∷ more) image at text place tells are =
+    let n = place + length part in
+    let X = At tells.place in
+    let rest_of = along at n (next ∷ more) in
+    let first = part_tests image at text place part AtLeast (n ≤ length text) tells are.0 (λ fits. fits) (tests_len_from image X at (length text) n tells.len_word) in
+    let later = ends_here image X (AlongParts text n (next ∷ more)) rest_of at text n tells (extends_along at n (next ∷ more)) (along_tests (next ∷ more) image at text n tells are.1) in
+    tests_same image X _ (AlongParts text place (part ∷ next ∷ more)) (along at place (part ∷ next ∷ more)) (λ both. (both.0.0, both.0.1, both.1), λ all. ((all.0, all.1), all.2))
+    (tests_both image X ((n ≤ length text) × Stands text place part) ((length text ≡ n) ⊎ AlongParts text n (next ∷ more)) (λ rest. has_len AtLeast n at (same_bytes place part rest)) (λ rest. may_end at n rest (rest_of rest)) first later)
+
+-- ---- the whole piece
+
+pub extends_is_nested : (at : ℕ) (value : List ℕ) → Extends (is_nested at value)
+extends_is_nested at value = go (length value == 0)
+  where
+    go : (empty : Bool) → Extends (λ rest. if empty then has_len Equal 0 at rest else index_text at (along at 0 (parts_of value) rest))
+    go true = extends_has_len Equal 0 at
+    go false = extends_index_text (along at 0 (parts_of value)) at (extends_along at 0 (parts_of value))
+
+-- the piece tests whether the text and the value are nested
+pub is_nested_tests : (image : List ℕ) (at : ℕ) (text value : List ℕ) → Tells image at text → AreBytes value → Tests image Any (AreNested text value) (is_nested at value)
+is_nested_tests image at text [] tells are =
+    let same = nested_empty text in
+    tests_same image Any (length text ≡ 0) (AreNested text []) (is_nested at []) (same.1, same.0) (tests_len_is image Any at (length text) 0 tells.len_word)
+is_nested_tests image at text (b ∷ bs) tells are = tests_same image Any (AlongParts text 0 parts) (AreNested text (b ∷ bs)) (is_nested at (b ∷ bs)) (same.1, same.0) (go (length (b ∷ bs) == 0) refl)
+  where
+    parts : List (List ℕ)
+    parts = parts_of (b ∷ bs)
+
+    same : AreNested text (b ∷ bs) ↔ AlongParts text 0 parts
+    same = nested_along text b bs
+
+    go : (empty : Bool) → (length (b ∷ bs) == 0) ≡ empty → Tests image Any (AlongParts text 0 parts) (λ rest. if empty then has_len Equal 0 at rest else index_text at (along at 0 parts rest))
+    go true is = absurd (let e = eqb-true (length (b ∷ bs)) 0 is in omega arith)
+    go false is = tests_index_text image (AlongParts text 0 parts) (along at 0 parts) at tells.place tells.place_word (along_tests parts image at text 0 tells (parts_are_bytes (b ∷ bs) are))

@@ -1,0 +1,276 @@
+-- A rule's program, with an island of its own for each far target, isn't longer than the rule weighs.
+use Rattle.std.proofs.Common.{◌≡◌, ℕ, zero, suc, ◌+◌, ◌-◌, ◌*◌, ◌≤◌, Bool, true, false, List, [], ◌∷◌, length, refl, sym, ap, ◌∙◌, arith}
+use Rattle.std.specs.Prelude.{◌/◌, ◌%◌, ◌^◌, ◌&&◌, ◌==◌, if◌then◌else◌, nat_lt, sum_by}
+use Rattle.std.specs.Str.{bytes_eq}
+use Rattle.std.proofs.lemmas.List.Sums.{sum_by-cons}
+use Rattle.bpf_code.specs.declared.instruction.Ins.{Ins}
+use Rattle.bpf_code.specs.declared.operation.Width.{Width}
+use Rattle.bpf_code.specs.declared.operation.Width.TheVariants.{Word, Half, Byte}
+use Rattle.bpf_code.specs.declared.operation.Test.{Test}
+use Rattle.bpf_code.specs.declared.operation.Test.TheVariants.{Equal, Above, AtLeast, SharesBit}
+use Rattle.bpf_code.specs.Table.{op_of}
+use Rattle.jump_islands.specs.Draft.{DraftTree, instructions_of}
+use Rattle.jump_islands.specs.PlainLength.{is_far, count, span, size_of, sizes_of, plain_length}
+use Rattle.match_rule.specs.Bytes.{ends_with}
+use Rattle.match_rule.specs.declared.condition.Condition.{Condition}
+use Rattle.match_rule.specs.declared.condition.Condition.TheVariants.{Kind, Sender, Interface, Member, Path, PathNamespace, Destination, Arg, ArgPath, Arg0Namespace}
+use Rattle.match_rule.specs.RuleTree.{RuleTree, is_owned_name, slashes, condition_weight, weight_of}
+use Rattle.message_view.specs.Header.{kind_byte}
+use Rattle.match_rule.specs.Condition.{kind_meant}
+use Rattle.rule_compile.specs.Code.{image_word, indexed, index_from_a, branch, want, settle, two, four, same_bytes, has_len, is_there, is_there_if, index_text, is_text, in_namespace}
+use Rattle.rule_compile.specs.Folders.{with_front, parts_of, may_end, along, is_nested}
+use Rattle.rule_compile.specs.RuleCode.{argument_at, has_type, has_text_type, owns, path_namespace, condition_code, rank_of, of_rank, from_rank, offered, verdicts, rule_code}
+
+-- ---- single instructions
+
+-- the sizes of a program's instructions, added up
+total : List Ins → ℕ
+total code = sum_by (λ size. size) (sizes_of code)
+
+count_small : (far : Bool) → count far ≤ 1
+count_small true = omega arith
+count_small false = omega arith
+
+and_never : (b : Bool) → (b && false) ≡ false
+and_never true = refl
+and_never false = refl
+
+-- of two targets one of which is the next instruction at most the other is far
+one_far : (a : ℕ) → count (is_far 0 a) + count (is_far a 0) ≤ 1
+one_far a = rw (and_never (nat_lt 255 a)) (omega (arith, count_small (is_far a 0)))
+
+total_cons : (ins : Ins) (rest : List Ins) → total (ins ∷ rest) ≡ size_of (op_of ins.code) ins (sizes_of rest) + total rest
+unfolding total
+total_cons ins rest = sum_by-cons (λ size. size) (size_of (op_of ins.code) ins (sizes_of rest)) (sizes_of rest)
+
+image_total : (at : ℕ) (rest : List Ins) → total (image_word at ∷ rest) ≡ 1 + total rest
+image_total at rest = total_cons (image_word at) rest
+
+indexed_total : (width : Width) (at : ℕ) (rest : List Ins) → total (indexed width at ∷ rest) ≡ 1 + total rest
+indexed_total Word at rest = total_cons (indexed Word at) rest
+indexed_total Half at rest = total_cons (indexed Half at) rest
+indexed_total Byte at rest = total_cons (indexed Byte at) rest
+
+index_total : (rest : List Ins) → total (index_from_a ∷ rest) ≡ 1 + total rest
+index_total rest = total_cons index_from_a rest
+
+verdicts_total : total verdicts ≡ 2
+unfolding total
+verdicts_total = refl
+
+branch_total : (test : Test) (k hit miss : ℕ) (rest : List Ins) → total (branch test k hit miss ∷ rest) ≡ 1 + count (is_far (span hit (sizes_of rest)) (span miss (sizes_of rest))) + count (is_far (span miss (sizes_of rest)) (span hit (sizes_of rest))) + total rest
+branch_total Equal k hit miss rest = total_cons (branch Equal k hit miss) rest
+branch_total Above k hit miss rest = total_cons (branch Above k hit miss) rest
+branch_total AtLeast k hit miss rest = total_cons (branch AtLeast k hit miss) rest
+branch_total SharesBit k hit miss rest = total_cons (branch SharesBit k hit miss) rest
+
+want_total : (test : Test) (k : ℕ) (rest : List Ins) → total (want test k rest) ≤ 2 + total rest
+want_total test k rest =
+    let a = one_far (span (length rest - 1) (sizes_of rest)) in
+    let b = branch_total test k 0 (length rest - 1) rest in
+    omega arith
+
+settle_total : (test : Test) (k : ℕ) (behind rest : List Ins) → total (settle test k behind rest) ≤ 2 + total rest
+settle_total test k behind rest =
+    let a = one_far (span (length rest - length behind) (sizes_of rest)) in
+    let b = branch_total test k (length rest - length behind) 0 rest in
+    omega arith
+
+-- ---- pieces
+
+same_total : (at : ℕ) (bytes : List ℕ) (rest : List Ins) → total (same_bytes at bytes rest) ≤ length bytes + 3 + total rest
+same_total at [] rest = omega arith
+same_total at (a ∷ []) rest = omega (arith, indexed_total Byte at (want Equal a rest), want_total Equal a rest)
+same_total at (a ∷ b ∷ []) rest = omega (arith, indexed_total Half at (want Equal (two a b) rest), want_total Equal (two a b) rest)
+same_total at (a ∷ b ∷ c ∷ []) rest =
+    let tail = indexed Byte (at + 2) ∷ want Equal c rest in
+    omega (arith, indexed_total Half at (want Equal (two a b) tail), want_total Equal (two a b) tail, indexed_total Byte (at + 2) (want Equal c rest), want_total Equal c rest)
+same_total at (a ∷ b ∷ c ∷ d ∷ more) rest =
+    let tail = same_bytes (at + 4) more rest in
+    omega (arith, indexed_total Word at (want Equal (four a b c d) tail), want_total Equal (four a b c d) tail, same_total (at + 4) more rest)
+
+len_total : (test : Test) (n at : ℕ) (rest : List Ins) → total (has_len test n at rest) ≤ 3 + total rest
+len_total test n at rest = omega (arith, image_total (at + 4) (want test n rest), want_total test n rest)
+
+there_total : (at : ℕ) (rest : List Ins) → total (is_there at rest) ≤ 3 + total rest
+there_total at rest = omega (arith, image_total at (want Above 0 rest), want_total Above 0 rest)
+
+text_total : (at : ℕ) (rest : List Ins) → total (index_text at rest) ≡ 2 + total rest
+text_total at rest = omega (arith, image_total at (index_from_a ∷ rest), index_total rest)
+
+choice_total : (b : Bool) (n : ℕ) (hit miss : List Ins) → total hit ≤ n → total miss ≤ n → total (if b then hit else miss) ≤ n
+choice_total true n hit miss h m = h
+choice_total false n hit miss h m = m
+
+there_if_total : (empty : Bool) (at : ℕ) (rest : List Ins) → total (is_there_if empty at rest) ≤ 3 + total rest
+there_if_total empty at rest = choice_total empty (3 + total rest) (is_there at rest) rest (there_total at rest) (omega arith)
+
+is_text_total : (at : ℕ) (value : List ℕ) (rest : List Ins) → total (is_text at value rest) ≤ length value + 11 + total rest
+is_text_total at value rest =
+    let same = same_bytes 0 value rest in
+    let tail = index_text at same in
+    let empty = length value == 0 in
+    omega (arith, len_total Equal (length value) at (is_there_if empty at tail), there_if_total empty at tail, text_total at same, same_total 0 value rest)
+
+namespace_total : (at separator : ℕ) (value : List ℕ) (rest : List Ins) → total (in_namespace at separator value rest) ≤ length value + 17 + total rest
+namespace_total at separator value rest =
+    let last = indexed Byte (length value) ∷ want Equal separator rest in
+    let ends = image_word (at + 4) ∷ settle Equal (length value) rest last in
+    let same = same_bytes 0 value ends in
+    let tail = index_text at same in
+    let empty = length value == 0 in
+    let a = len_total AtLeast (length value) at (is_there_if empty at tail) in
+    let b = there_if_total empty at tail in
+    let c = text_total at same in
+    let d = same_total 0 value ends in
+    let e = image_total (at + 4) (settle Equal (length value) rest last) in
+    let f = settle_total Equal (length value) rest last in
+    let g = indexed_total Byte (length value) (want Equal separator rest) in
+    let h = want_total Equal separator rest in
+    omega arith
+
+-- ---- paths
+
+-- what the parts of a path weigh
+abbrev weight_of_parts : List (List ℕ) → ℕ
+weight_of_parts [] = 0
+weight_of_parts (part ∷ parts) = length part + 9 + weight_of_parts parts
+
+may_end_total : (at n : ℕ) (behind rest : List Ins) → total (may_end at n behind rest) ≤ 3 + total rest
+may_end_total at n behind rest = omega (arith, image_total (at + 4) (settle Equal n behind rest), settle_total Equal n behind rest)
+
+part_total : (test : Test) (at place : ℕ) (part : List ℕ) (rest : List Ins) → total (has_len test (place + length part) at (same_bytes place part rest)) ≤ length part + 6 + total rest
+part_total test at place part rest = omega (arith, len_total test (place + length part) at (same_bytes place part rest), same_total place part rest)
+
+along_total : (at place : ℕ) (parts : List (List ℕ)) (rest : List Ins) → total (along at place parts rest) ≤ weight_of_parts parts + total rest
+along_total at place [] rest = omega arith
+along_total at place (part ∷ []) rest =
+    choice_total (ends_with 47 part) (weight_of_parts (part ∷ []) + total rest) _ _ (omega (arith, part_total AtLeast at place part rest)) (omega (arith, part_total Equal at place part rest))
+along_total at place (part ∷ next ∷ more) rest =
+    let tail = along at (place + length part) (next ∷ more) rest in
+    let ends = may_end at (place + length part) rest tail in
+    omega (arith, part_total AtLeast at place part ends, may_end_total at (place + length part) rest tail, along_total at (place + length part) (next ∷ more) rest)
+
+front_weight : (b : ℕ) (parts : List (List ℕ)) (n : ℕ) → weight_of_parts parts ≤ n + 9 → weight_of_parts (with_front b parts) ≤ n + 10
+front_weight b [] n h = omega arith
+front_weight b (part ∷ more) n h = omega arith
+
+slashes_cons : (b : ℕ) (bs : List ℕ) → slashes (b ∷ bs) ≡ (if b == 47 then 1 else 0) + slashes bs
+slashes_cons b bs = sum_by-cons (λ byte. if byte == 47 then 1 else 0) b bs
+
+parts_weight : (value : List ℕ) → weight_of_parts (parts_of value) ≤ length value + 9 * slashes value + 9
+parts_weight [] = omega arith
+parts_weight (b ∷ bs) = rw (slashes_cons b bs) (go (b == 47) (parts_weight bs))
+  where
+    go : (slash : Bool) → weight_of_parts (parts_of bs) ≤ length bs + 9 * slashes bs + 9 → weight_of_parts (if slash then (b ∷ []) ∷ parts_of bs else with_front b (parts_of bs)) ≤ length (b ∷ bs) + 9 * ((if slash then 1 else 0) + slashes bs) + 9
+    go true h = omega arith
+    go false h = omega (arith, front_weight b (parts_of bs) (length bs + 9 * slashes bs) h)
+
+nested_total : (at : ℕ) (value : List ℕ) (rest : List Ins) → total (is_nested at value rest) ≤ length value + 9 * slashes value + 11 + total rest
+nested_total at value rest =
+    let tail = along at 0 (parts_of value) rest in
+    let a = len_total Equal 0 at rest in
+    let b = text_total at tail in
+    let c = along_total at 0 (parts_of value) rest in
+    let d = parts_weight value in
+    choice_total (length value == 0) (length value + 9 * slashes value + 11 + total rest) (has_len Equal 0 at rest) (index_text at tail) (omega arith) (omega arith)
+
+-- ---- conditions
+
+type_total : (n code : ℕ) (rest : List Ins) → total (has_type n code rest) ≤ 3 + total rest
+type_total n code rest = omega (arith, image_total (argument_at n) (want Equal code rest), want_total Equal code rest)
+
+text_type_total : (n : ℕ) (rest : List Ins) → total (has_text_type n rest) ≤ 5 + total rest
+text_type_total n rest =
+    let tail = want Equal 111 rest in
+    omega (arith, image_total (argument_at n) (settle Equal 115 rest tail), settle_total Equal 115 rest tail, want_total Equal 111 rest)
+
+owns_total : (slot : ℕ) (rest : List Ins) → total (owns slot rest) ≤ 3 + total rest
+owns_total slot rest = omega (arith, image_total (840 + 4 * (slot / 32)) (want SharesBit (2 ^ (slot % 32)) rest), want_total SharesBit (2 ^ (slot % 32)) rest)
+
+path_total : (value : List ℕ) (rest : List Ins) → total (path_namespace value rest) ≤ length value + 17 + total rest
+path_total value rest =
+    let a = there_total 24 rest in
+    choice_total (bytes_eq value (47 ∷ [])) (length value + 17 + total rest) (is_there 24 rest) (in_namespace 24 47 value rest) (omega arith) (namespace_total 24 47 value rest)
+
+condition_total : (slot : ℕ) (c : Condition) (rest : List Ins) → total (condition_code slot c rest) ≤ condition_weight c + total rest
+condition_total slot (Kind kind) rest =
+    let tail = want Equal (kind_byte (kind_meant kind)) rest in omega (arith, image_total 4 tail, want_total Equal (kind_byte (kind_meant kind)) rest)
+condition_total slot (Sender name) rest =
+    let a = owns_total slot rest in
+    let b = is_text_total 64 name rest in
+    choice_total (is_owned_name name) (condition_weight (Sender name) + total rest) (owns slot rest) (is_text 64 name rest) (omega arith) (omega arith)
+condition_total slot (Interface name) rest = omega (arith, is_text_total 32 name rest)
+condition_total slot (Member name) rest = omega (arith, is_text_total 40 name rest)
+condition_total slot (Path path) rest = omega (arith, is_text_total 24 path rest)
+condition_total slot (PathNamespace value) rest = omega (arith, path_total value rest)
+condition_total slot (Destination name) rest = omega (arith, is_text_total 56 name rest)
+condition_total slot (Arg n value) rest =
+    let tail = is_text (argument_at n + 4) value rest in omega (arith, type_total n 115 tail, is_text_total (argument_at n + 4) value rest)
+condition_total slot (ArgPath n value) rest =
+    let tail = is_nested (argument_at n + 4) value rest in omega (arith, text_type_total n tail, nested_total (argument_at n + 4) value rest)
+condition_total slot (Arg0Namespace value) rest =
+    let tail = in_namespace (argument_at 0 + 4) 46 value rest in omega (arith, type_total 0 115 tail, namespace_total (argument_at 0 + 4) 46 value rest)
+
+-- ---- rules
+
+-- what the conditions of a rank weigh
+abbrev rank_weight : ℕ → List Condition → ℕ
+rank_weight rank [] = 0
+rank_weight rank (c ∷ cs) = (if rank_of c == rank then condition_weight c else 0) + rank_weight rank cs
+
+rank_total : (slot rank : ℕ) (cs : List Condition) (rest : List Ins) → total (of_rank slot rank cs rest) ≤ rank_weight rank cs + total rest
+rank_total slot rank [] rest = omega arith
+rank_total slot rank (c ∷ cs) rest = go (rank_of c == rank) (rank_total slot rank cs rest)
+  where
+    go : (here : Bool) → total (of_rank slot rank cs rest) ≤ rank_weight rank cs + total rest → total (if here then condition_code slot c (of_rank slot rank cs rest) else of_rank slot rank cs rest) ≤ (if here then condition_weight c else 0) + rank_weight rank cs + total rest
+    go true h = omega (arith, condition_total slot c (of_rank slot rank cs rest))
+    go false h = omega arith
+
+abbrev all_ranks : List Condition → ℕ
+all_ranks cs = rank_weight 0 cs + rank_weight 1 cs + rank_weight 2 cs + rank_weight 3 cs + rank_weight 4 cs + rank_weight 5 cs + rank_weight 6 cs + rank_weight 7 cs
+
+-- a condition has one rank
+one_rank : (c : Condition) (cs : List Condition) → all_ranks (c ∷ cs) ≡ condition_weight c + all_ranks cs
+one_rank (Kind kind) cs = omega arith
+one_rank (Sender name) cs = omega arith
+one_rank (Interface name) cs = omega arith
+one_rank (Member name) cs = omega arith
+one_rank (Path path) cs = omega arith
+one_rank (PathNamespace value) cs = omega arith
+one_rank (Destination name) cs = omega arith
+one_rank (Arg n value) cs = omega arith
+one_rank (ArgPath n value) cs = omega arith
+one_rank (Arg0Namespace value) cs = omega arith
+
+ranks_weight : (cs : List Condition) → all_ranks cs ≡ sum_by condition_weight cs
+ranks_weight [] = refl
+ranks_weight (c ∷ cs) = one_rank c cs ∙ ap (λ n. condition_weight c + n) (ranks_weight cs) ∙ sym (sum_by-cons condition_weight c cs)
+
+offered_total : (eavesdrops : Bool) → total (offered eavesdrops verdicts) ≤ 5
+offered_total eavesdrops = choice_total eavesdrops 5 verdicts (image_word 56 ∷ want Equal 0 verdicts) (omega (arith, verdicts_total)) (omega (arith, image_total 56 (want Equal 0 verdicts), want_total Equal 0 verdicts, verdicts_total))
+
+-- the ranks from one on, of which there are so many
+abbrev ranks_from : ℕ → ℕ → List Condition → ℕ
+ranks_from zero rank cs = 0
+ranks_from (suc n) rank cs = rank_weight rank cs + ranks_from n (rank + 1) cs
+
+from_total : (slot n rank : ℕ) (cs : List Condition) (rest : List Ins) → total (from_rank slot n rank cs rest) ≤ ranks_from n rank cs + total rest
+from_total slot zero rank cs rest = omega arith
+from_total slot (suc n) rank cs rest =
+    let tail = from_rank slot n (rank + 1) cs rest in
+    omega (arith, rank_total slot rank cs tail, from_total slot n (rank + 1) cs rest)
+
+code_total : (slot : ℕ) (rule : RuleTree) → total (rule_code slot rule) ≤ weight_of rule
+code_total slot rule =
+    let cs = rule.conditions in
+    let tail = offered rule.eavesdrops verdicts in
+    omega (arith, from_total slot 8 0 cs tail, offered_total rule.eavesdrops, ranks_weight cs)
+
+-- with an island for each far target the program isn't longer than the rule weighs
+pub rule_length : (slot : ℕ) (rule : RuleTree) (draft : DraftTree) → instructions_of draft ≡ rule_code slot rule → plain_length draft ≤ weight_of rule
+unfolding total
+rule_length slot rule draft is =
+    let e : plain_length draft ≡ total (rule_code slot rule) = ap total is in
+    let h : total (rule_code slot rule) ≤ weight_of rule = code_total slot rule in
+    rw e h

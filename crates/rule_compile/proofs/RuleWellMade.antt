@@ -1,0 +1,254 @@
+-- The program of a rule is well made: its jumps stay inside, and each load and return is an accepted one.
+use Rattle.std.proofs.Common.{◌≡◌, ℕ, zero, suc, ◌+◌, ◌-◌, ◌*◌, ◌<◌, ◌≤◌, Bool, true, false, List, [], ◌∷◌, length, Option, Some, None, refl, subst, arith}
+use Rattle.std.specs.Prelude.{◌/◌, ◌%◌, ◌^◌, ◌==◌, if◌then◌else◌}
+use Rattle.std.specs.Option.{IsSomeAnd}
+use Rattle.std.specs.Str.{bytes_eq}
+use Rattle.std.specs.List.{slice_get}
+use Rattle.std.proofs.lemmas.Bool.{and_parts, leb-true}
+use Rattle.std.proofs.lemmas.Option.{slice_get_within}
+use Rattle.bpf_code.specs.declared.instruction.Ins.{Ins}
+use Rattle.bpf_code.specs.declared.operation.Op.{Op}
+use Rattle.bpf_code.specs.declared.operation.Op.TheVariants.{LoadImage, LoadIndexed, IndexFromA, ReturnConstant, Jump, Branch}
+use Rattle.bpf_code.specs.declared.operation.Operand.TheVariants.{Constant}
+use Rattle.bpf_code.specs.declared.operation.Width.{Width}
+use Rattle.bpf_code.specs.declared.operation.Width.TheVariants.{Word, Half, Byte}
+use Rattle.bpf_code.specs.declared.operation.Test.{Test}
+use Rattle.bpf_code.specs.declared.operation.Test.TheVariants.{Equal, Above, AtLeast, SharesBit}
+use Rattle.bpf_code.specs.Table.{op_of, code_of}
+use Rattle.bpf_code.specs.Flow.{At, Reads}
+use Rattle.bpf_code.specs.Program.{IsJumpFine, IsFine, IsReturn}
+use Rattle.jump_islands.specs.WellMade.{AreWellMade}
+use Rattle.message_view.specs.Header.{kind_byte}
+use Rattle.match_rule.specs.declared.condition.Condition.{Condition}
+use Rattle.match_rule.specs.declared.condition.Condition.TheVariants.{Kind, Sender, Interface, Member, Path, PathNamespace, Destination, Arg, ArgPath, Arg0Namespace}
+use Rattle.match_rule.specs.Bytes.{ends_with}
+use Rattle.match_rule.specs.Condition.{kind_meant}
+use Rattle.match_rule.specs.Parts.{has_small_number, have_small_numbers}
+use Rattle.match_rule.specs.RuleTree.{RuleTree, is_owned_name}
+use Rattle.rule_compile.specs.Code.{image_word, indexed, index_from_a, returns, branch, want, settle, two, four, same_bytes, has_len, is_there, is_there_if, index_text, is_text, in_namespace}
+use Rattle.rule_compile.specs.Folders.{parts_of, may_end, along, is_nested}
+use Rattle.rule_compile.specs.RuleCode.{argument_at, has_type, has_text_type, owns, path_namespace, condition_code, rank_of, of_rank, from_rank, offered, verdicts, rule_code}
+
+-- ---- what an instruction in front keeps
+
+-- what makes a program well made, where it reads no scratch word at all
+pub record IsSound (code : List Ins) : Type 0 where
+  pub some : 0 < length code
+  pub fine : (place : ℕ) → place < length code → At code place (IsFine (length code) place)
+  pub last : At code (length code - 1) IsReturn
+  pub quiet : (place k : ℕ) → At code place (Reads k) → ⊥
+
+some_map : {A : Type 0} (o : Option A) (P Q : A → Type 0) → ((x : A) → P x → Q x) → IsSomeAnd o P → IsSomeAnd o Q
+some_map None P Q each h = h
+some_map (Some x) P Q each h = each x h
+
+at_map : (code : List Ins) (place : ℕ) (P Q : Op → Ins → Type 0) → ((op : Op) (ins : Ins) → P op ins → Q op ins) → At code place P → At code place Q
+at_map code place P Q each h =
+    some_map (slice_get code place) _ _ (λ (ins : Ins) here. some_map (op_of ins.code) (λ op. P op ins) (λ op. Q op ins) (λ op p. each op ins p) here) h
+
+jump_moved : (op : Op) (ins : Ins) (len place : ℕ) → IsJumpFine len place op ins → IsJumpFine (suc len) (suc place) op ins
+jump_moved Jump ins len place h = omega arith
+jump_moved (Branch test operand) ins len place h = (omega arith, omega arith)
+jump_moved _ ins len place h = tt
+
+fine_moved : (len place : ℕ) (op : Op) (ins : Ins) → IsFine len place op ins → IsFine (suc len) (suc place) op ins
+fine_moved len place op ins h = record {
+  constant = h.constant;
+  scratch = h.scratch;
+  jump = jump_moved op ins len place h.jump;
+  load = h.load;
+}
+
+in_front : (ins : Ins) (op : Op) (rest : List Ins) → op_of ins.code ≡ Some op → IsFine (length (ins ∷ rest)) 0 op ins → ((k : ℕ) → Reads k op ins → ⊥) → IsSound rest → IsSound (ins ∷ rest)
+in_front ins op rest row fine none s = record {
+  some = omega arith;
+  fine = fine_at;
+  last = (let e : suc (length rest - 1) ≡ length (ins ∷ rest) - 1 = omega (arith, s.some) in subst (λ (i : ℕ). At (ins ∷ rest) i IsReturn) e s.last);
+  quiet = quiet_at;
+}
+  where
+    fine_at : (place : ℕ) → place < length (ins ∷ rest) → At (ins ∷ rest) place (IsFine (length (ins ∷ rest)) place)
+    fine_at zero inside = rw row fine
+    fine_at (suc p) inside = at_map rest p (IsFine (length rest) p) (IsFine (length (ins ∷ rest)) (suc p)) (fine_moved (length rest) p) (s.fine p (omega arith))
+
+    quiet_at : (place k : ℕ) → At (ins ∷ rest) place (Reads k) → ⊥
+    quiet_at zero k h = none k (rw row at h)
+    quiet_at (suc p) k h = s.quiet p k h
+
+-- ---- single instructions
+
+image_sound : (at : ℕ) (rest : List Ins) → at < 2048 → IsSound rest → IsSound (image_word at ∷ rest)
+image_sound at rest small s = in_front (image_word at) (LoadImage Word) rest refl (record { constant = tt; scratch = tt; jump = tt; load = omega arith }) (λ k h. h) s
+
+indexed_sound : (width : Width) (at : ℕ) (rest : List Ins) → IsSound rest → IsSound (indexed width at ∷ rest)
+indexed_sound width at rest s = in_front (indexed width at) (LoadIndexed width) rest (row width) (record { constant = tt; scratch = tt; jump = tt; load = tt }) (λ k h. h) s
+  where
+    row : (width : Width) → op_of (code_of (LoadIndexed width)) ≡ Some (LoadIndexed width)
+    row Word = refl
+    row Half = refl
+    row Byte = refl
+
+index_sound : (rest : List Ins) → IsSound rest → IsSound (index_from_a ∷ rest)
+index_sound rest s = in_front index_from_a IndexFromA rest refl (record { constant = tt; scratch = tt; jump = tt; load = tt }) (λ k h. h) s
+
+return_sound : (v : ℕ) (rest : List Ins) → IsSound rest → IsSound (returns v ∷ rest)
+return_sound v rest s = in_front (returns v) ReturnConstant rest refl (record { constant = tt; scratch = tt; jump = tt; load = tt }) (λ k h. h) s
+
+branch_row : (test : Test) → op_of (code_of (Branch test Constant)) ≡ Some (Branch test Constant)
+branch_row Equal = refl
+branch_row Above = refl
+branch_row AtLeast = refl
+branch_row SharesBit = refl
+
+branch_sound : (test : Test) (k hit miss : ℕ) (rest : List Ins) → hit < length rest → miss < length rest → IsSound rest → IsSound (branch test k hit miss ∷ rest)
+branch_sound test k hit miss rest h m s =
+    in_front (branch test k hit miss) (Branch test Constant) rest (branch_row test) (record { constant = tt; scratch = tt; jump = (omega arith, omega arith); load = tt }) (λ k h. h) s
+
+want_sound : (test : Test) (k : ℕ) (rest : List Ins) → IsSound rest → IsSound (want test k rest)
+want_sound test k rest s = branch_sound test k 0 (length rest - 1) rest s.some (omega (arith, s.some)) s
+
+settle_sound : (test : Test) (k : ℕ) (behind rest : List Ins) → IsSound behind → IsSound rest → IsSound (settle test k behind rest)
+settle_sound test k behind rest b s = branch_sound test k (length rest - length behind) 0 rest (omega (arith, s.some, b.some)) s.some s
+
+-- no match, behind which nothing stands
+last_sound : IsSound (returns 0 ∷ [])
+last_sound = record { some = omega arith; fine = fine_at; last = tt; quiet = quiet_at }
+  where
+    fine_at : (place : ℕ) → place < 1 → At (returns 0 ∷ []) place (IsFine 1 place)
+    fine_at zero inside = record { constant = tt; scratch = tt; jump = tt; load = tt }
+    fine_at (suc p) inside = absurd (omega arith)
+
+    quiet_at : (place k : ℕ) → At (returns 0 ∷ []) place (Reads k) → ⊥
+    quiet_at zero k h = h
+    quiet_at (suc p) k h = h
+
+verdicts_sound : IsSound verdicts
+verdicts_sound = return_sound 1 (returns 0 ∷ []) last_sound
+
+-- ---- pieces
+
+same_sound : (at : ℕ) (bytes : List ℕ) (rest : List Ins) → IsSound rest → IsSound (same_bytes at bytes rest)
+same_sound at [] rest s = s
+same_sound at (a ∷ []) rest s = indexed_sound Byte at _ (want_sound Equal a rest s)
+same_sound at (a ∷ b ∷ []) rest s = indexed_sound Half at _ (want_sound Equal (two a b) rest s)
+same_sound at (a ∷ b ∷ c ∷ []) rest s =
+    indexed_sound Half at _ (want_sound Equal (two a b) _ (indexed_sound Byte (at + 2) _ (want_sound Equal c rest s)))
+same_sound at (a ∷ b ∷ c ∷ d ∷ more) rest s =
+    indexed_sound Word at _ (want_sound Equal (four a b c d) _ (same_sound (at + 4) more rest s))
+
+len_sound : (test : Test) (n at : ℕ) (rest : List Ins) → at < 1024 → IsSound rest → IsSound (has_len test n at rest)
+len_sound test n at rest small s = image_sound (at + 4) (want test n rest) (omega arith) (want_sound test n rest s)
+
+there_sound : (at : ℕ) (rest : List Ins) → at < 1024 → IsSound rest → IsSound (is_there at rest)
+there_sound at rest small s = image_sound at (want Above 0 rest) (omega arith) (want_sound Above 0 rest s)
+
+choice_sound : (b : Bool) (hit miss : List Ins) → IsSound hit → IsSound miss → IsSound (if b then hit else miss)
+choice_sound true hit miss h m = h
+choice_sound false hit miss h m = m
+
+text_sound : (at : ℕ) (rest : List Ins) → at < 1024 → IsSound rest → IsSound (index_text at rest)
+text_sound at rest small s = image_sound at (index_from_a ∷ rest) (omega arith) (index_sound rest s)
+
+-- the text in front of what compares it, once its length fits
+begin_sound : (test : Test) (at : ℕ) (value : List ℕ) (rest : List Ins) → at < 1024 → IsSound rest → IsSound (has_len test (length value) at (is_there_if (length value == 0) at (index_text at (same_bytes 0 value rest))))
+begin_sound test at value rest small s =
+    let tail = index_text at (same_bytes 0 value rest) in
+    let t : IsSound tail = text_sound at (same_bytes 0 value rest) small (same_sound 0 value rest s) in
+    len_sound test (length value) at (is_there_if (length value == 0) at tail) small (choice_sound (length value == 0) (is_there at tail) tail (there_sound at tail small t) t)
+
+is_text_sound : (at : ℕ) (value : List ℕ) (rest : List Ins) → at < 1024 → IsSound rest → IsSound (is_text at value rest)
+is_text_sound at value rest small s = begin_sound Equal at value rest small s
+
+namespace_sound : (at separator : ℕ) (value : List ℕ) (rest : List Ins) → at < 1024 → IsSound rest → IsSound (in_namespace at separator value rest)
+namespace_sound at separator value rest small s =
+    let last = indexed Byte (length value) ∷ want Equal separator rest in
+    let l : IsSound last = indexed_sound Byte (length value) (want Equal separator rest) (want_sound Equal separator rest s) in
+    begin_sound AtLeast at value (image_word (at + 4) ∷ settle Equal (length value) rest last) small
+    (image_sound (at + 4) (settle Equal (length value) rest last) (omega arith) (settle_sound Equal (length value) rest last s l))
+
+part_sound : (test : Test) (at place : ℕ) (part : List ℕ) (rest : List Ins) → at < 1024 → IsSound rest → IsSound (has_len test (place + length part) at (same_bytes place part rest))
+part_sound test at place part rest small s = len_sound test (place + length part) at (same_bytes place part rest) small (same_sound place part rest s)
+
+may_end_sound : (at n : ℕ) (behind rest : List Ins) → at < 1024 → IsSound behind → IsSound rest → IsSound (may_end at n behind rest)
+may_end_sound at n behind rest small b s = image_sound (at + 4) (settle Equal n behind rest) (omega arith) (settle_sound Equal n behind rest b s)
+
+along_sound : (at place : ℕ) (parts : List (List ℕ)) (rest : List Ins) → at < 1024 → IsSound rest → IsSound (along at place parts rest)
+along_sound at place [] rest small s = s
+along_sound at place (part ∷ []) rest small s = choice_sound (ends_with 47 part) _ _ (part_sound AtLeast at place part rest small s) (part_sound Equal at place part rest small s)
+along_sound at place (part ∷ next ∷ more) rest small s =
+    let tail = along at (place + length part) (next ∷ more) rest in
+    part_sound AtLeast at place part (may_end at (place + length part) rest tail) small
+    (may_end_sound at (place + length part) rest tail small s (along_sound at (place + length part) (next ∷ more) rest small s))
+
+nested_sound : (at : ℕ) (value : List ℕ) (rest : List Ins) → at < 1024 → IsSound rest → IsSound (is_nested at value rest)
+nested_sound at value rest small s =
+    choice_sound (length value == 0) (has_len Equal 0 at rest) (index_text at (along at 0 (parts_of value) rest)) (len_sound Equal 0 at rest small s) (text_sound at (along at 0 (parts_of value) rest) small (along_sound at 0 (parts_of value) rest small s))
+
+-- ---- conditions
+
+type_sound : (n code : ℕ) (rest : List Ins) → n ≤ 63 → IsSound rest → IsSound (has_type n code rest)
+type_sound n code rest small s = image_sound (argument_at n) (want Equal code rest) (omega arith) (want_sound Equal code rest s)
+
+text_type_sound : (n : ℕ) (rest : List Ins) → n ≤ 63 → IsSound rest → IsSound (has_text_type n rest)
+text_type_sound n rest small s =
+    image_sound (argument_at n) (settle Equal 115 rest (want Equal 111 rest)) (omega arith) (settle_sound Equal 115 rest (want Equal 111 rest) s (want_sound Equal 111 rest s))
+
+owns_sound : (slot : ℕ) (rest : List Ins) → slot < 1024 → IsSound rest → IsSound (owns slot rest)
+owns_sound slot rest small s =
+    image_sound (840 + 4 * (slot / 32)) (want SharesBit (2 ^ (slot % 32)) rest) (omega arith) (want_sound SharesBit (2 ^ (slot % 32)) rest s)
+
+path_sound : (value : List ℕ) (rest : List Ins) → IsSound rest → IsSound (path_namespace value rest)
+path_sound value rest s =
+    choice_sound (bytes_eq value (47 ∷ [])) (is_there 24 rest) (in_namespace 24 47 value rest) (there_sound 24 rest (omega arith) s) (namespace_sound 24 47 value rest (omega arith) s)
+
+pub condition_sound : (slot : ℕ) (c : Condition) (rest : List Ins) → slot < 1024 → has_small_number c ≡ true → IsSound rest → IsSound (condition_code slot c rest)
+condition_sound slot (Kind kind) rest small e s = image_sound 4 (want Equal (kind_byte (kind_meant kind)) rest) (omega arith) (want_sound Equal (kind_byte (kind_meant kind)) rest s)
+condition_sound slot (Sender name) rest small e s =
+    choice_sound (is_owned_name name) (owns slot rest) (is_text 64 name rest) (owns_sound slot rest small s) (is_text_sound 64 name rest (omega arith) s)
+condition_sound slot (Interface name) rest small e s = is_text_sound 32 name rest (omega arith) s
+condition_sound slot (Member name) rest small e s = is_text_sound 40 name rest (omega arith) s
+condition_sound slot (Path path) rest small e s = is_text_sound 24 path rest (omega arith) s
+condition_sound slot (PathNamespace value) rest small e s = path_sound value rest s
+condition_sound slot (Destination name) rest small e s = is_text_sound 56 name rest (omega arith) s
+condition_sound slot (Arg n value) rest small e s =
+    let h : n ≤ 63 = leb-true n 63 e in
+    type_sound n 115 (is_text (argument_at n + 4) value rest) h (is_text_sound (argument_at n + 4) value rest (omega arith) s)
+condition_sound slot (ArgPath n value) rest small e s =
+    let h : n ≤ 63 = leb-true n 63 e in
+    text_type_sound n (is_nested (argument_at n + 4) value rest) h (nested_sound (argument_at n + 4) value rest (omega arith) s)
+condition_sound slot (Arg0Namespace value) rest small e s =
+    type_sound 0 115 (in_namespace (argument_at 0 + 4) 46 value rest) (omega arith) (namespace_sound (argument_at 0 + 4) 46 value rest (omega arith) s)
+
+-- ---- the distances of a branch
+
+pub branch_inside : (code : List Ins) (place : ℕ) (test : Test) (k hit miss : ℕ) → IsSound code → slice_get code place ≡ Some (branch test k hit miss) → (place + 1 + hit < length code) × (place + 1 + miss < length code)
+branch_inside code place test k hit miss s at =
+    let inside : place < length code = slice_get_within code place (branch test k hit miss) at in
+    let row = branch_row test in
+    let fine : IsFine (length code) place (Branch test Constant) (branch test k hit miss) = rw (at, row) at (s.fine place inside) in
+    fine.jump
+
+-- ---- rules
+
+pub rank_sound : (slot rank : ℕ) (cs : List Condition) (rest : List Ins) → slot < 1024 → have_small_numbers cs ≡ true → IsSound rest → IsSound (of_rank slot rank cs rest)
+rank_sound slot rank [] rest small e s = s
+rank_sound slot rank (c ∷ cs) rest small e s =
+    let h = and_parts (has_small_number c) (have_small_numbers cs) e in
+    let t : IsSound (of_rank slot rank cs rest) = rank_sound slot rank cs rest small h.1 s in
+    choice_sound (rank_of c == rank) (condition_code slot c (of_rank slot rank cs rest)) (of_rank slot rank cs rest) (condition_sound slot c (of_rank slot rank cs rest) small h.0 t) t
+
+pub from_sound : (slot n rank : ℕ) (cs : List Condition) (rest : List Ins) → slot < 1024 → have_small_numbers cs ≡ true → IsSound rest → IsSound (from_rank slot n rank cs rest)
+from_sound slot zero rank cs rest small e s = s
+from_sound slot (suc n) rank cs rest small e s = rank_sound slot rank cs (from_rank slot n (rank + 1) cs rest) small e (from_sound slot n (rank + 1) cs rest small e s)
+
+pub offered_sound : (eavesdrops : Bool) → IsSound (offered eavesdrops verdicts)
+offered_sound eavesdrops =
+    choice_sound eavesdrops verdicts (image_word 56 ∷ want Equal 0 verdicts) verdicts_sound (image_sound 56 (want Equal 0 verdicts) (omega arith) (want_sound Equal 0 verdicts verdicts_sound))
+
+pub rule_sound : (slot : ℕ) (rule : RuleTree) → slot < 1024 → have_small_numbers rule.conditions ≡ true → IsSound (rule_code slot rule)
+rule_sound slot rule small e = from_sound slot 8 0 rule.conditions (offered rule.eavesdrops verdicts) small e (offered_sound rule.eavesdrops)
+
+pub rule_well_made : (slot : ℕ) (rule : RuleTree) → slot < 1024 → have_small_numbers rule.conditions ≡ true → AreWellMade (rule_code slot rule)
+rule_well_made slot rule small e =
+    let s = rule_sound slot rule small e in
+    record { some = s.some; fine = s.fine; last = s.last; stored = λ place earlier k path reads. absurd (s.quiet place k reads) }

@@ -1,0 +1,14 @@
+-- The parts of a summary, as the code writes them.
+use Rattle.std.specs.Prelude.{ℕ, ◌+◌, List, [], ◌∷◌, length}
+use Rattle.message_value.specs.Order.{order_byte}
+use Rattle.message_view.specs.Header.{kind_byte}
+use Rattle.message_view.specs.Message.{Message}
+use Rattle.message_view.specs.Spelling.{header_bytes, body_place, body_bytes}
+use Rattle.summary.specs.declared.edition.Edition.{Edition}
+use Rattle.summary.specs.Layout.{size_of}
+
+-- the head of a message that has so many arguments
+abbrev pub head_with : Edition → Message → ℕ → List ℕ
+head_with edition m count =
+    order_byte m.order ∷ kind_byte m.kind ∷ m.flags
+    ∷ (size_of edition + body_place (length (header_bytes m))) ∷ length (body_bytes m) ∷ count ∷ []
