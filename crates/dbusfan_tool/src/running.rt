@@ -1,10 +1,6 @@
 // `run PROGRAM FILE [--edition 1|2]`.
 
-ghost use Rattle.std.specs.Prelude.{◌≡◌, ◌⊎◌, ℕ, Err, false};
-ghost use Rattle.message_view.specs.Message.{Message};
-ghost use Rattle.message_view.specs.Valid.{Valid};
-ghost use Rattle.summary.specs.ImageBytes.{image_bytes};
-ghost use Rattle.summary.specs.Sets.{has_slot, IsSet};
+ghost use Rattle.std.specs.Prelude.{◌≡◌, ◌⊎◌, Err};
 ghost use Rattle.dbusfan_tool.specs.Running.{Runs};
 ghost use Rattle.dbusfan_tool.specs.Tool.{Tool};
 ghost use Rattle.dbusfan_tool.specs.Row.{to_run};
@@ -63,22 +59,7 @@ fn outcome<F: Files>(
     let text = files.read(alloc, file)?;
     let bytes = decode(alloc, &text)?;
     let message = View::read(&bytes)?;
-    let owned = empty_slots();
-    let image = new_image(&message, &owned, edition);
+    let owned = Slots::empty();
+    let image = Image::new(&message, &owned, edition);
     Ok(run(&program, &image))
-}
-
-// STAND-IN: `Slots::empty`.
-fn empty_slots() -> Slots
-    ensures none { (slot : ℕ) → has_slot result slot ≡ false }
-    ensures set { IsSet result }
-{
-    Slots::empty()
-}
-
-// STAND-IN: `Image::new`.
-fn new_image<'a>(view: &View<'a>, owned: &Slots, edition: Edition) -> Image<'a>
-    ensures { (m : Message) → Valid view.now m → result ≡ image_bytes edition m owned.now }
-{
-    unreachable!()
 }

@@ -29,5 +29,5 @@ returns g c =
     let spells = rw c.deref.ensures.value at c.in_ok-bytes.ensures.ok in
     let found = rw c.deref-2.ensures.value at c.in_ok-message.ensures.found in
     let valid = subst (λ (bytes : List ℕ). Valid bytes found.1.0) (sym found.0) found.1.1 in
-    let image = c.new_image-image.ensures found.1.0 valid in
-    of_outcome _ _ _ _ program.0 program.1 _ _ _ found.1.0 _ _ c.in_ok-text.ensures spells found.1.1 c.empty_slots-owned.ensures.set c.empty_slots-owned.ensures.none image c.run.ensures.ends
+    let image = c.new-image.ensures found.1.0 valid in
+    of_outcome _ _ _ _ program.0 program.1 _ _ _ found.1.0 _ _ c.in_ok-text.ensures spells found.1.1 c.empty-owned.ensures.set c.empty-owned.ensures.none image c.run.ensures.ends
