@@ -37,12 +37,24 @@ module _ (may_give : Option (List ℕ) → Type 0) where
   fails (Ok a) fault is none = absurd is
   fails (Err f) fault is none = subst Fails (sym is) none
 
-  pub check_fails : (found : Result ℕ Fault) (fault : Fault) → IsErrAnd found (λ f. f ≡ fault) → Fails fault → Checks may_give found ⊎ (found ≡ Err Memory)
-  check_fails (Ok count) fault is none = absurd is
-  check_fails (Err f) fault is (inl none) = inl (no_program (subst (λ (f : Fault). Assembles may_give (Err f)) (sym is) none))
-  check_fails (Err f) fault is (inr short) = inr (ap Err (is ∙ short))
+  abbrev Refuses : Fault → Type 0
+  Refuses fault = Checks may_give (Err fault) ⊎ (fault ≡ Memory)
 
-  -- the code that was accepted is the program
-  pub check_accepts : (code verified program : List Ins) → Assembles may_give (Ok program) → code ≡ verified → WellFormed verified → verified ≡ program → Checks may_give (Ok (length code))
-  check_accepts code verified program reads lent fine same =
-      subst (λ (code : List Ins). Checks may_give (Ok (length code))) (sym (lent ∙ same)) (accepted reads (subst WellFormed same fine))
+  -- a program that isn't assembled isn't accepted
+  pub check_fails : {A : Type 0} (found : Result A Fault) (fault : Fault) → IsErrAnd found (λ f. f ≡ fault) → Fails fault → IfErr found Refuses
+  check_fails (Ok a) fault is none = absurd is
+  check_fails (Err f) fault is (inl none) = inl (no_program (subst (λ (f : Fault). Assembles may_give (Err f)) (sym is) none))
+  check_fails (Err f) fault is (inr short) = inr (is ∙ short)
+
+  pub count_fails : (found : Result ℕ Fault) (fault : Fault) → IsErrAnd found (λ f. f ≡ fault) → Refuses fault → Checks may_give found ⊎ (found ≡ Err Memory)
+  count_fails (Ok count) fault is none = absurd is
+  count_fails (Err f) fault is (inl none) = inl (subst (λ (f : Fault). Checks may_give (Err f)) (sym is) none)
+  count_fails (Err f) fault is (inr short) = inr (ap Err (is ∙ short))
+
+  -- what was accepted is the program
+  pub check_accepts : (verified program : List Ins) → Assembles may_give (Ok program) → WellFormed program → verified ≡ program → Assembles may_give (Ok verified) × WellFormed verified
+  check_accepts verified program reads fine same =
+      (subst (λ (code : List Ins). Assembles may_give (Ok code)) (sym same) reads, subst WellFormed (sym same) fine)
+
+  pub counts : (code verified : List Ins) → code ≡ verified → Assembles may_give (Ok verified) → WellFormed verified → Checks may_give (Ok (length code))
+  counts code verified lent reads fine = subst (λ (code : List Ins). Checks may_give (Ok (length code))) (sym lent) (accepted reads fine)

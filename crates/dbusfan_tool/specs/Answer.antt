@@ -1,13 +1,14 @@
 -- What a command has to say, and how it is said.
-use Rattle.std.specs.Prelude.{◌≡◌, ℕ, Bool, true, false, List, [], ◌++◌, codes, decimal, Option, Result, Ok, Err, string_bytes}
+use Rattle.std.specs.Prelude.{◌≡◌, ℕ, Bool, true, false, List, [], ◌++◌, codes, decimal, Option, Result, Ok, Err, string_bytes, if◌then◌else◌, ◌==◌}
 use Rattle.std.specs.Io.KnownBytes.{Appends}
 use Rattle.bpf_code.specs.declared.instruction.Ins.{Ins}
+use Rattle.bpf_machine.specs.declared.machine.Outcome.{Outcome}
 use Rattle.dbusfan_tool.specs.declared.fault.Fault.{Fault}
 use Rattle.dbusfan_tool.specs.declared.fault.Fault.TheVariants.{File}
 use Rattle.dbusfan_tool.specs.Fault.{line_end, fault_line, fault_status}
 use Rattle.dbusfan_tool.specs.Listing.{listing_of}
 use Rattle.dbusfan_tool.specs.declared.answer.Answer.{Answer}
-use Rattle.dbusfan_tool.specs.declared.answer.Answer.TheVariants.{Verdict, Text, Fault as Fails}
+use Rattle.dbusfan_tool.specs.declared.answer.Answer.TheVariants.{Verdict, Text, Ran, Fault as Fails}
 
 -- what is written on standard output and on standard error, and the status
 pub record Said : Type 0 where
@@ -35,6 +36,11 @@ said_of_asm program = saying (listing_of program)
 abbrev pub said_of_check : ℕ → Said
 said_of_check count = saying (codes "ok " ++ decimal count ++ line_end)
 
+-- a program's verdict, which is a match where it isn't 0, and the number of its steps
+abbrev pub said_of_run : Outcome → Said
+said_of_run outcome =
+    record { output = codes "verdict " ++ decimal outcome.verdict ++ codes " steps " ++ decimal outcome.steps ++ line_end; error = []; status = if outcome.verdict == 0 then 1 else 0 }
+
 -- how what was found is said
 abbrev pub said_of : {A : Type 0} → (A → Said) → Result A Fault → Said
 said_of say (Ok found) = say found
@@ -44,6 +50,7 @@ said_of say (Err fault) = failing fault
 abbrev pub said_by : Answer → Said
 said_by (Verdict matches) = said_of_match matches
 said_by (Text text) = saying (string_bytes text)
+said_by (Ran text matches) = record { output = string_bytes text; error = []; status = if matches then 0 else 1 }
 said_by (Fails fault) = failing fault
 
 -- What is said has been written, where `out` and `err` did not fail; where `out` failed, that is the fault.

@@ -11,4 +11,4 @@ names_of (One first) = first.now ∷ []
 names_of (Two first second) = first.now ∷ second.now ∷ []
 
 abbrev pub gathering_of : Gathered → Gathering
-gathering_of all = record { names = names_of all.names; owns = all.owns; ended = all.ended }
+gathering_of all = record { names = names_of all.names; owns = all.owns; edition = all.edition; awaited = all.awaited }

@@ -7,6 +7,7 @@ pub mod Output
 pub mod Fault
 pub mod Listing
 pub mod Program
+pub mod Running
 pub mod Answer
 pub mod Usage
 pub mod Tool

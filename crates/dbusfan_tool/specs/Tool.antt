@@ -13,9 +13,11 @@ use Rattle.match_rule.specs.Reading.{rule_at}
 use Rattle.match_rule.specs.Holds.{Holds}
 use Rattle.dbusfan_tool.specs.HexText.{bytes_of_hex}
 use Rattle.bpf_code.specs.declared.instruction.Ins.{Ins}
+use Rattle.bpf_machine.specs.declared.machine.Outcome.{Outcome}
 use Rattle.dbusfan_tool.specs.Program.{Assembles, Checks}
-use Rattle.dbusfan_tool.specs.Row.{Asked, to_match, to_asm, to_check}
-use Rattle.dbusfan_tool.specs.Answer.{Said, said_of, said_of_match, said_of_asm, said_of_check, failing}
+use Rattle.dbusfan_tool.specs.Running.{Runs}
+use Rattle.dbusfan_tool.specs.Row.{Asked, to_match, to_asm, to_check, to_run}
+use Rattle.dbusfan_tool.specs.Answer.{Said, said_of, said_of_match, said_of_asm, said_of_check, said_of_run, failing}
 
 -- What `match` finds for a rule's text, what its file may give, and whether the sender owns the rule's name.
 -- The rule's fault comes before those of the file: that it can't be read, that it is no hexadecimal text, and
@@ -32,6 +34,7 @@ abbrev pub Tool : (List ℕ → Option (List ℕ) → Type 0) → Asked → Said
 Tool may_give (to_match rule file owns) said = (found : Result Bool Fault) × Judges rule (may_give file) owns found × (said ≡ said_of said_of_match found)
 Tool may_give (to_asm file) said = (found : Result (List Ins) Fault) × Assembles (may_give file) found × (said ≡ said_of said_of_asm found)
 Tool may_give (to_check file) said = (found : Result ℕ Fault) × Checks (may_give file) found × (said ≡ said_of said_of_check found)
+Tool may_give (to_run program file edition) said = (found : Result Outcome Fault) × Runs (may_give program) (may_give file) edition found × (said ≡ said_of said_of_run found)
 
 -- what the words allow is said, or that memory was short
 abbrev pub Says : (Said → Type 0) → (Said → Type 0) → Type 0

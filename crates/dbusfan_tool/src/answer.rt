@@ -14,6 +14,11 @@ pub(crate) enum Answer {
     Verdict(bool),
     /// A text for standard output.
     Text(String),
+    /// A text for standard output, and whether it tells of a match.
+    Ran {
+        text: String,
+        matches: bool,
+    },
     Fault(Fault),
 }
 
@@ -24,7 +29,7 @@ impl Answer {
         match self {
             Answer::Verdict(true) => b"match\n",
             Answer::Verdict(false) => b"no match\n",
-            Answer::Text(text) => text.as_bytes(),
+            Answer::Text(text) | Answer::Ran { text, .. } => text.as_bytes(),
             Answer::Fault(_) => b"",
         }
     }
@@ -33,8 +38,8 @@ impl Answer {
         ensures { result ≡ (said_by self.now).status }
     {
         match self {
-            Answer::Verdict(true) | Answer::Text(_) => 0,
-            Answer::Verdict(false) => 1,
+            Answer::Verdict(true) | Answer::Text(_) | Answer::Ran { matches: true, .. } => 0,
+            Answer::Verdict(false) | Answer::Ran { matches: false, .. } => 1,
             Answer::Fault(fault) => fault.status(),
         }
     }

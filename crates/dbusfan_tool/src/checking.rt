@@ -10,7 +10,6 @@ use crate::answer::Answer;
 use crate::fault::Fault;
 use crate::files::Files;
 use crate::program;
-use bpf_verify::verify;
 use std::alloc::Global;
 
 /// How many instructions the program in the file has, if it is accepted, or the first fault.
@@ -18,7 +17,7 @@ pub(crate) fn answer<F: Files>(alloc: Global, file: &str, files: &F) -> Answer
     ensures { Tool (F.may_give files.now) (to_check file.now) (said_by result)
         ⊎ (said_by result ≡ failing Fault.Memory) }
 {
-    let count = match accepted(alloc, file, files) {
+    let count = match counted(alloc, file, files) {
         Ok(count) => count,
         Err(fault) => return Answer::Fault(fault),
     };
@@ -28,12 +27,9 @@ pub(crate) fn answer<F: Files>(alloc: Global, file: &str, files: &F) -> Answer
     }
 }
 
-fn accepted<F: Files>(alloc: Global, file: &str, files: &F) -> Result<usize, Fault>
+fn counted<F: Files>(alloc: Global, file: &str, files: &F) -> Result<usize, Fault>
     ensures { Checks (F.may_give files.now file.now) result ⊎ (result ≡ Err Fault.Memory) }
 {
-    let program = program::read(alloc, file, files)?;
-    match verify(program) {
-        Ok(verified) => Ok(verified.code().len()),
-        Err((fault, _)) => Err(Fault::Program(fault)),
-    }
+    let verified = program::accepted(alloc, file, files)?;
+    Ok(verified.code().len())
 }

@@ -1,6 +1,7 @@
 // The rows of the command line.
 
 use crate::gathered::Gathered;
+use summary::Edition;
 
 /// What a command line asks for.
 #[derive(Clone, Copy)]
@@ -18,6 +19,12 @@ pub(crate) enum Row<'a> {
     /// `check FILE`: is the program in the file accepted?
     Check {
         file: &'a str,
+    },
+    /// `run PROGRAM FILE [--edition 1|2]`: what does the program say of the message in the file?
+    Run {
+        program: &'a str,
+        file: &'a str,
+        edition: Edition,
     },
 }
 
@@ -48,6 +55,7 @@ impl<'a> Row<'a> {
             "check" => Some(Row::Check {
                 file: gathered.to_file()?,
             }),
+            "run" => gathered.to_run(),
             _ => None,
         }
     }

@@ -2,8 +2,10 @@
 
 ghost use Rattle.std.specs.Prelude.{◌≡◌};
 ghost use Rattle.dbusfan_tool.specs.Row.{is_option};
+ghost use Rattle.dbusfan_tool.specs.RowReading.{edition_of};
 
 use crate::command_line::Row;
+use summary::Edition;
 
 #[derive(Clone, Copy)]
 pub(crate) enum Names<'a> {
@@ -12,19 +14,31 @@ pub(crate) enum Names<'a> {
     Two(&'a str, &'a str),
 }
 
+/// What the next word may be.
+#[derive(Clone, Copy)]
+pub(crate) enum Awaited {
+    /// An option, `--` or a name.
+    AnyWord,
+    /// What stands behind `--edition`.
+    EditionWord,
+    /// Behind `--`, a name.
+    NameAlone,
+}
+
 /// What stands among the words behind a command.
 #[derive(Clone, Copy)]
 pub(crate) struct Gathered<'a> {
     names: Names<'a>,
     owns: bool,
-    ended: bool,
+    edition: Option<Edition>,
+    awaited: Awaited,
 }
 
 impl<'a> Gathered<'a> {
     ghost use Rattle.std.specs.Prelude.{◌≡◌, map};
     ghost use Rattle.std.specs.Option.{option_map};
     ghost use Rattle.dbusfan_tool.specs.Row.{asked_by};
-    ghost use Rattle.dbusfan_tool.specs.RowReading.{no_words, with_name, with_owns, with_any, with_word, gathered, match_of, file_of};
+    ghost use Rattle.dbusfan_tool.specs.RowReading.{no_words, with_name, with_owns, with_edition, with_edition_word, with_any, with_word, gathered, match_of, file_of, run_of};
     ghost use Rattle.dbusfan_tool.specs.Gathered.{names_of, gathering_of};
 
     fn nothing() -> Gathered<'a>
@@ -33,7 +47,8 @@ impl<'a> Gathered<'a> {
         Gathered {
             names: Names::Nothing,
             owns: false,
-            ended: false,
+            edition: None,
+            awaited: Awaited::AnyWord,
         }
     }
 
@@ -45,21 +60,32 @@ impl<'a> Gathered<'a> {
         for i in 0..words.len() {
             so_far = so_far.with_word(words[i])?;
         }
-        Some(so_far)
+        match so_far.awaited {
+            Awaited::EditionWord => None,
+            Awaited::AnyWord | Awaited::NameAlone => Some(so_far),
+        }
     }
 
     fn with_word(self, word: &'a str) -> Option<Gathered<'a>>
         ensures { option_map gathering_of result ≡ with_word word.entry.now (gathering_of self.entry) }
     {
-        if self.ended {
-            return self.with_name(word);
+        match self.awaited {
+            Awaited::AnyWord => self.with_any(word),
+            Awaited::EditionWord => self.with_edition_word(word),
+            Awaited::NameAlone => self.with_name(word),
         }
+    }
+
+    fn with_any(self, word: &'a str) -> Option<Gathered<'a>>
+        ensures { option_map gathering_of result ≡ with_any word.entry.now (gathering_of self.entry) }
+    {
         match word {
             "--" => Some(Gathered {
-                ended: true,
+                awaited: Awaited::NameAlone,
                 ..self
             }),
             "--owns" => self.with_owns(),
+            "--edition" => self.with_edition(),
             _ if is_option(word) => None,
             _ => self.with_name(word),
         }
@@ -72,6 +98,29 @@ impl<'a> Gathered<'a> {
             return None;
         }
         Some(Gathered { owns: true, ..self })
+    }
+
+    fn with_edition(self) -> Option<Gathered<'a>>
+        ensures { option_map gathering_of result ≡ with_edition (gathering_of self.entry) }
+    {
+        if self.edition.is_some() {
+            return None;
+        }
+        Some(Gathered {
+            awaited: Awaited::EditionWord,
+            ..self
+        })
+    }
+
+    fn with_edition_word(self, word: &str) -> Option<Gathered<'a>>
+        ensures { option_map gathering_of result ≡ with_edition_word word.now (gathering_of self.entry) }
+    {
+        let edition = edition_of(word)?;
+        Some(Gathered {
+            edition: Some(edition),
+            awaited: Awaited::AnyWord,
+            ..self
+        })
     }
 
     fn with_name(self, word: &'a str) -> Option<Gathered<'a>>
@@ -87,10 +136,10 @@ impl<'a> Gathered<'a> {
 
     /// What `match` and these words ask for.
     pub(crate) fn to_match(self) -> Option<Row<'a>>
-        ensures { option_map asked_by result ≡ match_of (names_of self.entry.names) self.entry.owns }
+        ensures { option_map asked_by result ≡ match_of (names_of self.entry.names) self.entry.owns self.entry.edition }
     {
-        match self.names {
-            Names::Two(rule, file) => Some(Row::Match {
+        match (self.names, self.edition) {
+            (Names::Two(rule, file), None) => Some(Row::Match {
                 rule,
                 file,
                 owns: self.owns,
@@ -101,10 +150,29 @@ impl<'a> Gathered<'a> {
 
     /// The file that these words name, if they are one word and no option.
     pub(crate) fn to_file(self) -> Option<&'a str>
-        ensures { option_map (λ file. file.now) result ≡ file_of (names_of self.entry.names) self.entry.owns }
+        ensures { option_map (λ file. file.now) result ≡ file_of (names_of self.entry.names) self.entry.owns self.entry.edition }
+    {
+        match (self.names, self.edition) {
+            (Names::One(file), None) if !self.owns => Some(file),
+            _ => None,
+        }
+    }
+
+    /// What `run` and these words ask for.
+    pub(crate) fn to_run(self) -> Option<Row<'a>>
+        ensures { option_map asked_by result ≡ run_of (names_of self.entry.names) self.entry.owns self.entry.edition }
     {
         match self.names {
-            Names::One(file) if !self.owns => Some(file),
+            Names::Two(program, file) if !self.owns => {
+                if program == "-" && file == "-" {
+                    return None;
+                }
+                Some(Row::Run {
+                    program,
+                    file,
+                    edition: self.edition.unwrap_or(Edition::One),
+                })
+            }
             _ => None,
         }
     }
@@ -115,4 +183,15 @@ fn is_option(word: &str) -> bool
     ensures { result ≡ is_option word.now }
 {
     word.len() > 1 && word.as_bytes()[0] == b'-'
+}
+
+// The edition that a word says.
+fn edition_of(word: &str) -> Option<Edition>
+    ensures { result ≡ edition_of word.now }
+{
+    match word {
+        "1" => Some(Edition::One),
+        "2" => Some(Edition::Two),
+        _ => None,
+    }
 }

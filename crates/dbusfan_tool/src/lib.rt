@@ -14,6 +14,7 @@ mod hex_text;
 mod matching;
 mod output;
 mod program;
+mod running;
 mod usage;
 
 pub use entry::tool;

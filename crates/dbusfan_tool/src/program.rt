@@ -1,12 +1,14 @@
 // The file of a program.
 
 ghost use Rattle.std.specs.Prelude.{◌≡◌, ◌⊎◌, Ok, Err, IfOk, IfErr};
-ghost use Rattle.dbusfan_tool.specs.Program.{Assembles};
+ghost use Rattle.bpf_code.specs.Program.{WellFormed};
+ghost use Rattle.dbusfan_tool.specs.Program.{Assembles, Checks};
 
 use crate::fault::Fault;
 use crate::files::Files;
 use bpf_code::Ins;
 use bpf_text::assemble_bytes;
+use bpf_verify::{Verified, verify};
 use std::alloc::Global;
 
 /// The program that a file's text names, or the first fault.
@@ -17,4 +19,16 @@ pub(crate) fn read<F: Files>(alloc: Global, file: &str, files: &F) -> Result<Vec
     let text = files.read(alloc, file)?;
     let program = assemble_bytes(alloc, &text)?;
     Ok(program)
+}
+
+/// The program in a file, if it is accepted, or the first fault.
+pub(crate) fn accepted<F: Files>(alloc: Global, file: &str, files: &F) -> Result<Verified, Fault>
+    ensures found { IfOk result (λ program. Assembles (F.may_give files.now file.now) (Ok program) × WellFormed program) }
+    ensures fault { IfErr result (λ fault. Checks (F.may_give files.now file.now) (Err fault) ⊎ (fault ≡ Fault.Memory)) }
+{
+    let program = read(alloc, file, files)?;
+    match verify(program) {
+        Ok(verified) => Ok(verified),
+        Err((fault, _)) => Err(Fault::Program(fault)),
+    }
 }

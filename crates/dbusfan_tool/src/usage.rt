@@ -64,16 +64,14 @@ fn dbusfan<'a>(alloc: Global) -> Result<Command<'a>, AllocError> {
         .subcommand_required(true)
         .subcommand(matching(alloc)?)?
         .subcommand(assembling(alloc)?)?
-        .subcommand(checking(alloc)?)
+        .subcommand(checking(alloc)?)?
+        .subcommand(running(alloc)?)
 }
 
 fn matching<'a>(alloc: Global) -> Result<Command<'a>, AllocError> {
     let rule = Arg::new(alloc, "RULE")
         .required(true)
         .help("A match rule, as \"type='signal',member='c'\"");
-    let file = Arg::new(alloc, "FILE")
-        .required(true)
-        .help("A file that has a message as hexadecimal text");
     let owns = Arg::new(alloc, "owns")
         .long("owns")
         .action(ArgAction::SetTrue)
@@ -81,24 +79,42 @@ fn matching<'a>(alloc: Global) -> Result<Command<'a>, AllocError> {
     Command::new(alloc, "match")
         .about("Says whether a rule matches a message")
         .arg(rule)?
-        .arg(file)?
+        .arg(message(alloc))?
         .arg(owns)
 }
 
 fn assembling<'a>(alloc: Global) -> Result<Command<'a>, AllocError> {
     Command::new(alloc, "asm")
         .about("Prints the bytes of a program, one instruction a line")
-        .arg(program(alloc))
+        .arg(program(alloc, "FILE"))
 }
 
 fn checking<'a>(alloc: Global) -> Result<Command<'a>, AllocError> {
     Command::new(alloc, "check")
         .about("Says whether a program is accepted")
-        .arg(program(alloc))
+        .arg(program(alloc, "FILE"))
 }
 
-fn program<'a>(alloc: Global) -> Arg<'a> {
-    Arg::new(alloc, "FILE")
+fn running<'a>(alloc: Global) -> Result<Command<'a>, AllocError> {
+    let edition = Arg::new(alloc, "edition")
+        .long("edition")
+        .value_name("1|2")
+        .help("Of which edition the image of the message is; 1 where it isn't said");
+    Command::new(alloc, "run")
+        .about("Runs a program over the image of a message whose sender owns no name")
+        .arg(program(alloc, "PROGRAM"))?
+        .arg(message(alloc))?
+        .arg(edition)
+}
+
+fn program<'a>(alloc: Global, name: &'a str) -> Arg<'a> {
+    Arg::new(alloc, name)
         .required(true)
         .help("A file that has a program as assembler text")
+}
+
+fn message<'a>(alloc: Global) -> Arg<'a> {
+    Arg::new(alloc, "FILE")
+        .required(true)
+        .help("A file that has a message as hexadecimal text")
 }

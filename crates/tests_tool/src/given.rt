@@ -1,6 +1,6 @@
 // Files and writers in memory, and what the command line says over them.
 
-ghost use Rattle.std.specs.Prelude.{◌≡◌, Some, None, if◌then◌else◌};
+ghost use Rattle.std.specs.Prelude.{◌≡◌, Some, None, codes, if◌then◌else◌};
 ghost use Rattle.std.specs.Str.{bytes_eq};
 
 use dbusfan_tool::{FileError, Files, Output, tool};
@@ -24,6 +24,26 @@ impl<'a> Files for OneFile<'a> {
             return Err(FileError::File);
         }
         Vec::from_slice(alloc, self.bytes).map_err(|_| FileError::Memory)
+    }
+}
+
+/// A program's file `P` and a message's file `F`.
+#[derive(Drop)]
+pub struct TwoFiles<'a> {
+    pub program: &'a [u8],
+    pub message: &'a [u8],
+}
+
+impl<'a> Files for TwoFiles<'a> {
+    ghost may_give = { λ f name given. given ≡ (if bytes_eq name (codes "P") then Some f.program.now else if bytes_eq name (codes "F") then Some f.message.now else None) };
+
+    fn read(&self, alloc: Global, name: &str) -> Result<Vec<u8>, FileError> {
+        let bytes = match name {
+            "P" => self.program,
+            "F" => self.message,
+            _ => return Err(FileError::File),
+        };
+        Vec::from_slice(alloc, bytes).map_err(|_| FileError::Memory)
     }
 }
 
@@ -51,14 +71,27 @@ pub fn assert_says(
     error: &str,
     status: u8,
 ) -> Result<(), AllocError> {
-    let words: Vec<&str> = line.split('|').collect(alloc)?;
     let files = OneFile {
         name: "F",
         bytes: text,
     };
+    assert_says_over(rt, alloc, line, &files, output, error, status)
+}
+
+/// Asserts what the command line says to the words of a line, which `|` divides.
+pub fn assert_says_over<F: Files>(
+    rt: &impl Abort,
+    alloc: Global,
+    line: &str,
+    files: &F,
+    output: &str,
+    error: &str,
+    status: u8,
+) -> Result<(), AllocError> {
+    let words: Vec<&str> = line.split('|').collect(alloc)?;
     let mut out = Output::new(Vec::new(alloc));
     let mut err = Output::new(Vec::new(alloc));
-    let answered = tool(alloc, words.as_slice(), &files, &mut out, &mut err);
+    let answered = tool(alloc, words.as_slice(), files, &mut out, &mut err);
     assert_eq!(rt;
         out.writer.as_slice(),
         output.as_bytes(),

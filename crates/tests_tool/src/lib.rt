@@ -10,6 +10,8 @@ mod programs;
 #[cfg(test)]
 mod rows;
 #[cfg(test)]
+mod running;
+#[cfg(test)]
 mod texts;
 #[cfg(test)]
 mod writers;

@@ -74,7 +74,23 @@ fn usage(rt: HostRuntime) -> Result<(), Fail> {
         "asm|F|--owns",
         "check",
         "check|--edition|F",
-        "run|F|F",
+        "check|F|--edition|1",
+        "match||F|--edition|2",
+        "run",
+        "run|F",
+        "run|F|F|F",
+        "run|-|-",
+        "run|--edition|2|-|-",
+        "run|--|-|-",
+        "run|F|F|--owns",
+        "run|F|F|--edition",
+        "run|F|F|--edition|3",
+        "run|F|F|--edition|02",
+        "run|F|F|--edition=2",
+        "run|F|F|--edition|--",
+        "run|F|F|--edition|1|--edition|1",
+        "run|F|F|--edition|1|--edition|2",
+        "run|F|F|--|--edition|2",
         "serve|--listen|tcp:host=127.0.0.1,port=0",
     ] {
         assert_says(
@@ -118,6 +134,7 @@ fn help(rt: HostRuntime) -> Result<(), Fail> {
         "match||F|--help",
         "asm|--help",
         "help|check",
+        "run|--help",
     ] {
         assert_helps(&rt, rt.alloc(), line)?;
     }

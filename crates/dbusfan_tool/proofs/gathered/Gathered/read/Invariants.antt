@@ -5,4 +5,4 @@ use Rattle.dbusfan_tool.proofs.gathered.Gathered.read.Given as goal
 
 abbrev pub invariant-loop-i : goal.invariant-loop-i
 invariant-loop-i l =
-    gathered (record { names = names_of l.so_far.0; owns = l.so_far.1.0; ended = l.so_far.1.1.0 }) (map (λ word. word.now) (drop l.i l.words)) ≡ gathered no_words (map (λ word. word.now) l.words)
+    gathered (record { names = names_of l.so_far.0; owns = l.so_far.1.0; edition = l.so_far.1.1.0; awaited = l.so_far.1.1.1.0 }) (map (λ word. word.now) (drop l.i l.words)) ≡ gathered no_words (map (λ word. word.now) l.words)

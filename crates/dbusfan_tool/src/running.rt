@@ -1,0 +1,65 @@
+// `run PROGRAM FILE [--edition 1|2]`.
+
+ghost use Rattle.std.specs.Prelude.{◌≡◌, ◌⊎◌, Err};
+ghost use Rattle.dbusfan_tool.specs.Running.{Runs};
+ghost use Rattle.dbusfan_tool.specs.Tool.{Tool};
+ghost use Rattle.dbusfan_tool.specs.Row.{to_run};
+ghost use Rattle.dbusfan_tool.specs.Answer.{said_by, said_of_run, failing};
+
+use crate::answer::Answer;
+use crate::fault::Fault;
+use crate::files::Files;
+use crate::hex_text::decode;
+use crate::program;
+use bpf_machine::{Outcome, run};
+use message_view::View;
+use std::alloc::Global;
+use summary::{Edition, Image, Slots};
+
+/// What the program in a file says of the message in another, or the first fault.
+pub(crate) fn answer<F: Files>(
+    alloc: Global,
+    program: &str,
+    file: &str,
+    edition: Edition,
+    files: &F,
+) -> Answer
+    ensures { Tool (F.may_give files.now) (to_run program.now file.now edition) (said_by result)
+        ⊎ (said_by result ≡ failing Fault.Memory) }
+{
+    match outcome(alloc, program, file, edition, files) {
+        Ok(outcome) => told(alloc, outcome),
+        Err(fault) => Answer::Fault(fault),
+    }
+}
+
+fn told(alloc: Global, outcome: Outcome) -> Answer
+    ensures { (said_by result ≡ said_of_run outcome) ⊎ (said_by result ≡ failing Fault.Memory) }
+{
+    let Outcome { verdict, steps } = outcome;
+    match format!(in alloc; "verdict {verdict} steps {steps}\n") {
+        Ok(text) => Answer::Ran {
+            text,
+            matches: verdict != 0,
+        },
+        Err(_) => Answer::Fault(Fault::Memory),
+    }
+}
+
+fn outcome<F: Files>(
+    alloc: Global,
+    program: &str,
+    file: &str,
+    edition: Edition,
+    files: &F,
+) -> Result<Outcome, Fault>
+    ensures { Runs (F.may_give files.now program.now) (F.may_give files.now file.now) edition result ⊎ (result ≡ Err Fault.Memory) }
+{
+    let program = program::accepted(alloc, program, files)?;
+    let text = files.read(alloc, file)?;
+    let bytes = decode(alloc, &text)?;
+    let message = View::read(&bytes)?;
+    let owned = Slots::empty();
+    let image = Image::new(&message, &owned, edition);
+    Ok(run(&program, &image))
+}
