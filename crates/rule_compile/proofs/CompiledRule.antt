@@ -1,6 +1,5 @@
 -- The lowered program of a rule, by what is known of the program whose jumps may go over any number of instructions.
 use Rattle.std.proofs.Common.{◌≡◌, ◌↔◌, ℕ, ◌<◌, ◌≤◌, Bool, List, Option, sym, subst, arith}
-use Rattle.std.specs.Prelude.{unwrap_or}
 use Rattle.bpf_code.specs.declared.instruction.Ins.{Ins}
 use Rattle.bpf_code.specs.Program.{WellFormed}
 use Rattle.bpf_code.specs.Steps.{Ends, start}

@@ -1,20 +1,16 @@
 -- The draft of items: its lines, what its labels are bound to, and the instructions that it has.
-use Rattle.std.proofs.Common.{◌≡◌, ◌≢◌, ℕ, zero, suc, ◌+◌, ◌-◌, ◌<◌, ◌≤◌, List, [], ◌∷◌, ◌++◌, length, get_or, take, reverse, Option, Some, None, refl, sym, ap, ◌∙◌, subst, arith, add-zero, zero-add, add-one, length-append, length-take, get_or-set_same, get_or-set_other, ◌⊎◌, inl, inr}
-use Rattle.std.specs.Prelude.{slice_get, slice_set, IfSome}
+use Rattle.std.proofs.Common.{◌≡◌, ◌≢◌, ℕ, zero, suc, ◌+◌, ◌-◌, ◌<◌, List, [], ◌∷◌, ◌++◌, length, get_or, take, reverse, Option, Some, None, refl, sym, ap, ◌∙◌, subst, arith, add-zero, zero-add, add-one, length-take, get_or-set_same, get_or-set_other, ◌⊎◌, inl, inr}
+use Rattle.std.specs.Prelude.{slice_get, IfSome}
 use Rattle.std.specs.Option.{option_flatten, option_map_or, IsSomeAnd}
 use Rattle.std.proofs.Math.Seq.{take-suc, take-length}
 use Rattle.std.proofs.Math.Nat.{eq-or-lt_of_le}
 use Rattle.std.proofs.lemmas.List.{length-set, get_or-reverse, length-reverse}
 use Rattle.bpf_code.specs.declared.instruction.Ins.{Ins}
-use Rattle.bpf_code.specs.declared.operation.Op.TheVariants.{Branch as BranchOp}
-use Rattle.bpf_code.specs.declared.operation.Operand.TheVariants.{Constant}
-use Rattle.bpf_code.specs.declared.operation.Test.{Test}
-use Rattle.bpf_code.specs.Table.{code_of}
 use Rattle.jump_islands.specs.declared.line.Line.{Line}
 use Rattle.jump_islands.specs.Draft.{DraftTree, instructions_of, instructions_from, place_of, distance, IsAhead, LabelsAhead, IsClosed}
 use Rattle.rule_compile.specs.declared.piece.Item.{Item}
 use Rattle.rule_compile.specs.declared.piece.Item.TheVariants.{Plain, Branch}
-use Rattle.rule_compile.specs.Items.{ins_of, instructions, IsInside, AreInside}
+use Rattle.rule_compile.specs.Items.{instructions, IsInside, AreInside}
 use Rattle.rule_compile.specs.Drafting.{label_at, line_of, with_item}
 
 -- the lines of items from a place on
