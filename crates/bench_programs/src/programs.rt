@@ -22,18 +22,17 @@ fn program_of(alloc: Global, bytes: &[u8]) -> Option<Verified> {
     verify(program).ok()
 }
 
-/// The sum of verdicts and steps of so many runs.
+/// The sum of the verdicts of so many runs.
 fn run_often(program: &Verified, image: &Image<'_>, turns: u32) -> u64 {
     let mut sum = 0u64;
     for _turn in 0..turns {
-        let outcome = run(program, image);
-        sum = sum.wrapping_add(u64::from(outcome.verdict) + u64::from(outcome.steps));
+        sum = sum.wrapping_add(u64::from(run(program, image).verdict));
     }
     sum
 }
 
 /// Accepts a program, makes the image of a message, and runs the one over the other as often as turns says: the sum of
-/// verdicts and steps, 0 where there is no such program or message.
+/// the verdicts, 0 where there is no such program or message.
 #[unsafe(no_mangle)]
 pub extern "C" fn bench_programs_run(
     alloc: Global,
@@ -50,6 +49,24 @@ pub extern "C" fn bench_programs_run(
     };
     let image = Image::new(&view, &Slots::empty(), edition_of(edition));
     run_often(&program, &image, turns)
+}
+
+/// How many steps a program takes over the image of a message, 0 where there is no such program or message.
+#[unsafe(no_mangle)]
+pub extern "C" fn bench_programs_steps(
+    alloc: Global,
+    program: &[u8],
+    message: &[u8],
+    edition: u32,
+) -> u32 {
+    let Some(program) = program_of(alloc, program) else {
+        return 0;
+    };
+    let Ok(view) = View::read(message) else {
+        return 0;
+    };
+    let image = Image::new(&view, &Slots::empty(), edition_of(edition));
+    run(&program, &image).steps
 }
 
 /// Makes the image of a message as often as turns says: the sum of the images' lengths.

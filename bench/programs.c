@@ -1,0 +1,205 @@
+/* How long programs run: by this library's machine and by libpcap's, over the same bytes; and rules, by their
+   programs and by the plain test. See README.md. */
+#include <pcap/pcap.h>
+#include <stdint.h>
+#include <stdio.h>
+#include <stdlib.h>
+#include <string.h>
+#include <time.h>
+
+uint64_t bench_programs_run(const uint8_t *program, size_t program_len, const uint8_t *message, size_t message_len, uint32_t edition, uint32_t turns);
+uint32_t bench_programs_steps(const uint8_t *program, size_t program_len, const uint8_t *message, size_t message_len, uint32_t edition);
+uint64_t bench_programs_image(const uint8_t *message, size_t message_len, uint32_t edition, uint32_t turns);
+size_t bench_programs_summary(const uint8_t *message, size_t message_len, uint32_t edition, uint8_t *room, size_t room_len);
+uint64_t bench_rules_hold(const uint8_t *text, size_t text_len, const uint8_t *message, size_t message_len, uint32_t turns);
+size_t bench_rules_compile(const uint8_t *text, size_t text_len, uint8_t *room, size_t room_len);
+
+#define MAX_INSTRUCTIONS 4096
+#define MAX_MESSAGE 4096
+#define MAX_SUMMARY 976
+
+static uint8_t message[MAX_MESSAGE];
+static size_t message_len;
+
+/* the image's bytes one behind the other, as libpcap wants them */
+static uint8_t image[MAX_SUMMARY + MAX_MESSAGE];
+static size_t image_len;
+
+static struct bpf_insn program[MAX_INSTRUCTIONS];
+static size_t program_len;
+
+static uint32_t edition;
+static const char *rule;
+
+static void fail(const char *what) {
+    fprintf(stderr, "%s\n", what);
+    exit(1);
+}
+
+static void read_message(const char *path) {
+    FILE *file = fopen(path, "r");
+    unsigned byte;
+    if (!file)
+        fail(path);
+    message_len = 0;
+    while (message_len < MAX_MESSAGE && fscanf(file, " %2x", &byte) == 1)
+        message[message_len++] = (uint8_t)byte;
+    fclose(file);
+}
+
+static void make_image(uint32_t of) {
+    edition = of;
+    size_t summary = bench_programs_summary(message, message_len, edition, image, MAX_SUMMARY);
+    if (summary == 0)
+        fail("no message");
+    memcpy(image + summary, message, message_len);
+    image_len = summary + message_len;
+}
+
+static void add(uint16_t code, uint8_t jt, uint8_t jf, uint32_t k) {
+    struct bpf_insn instruction = {code, jt, jf, k};
+    program[program_len++] = instruction;
+}
+
+static uint64_t run_here(uint32_t turns) {
+    return bench_programs_run((const uint8_t *)program, program_len * sizeof program[0], message, message_len, edition, turns);
+}
+
+static uint64_t run_libpcap(uint32_t turns) {
+    uint64_t sum = 0;
+    for (uint32_t turn = 0; turn < turns; turn++)
+        sum += bpf_filter(program, image, (u_int)image_len, (u_int)image_len);
+    return sum;
+}
+
+static uint64_t hold(uint32_t turns) {
+    return bench_rules_hold((const uint8_t *)rule, strlen(rule), message, message_len, turns);
+}
+
+static uint64_t make_images(uint32_t turns) {
+    return bench_programs_image(message, message_len, edition, turns);
+}
+
+/* of this process alone, so that other work on the machine counts less */
+static double seconds(void) {
+    struct timespec now;
+    clock_gettime(CLOCK_PROCESS_CPUTIME_ID, &now);
+    return (double)now.tv_sec + (double)now.tv_nsec / 1e9;
+}
+
+/* Nanoseconds a turn. The turns are doubled until they take a fifth of a second; then time has to grow with them. */
+static double nanoseconds(uint64_t (*work)(uint32_t turns)) {
+    uint32_t turns = 1;
+    double once, twice;
+    for (;;) {
+        double start = seconds();
+        work(turns);
+        once = seconds() - start;
+        if (once >= 0.2 || turns >= 1u << 30)
+            break;
+        turns *= 2;
+    }
+    double start = seconds();
+    work(2 * turns);
+    twice = seconds() - start;
+    if (twice < 1.5 * once || twice > 3 * once)
+        fail("the time doesn't grow with the count");
+    return twice / (2.0 * turns) * 1e9;
+}
+
+static void compare(const char *name) {
+    if (run_here(1) != run_libpcap(1))
+        fail("the machines disagree");
+    double here = nanoseconds(run_here), libpcap = nanoseconds(run_libpcap);
+    uint32_t steps = bench_programs_steps((const uint8_t *)program, program_len * sizeof program[0], message, message_len, edition);
+    printf("%-28s %12zu %8u %10.0f %10.0f %8.2f\n", name, program_len, steps, here, libpcap, libpcap / here);
+    program_len = 0;
+}
+
+static void straight(void) {
+    for (uint32_t i = 0; i < MAX_INSTRUCTIONS - 1; i++)
+        add(i % 3 == 0 ? 0x04 : i % 3 == 1 ? 0xa4 : 0x24, 0, 0, i | 1);
+    add(0x16, 0, 0, 0);
+}
+
+/* of each pair the second jumps over none or one of two, by a byte of the image */
+static void branchy(void) {
+    for (uint32_t i = 0; i < 13; i++) {
+        add(0x30, 0, 0, 904 + i);
+        add(0x25, (uint8_t)(i % 2), 0, 16 * i);
+        add(0x04, 0, 0, 1);
+    }
+    add(0x06, 0, 0, 1);
+}
+
+static void loads(void) {
+    add(0x01, 0, 0, 700);
+    for (uint32_t i = 0; i < 60; i++) {
+        add(0x20, 0, 0, 4 * i);
+        add(0x28, 0, 0, 904 + i % 32);
+        add(0x50, 0, 0, 204 + i % 32);
+        add(0x40, 0, 0, 3 * i);
+    }
+    add(0x16, 0, 0, 0);
+}
+
+/* as desktop shells and session services give them */
+static const char *const rules[] = {
+    "type='signal',sender='org.freedesktop.DBus',interface='org.freedesktop.DBus',member='NameOwnerChanged',path='/org/freedesktop/DBus',arg0='org.gnome.Shell'",
+    "type='signal',sender='org.freedesktop.DBus',interface='org.freedesktop.DBus',member='NameOwnerChanged',path='/org/freedesktop/DBus',arg0namespace='org.mpris.MediaPlayer2'",
+    "type='signal',sender='org.freedesktop.NetworkManager',interface='org.freedesktop.DBus.Properties',member='PropertiesChanged',path='/org/freedesktop/NetworkManager'",
+    "type='signal',interface='org.freedesktop.DBus.Properties',member='PropertiesChanged',path_namespace='/org/freedesktop/UPower'",
+    "type='signal',sender='org.freedesktop.login1',interface='org.freedesktop.login1.Manager',member='PrepareForSleep',path='/org/freedesktop/login1'",
+    "type='signal',sender='org.freedesktop.login1',interface='org.freedesktop.login1.Manager',member='SessionNew',path='/org/freedesktop/login1'",
+    "type='signal',sender='org.freedesktop.NetworkManager',path_namespace='/org/freedesktop',interface='org.freedesktop.DBus.ObjectManager',member='InterfacesAdded'",
+    "type='signal',sender='org.bluez',path_namespace='/org/bluez',interface='org.freedesktop.DBus.Properties',member='PropertiesChanged',arg0='org.bluez.Device1'",
+    "type='signal',sender='org.bluez',path='/',interface='org.freedesktop.DBus.ObjectManager',member='InterfacesRemoved'",
+    "type='signal',interface='ca.desrt.dconf.Writer',path='/ca/desrt/dconf/Writer/user',arg0path='/org/gnome/desktop/interface/'",
+    "type='signal',sender='org.gnome.Mutter.IdleMonitor',interface='org.gnome.Mutter.IdleMonitor',member='WatchFired',path='/org/gnome/Mutter/IdleMonitor/Core'",
+    "type='signal',interface='org.freedesktop.Notifications',member='NotificationClosed',path='/org/freedesktop/Notifications'",
+    "type='signal',interface='org.kde.StatusNotifierWatcher',member='StatusNotifierItemRegistered',path='/StatusNotifierWatcher'",
+    "type='signal',sender='org.freedesktop.PolicyKit1',interface='org.freedesktop.PolicyKit1.Authority',member='Changed',path='/org/freedesktop/PolicyKit1/Authority'",
+    "type='signal',sender='org.freedesktop.systemd1',interface='org.freedesktop.systemd1.Manager',member='JobRemoved',path='/org/freedesktop/systemd1'",
+    "type='signal',sender='org.freedesktop.systemd1',interface='org.freedesktop.DBus.Properties',member='PropertiesChanged',path_namespace='/org/freedesktop/systemd1/unit'",
+    "type='signal',interface='org.freedesktop.portal.Settings',member='SettingChanged',path='/org/freedesktop/portal/desktop',arg0namespace='org.freedesktop.appearance'",
+    "type='signal',interface='org.gnome.ScreenSaver',member='ActiveChanged'",
+    "type='signal',sender='org.freedesktop.timedate1',interface='org.freedesktop.DBus.Properties',member='PropertiesChanged',path='/org/freedesktop/timedate1',arg0='org.freedesktop.timedate1'",
+    "type='method_return'",
+};
+
+static void compare_rules(void) {
+    printf("\n%-54s %12s %8s %8s %10s %10s\n", "rule", "instructions", "match", "steps", "run ns", "plain ns");
+    for (size_t i = 0; i < sizeof rules / sizeof rules[0]; i++) {
+        rule = rules[i];
+        program_len = bench_rules_compile((const uint8_t *)rule, strlen(rule), (uint8_t *)program, sizeof program) / sizeof program[0];
+        if (program_len == 0)
+            fail("no program");
+        uint64_t holds = hold(1);
+        if (holds != run_here(1) || holds != run_libpcap(1))
+            fail("the rule's program disagrees with the plain test");
+        const char *member = strstr(rule, "member=");
+        uint32_t steps = bench_programs_steps((const uint8_t *)program, program_len * sizeof program[0], message, message_len, edition);
+        printf("%2zu %-51.51s %12zu %8s %8u %10.1f %10.1f\n", i + 1, member ? member : rule, program_len, holds ? "yes" : "no", steps, nanoseconds(run_here), nanoseconds(hold));
+    }
+}
+
+int main(int count, char **paths) {
+    if (count < 2)
+        fail("programs MESSAGE ..");
+    read_message(paths[1]);
+    make_image(1);
+    printf("%-28s %12s %8s %10s %10s %8s\n", "nanoseconds a run", "instructions", "steps", "dbusfan", "libpcap", "ratio");
+    straight();
+    compare("straight");
+    branchy();
+    compare("branchy");
+    loads();
+    compare("loads");
+    for (int i = 1; i < count; i++) {
+        read_message(paths[i]);
+        make_image(2);
+        printf("\n%s, %zu bytes; its image in edition 2 is made in %.0f ns\n", paths[i], message_len, nanoseconds(make_images));
+        compare_rules();
+    }
+    return 0;
+}
