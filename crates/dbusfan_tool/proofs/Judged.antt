@@ -1,7 +1,7 @@
 -- What `match` finds, from what its steps answer.
-use Rattle.std.proofs.Common.{◌≡◌, ◌⊎◌, ◌↔◌, ℕ, ◌<◌, Bool, not, eqb, IsTrue, List, Option, Some, None, Result, Ok, Err, refl, sym, ap, subst, inl, inr, arith}
+use Rattle.std.proofs.Common.{◌≡◌, ◌⊎◌, ◌↔◌, ℕ, ◌<◌, Bool, true, false, not, eqb, IsTrue, List, Option, Some, None, Result, Ok, Err, refl, sym, ap, subst, inl, inr, arith}
 use Rattle.std.specs.Result.{IsErrAnd}
-use Rattle.std.proofs.lemmas.Bool.{cases_eq, ne_eqb}
+use Rattle.std.proofs.lemmas.Bool.{cases_eq, eq-eqb, ne_eqb}
 use Rattle.std.specs.Global.{Vec}
 use Rattle.dbusfan_tool.specs.declared.fault.Fault.{Fault}
 use Rattle.dbusfan_tool.specs.declared.fault.Fault.TheVariants.{Memory, Message as BadMessage}
@@ -38,7 +38,9 @@ use Rattle.dbusfan_tool.specs.Tool.{Judges, no_rule, too_long, no_file, no_hex, 
 nonzero : (v : ℕ) → IsTrue (not (eqb v 0)) ↔ (0 < v)
 nonzero v =
     elim (cases_eq v 0) [
-      | inl none ↦ rw none (λ is. absurd is, λ some. absurd (omega arith))
+      | inl none ↦
+          let same : eqb v 0 ≡ true = eq-eqb v 0 none in
+          rw same (λ (is : false ≡ true). absurd (cc), λ (some : 0 < v). absurd (omega arith))
       | inr some ↦ rw (ne_eqb v 0 some) (λ is. omega arith, λ is. refl)
     ]
 
