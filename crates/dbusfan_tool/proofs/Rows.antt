@@ -185,13 +185,15 @@ said_found front word words owns (Some edition) all is rest e =
     record { edition = edition; behind = words; words_are = ap (λ (x : List ℕ). x ∷ words) (word_said word edition is); rest = rest front owns (Some edition) all e }
 
 found : (words : Words) → IsFound words × IsFoundBehind words
-found [] =
-    (λ front owns edition all e. record { options = no_options; names = []; spells = nothing; all_names = rw append-nil (cc); all_owns = rw or-false (cc); all_edition = rw either-none (cc); once = and_false owns; apart = and_false (is_some edition) },
-     λ front owns all e. absurd (cc))
+found [] = (
+  λ front owns edition all e. record { options = no_options; names = []; spells = nothing; all_names = rw append-nil (cc); all_owns = rw or-false (cc); all_edition = rw either-none (cc); once = and_false owns; apart = and_false (is_some edition) },
+  λ front owns all e. absurd (cc),
+)
 found (word ∷ words) =
-    let rest = found words in
-    (any_found word words rest.0 rest.1,
-     λ front owns all e. said_found front word words owns (edition_of word) all refl rest.0 e)
+    let rest = found words in (
+      any_found word words rest.0 rest.1,
+      λ front owns all e. said_found front word words owns (edition_of word) all refl rest.0 e,
+    )
 
 -- Two words behind `match` are its row.
 row_of_names : (asked : Asked) (names words : Words) (owns : Bool) (edition : Option Edition) → Spells (record { owns = owns; edition = edition }) names words → match_of names owns edition ≡ Some asked → IsRow asked (match_word ∷ words)

@@ -15,10 +15,7 @@ pub(crate) enum Answer {
     /// A text for standard output.
     Text(String),
     /// A text for standard output, and whether it tells of a match.
-    Ran {
-        text: String,
-        matches: bool,
-    },
+    Ran { text: String, matches: bool },
     Fault(Fault),
 }
 

@@ -49,11 +49,13 @@ fn answer<'a, F: Files>(alloc: Global, words: &'a [&'a str], files: &F) -> Answe
         Some(Row::Asm { file }) => assembling::answer(alloc, file, files),
         Some(Row::Check { file }) => checking::answer(alloc, file, files),
         Some(Row::Compile { rule }) => compiling::answer(alloc, rule),
-        Some(Row::Run {
-            program,
-            file,
-            edition,
-        }) => running::answer(alloc, program, file, edition, files),
+        Some(
+            Row::Run {
+                program,
+                file,
+                edition,
+            },
+        ) => running::answer(alloc, program, file, edition, files),
         None => usage::answer(alloc, words),
     }
 }
