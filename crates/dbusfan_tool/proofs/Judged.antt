@@ -1,7 +1,7 @@
 -- What `match` finds, from what its steps answer.
-use Rattle.std.proofs.Common.{◌≡◌, ◌⊎◌, ◌↔◌, ℕ, Bool, IsTrue, List, Option, Some, None, Result, Ok, Err, refl, sym, ap, subst, inl, inr}
-use Rattle.std.specs.Option.{IfSome}
+use Rattle.std.proofs.Common.{◌≡◌, ◌⊎◌, ◌↔◌, ℕ, ◌<◌, Bool, true, false, not, eqb, IsTrue, List, Option, Some, None, Result, Ok, Err, refl, sym, ap, subst, inl, inr, arith}
 use Rattle.std.specs.Result.{IsErrAnd}
+use Rattle.std.proofs.lemmas.Bool.{cases_eq, eq-eqb, ne_eqb}
 use Rattle.std.specs.Global.{Vec}
 use Rattle.dbusfan_tool.specs.declared.fault.Fault.{Fault}
 use Rattle.dbusfan_tool.specs.declared.fault.Fault.TheVariants.{Memory, Message as BadMessage}
@@ -14,23 +14,35 @@ use Rattle.match_rule.specs.declared.fault.RuleError.TheVariants.{TooLong, Unkno
 use Rattle.match_rule.specs.RuleTree.{RuleTree, sender_name_of}
 use Rattle.match_rule.specs.Grammar.{ReadsAs}
 use Rattle.match_rule.specs.Reading.{rule_at}
-use Rattle.match_rule.specs.Holds.{Holds, Agrees}
+use Rattle.match_rule.specs.Holds.{Holds}
+use Rattle.bpf_code.specs.declared.instruction.Ins.{Ins}
+use Rattle.bpf_code.specs.Steps.{Ends}
+use Rattle.summary.specs.declared.edition.Edition.TheVariants.{Two}
+use Rattle.summary.specs.ImageBytes.{image_bytes}
+use Rattle.summary.specs.Sets.{has_slot, IsSet}
+use Rattle.rule_compile.specs.declared.error.CompileError.{CompileError}
+use Rattle.rule_compile.specs.declared.error.CompileError.TheVariants as of_compile
+use Rattle.rule_compile.specs.Compiled.{IsCompiled, IsRefusal}
+use Rattle.dbusfan_tool.specs.Compiling.{slot_for}
+use Rattle.dbusfan_tool.proofs.Compiled.{agree}
 use Rattle.dbusfan_tool.specs.declared.files.FileError.{FileError}
 use Rattle.dbusfan_tool.specs.declared.files.FileError.TheVariants as of_file
 use Rattle.dbusfan_tool.specs.declared.hex_text.HexError.{HexError}
 use Rattle.dbusfan_tool.specs.declared.hex_text.HexError.TheVariants as of_hex
-use Rattle.dbusfan_tool.specs.Fault.{fault_of_rule, fault_of_file, fault_of_hex}
+use Rattle.dbusfan_tool.specs.Fault.{fault_of_rule, fault_of_compile, fault_of_file, fault_of_hex}
 use Rattle.dbusfan_tool.specs.Files.{ReadsFile}
 use Rattle.dbusfan_tool.specs.HexText.{bytes_of_hex}
-use Rattle.dbusfan_tool.specs.Tool.{Judges, no_rule, no_file, no_hex, no_message, judged}
+use Rattle.dbusfan_tool.specs.Tool.{Judges, no_rule, too_long, no_file, no_hex, no_message, judged}
 
-agrees_at : (name : Option (List ℕ)) (owns : Bool) → IfSome name (λ (name : List ℕ). owns ≡ owns)
-agrees_at None owns = tt
-agrees_at (Some name) owns = refl
-
--- an answer for all names agrees with itself
-pub agrees : (tree : RuleTree) (owns : Bool) → Agrees tree (λ name. owns) owns
-agrees tree owns = agrees_at (sender_name_of tree) owns
+-- a verdict that isn't 0
+nonzero : (v : ℕ) → IsTrue (not (eqb v 0)) ↔ (0 < v)
+nonzero v =
+    elim (cases_eq v 0) [
+      | inl none ↦
+          let same : eqb v 0 ≡ true = eq-eqb v 0 none in
+          rw same (λ (is : false ≡ true). absurd (cc), λ (some : 0 < v). absurd (omega arith))
+      | inr some ↦ rw (ne_eqb v 0 some) (λ is. omega arith, λ is. refl)
+    ]
 
 -- a result that is a fault is that fault
 err_of : (found : Result Bool Fault) (fault : Fault) → IsErrAnd found (λ f. f ≡ fault) → Err fault ≡ found
@@ -57,6 +69,10 @@ module _ (rule : List ℕ) (may_give : Option (List ℕ) → Type 0) (owns : Boo
   of_rule_fault found ArgNumber is (inr reads) = fails found _ is (inl (no_rule reads))
 
   module _ (tree : RuleTree) (reads : ReadsAs rule tree) where
+    pub of_refusal : (found : Result Bool Fault) (error : CompileError) → IsErrAnd found (λ f. f ≡ fault_of_compile error) → IsRefusal tree error → Finds found
+    of_refusal found of_compile.TooLong is long = fails found _ is (inl (too_long reads long))
+    of_refusal found of_compile.NoMemory is long = fails found _ is (inr refl)
+
     pub of_file_fault : (found : Result Bool Fault) (error : FileError) → IsErrAnd found (λ f. f ≡ fault_of_file error) → ReadsFile may_give (Err error) → Finds found
     of_file_fault found of_file.File is gives = fails found _ is (inl (no_file reads gives))
     of_file_fault found of_file.Memory is gives = fails found _ is (inr refl)
@@ -68,5 +84,8 @@ module _ (rule : List ℕ) (may_give : Option (List ℕ) → Type 0) (owns : Boo
     pub of_message_fault : (found : Result Bool Fault) (error : MsgError) (text bytes : List ℕ) → IsErrAnd found (λ f. f ≡ BadMessage error) → may_give (Some text) → bytes_of_hex text ≡ Some bytes → message_at bytes ≡ Err error → Finds found
     of_message_fault found error text bytes is gives spells fault = fails found _ is (inl (no_message reads gives spells fault))
 
-    pub of_verdict : (matches : Bool) (text bytes : List ℕ) (m : Message) → may_give (Some text) → bytes_of_hex text ≡ Some bytes → Valid bytes m → (IsTrue matches ↔ Holds tree m (λ name. owns)) → Finds (Ok matches)
-    of_verdict matches text bytes m gives spells valid holds = inl (judged reads gives spells valid holds)
+    pub of_verdict : (program : List Ins) (text bytes : List ℕ) (m : Message) (slots image : List ℕ) (v n : ℕ) → IsCompiled tree (slot_for tree) program → may_give (Some text) → bytes_of_hex text ≡ Some bytes → Valid bytes m → IsSet slots → has_slot slots 0 ≡ owns → image ≡ image_bytes Two m slots → Ends program image v n → Finds (Ok (not (eqb v 0)))
+    of_verdict program text bytes m slots image v n compiled gives spells valid set has is ends =
+        let ends : Ends program (image_bytes Two m slots) v n = subst (λ (bytes : List ℕ). Ends program bytes v n) is ends in
+        let holds = compiled bytes m slots (λ name. owns) v n valid set (agree tree (sender_name_of tree) owns slots refl has) ends in
+        inl (judged reads gives spells valid (λ is. holds.0 ((nonzero v).0 is), λ is. (nonzero v).1 (holds.1 is)))

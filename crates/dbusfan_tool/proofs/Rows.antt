@@ -12,8 +12,8 @@ use Rattle.std.proofs.Math.Bool.{or-false}
 use Rattle.std.proofs.lemmas.Bool.{cases_Bool, false_from_ne_true}
 use Rattle.std.proofs.lemmas.Bool.Decides.{Decides-ltb}
 use Rattle.std.proofs.lemmas.Slice.Eq.{bytes_eq-Decides}
-use Rattle.dbusfan_tool.specs.Row.{match_word, asm_word, check_word, run_word, owns_word, edition_word, word_of_edition, end_word, is_option, is_input, Options, no_options, Spells, nothing, ended, named, owned, in_edition, Asked, to_match, to_asm, to_check, to_run, IsRow, match_row, asm_row, check_row, run_row, asked_by}
-use Rattle.dbusfan_tool.specs.RowReading.{Gathering, no_words, with_name, with_owns, with_edition, edition_of, with_edition_word, gathered, match_of, file_of, run_of, asked_of, asked_in}
+use Rattle.dbusfan_tool.specs.Row.{match_word, asm_word, check_word, compile_word, run_word, owns_word, edition_word, word_of_edition, end_word, is_option, is_input, Options, no_options, Spells, nothing, ended, named, owned, in_edition, Asked, to_match, to_asm, to_check, to_compile, to_run, IsRow, match_row, asm_row, check_row, compile_row, run_row, asked_by}
+use Rattle.dbusfan_tool.specs.RowReading.{Gathering, no_words, with_name, with_owns, with_edition, edition_of, with_edition_word, gathered, match_of, only_word, run_of, asked_of, asked_in}
 
 abbrev Words : Type 0
 Words = List (List ℕ)
@@ -209,25 +209,25 @@ row_of_match : (asked : Asked) (words : Words) (all : Gathering) → Found [] fa
 row_of_match asked words all found e =
     row_of_names asked found.names words found.options.owns found.options.edition found.spells (rw (found.all_names, found.all_owns, found.all_edition) at e)
 
--- One word behind `asm` or `check` is its row.
-file_of_names : (file : List ℕ) (names words : Words) (owns : Bool) (edition : Option Edition) → Spells (record { owns = owns; edition = edition }) names words → file_of names owns edition ≡ Some file → Spells no_options (file ∷ []) words
-file_of_names file [] words owns edition spells e = absurd (cc)
-file_of_names file (name ∷ []) words true edition spells e = absurd (cc)
-file_of_names file (name ∷ []) words false (Some edition) spells e = absurd (cc)
-file_of_names file (name ∷ []) words false None spells e =
+-- One word behind `asm`, `check` or `compile` is its row.
+word_of_names : (file : List ℕ) (names words : Words) (owns : Bool) (edition : Option Edition) → Spells (record { owns = owns; edition = edition }) names words → only_word names owns edition ≡ Some file → Spells no_options (file ∷ []) words
+word_of_names file [] words owns edition spells e = absurd (cc)
+word_of_names file (name ∷ []) words true edition spells e = absurd (cc)
+word_of_names file (name ∷ []) words false (Some edition) spells e = absurd (cc)
+word_of_names file (name ∷ []) words false None spells e =
     let is : name ≡ file = cc in
     subst (λ (x : List ℕ). Spells no_options (x ∷ []) words) is spells
-file_of_names file (name ∷ other ∷ names) words owns edition spells e = absurd (cc)
+word_of_names file (name ∷ other ∷ names) words owns edition spells e = absurd (cc)
 
-row_of_file : (make : List ℕ → Asked) (command : List ℕ) (asked : Asked) (names words : Words) (owns : Bool) (edition : Option Edition) (file : Option (List ℕ)) → ((file : List ℕ) → Spells no_options (file ∷ []) words → IsRow (make file) (command ∷ words)) → Spells (record { owns = owns; edition = edition }) names words → file_of names owns edition ≡ file → option_map make file ≡ Some asked → IsRow asked (command ∷ words)
+row_of_file : (make : List ℕ → Asked) (command : List ℕ) (asked : Asked) (names words : Words) (owns : Bool) (edition : Option Edition) (file : Option (List ℕ)) → ((file : List ℕ) → Spells no_options (file ∷ []) words → IsRow (make file) (command ∷ words)) → Spells (record { owns = owns; edition = edition }) names words → only_word names owns edition ≡ file → option_map make file ≡ Some asked → IsRow asked (command ∷ words)
 row_of_file make command asked names words owns edition None row spells is e = absurd (cc)
 row_of_file make command asked names words owns edition (Some file) row spells is e =
     let made : make file ≡ asked = cc in
-    subst (λ (x : Asked). IsRow x (command ∷ words)) made (row file (file_of_names file names words owns edition spells is))
+    subst (λ (x : Asked). IsRow x (command ∷ words)) made (row file (word_of_names file names words owns edition spells is))
 
-row_of_one : (make : List ℕ → Asked) (command : List ℕ) (asked : Asked) (words : Words) (all : Gathering) → ((file : List ℕ) → Spells no_options (file ∷ []) words → IsRow (make file) (command ∷ words)) → Found [] false None words all → option_map make (file_of all.names all.owns all.edition) ≡ Some asked → IsRow asked (command ∷ words)
+row_of_one : (make : List ℕ → Asked) (command : List ℕ) (asked : Asked) (words : Words) (all : Gathering) → ((file : List ℕ) → Spells no_options (file ∷ []) words → IsRow (make file) (command ∷ words)) → Found [] false None words all → option_map make (only_word all.names all.owns all.edition) ≡ Some asked → IsRow asked (command ∷ words)
 row_of_one make command asked words all row found e =
-    row_of_file make command asked found.names words found.options.owns found.options.edition (file_of found.names found.options.owns found.options.edition) row found.spells refl (rw (found.all_names, found.all_owns, found.all_edition) at e)
+    row_of_file make command asked found.names words found.options.owns found.options.edition (only_word found.names found.options.owns found.options.edition) row found.spells refl (rw (found.all_names, found.all_owns, found.all_edition) at e)
 
 -- Two words behind `run`, which aren't both standard input, are its row.
 row_of_two : (asked : Asked) (program file : List ℕ) (words : Words) (edition : Option Edition) → Spells (record { owns = false; edition = edition }) (program ∷ file ∷ []) words → run_of (program ∷ file ∷ []) false edition ≡ Some asked → IsRow asked (run_word ∷ words)
@@ -266,11 +266,16 @@ row_of_asked asked command words all found e =
           | inl same ↦
               let is : command ≡ check_word = (bytes_eq-Decides command check_word).0 same in
               subst (λ (x : List ℕ). IsRow asked (x ∷ words)) (sym is) (row_of_one to_check check_word asked words all (λ file spells. check_row spells) found (rw (no_match, no_asm, same) at e))
-          | inr no_check ↦ elim (cases_Bool (bytes_eq command run_word)) [
+          | inr no_check ↦ elim (cases_Bool (bytes_eq command compile_word)) [
             | inl same ↦
-                let is : command ≡ run_word = (bytes_eq-Decides command run_word).0 same in
-                subst (λ (x : List ℕ). IsRow asked (x ∷ words)) (sym is) (row_of_run asked words all found (rw (no_match, no_asm, no_check, same) at e))
-            | inr other ↦ let none : None ≡ Some asked = rw (no_match, no_asm, no_check, other) at e in absurd (cc)
+                let is : command ≡ compile_word = (bytes_eq-Decides command compile_word).0 same in
+                subst (λ (x : List ℕ). IsRow asked (x ∷ words)) (sym is) (row_of_one to_compile compile_word asked words all (λ rule spells. compile_row spells) found (rw (no_match, no_asm, no_check, same) at e))
+            | inr no_compile ↦ elim (cases_Bool (bytes_eq command run_word)) [
+              | inl same ↦
+                  let is : command ≡ run_word = (bytes_eq-Decides command run_word).0 same in
+                  subst (λ (x : List ℕ). IsRow asked (x ∷ words)) (sym is) (row_of_run asked words all found (rw (no_match, no_asm, no_check, no_compile, same) at e))
+              | inr other ↦ let none : None ≡ Some asked = rw (no_match, no_asm, no_check, no_compile, other) at e in absurd (cc)
+            ]
           ]
         ]
       ]
@@ -294,6 +299,9 @@ read_of_row asked words (asm_row {words = behind} spells) =
     let read = spelled spells [] false None (lit≤ tt) refl refl in
     rw read.1 refl
 read_of_row asked words (check_row {words = behind} spells) =
+    let read = spelled spells [] false None (lit≤ tt) refl refl in
+    rw read.1 refl
+read_of_row asked words (compile_row {words = behind} spells) =
     let read = spelled spells [] false None (lit≤ tt) refl refl in
     rw read.1 refl
 read_of_row asked words (run_row {words = behind} one spells) =

@@ -4,8 +4,10 @@ use Rattle.dbusfan_tool.specs.declared.fault.Fault.{Fault}
 use Rattle.dbusfan_tool.specs.declared.fault.Fault.TheVariants.{Rule, Message, Hex, Code, Program, Usage, File, Memory}
 use Rattle.message_value.specs.FaultName.{name_of as message_name}
 use Rattle.match_rule.specs.declared.fault.RuleError.{RuleError}
-use Rattle.match_rule.specs.declared.fault.RuleError.TheVariants.{NoMemory}
+use Rattle.match_rule.specs.declared.fault.RuleError.TheVariants.{TooLong, NoMemory}
 use Rattle.match_rule.specs.Fault.{name_of as rule_name}
+use Rattle.rule_compile.specs.declared.error.CompileError.{CompileError}
+use Rattle.rule_compile.specs.declared.error.CompileError.TheVariants as of_compile
 use Rattle.bpf_code.specs.declared.error.CodeError.{CodeError}
 use Rattle.bpf_code.specs.declared.error.CodeError.TheVariants as of_code
 use Rattle.bpf_code.specs.Numbers.{code_error_text}
@@ -48,6 +50,11 @@ fault_status Memory = 5
 abbrev pub fault_of_rule : RuleError → Fault
 fault_of_rule NoMemory = Memory
 fault_of_rule fault = Rule fault
+
+-- what it means for a command that a rule isn't compiled
+abbrev pub fault_of_compile : CompileError → Fault
+fault_of_compile of_compile.TooLong = Rule TooLong
+fault_of_compile of_compile.NoMemory = Memory
 
 -- what it means for a command that a text names no program
 abbrev pub fault_of_code : CodeError → Fault

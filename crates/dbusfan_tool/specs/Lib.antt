@@ -8,6 +8,7 @@ pub mod Fault
 pub mod Listing
 pub mod Program
 pub mod Running
+pub mod Compiling
 pub mod Answer
 pub mod Usage
 pub mod Tool

@@ -5,7 +5,7 @@ use Rattle.std.specs.Str.{bytes_eq}
 use Rattle.summary.specs.declared.edition.Edition.{Edition}
 use Rattle.summary.specs.declared.edition.Edition.TheVariants.{One, Two}
 use Rattle.dbusfan_tool.specs.declared.command_line.Row.{Row}
-use Rattle.dbusfan_tool.specs.declared.command_line.Row.TheVariants.{Match, Asm, Check, Run}
+use Rattle.dbusfan_tool.specs.declared.command_line.Row.TheVariants.{Match, Asm, Check, Run, Compile}
 
 -- what words are
 abbrev pub texts : List (Bor (List ℕ)) → List (List ℕ)
@@ -26,6 +26,10 @@ check_word = codes "check"
 -- `run`
 abbrev pub run_word : List ℕ
 run_word = codes "run"
+
+-- `compile`
+abbrev pub compile_word : List ℕ
+compile_word = codes "compile"
 
 -- `--owns`: the sender owns the rule's well-known name
 abbrev pub owns_word : List ℕ
@@ -75,14 +79,16 @@ pub data Asked : Type 0 where
   to_match : (rule file : List ℕ) (owns : Bool) → Asked
   to_asm : (file : List ℕ) → Asked
   to_check : (file : List ℕ) → Asked
+  to_compile : (rule : List ℕ) → Asked
   to_run : (program file : List ℕ) (edition : Edition) → Asked
 
--- `match RULE FILE [--owns]`, `asm FILE`, `check FILE`, `run PROGRAM FILE [--edition 1|2]`, whose edition is 1
--- where none is given, and one of whose files alone may be standard input
+-- `match RULE FILE [--owns]`, `asm FILE`, `check FILE`, `compile RULE`, `run PROGRAM FILE [--edition 1|2]`, whose
+-- edition is 1 where none is given, and one of whose files alone may be standard input
 pub data IsRow : Asked → List (List ℕ) → Type 0 where
   match_row : {rule file : List ℕ} {owns : Bool} {words : List (List ℕ)} → Spells (record { owns = owns; edition = None }) (rule ∷ file ∷ []) words → IsRow (to_match rule file owns) (match_word ∷ words)
   asm_row : {file : List ℕ} {words : List (List ℕ)} → Spells no_options (file ∷ []) words → IsRow (to_asm file) (asm_word ∷ words)
   check_row : {file : List ℕ} {words : List (List ℕ)} → Spells no_options (file ∷ []) words → IsRow (to_check file) (check_word ∷ words)
+  compile_row : {rule : List ℕ} {words : List (List ℕ)} → Spells no_options (rule ∷ []) words → IsRow (to_compile rule) (compile_word ∷ words)
   run_row : {program file : List ℕ} {option : Option Edition} {words : List (List ℕ)} → is_input program && is_input file ≡ false → Spells (record { owns = false; edition = option }) (program ∷ file ∷ []) words → IsRow (to_run program file (unwrap_or option One)) (run_word ∷ words)
 
 -- a row of the code as what it asks for
@@ -90,4 +96,5 @@ abbrev pub asked_by : Row → Asked
 asked_by (Match rule file owns) = to_match rule.now file.now owns
 asked_by (Asm file) = to_asm file.now
 asked_by (Check file) = to_check file.now
+asked_by (Compile rule) = to_compile rule.now
 asked_by (Run program file edition) = to_run program.now file.now edition

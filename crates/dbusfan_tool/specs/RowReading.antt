@@ -6,7 +6,7 @@ use Rattle.summary.specs.declared.edition.Edition.{Edition}
 use Rattle.summary.specs.declared.edition.Edition.TheVariants.{One, Two}
 use Rattle.dbusfan_tool.specs.declared.gathered.Awaited.{Awaited}
 use Rattle.dbusfan_tool.specs.declared.gathered.Awaited.TheVariants.{AnyWord, EditionWord, NameAlone}
-use Rattle.dbusfan_tool.specs.Row.{match_word, asm_word, check_word, run_word, owns_word, edition_word, word_of_edition, end_word, is_option, is_input, Options, no_options, Asked, to_match, to_asm, to_check, to_run}
+use Rattle.dbusfan_tool.specs.Row.{match_word, asm_word, check_word, compile_word, run_word, owns_word, edition_word, word_of_edition, end_word, is_option, is_input, Options, no_options, Asked, to_match, to_asm, to_check, to_compile, to_run}
 
 -- What has been read so far: at most two words that are no options, the options, and what the next word may be.
 pub record Gathering : Type 0 where
@@ -76,10 +76,10 @@ abbrev pub match_of : List (List ℕ) → Bool → Option Edition → Option Ask
 match_of (rule ∷ file ∷ []) owns None = Some (to_match rule file owns)
 match_of _ owns edition = None
 
--- the file that one word names
-abbrev pub file_of : List (List ℕ) → Bool → Option Edition → Option (List ℕ)
-file_of (file ∷ []) false None = Some file
-file_of _ owns edition = None
+-- one word without options
+abbrev pub only_word : List (List ℕ) → Bool → Option Edition → Option (List ℕ)
+only_word (word ∷ []) false None = Some word
+only_word _ owns edition = None
 
 -- what `run` and two words ask for
 abbrev pub run_of : List (List ℕ) → Bool → Option Edition → Option Asked
@@ -91,8 +91,9 @@ run_of _ owns edition = None
 abbrev pub asked_of : List ℕ → Gathering → Option Asked
 asked_of command all =
     if bytes_eq command match_word then match_of all.names all.owns all.edition
-    else if bytes_eq command asm_word then option_map to_asm (file_of all.names all.owns all.edition)
-    else if bytes_eq command check_word then option_map to_check (file_of all.names all.owns all.edition)
+    else if bytes_eq command asm_word then option_map to_asm (only_word all.names all.owns all.edition)
+    else if bytes_eq command check_word then option_map to_check (only_word all.names all.owns all.edition)
+    else if bytes_eq command compile_word then option_map to_compile (only_word all.names all.owns all.edition)
     else if bytes_eq command run_word then run_of all.names all.owns all.edition
     else None
 

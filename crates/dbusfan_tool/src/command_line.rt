@@ -20,6 +20,10 @@ pub(crate) enum Row<'a> {
     Check {
         file: &'a str,
     },
+    /// `compile RULE`: the text of the rule's program.
+    Compile {
+        rule: &'a str,
+    },
     /// `run PROGRAM FILE [--edition 1|2]`: what does the program say of the message in the file?
     Run {
         program: &'a str,
@@ -50,10 +54,13 @@ impl<'a> Row<'a> {
         match *command {
             "match" => gathered.to_match(),
             "asm" => Some(Row::Asm {
-                file: gathered.to_file()?,
+                file: gathered.only_word()?,
             }),
             "check" => Some(Row::Check {
-                file: gathered.to_file()?,
+                file: gathered.only_word()?,
+            }),
+            "compile" => Some(Row::Compile {
+                rule: gathered.only_word()?,
             }),
             "run" => gathered.to_run(),
             _ => None,

@@ -11,7 +11,7 @@ use crate::command_line::Row;
 use crate::fault::Fault;
 use crate::files::Files;
 use crate::output::Output;
-use crate::{assembling, checking, matching, running, usage};
+use crate::{assembling, checking, compiling, matching, running, usage};
 use std::alloc::Global;
 use std::io::Write;
 
@@ -48,6 +48,7 @@ fn answer<'a, F: Files>(alloc: Global, words: &'a [&'a str], files: &F) -> Answe
         Some(Row::Match { rule, file, owns }) => matching::answer(alloc, rule, file, owns, files),
         Some(Row::Asm { file }) => assembling::answer(alloc, file, files),
         Some(Row::Check { file }) => checking::answer(alloc, file, files),
+        Some(Row::Compile { rule }) => compiling::answer(alloc, rule),
         Some(
             Row::Run {
                 program,

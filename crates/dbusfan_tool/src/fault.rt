@@ -1,7 +1,7 @@
 // What a command line is refused for.
 
 ghost use Rattle.std.specs.Prelude.{◌≡◌, Some};
-ghost use Rattle.dbusfan_tool.specs.Fault.{fault_text, fault_status, fault_of_rule, fault_of_code, fault_of_file, fault_of_hex};
+ghost use Rattle.dbusfan_tool.specs.Fault.{fault_text, fault_status, fault_of_rule, fault_of_compile, fault_of_code, fault_of_file, fault_of_hex};
 ghost use Rattle.dbusfan_tool.specs.declared.fault.Fault.TheVariants.{Memory, Message};
 
 use crate::files::FileError;
@@ -10,6 +10,7 @@ use bpf_code::CodeError;
 use bpf_verify::VerifyError;
 use match_rule::RuleError;
 use message_view::MsgError;
+use rule_compile::CompileError;
 use std::alloc::AllocError;
 use std::fmt;
 
@@ -72,6 +73,17 @@ impl From<RuleError> for Fault {
         match error {
             RuleError::NoMemory => Fault::Memory,
             fault => Fault::Rule(fault),
+        }
+    }
+}
+
+impl From<CompileError> for Fault {
+    ghost from_gives = { λ error fault. fault ≡ fault_of_compile error };
+
+    fn from(error: CompileError) -> Fault {
+        match error {
+            CompileError::TooLong => Fault::Rule(RuleError::TooLong),
+            CompileError::NoMemory => Fault::Memory,
         }
     }
 }

@@ -38,7 +38,7 @@ impl<'a> Gathered<'a> {
     ghost use Rattle.std.specs.Prelude.{◌≡◌, map};
     ghost use Rattle.std.specs.Option.{option_map};
     ghost use Rattle.dbusfan_tool.specs.Row.{asked_by};
-    ghost use Rattle.dbusfan_tool.specs.RowReading.{no_words, with_name, with_owns, with_edition, with_edition_word, with_any, with_word, gathered, match_of, file_of, run_of};
+    ghost use Rattle.dbusfan_tool.specs.RowReading.{no_words, with_name, with_owns, with_edition, with_edition_word, with_any, with_word, gathered, match_of, only_word, run_of};
     ghost use Rattle.dbusfan_tool.specs.Gathered.{names_of, gathering_of};
 
     fn nothing() -> Gathered<'a>
@@ -148,12 +148,12 @@ impl<'a> Gathered<'a> {
         }
     }
 
-    /// The file that these words name, if they are one word and no option.
-    pub(crate) fn to_file(self) -> Option<&'a str>
-        ensures { option_map (λ file. file.now) result ≡ file_of (names_of self.entry.names) self.entry.owns self.entry.edition }
+    /// The one word that stands there, if there is no other and no option.
+    pub(crate) fn only_word(self) -> Option<&'a str>
+        ensures { option_map (λ word. word.now) result ≡ only_word (names_of self.entry.names) self.entry.owns self.entry.edition }
     {
         match (self.names, self.edition) {
-            (Names::One(file), None) if !self.owns => Some(file),
+            (Names::One(word), None) if !self.owns => Some(word),
             _ => None,
         }
     }

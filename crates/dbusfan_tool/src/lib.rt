@@ -6,6 +6,7 @@ mod answer;
 mod assembling;
 mod checking;
 mod command_line;
+mod compiling;
 mod entry;
 mod fault;
 mod files;

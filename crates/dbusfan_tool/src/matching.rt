@@ -1,17 +1,21 @@
 // `match RULE FILE [--owns]`.
 
 ghost use Rattle.std.specs.Prelude.{◌≡◌, ◌⊎◌, Err};
+ghost use Rattle.summary.specs.Sets.{has_slot, IsSet};
 ghost use Rattle.dbusfan_tool.specs.Tool.{Judges, Tool};
 ghost use Rattle.dbusfan_tool.specs.Row.{to_match};
 ghost use Rattle.dbusfan_tool.specs.Answer.{said_by, failing};
 
 use crate::answer::Answer;
+use crate::compiling::{SENDER_SLOT, program_of};
 use crate::fault::Fault;
 use crate::files::Files;
 use crate::hex_text::decode;
+use bpf_machine::run;
 use match_rule::Rule;
 use message_view::View;
 use std::alloc::Global;
+use summary::{Edition, Image, Slots};
 
 /// Whether the rule matches the message in the file, or the first fault.
 pub(crate) fn answer<F: Files>(
@@ -40,8 +44,23 @@ fn verdict<F: Files>(
     ensures { Judges rule.now (F.may_give files.now file.now) owns result ⊎ (result ≡ Err Fault.Memory) }
 {
     let rule = Rule::read(alloc, rule)?;
+    let program = program_of(alloc, &rule)?;
     let text = files.read(alloc, file)?;
     let bytes = decode(alloc, &text)?;
     let message = View::read(&bytes)?;
-    Ok(rule.holds(&message, owns))
+    let owned = slots(owns);
+    let image = Image::new(&message, &owned, Edition::Two);
+    Ok(run(&program, &image).verdict != 0)
+}
+
+/// The slot of the rule's well-known sender, where the message's sender owns it.
+fn slots(owns: bool) -> Slots
+    ensures set { IsSet result }
+    ensures owned { has_slot result 0 ≡ owns }
+{
+    let mut slots = Slots::empty();
+    if owns {
+        slots.insert(SENDER_SLOT);
+    }
+    slots
 }

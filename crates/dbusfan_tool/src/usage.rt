@@ -65,20 +65,18 @@ fn dbusfan<'a>(alloc: Global) -> Result<Command<'a>, AllocError> {
         .subcommand(matching(alloc)?)?
         .subcommand(assembling(alloc)?)?
         .subcommand(checking(alloc)?)?
+        .subcommand(compiling(alloc)?)?
         .subcommand(running(alloc)?)
 }
 
 fn matching<'a>(alloc: Global) -> Result<Command<'a>, AllocError> {
-    let rule = Arg::new(alloc, "RULE")
-        .required(true)
-        .help("A match rule, as \"type='signal',member='c'\"");
     let owns = Arg::new(alloc, "owns")
         .long("owns")
         .action(ArgAction::SetTrue)
         .help("The sender owns the rule's well-known name");
     Command::new(alloc, "match")
         .about("Says whether a rule matches a message")
-        .arg(rule)?
+        .arg(rule(alloc))?
         .arg(message(alloc))?
         .arg(owns)
 }
@@ -93,6 +91,12 @@ fn checking<'a>(alloc: Global) -> Result<Command<'a>, AllocError> {
     Command::new(alloc, "check")
         .about("Says whether a program is accepted")
         .arg(program(alloc, "FILE"))
+}
+
+fn compiling<'a>(alloc: Global) -> Result<Command<'a>, AllocError> {
+    Command::new(alloc, "compile")
+        .about("Prints the program of a rule as assembler text")
+        .arg(rule(alloc))
 }
 
 fn running<'a>(alloc: Global) -> Result<Command<'a>, AllocError> {
@@ -111,6 +115,12 @@ fn program<'a>(alloc: Global, name: &'a str) -> Arg<'a> {
     Arg::new(alloc, name)
         .required(true)
         .help("A file that has a program as assembler text")
+}
+
+fn rule<'a>(alloc: Global) -> Arg<'a> {
+    Arg::new(alloc, "RULE")
+        .required(true)
+        .help("A match rule, as \"type='signal',member='c'\"")
 }
 
 fn message<'a>(alloc: Global) -> Arg<'a> {

@@ -2,6 +2,8 @@
 #![tactic(auto)]
 
 #[cfg(test)]
+mod compiling;
+#[cfg(test)]
 mod given;
 #[cfg(test)]
 mod messages;

@@ -68,7 +68,11 @@ fn usage(rt: HostRuntime) -> Result<(), Fail> {
         "match||F|--|--owns",
         "--owns|match||F",
         "--|match||F",
-        "compile|member='c'",
+        "compile",
+        "compile||",
+        "compile|-x",
+        "compile||--owns",
+        "compile||--edition|2",
         "asm",
         "asm|F|F",
         "asm|F|--owns",
@@ -134,6 +138,7 @@ fn help(rt: HostRuntime) -> Result<(), Fail> {
         "match||F|--help",
         "asm|--help",
         "help|check",
+        "compile|--help",
         "run|--help",
     ] {
         assert_helps(&rt, rt.alloc(), line)?;

@@ -1,10 +1,15 @@
 use Rattle.std.proofs.Common.{ℕ, List, sym, subst}
 use Rattle.message_view.specs.Valid.{Valid}
-use Rattle.dbusfan_tool.proofs.Judged.{agrees, of_rule_fault, of_file_fault, of_hex_fault, of_message_fault, of_verdict}
+use Rattle.dbusfan_tool.proofs.Judged.{of_rule_fault, of_refusal, of_file_fault, of_hex_fault, of_message_fault, of_verdict}
 use Rattle.dbusfan_tool.proofs.matching.verdict.Goals as goal
 
 pub returns-in_err-rule : goal.returns-in_err-rule
 returns-in_err-rule g c = of_rule_fault _ _ _ _ c.in_err-rule.field-0.0 c.from_residual.ensures.1 c.in_err-rule.ensures.fault
+
+pub returns-in_err-program : goal.returns-in_err-program
+returns-in_err-program g c =
+    let reads = c.in_ok-rule.ensures.found in
+    of_refusal _ _ _ _ reads _ c.in_err-program.field-0.0 c.from_residual-in_err-program.ensures.1 c.in_err-program.ensures.refused
 
 pub returns-in_err-text : goal.returns-in_err-text
 returns-in_err-text g c =
@@ -28,5 +33,5 @@ returns g c =
     let spells = rw c.deref.ensures.value at c.in_ok-bytes.ensures.ok in
     let found = rw c.deref-2.ensures.value at c.in_ok-message.ensures.found in
     let valid = subst (λ (bytes : List ℕ). Valid bytes found.1.0) (sym found.0) found.1.1 in
-    let holds = c.holds.ensures found.1.0 (λ name. c.args.owns) valid (agrees c.in_ok-rule.rule c.args.owns) in
-    of_verdict _ _ _ _ c.in_ok-rule.ensures.found _ _ _ found.1.0 c.in_ok-text.ensures spells found.1.1 holds
+    let image = c.new-image.ensures found.1.0 valid in
+    of_verdict _ _ _ _ c.in_ok-rule.ensures.found _ _ _ found.1.0 _ _ _ _ c.in_ok-program.ensures.compiled c.in_ok-text.ensures spells found.1.1 c.slots-owned.ensures.set c.slots-owned.ensures.owned image c.run.ensures.ends

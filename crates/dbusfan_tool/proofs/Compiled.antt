@@ -1,0 +1,66 @@
+-- What `compile` finds, from what its steps answer.
+use Rattle.std.proofs.Common.{◌≡◌, ◌⊎◌, ℕ, Bool, List, Option, Some, None, Result, Ok, Err, refl, sym, ap, subst, inl, inr}
+use Rattle.std.specs.Prelude.{unwrap_or}
+use Rattle.std.specs.Option.{IfSome, option_map}
+use Rattle.std.specs.Result.{IsErrAnd, IfErr}
+use Rattle.bpf_code.specs.declared.instruction.Ins.{Ins}
+use Rattle.bpf_code.specs.declared.error.CodeError.{CodeError}
+use Rattle.bpf_code.specs.declared.error.CodeError.TheVariants as of_code
+use Rattle.bpf_code.specs.Program.{WellFormed}
+use Rattle.bpf_code.specs.Steps.{Ends}
+use Rattle.bpf_text.specs.Printing.{IsPrintFault}
+use Rattle.bpf_text.specs.Source.{SourceText}
+use Rattle.bpf_text.specs.Used.{with_unused_zero}
+use Rattle.match_rule.specs.declared.fault.RuleError.{RuleError}
+use Rattle.match_rule.specs.declared.fault.RuleError.TheVariants.{TooLong, UnknownKey, KeyTwice, BadValue, Unquoted, PathTwice, ArgNumber, NoMemory}
+use Rattle.match_rule.specs.RuleTree.{RuleTree, sender_name_of}
+use Rattle.match_rule.specs.Grammar.{ReadsAs}
+use Rattle.match_rule.specs.Reading.{rule_at}
+use Rattle.summary.specs.Sets.{has_slot}
+use Rattle.rule_compile.specs.declared.error.CompileError.{CompileError}
+use Rattle.rule_compile.specs.declared.error.CompileError.TheVariants as of_compile
+use Rattle.rule_compile.specs.Compiled.{AgreeOn, IsSlotOf, IsCompiled, IsRefusal}
+use Rattle.dbusfan_tool.specs.declared.fault.Fault.{Fault}
+use Rattle.dbusfan_tool.specs.declared.fault.Fault.TheVariants.{Memory}
+use Rattle.dbusfan_tool.specs.Fault.{fault_of_rule, fault_of_compile, fault_of_code}
+use Rattle.dbusfan_tool.specs.Compiling.{Compiles, no_rule, too_long, compiled, slot_for}
+use Rattle.dbusfan_tool.proofs.UnusedFields.{ends_as_before, accepted_as_before}
+use Rattle.dbusfan_tool.proofs.AcceptedTexts.{only_memory}
+
+-- where slot 0 is among the slots exactly where the sender owns the rule's name
+pub agree : (tree : RuleTree) (name : Option (List ℕ)) (owns : Bool) (slots : List ℕ) → sender_name_of tree ≡ name → has_slot slots 0 ≡ owns → AgreeOn tree (slot_for tree) (λ name. owns) slots
+agree tree None owns slots is has = rw is tt
+agree tree (Some name) owns slots is has = rw is (sym has)
+
+module _ (rule : List ℕ) where
+  abbrev Fails : Fault → Type 0
+  Fails fault = Compiles rule (Err fault) ⊎ (fault ≡ Memory)
+
+  pub of_rule_fault : (error : RuleError) → ((error ≡ NoMemory) ⊎ (rule_at rule ≡ Err error)) → Fails (fault_of_rule error)
+  of_rule_fault error (inl short) = rw short (inr refl)
+  of_rule_fault NoMemory (inr reads) = inr refl
+  of_rule_fault TooLong (inr reads) = inl (no_rule reads)
+  of_rule_fault UnknownKey (inr reads) = inl (no_rule reads)
+  of_rule_fault KeyTwice (inr reads) = inl (no_rule reads)
+  of_rule_fault BadValue (inr reads) = inl (no_rule reads)
+  of_rule_fault Unquoted (inr reads) = inl (no_rule reads)
+  of_rule_fault PathTwice (inr reads) = inl (no_rule reads)
+  of_rule_fault ArgNumber (inr reads) = inl (no_rule reads)
+
+  pub of_refusal : (tree : RuleTree) → ReadsAs rule tree → (error : CompileError) → IsRefusal tree error → Fails (fault_of_compile error)
+  of_refusal tree reads of_compile.TooLong long = inl (too_long reads long)
+  of_refusal tree reads of_compile.NoMemory long = inr refl
+
+  pub of_print_fault : (program : List Ins) (error : CodeError) → WellFormed program → IsPrintFault program error → Fails (fault_of_code error)
+  of_print_fault program error fine is = rw (only_memory program error fine is) (inr refl)
+
+  -- a step's fault is handed on
+  pub fails : {A : Type 0} (found : Result A Fault) (fault : Fault) → IsErrAnd found (λ f. f ≡ fault) → Fails fault → IfErr found Fails
+  fails (Ok a) fault is none = absurd is
+  fails (Err f) fault is none = subst Fails (sym is) none
+
+  -- the program that the text names does what the compiled one does
+  pub of_text : (tree : RuleTree) (text : List ℕ) (program : List Ins) → ReadsAs rule tree → SourceText text (with_unused_zero program) → WellFormed program → IsCompiled tree (slot_for tree) program → Compiles rule (Ok text)
+  of_text tree text program reads source fine is =
+      compiled reads source (accepted_as_before program fine)
+      (λ bytes m slots owned v n valid set agrees ends. is bytes m slots owned v n valid set agrees (ends_as_before program _ v n ends))

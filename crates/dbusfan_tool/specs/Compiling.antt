@@ -1,0 +1,25 @@
+-- What compiling a rule comes to.
+use Rattle.std.specs.Prelude.{◌≡◌, ℕ, ◌<◌, List, Option, Result, Ok, Err}
+use Rattle.std.specs.Option.{option_map}
+use Rattle.bpf_code.specs.declared.instruction.Ins.{Ins}
+use Rattle.bpf_code.specs.Program.{WellFormed}
+use Rattle.bpf_text.specs.Source.{SourceText}
+use Rattle.match_rule.specs.declared.fault.RuleError.{RuleError}
+use Rattle.match_rule.specs.declared.fault.RuleError.TheVariants.{TooLong}
+use Rattle.match_rule.specs.RuleTree.{RuleTree, sender_name_of, weight_of}
+use Rattle.match_rule.specs.Grammar.{ReadsAs}
+use Rattle.match_rule.specs.Reading.{rule_at}
+use Rattle.rule_compile.specs.Compiled.{IsCompiled}
+use Rattle.dbusfan_tool.specs.declared.fault.Fault.{Fault}
+use Rattle.dbusfan_tool.specs.declared.fault.Fault.TheVariants.{Rule}
+
+-- the slot of a rule's well-known sender, if it asks for one
+abbrev pub slot_for : RuleTree → Option ℕ
+slot_for rule = option_map (λ name. 0) (sender_name_of rule)
+
+-- What `compile` finds for a rule's text: the text of a program that is accepted and that is the compiled rule.
+-- A rule whose program might become too long isn't compiled.
+pub data Compiles (rule : List ℕ) : Result (List ℕ) Fault → Type 0 where
+  no_rule : {fault : RuleError} → rule_at rule ≡ Err fault → Compiles rule (Err (Rule fault))
+  too_long : {tree : RuleTree} → ReadsAs rule tree → 4096 < weight_of tree → Compiles rule (Err (Rule TooLong))
+  compiled : {tree : RuleTree} {text : List ℕ} {program : List Ins} → ReadsAs rule tree → SourceText text program → WellFormed program → IsCompiled tree (slot_for tree) program → Compiles rule (Ok text)

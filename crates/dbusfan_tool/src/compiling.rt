@@ -1,0 +1,52 @@
+// `compile RULE`.
+
+ghost use Rattle.std.specs.Prelude.{◌≡◌, ◌⊎◌, ℕ, List, Result, Ok, Err, IfOk, IfErr, string_bytes};
+ghost use Rattle.bpf_code.specs.Program.{WellFormed};
+ghost use Rattle.rule_compile.specs.Compiled.{IsCompiled, IsRefusal};
+ghost use Rattle.dbusfan_tool.specs.declared.fault.Fault.{Fault};
+ghost use Rattle.dbusfan_tool.specs.Compiling.{Compiles, slot_for};
+ghost use Rattle.dbusfan_tool.specs.Answer.{said_by, said_of, saying, failing};
+
+use crate::answer::Answer;
+use crate::fault::Fault;
+use bpf_text::print;
+use bpf_verify::Verified;
+use match_rule::Rule;
+use rule_compile::{CompileError, compile};
+use std::alloc::Global;
+
+/// The slot of a rule's well-known sender.
+pub(crate) const SENDER_SLOT: u16 = 0;
+
+/// The text of the rule's program, or the first fault.
+pub(crate) fn answer(alloc: Global, rule: &str) -> Answer
+    ensures { ((found : Result (List ℕ) Fault) × Compiles rule.now found × (said_by result ≡ said_of saying found))
+        ⊎ (said_by result ≡ failing Fault.Memory) }
+{
+    match compiled(alloc, rule) {
+        Ok(text) => Answer::Text(text),
+        Err(fault) => Answer::Fault(fault),
+    }
+}
+
+fn compiled(alloc: Global, rule: &str) -> Result<String, Fault>
+    ensures found { IfOk result (λ text. Compiles rule.now (Ok (string_bytes text))) }
+    ensures fault { IfErr result (λ fault. Compiles rule.now (Err fault) ⊎ (fault ≡ Fault.Memory)) }
+{
+    let rule = Rule::read(alloc, rule)?;
+    let program = program_of(alloc, &rule)?;
+    let text = print(alloc, program.code())?;
+    Ok(text)
+}
+
+/// The program of a rule.
+pub(crate) fn program_of(alloc: Global, rule: &Rule) -> Result<Verified, CompileError>
+    ensures compiled { IfOk result (λ program. IsCompiled rule.now (slot_for rule.now) program) }
+    ensures refused { IfErr result (IsRefusal rule.now) }
+{
+    let slot = match rule.sender_name() {
+        Some(_) => Some(SENDER_SLOT),
+        None => None,
+    };
+    compile(alloc, rule, slot)
+}
