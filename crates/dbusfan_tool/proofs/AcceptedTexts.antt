@@ -1,5 +1,5 @@
 -- A program that is accepted has a text.
-use Rattle.std.proofs.Common.{◌≡◌, ℕ, suc, ◌+◌, ◌<◌, Bool, true, false, not, ◌&&◌, nat_lt, List, [], ◌∷◌, ◌++◌, length, Option, Some, None, Result, Ok, Err, refl, ap, arith, ◌∙◌}
+use Rattle.std.proofs.Common.{◌≡◌, ℕ, suc, ◌+◌, true, false, nat_lt, List, [], ◌∷◌, ◌++◌, length, Option, Some, None, Result, Ok, refl, ap, arith}
 use Rattle.std.specs.Option.{IsSomeAnd}
 use Rattle.std.specs.List.{slice_get}
 use Rattle.std.proofs.lemmas.Bool.Decides.{Decides-ltb}
@@ -11,7 +11,7 @@ use Rattle.bpf_code.specs.declared.operation.Op.TheVariants.{LoadConstant, LoadI
 use Rattle.bpf_code.specs.Table.{op_of}
 use Rattle.bpf_code.specs.Flow.{At}
 use Rattle.bpf_code.specs.Program.{IsFine, IsJumpFine, WellFormed}
-use Rattle.bpf_text.specs.Printing.{is_target, line_text, leaves, then_text, line_by, text_from, text_of, IsPrintFault}
+use Rattle.bpf_text.specs.Printing.{is_target, line_text, leaves, line_by, text_from, text_of, IsPrintFault}
 
 -- a jump that is fine stays inside
 stays : (len place : ℕ) (op : Op) (ins : Ins) → IsJumpFine len place op ins → leaves len place op ins ≡ false

@@ -1,13 +1,9 @@
 -- What `compile` finds, from what its steps answer.
-use Rattle.std.proofs.Common.{◌≡◌, ◌⊎◌, ℕ, Bool, List, Option, Some, None, Result, Ok, Err, refl, sym, ap, subst, inl, inr}
-use Rattle.std.specs.Prelude.{unwrap_or}
-use Rattle.std.specs.Option.{IfSome, option_map}
+use Rattle.std.proofs.Common.{◌≡◌, ◌⊎◌, ℕ, Bool, List, Option, Some, None, Result, Ok, Err, refl, sym, subst, inl, inr}
 use Rattle.std.specs.Result.{IsErrAnd, IfErr}
 use Rattle.bpf_code.specs.declared.instruction.Ins.{Ins}
 use Rattle.bpf_code.specs.declared.error.CodeError.{CodeError}
-use Rattle.bpf_code.specs.declared.error.CodeError.TheVariants as of_code
 use Rattle.bpf_code.specs.Program.{WellFormed}
-use Rattle.bpf_code.specs.Steps.{Ends}
 use Rattle.bpf_text.specs.Printing.{IsPrintFault}
 use Rattle.bpf_text.specs.Source.{SourceText}
 use Rattle.bpf_text.specs.Used.{with_unused_zero}
@@ -19,7 +15,7 @@ use Rattle.match_rule.specs.Reading.{rule_at}
 use Rattle.summary.specs.Sets.{has_slot}
 use Rattle.rule_compile.specs.declared.error.CompileError.{CompileError}
 use Rattle.rule_compile.specs.declared.error.CompileError.TheVariants as of_compile
-use Rattle.rule_compile.specs.Compiled.{AgreeOn, IsSlotOf, IsCompiled, IsRefusal}
+use Rattle.rule_compile.specs.Compiled.{AgreeOn, IsCompiled, IsRefusal}
 use Rattle.dbusfan_tool.specs.declared.fault.Fault.{Fault}
 use Rattle.dbusfan_tool.specs.declared.fault.Fault.TheVariants.{Memory}
 use Rattle.dbusfan_tool.specs.Fault.{fault_of_rule, fault_of_compile, fault_of_code}

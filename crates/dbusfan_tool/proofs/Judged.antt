@@ -14,7 +14,6 @@ use Rattle.match_rule.specs.declared.fault.RuleError.TheVariants.{TooLong, Unkno
 use Rattle.match_rule.specs.RuleTree.{RuleTree, sender_name_of}
 use Rattle.match_rule.specs.Grammar.{ReadsAs}
 use Rattle.match_rule.specs.Reading.{rule_at}
-use Rattle.match_rule.specs.Holds.{Holds}
 use Rattle.bpf_code.specs.declared.instruction.Ins.{Ins}
 use Rattle.bpf_code.specs.Steps.{Ends}
 use Rattle.summary.specs.declared.edition.Edition.TheVariants.{Two}

@@ -1,6 +1,6 @@
 -- The reading of a command line reads exactly its rows.
 use Rattle.std.proofs.Common.{◌≡◌, ℕ, ◌+◌, ◌≤◌, Bool, true, false, ◌||◌, ◌&&◌, List, [], ◌∷◌, ◌++◌, length, Option, Some, None, nat_lt, refl, ap, sym, subst, lit≤, ◌∙◌, inl, inr, arith, append_assoc, append-nil, length-append}
-use Rattle.std.specs.Prelude.{is_some, unwrap_or, codes}
+use Rattle.std.specs.Prelude.{is_some, unwrap_or}
 use Rattle.std.specs.Str.{bytes_eq}
 use Rattle.std.specs.Option.{option_and_then, option_map, IfSome}
 use Rattle.summary.specs.declared.edition.Edition.{Edition}
@@ -13,7 +13,7 @@ use Rattle.std.proofs.lemmas.Bool.{cases_Bool, false_from_ne_true}
 use Rattle.std.proofs.lemmas.Bool.Decides.{Decides-ltb}
 use Rattle.std.proofs.lemmas.Slice.Eq.{bytes_eq-Decides}
 use Rattle.dbusfan_tool.specs.Row.{match_word, asm_word, check_word, compile_word, run_word, owns_word, edition_word, word_of_edition, end_word, is_option, is_input, Options, no_options, Spells, nothing, ended, named, owned, in_edition, Asked, to_match, to_asm, to_check, to_compile, to_run, IsRow, match_row, asm_row, check_row, compile_row, run_row, asked_by}
-use Rattle.dbusfan_tool.specs.RowReading.{Gathering, no_words, with_name, with_owns, with_edition, edition_of, with_edition_word, gathered, match_of, only_word, run_of, asked_of, asked_in}
+use Rattle.dbusfan_tool.specs.RowReading.{Gathering, no_words, with_name, with_owns, with_edition, edition_of, gathered, match_of, only_word, run_of, asked_of, asked_in}
 
 abbrev Words : Type 0
 Words = List (List ℕ)

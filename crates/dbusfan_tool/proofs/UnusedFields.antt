@@ -1,7 +1,7 @@
 -- A program does the same, and is accepted as before, with 0 in each field that its rows don't use.
-use Rattle.std.proofs.Common.{◌≡◌, ℕ, zero, suc, ◌+◌, ◌-◌, ◌<◌, ◌≤◌, Bool, true, false, ◌||◌, IsTrue, List, [], ◌∷◌, length, map, Option, Some, None, refl, sym, ap, subst, inl, inr}
+use Rattle.std.proofs.Common.{◌≡◌, ℕ, zero, suc, ◌-◌, false, List, [], ◌∷◌, length, Option, Some, None, refl, ap}
 use Rattle.std.specs.Option.{IsSomeAnd, option_map, option_map_or, option_and_then}
-use Rattle.std.specs.List.{slice_get, list_any}
+use Rattle.std.specs.List.{slice_get}
 use Rattle.std.proofs.lemmas.Option.{slice_get-map}
 use Rattle.bpf_code.specs.declared.instruction.Ins.{Ins}
 use Rattle.bpf_code.specs.declared.operation.Op.{Op}
@@ -9,7 +9,7 @@ use Rattle.bpf_code.specs.declared.operation.Op.TheVariants.{LoadConstant, LoadI
 use Rattle.bpf_code.specs.declared.operation.Operand.TheVariants.{Constant, Index}
 use Rattle.bpf_code.specs.declared.operation.Arithmetic.TheVariants.{Add, Sub, Mul, Div, Or, And, ShiftLeft, ShiftRight, Mod, Xor}
 use Rattle.bpf_code.specs.Table.{op_of}
-use Rattle.bpf_code.specs.Flow.{At, Leads, Follows, IsPath, Reads, stores, stores_at, stored_on}
+use Rattle.bpf_code.specs.Flow.{At, Leads, IsPath, Reads, stores, stores_at, stored_on}
 use Rattle.bpf_code.specs.Program.{IsConstantFine, IsScratchFine, IsJumpFine, IsLoadFine, IsFine, IsReturn, WellFormed}
 use Rattle.bpf_code.specs.Effects.{SetA, or_finish, computed, index_operand, effect_of}
 use Rattle.bpf_code.specs.Steps.{State, start, Next, Goes, Stops, after, step_at, step_of, Arrives, EndsFrom, Ends}

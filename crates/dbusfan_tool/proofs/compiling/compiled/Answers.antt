@@ -1,5 +1,3 @@
-use Rattle.std.proofs.Common.{sym, subst}
-use Rattle.bpf_code.specs.Program.{WellFormed}
 use Rattle.dbusfan_tool.proofs.Compiled.{of_rule_fault, of_refusal, of_print_fault, fails, of_text}
 use Rattle.dbusfan_tool.proofs.compiling.compiled.Goals as goal
 
