@@ -172,3 +172,21 @@ fn error_numbers(rt: HostRuntime) -> Result<(), Fail> {
     assert_eq!(rt; text.as_str(), LowerError::TooMany.name());
     Ok(())
 }
+
+/// With little memory: want of it is NoMemory, and never a part of the program. To be run with one allocation after
+/// another refused.
+#[test]
+fn lower_with_refusals(rt: HostRuntime) {
+    let draft = match jump_over(rt.alloc(), 256) {
+        Ok(draft) => draft,
+        Err(e) => {
+            assert_eq!(rt; e, LowerError::NoMemory);
+            return;
+        }
+    };
+    assert!(rt; draft.is_closed());
+    match lower(rt.alloc(), &draft) {
+        Ok(program) => assert_eq!(rt; program.len(), 259),
+        Err(e) => assert_eq!(rt; e, LowerError::NoMemory),
+    }
+}
