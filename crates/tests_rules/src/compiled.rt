@@ -5,6 +5,7 @@ use crate::keys::filled;
 use crate::messages::holds;
 use crate::samples::{AT_FOO_BAR, AT_FOOBAR, S1, S1_OF_BUS, S1_OF_ONE, S1_TO_ONE};
 use bpf_machine::run;
+use bpf_verify::Verified;
 use match_rule::Rule;
 use message_view::View;
 use rule_compile::{CompileError, compile};
@@ -15,6 +16,15 @@ use summary::{Edition, Image, Slots};
 /// The slot of the rule's sender name, if it has one that somebody owns.
 const SLOT: u16 = 33;
 
+/// The program of a rule.
+fn program_of(alloc: Global, rule: &Rule) -> Result<Verified, CompileError> {
+    let slot = match rule.sender_name() {
+        Some(_) => Some(SLOT),
+        None => None,
+    };
+    compile(alloc, rule, slot)
+}
+
 /// Whether the program of a rule says match, for a message whose sender owns the rule's sender name or doesn't.
 pub(crate) fn matches(
     alloc: Global,
@@ -22,11 +32,7 @@ pub(crate) fn matches(
     view: &View<'_>,
     owns: bool,
 ) -> Result<bool, CompileError> {
-    let slot = match rule.sender_name() {
-        Some(_) => Some(SLOT),
-        None => None,
-    };
-    let program = compile(alloc, rule, slot)?;
+    let program = program_of(alloc, rule)?;
     let mut owned = Slots::empty();
     if owns {
         owned.insert(SLOT);
@@ -74,7 +80,7 @@ const RULES: [&str; 32] = [
 /// `holds` compares each rule's program with the plain test.
 #[test]
 fn compiled_like_plain(rt: HostRuntime) -> Result<(), Fail> {
-    let mut found = 0;
+    let mut found = 0u32;
     for message in [
         S1,
         S1_TO_ONE,
@@ -91,7 +97,7 @@ fn compiled_like_plain(rt: HostRuntime) -> Result<(), Fail> {
     ] {
         for text in RULES {
             if holds(rt.alloc(), text, message)? {
-                found += 1;
+                found = found.saturating_add(1);
             }
         }
     }
@@ -103,7 +109,7 @@ fn compiled_like_plain(rt: HostRuntime) -> Result<(), Fail> {
 fn is_compiled(alloc: Global, front: &str, byte: char, count: usize) -> Result<bool, Fail> {
     let text = filled(alloc, front, byte, count)?;
     let rule = Rule::read(alloc, text.as_str())?;
-    match compile(alloc, &rule, None) {
+    match program_of(alloc, &rule) {
         Ok(_) => Ok(true),
         Err(CompileError::TooLong) => Ok(false),
         Err(CompileError::NoMemory) => Err("memory ran out")?,
