@@ -57,7 +57,7 @@ static void measure(struct work *works, size_t count) {
         }
     }
     for (size_t i = 0; i < count; i++) {
-        if (works[i].twice < 1.5 * works[i].once || works[i].twice > 3 * works[i].once)
+        if (works[i].twice < 1.25 * works[i].once || works[i].twice > 4 * works[i].once)
             fail("the time doesn't grow with the count");
         works[i].nanoseconds = works[i].twice / (2.0 * works[i].turns) * 1e9;
     }
