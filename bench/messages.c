@@ -1,12 +1,10 @@
 /* How many messages a second are read: by this library, by libdbus and by GLib, from the same bytes.
    See README.md. */
+#include "measure.h"
+
 #include <dbus/dbus.h>
 #include <gio/gio.h>
-#include <stdint.h>
-#include <stdio.h>
-#include <stdlib.h>
 #include <string.h>
-#include <time.h>
 
 uint64_t bench_messages_read(const uint8_t *stream, size_t stream_len, size_t len, uint32_t turns);
 
@@ -18,22 +16,20 @@ struct sample {
     size_t len;
 };
 
-typedef uint64_t (*reader)(const struct sample *sample, uint32_t turns);
-
-static uint64_t read_here(const struct sample *sample, uint32_t turns) {
+static uint64_t read_here(const void *on, uint32_t turns) {
+    const struct sample *sample = on;
     return bench_messages_read(sample->stream, sample->len * COPIES, sample->len, turns);
 }
 
-static uint64_t read_libdbus(const struct sample *sample, uint32_t turns) {
+static uint64_t read_libdbus(const void *on, uint32_t turns) {
+    const struct sample *sample = on;
     uint64_t sum = 0;
     for (uint32_t turn = 0; turn < turns; turn++) {
         for (int i = 0; i < COPIES; i++) {
             DBusError error = DBUS_ERROR_INIT;
             DBusMessage *message = dbus_message_demarshal((const char *)sample->stream + i * sample->len, (int)sample->len, &error);
-            if (!message) {
-                fprintf(stderr, "libdbus: %s\n", error.message);
-                exit(1);
-            }
+            if (!message)
+                fail(error.message);
             sum += dbus_message_get_serial(message) + strlen(dbus_message_get_member(message));
             dbus_message_unref(message);
         }
@@ -41,16 +37,15 @@ static uint64_t read_libdbus(const struct sample *sample, uint32_t turns) {
     return sum;
 }
 
-static uint64_t read_glib(const struct sample *sample, uint32_t turns) {
+static uint64_t read_glib(const void *on, uint32_t turns) {
+    const struct sample *sample = on;
     uint64_t sum = 0;
     for (uint32_t turn = 0; turn < turns; turn++) {
         for (int i = 0; i < COPIES; i++) {
             GError *error = NULL;
             GDBusMessage *message = g_dbus_message_new_from_blob(sample->stream + i * sample->len, sample->len, G_DBUS_CAPABILITY_FLAGS_NONE, &error);
-            if (!message) {
-                fprintf(stderr, "GLib: %s\n", error->message);
-                exit(1);
-            }
+            if (!message)
+                fail(error->message);
             sum += g_dbus_message_get_serial(message) + strlen(g_dbus_message_get_member(message));
             g_object_unref(message);
         }
@@ -58,32 +53,8 @@ static uint64_t read_glib(const struct sample *sample, uint32_t turns) {
     return sum;
 }
 
-static double seconds(void) {
-    struct timespec now;
-    clock_gettime(CLOCK_MONOTONIC, &now);
-    return (double)now.tv_sec + (double)now.tv_nsec / 1e9;
-}
-
-/* Messages a second. The turns are doubled until they take half a second; then time has to grow with them. */
-static double rate(reader read, const struct sample *sample) {
-    uint32_t turns = 1;
-    double once, twice;
-    for (;;) {
-        double start = seconds();
-        read(sample, turns);
-        once = seconds() - start;
-        if (once >= 0.5 || turns >= 1u << 30)
-            break;
-        turns *= 2;
-    }
-    double start = seconds();
-    uint64_t sum = read(sample, 2 * turns);
-    twice = seconds() - start;
-    if (sum == 0 || twice < 1.5 * once || twice > 3 * once) {
-        fprintf(stderr, "%s: the time doesn't grow with the count\n", sample->name);
-        exit(1);
-    }
-    return 2.0 * turns * COPIES / twice;
+static double a_second(const struct work *work) {
+    return COPIES * 1e9 / work->nanoseconds;
 }
 
 static struct sample sample_of(const char *name, GDBusMessage *message, GVariant *body) {
@@ -95,7 +66,7 @@ static struct sample sample_of(const char *name, GDBusMessage *message, GVariant
         g_dbus_message_set_serial(message, (guint32)i + 1);
         guchar *blob = g_dbus_message_to_blob(message, &len, G_DBUS_CAPABILITY_FLAGS_NONE, NULL);
         if (!blob)
-            exit(1);
+            fail("GLib doesn't write the message");
         if (!sample.stream)
             sample.stream = malloc(len * COPIES);
         sample.len = len;
@@ -150,11 +121,11 @@ int main(void) {
     printf("%-20s %8s %14s %14s %14s %8s\n", "messages a second", "bytes", "dbusfan", "libdbus", "GLib", "ratio");
     for (size_t i = 0; i < sizeof samples / sizeof samples[0]; i++) {
         const struct sample *sample = &samples[i];
-        if (read_here(sample, 1) != read_libdbus(sample, 1) || read_here(sample, 1) != read_glib(sample, 1)) {
-            fprintf(stderr, "%s: the readers disagree\n", sample->name);
-            return 1;
-        }
-        double here = rate(read_here, sample), libdbus = rate(read_libdbus, sample), glib = rate(read_glib, sample);
+        if (read_here(sample, 1) == 0 || read_here(sample, 1) != read_libdbus(sample, 1) || read_here(sample, 1) != read_glib(sample, 1))
+            fail("the readers disagree");
+        struct work works[] = {{.run = read_here, .on = sample}, {.run = read_libdbus, .on = sample}, {.run = read_glib, .on = sample}};
+        measure(works, 3);
+        double here = a_second(&works[0]), libdbus = a_second(&works[1]), glib = a_second(&works[2]);
         printf("%-20s %8zu %14.0f %14.0f %14.0f %8.1f\n", sample->name, sample->len, here, libdbus, glib, here / libdbus);
     }
     return 0;

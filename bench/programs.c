@@ -1,11 +1,9 @@
 /* How long programs run: by this library's machine and by libpcap's, over the same bytes; and rules, by their
    programs and by the plain test. See README.md. */
+#include "measure.h"
+
 #include <pcap/pcap.h>
-#include <stdint.h>
-#include <stdio.h>
-#include <stdlib.h>
 #include <string.h>
-#include <time.h>
 
 uint64_t bench_programs_run(const uint8_t *program, size_t program_len, const uint8_t *message, size_t message_len, uint32_t edition, uint32_t turns);
 uint32_t bench_programs_steps(const uint8_t *program, size_t program_len, const uint8_t *message, size_t message_len, uint32_t edition);
@@ -29,13 +27,6 @@ static struct bpf_insn program[MAX_INSTRUCTIONS];
 static size_t program_len;
 
 static uint32_t edition;
-static const char *rule;
-
-static void fail(const char *what) {
-    fprintf(stderr, "%s\n", what);
-    exit(1);
-}
-
 static void read_message(const char *path) {
     FILE *file = fopen(path, "r");
     unsigned byte;
@@ -61,56 +52,35 @@ static void add(uint16_t code, uint8_t jt, uint8_t jf, uint32_t k) {
     program[program_len++] = instruction;
 }
 
-static uint64_t run_here(uint32_t turns) {
+static uint64_t run_here(const void *on, uint32_t turns) {
+    (void)on;
     return bench_programs_run((const uint8_t *)program, program_len * sizeof program[0], message, message_len, edition, turns);
 }
 
-static uint64_t run_libpcap(uint32_t turns) {
+static uint64_t run_libpcap(const void *on, uint32_t turns) {
+    (void)on;
     uint64_t sum = 0;
     for (uint32_t turn = 0; turn < turns; turn++)
         sum += bpf_filter(program, image, (u_int)image_len, (u_int)image_len);
     return sum;
 }
 
-static uint64_t hold(uint32_t turns) {
+static uint64_t hold(const void *on, uint32_t turns) {
+    const char *rule = on;
     return bench_rules_hold((const uint8_t *)rule, strlen(rule), message, message_len, turns);
 }
 
-static uint64_t make_images(uint32_t turns) {
+static uint64_t make_images(const void *on, uint32_t turns) {
+    (void)on;
     return bench_programs_image(message, message_len, edition, turns);
 }
 
-/* of this process alone, so that other work on the machine counts less */
-static double seconds(void) {
-    struct timespec now;
-    clock_gettime(CLOCK_PROCESS_CPUTIME_ID, &now);
-    return (double)now.tv_sec + (double)now.tv_nsec / 1e9;
-}
-
-/* Nanoseconds a turn. The turns are doubled until they take a fifth of a second; then time has to grow with them. */
-static double nanoseconds(uint64_t (*work)(uint32_t turns)) {
-    uint32_t turns = 1;
-    double once, twice;
-    for (;;) {
-        double start = seconds();
-        work(turns);
-        once = seconds() - start;
-        if (once >= 0.2 || turns >= 1u << 30)
-            break;
-        turns *= 2;
-    }
-    double start = seconds();
-    work(2 * turns);
-    twice = seconds() - start;
-    if (twice < 1.5 * once || twice > 3 * once)
-        fail("the time doesn't grow with the count");
-    return twice / (2.0 * turns) * 1e9;
-}
-
 static void compare(const char *name) {
-    if (run_here(1) != run_libpcap(1))
+    if (run_here(NULL, 1) != run_libpcap(NULL, 1))
         fail("the machines disagree");
-    double here = nanoseconds(run_here), libpcap = nanoseconds(run_libpcap);
+    struct work works[] = {{.run = run_here}, {.run = run_libpcap}};
+    measure(works, 2);
+    double here = works[0].nanoseconds, libpcap = works[1].nanoseconds;
     uint32_t steps = bench_programs_steps((const uint8_t *)program, program_len * sizeof program[0], message, message_len, edition);
     printf("%-28s %12zu %8u %10.0f %10.0f %8.2f\n", name, program_len, steps, here, libpcap, libpcap / here);
     program_len = 0;
@@ -170,16 +140,18 @@ static const char *const rules[] = {
 static void compare_rules(void) {
     printf("\n%-54s %12s %8s %8s %10s %10s\n", "rule", "instructions", "match", "steps", "run ns", "plain ns");
     for (size_t i = 0; i < sizeof rules / sizeof rules[0]; i++) {
-        rule = rules[i];
+        const char *rule = rules[i];
         program_len = bench_rules_compile((const uint8_t *)rule, strlen(rule), (uint8_t *)program, sizeof program) / sizeof program[0];
         if (program_len == 0)
             fail("no program");
-        uint64_t holds = hold(1);
-        if (holds != run_here(1) || holds != run_libpcap(1))
+        uint64_t holds = hold(rule, 1);
+        if (holds != run_here(NULL, 1) || holds != run_libpcap(NULL, 1))
             fail("the rule's program disagrees with the plain test");
         const char *member = strstr(rule, "member=");
         uint32_t steps = bench_programs_steps((const uint8_t *)program, program_len * sizeof program[0], message, message_len, edition);
-        printf("%2zu %-51.51s %12zu %8s %8u %10.1f %10.1f\n", i + 1, member ? member : rule, program_len, holds ? "yes" : "no", steps, nanoseconds(run_here), nanoseconds(hold));
+        struct work works[] = {{.run = run_here}, {.run = hold, .on = rule}};
+        measure(works, 2);
+        printf("%2zu %-51.51s %12zu %8s %8u %10.1f %10.1f\n", i + 1, member ? member : rule, program_len, holds ? "yes" : "no", steps, works[0].nanoseconds, works[1].nanoseconds);
     }
 }
 
@@ -198,7 +170,9 @@ int main(int count, char **paths) {
     for (int i = 1; i < count; i++) {
         read_message(paths[i]);
         make_image(2);
-        printf("\n%s, %zu bytes; its image in edition 2 is made in %.0f ns\n", paths[i], message_len, nanoseconds(make_images));
+        struct work images = {.run = make_images};
+        measure(&images, 1);
+        printf("\n%s, %zu bytes; its image in edition 2 is made in %.0f ns\n", paths[i], message_len, images.nanoseconds);
         compare_rules();
     }
     return 0;

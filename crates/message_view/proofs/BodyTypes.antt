@@ -65,6 +65,3 @@ pub types_found : (fields : List Field) (bytes signature : List ℕ) → bytes �
 types_found fields bytes signature is found =
     let trees : types_of bytes ≡ Some found.1.0 = types_of-SigText found.1.0 bytes found.1.1 in
     rw (← is, trees, found.0) found.1.1
-
-pub no_types_found : (fields : List Field) (bytes signature : List ℕ) → bytes ≡ signature_in fields → types_of bytes ≡ None → signature ≡ [] → SigText (types_in fields) signature
-no_types_found fields bytes signature is none empty = rw (← is, none, empty) (some_types [] (types_of []) refl refl)

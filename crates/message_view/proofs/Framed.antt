@@ -1,20 +1,23 @@
 -- A message behind its fixed part, by the slices that the code reads.
 use Rattle.std.proofs.Common.{◌≡◌, ℕ, ◌+◌, ◌-◌, List, [], length, take, drop, Some, None, Result, Ok, Err, refl, sym, ap, subst, ◌∙◌, arith}
 use Rattle.std.proofs.lemmas.List.{drop-drop, length-drop}
+use Rattle.signature.specs.DataType.{SigText}
 use Rattle.message_value.specs.declared.order.Order.{Order}
 use Rattle.message_value.specs.declared.fault.MsgError.{MsgError}
 use Rattle.message_value.specs.Value.{Values}
 use Rattle.message_value.specs.Spelling.{padding}
 use Rattle.message_value.specs.Reading.{At, inside}
-use Rattle.message_value.specs.Words.{Gives}
+use Rattle.message_value.specs.Words.{AreBytes, Gives}
 use Rattle.message_view.specs.declared.fields.Fields.{Fields}
 use Rattle.message_view.specs.declared.fixed.Fixed.{Fixed}
-use Rattle.message_view.specs.Message.{Field}
+use Rattle.message_view.specs.Message.{Field, signature_in}
 use Rattle.message_view.specs.Slots.{slots_of, AreExtents}
 use Rattle.message_view.specs.Spelling.{body_place}
 use Rattle.message_view.specs.Fixed.{order_in, fields_len, whole_len}
 use Rattle.message_view.specs.Reading.{header_fault, header_padding, types_in, arguments_at, in_body, body_at, message_of, fields_of, fields_from, framed_message}
 use Rattle.message_view.specs.Words.{body_of, IsFixed, shown, lying}
+use Rattle.message_view.proofs.BodyTypes.{types_spelled}
+use Rattle.message_view.proofs.OneMessage.{fields_are}
 
 -- what a reader of the fields was given, by what it answered
 gave_fault : (fault : MsgError) (whole : Result (List Field) MsgError) → Gives {X = Fields} shown slots_of (Err fault) whole → whole ≡ Err fault
@@ -93,3 +96,7 @@ body_passes fixed fields bytes cursor found is header place passed =
 -- where its texts lie
 pub extents_there : (fixed : Fixed) (fields : Fields) (bytes : List ℕ) (front : List Field) → IsFixed fixed bytes → AreExtents fixed.order 16 front (lying fields) → AreExtents (order_in bytes) 16 front (lying fields)
 extents_there fixed fields bytes front is are = subst (λ (o : Order). AreExtents o 16 front (lying fields)) is.order are
+
+-- what its fields say of the types of its body
+pub types_there : (bytes : List ℕ) (front : List Field) → AreBytes bytes → length bytes ≡ whole_len bytes → fields_of bytes ≡ Ok front → SigText (types_in front) (signature_in front)
+types_there bytes front fits whole read = types_spelled (order_in bytes) 16 front (fields_are bytes front fits whole read)

@@ -154,6 +154,16 @@ arguments_take order types place bytes arguments fits e =
     let all : bytes ≡ members_bytes order place types b.0.0 = t.0.parts ∙ ap (λ (x : List ℕ). members_bytes order place types b.0.0 ++ x) none ∙ append-nil (members_bytes order place types b.0.0) in
     subst (λ (x : Values). AreArguments order types place bytes x) p.1 (record { spelled = all; fit = t.1 })
 
+-- the fields of bytes, where they are read
+pub fields_are : (bytes : List ℕ) (fields : List Field) → IsBytes bytes → length bytes ≡ whole_len bytes → fields_of bytes ≡ Ok fields → AreFields (order_in bytes) fixed_len fields
+fields_are bytes fields fits whole e =
+    let order = order_in bytes in
+    let len = fields_len bytes in
+    let text = take len (drop fixed_len bytes) in
+    let is_len : length text ≡ len = length-take-le len (drop fixed_len bytes) (omega (arith, length-drop fixed_len bytes, whole)) in
+    let f = fields_take len order [] (inside fixed_len text) fields (IsBytes-take len (drop fixed_len bytes) (IsBytes-drop fixed_len bytes fits)) (omega (arith, is_len)) e in
+    rw f.whole f.are
+
 -- what was read lies in its place
 pub record IsRead (bytes : List ℕ) (fields : List Field) (arguments : Values) : Type 0 where
   pub are : AreFields (order_in bytes) fixed_len fields

@@ -262,13 +262,11 @@ impl<'a> Fields<'a> {
         }
     }
 
-    /// The signature of the body.
+    /// The signature of the body, which was found to be one when its field was read.
     pub(crate) fn signature(&self) -> Signature<'a>
+        requires { (front : List Field) × (shown self.now ≡ slots_of front) × SigText (types_in front) (signature_in front) }
         ensures { (front : List Field) → shown self.now ≡ slots_of front → SigText (types_in front) result }
     {
-        match Signature::read(self.signature_text().as_bytes()) {
-            Ok(signature) => signature,
-            Err(_) => Signature::empty(),
-        }
+        Signature::checked(self.signature_text().as_bytes())
     }
 }

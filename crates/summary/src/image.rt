@@ -5,7 +5,7 @@ ghost use Rattle.message_view.specs.Valid.{Valid};
 ghost use Rattle.summary.specs.ImageBytes.{image_bytes};
 
 use crate::edition::Edition;
-use crate::joined;
+use crate::pieces::Pieces;
 use crate::slots::Slots;
 use crate::summary_bytes::{Summary, summarise};
 use message_view::View;
@@ -40,32 +40,42 @@ impl<'a> Image<'a> {
         }
     }
 
+    /// The bytes where they lie, for many loads.
+    pub fn pieces(&self) -> Pieces<'_>
+        ensures { result ≡ self.now }
+    {
+        Pieces {
+            summary: self.summary.bytes(),
+            message: self.message,
+        }
+    }
+
     /// The number of bytes.
     pub fn len(&self) -> u64
         ensures value { result ≡ length self.now }
         ensures small { result ≤ 976 + 2 ^ 27 }
     {
-        self.summary.bytes().len() as u64 + self.message.len() as u64
+        self.pieces().len()
     }
 
     /// The byte at a place, none outside.
     pub fn byte(&self, at: u64) -> Option<u32>
         ensures { result ≡ load_byte self.now at }
     {
-        joined::byte(self.summary.bytes(), self.message, at)
+        self.pieces().byte(at)
     }
 
     /// The two bytes from a place on, the highest first, none where one lies outside.
     pub fn half(&self, at: u64) -> Option<u32>
         ensures { result ≡ load_half self.now at }
     {
-        joined::half(self.summary.bytes(), self.message, at)
+        self.pieces().half(at)
     }
 
     /// The four bytes from a place on, the highest first, none where one lies outside.
     pub fn word(&self, at: u64) -> Option<u32>
         ensures { result ≡ load_word self.now at }
     {
-        joined::word(self.summary.bytes(), self.message, at)
+        self.pieces().word(at)
     }
 }

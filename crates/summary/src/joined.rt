@@ -39,7 +39,7 @@ fn single(front: &[u8], back: &[u8], at: u64) -> Option<u8>
 }
 
 /// Two bytes across the seam.
-#[cold]
+#[inline(always)]
 fn half_across(front: &[u8], back: &[u8], at: u64) -> Option<u32>
     requires { at < length front.now }
     ensures { result ≡ load_half (front.now ++ back.now) at }
@@ -50,7 +50,7 @@ fn half_across(front: &[u8], back: &[u8], at: u64) -> Option<u32>
 }
 
 /// Four bytes across the seam.
-#[cold]
+#[inline(always)]
 fn word_across(front: &[u8], back: &[u8], at: u64) -> Option<u32>
     requires { at < length front.now }
     ensures { result ≡ load_word (front.now ++ back.now) at }
@@ -73,44 +73,42 @@ pub fn byte(front: &[u8], back: &[u8], at: u64) -> Option<u32>
     }
 }
 
-/// The two bytes from a place on.
+/// The two bytes from a place on. A place before the seam wraps round to one behind every slice's end.
 #[inline(always)]
 pub fn half(front: &[u8], back: &[u8], at: u64) -> Option<u32>
-    requires { 2 ≤ length front.now }
     ensures { result ≡ load_half (front.now ++ back.now) at }
 {
     let seam = front.len() as u64;
-    if at >= seam {
-        let place = at - seam;
-        if place + 2 <= back.len() as u64 {
-            Some(half_of(back, place as usize))
-        } else {
-            None
-        }
-    } else if at + 2 <= seam {
-        Some(half_of(front, at as usize))
-    } else {
+    if at < seam.saturating_sub(1) {
+        return Some(half_of(front, at as usize));
+    }
+    let place = at.wrapping_sub(seam);
+    if place < (back.len() as u64).saturating_sub(1) {
+        return Some(half_of(back, place as usize));
+    }
+    if at < seam {
         half_across(front, back, at)
+    } else {
+        None
     }
 }
 
-/// The four bytes from a place on.
+/// The four bytes from a place on. A place before the seam wraps round to one behind every slice's end.
 #[inline(always)]
 pub fn word(front: &[u8], back: &[u8], at: u64) -> Option<u32>
-    requires { 4 ≤ length front.now }
     ensures { result ≡ load_word (front.now ++ back.now) at }
 {
     let seam = front.len() as u64;
-    if at >= seam {
-        let place = at - seam;
-        if place + 4 <= back.len() as u64 {
-            Some(word_of(back, place as usize))
-        } else {
-            None
-        }
-    } else if at + 4 <= seam {
-        Some(word_of(front, at as usize))
-    } else {
+    if at < seam.saturating_sub(3) {
+        return Some(word_of(front, at as usize));
+    }
+    let place = at.wrapping_sub(seam);
+    if place < (back.len() as u64).saturating_sub(3) {
+        return Some(word_of(back, place as usize));
+    }
+    if at < seam {
         word_across(front, back, at)
+    } else {
+        None
     }
 }

@@ -64,3 +64,18 @@ fn word_across_the_seam(rt: HostRuntime) -> Result<(), Fail> {
     assert_eq!(&rt; image.word(902), Some(27652));
     Ok(())
 }
+
+/// The pieces of an image load what the image does: here the message's first and last bytes, and nothing behind them.
+#[test]
+fn pieces(rt: HostRuntime) -> Result<(), Fail> {
+    let bytes = bytes_of(rt.alloc(), S1)?;
+    let view = View::read(bytes.as_slice())?;
+    let image = Image::new(&view, &Slots::empty(), Edition::One);
+    let pieces = image.pieces();
+    assert_eq!(&rt; pieces.len(), 968);
+    assert_eq!(&rt; pieces.byte(904), Some(108));
+    assert_eq!(&rt; pieces.half(904), Some(27652));
+    assert_eq!(&rt; pieces.word(960), Some(1660944384));
+    assert_eq!(&rt; pieces.word(965), None);
+    Ok(())
+}

@@ -1,6 +1,6 @@
-use Rattle.std.proofs.Common.{refl, ◌∙◌}
+use Rattle.std.proofs.Common.{refl, ◌∙◌, arith}
 use Rattle.std.proofs.lemmas.Result.{err_from_is_err_and}
-use Rattle.message_view.proofs.Framed.{array_is, skipped_is, body_is, cursor_is, fields_fail, header_fails, header_passes, body_fails, body_passes, extents_there}
+use Rattle.message_view.proofs.Framed.{array_is, skipped_is, body_is, cursor_is, fields_fail, header_fails, header_passes, body_fails, body_passes, extents_there, types_there}
 use Rattle.message_view.proofs.view.framed.Goals as goal
 
 pub returns-in_err-fields : goal.returns-in_err-fields
@@ -16,6 +16,14 @@ returns-in-Some c =
     let array = array_is c.args.fixed.now c.args.bytes.now _ _ is c.split_at.ensures.back c.split_at-2.ensures.front c.split_at-2.ensures.front_len in
     let skip = skipped_is c.args.fixed.now c.args.bytes.now _ _ _ _ is c.split_at.ensures.back c.split_at-2.ensures.back c.padding.ensures c.split_at-3.ensures.front in
     header_fails c.args.fixed.now c.in_ok-fields.fields c.args.bytes.now _ _ _ is array c.in_ok-fields.ensures.read skip (λ front same. c.in-Some.ensures front same)
+
+pub signature-signature-requires : goal.signature-signature-requires
+signature-signature-requires c =
+    let is = c.requires.fixed.1 in
+    let array = array_is c.args.fixed.now c.args.bytes.now _ _ is c.split_at.ensures.back c.split_at-2.ensures.front c.split_at-2.ensures.front_len in
+    let skip = skipped_is c.args.fixed.now c.args.bytes.now _ _ _ _ is c.split_at.ensures.back c.split_at-2.ensures.back c.padding.ensures c.split_at-3.ensures.front in
+    let header = header_passes c.args.fixed.now c.in_ok-fields.fields c.args.bytes.now _ _ array c.in_ok-fields.ensures.read skip (λ front same. c.in_default.ensures front same) in
+    (header.front, header.shows, types_there c.args.bytes.now header.front (λ i. omega (arith, c.type_inv.bytes i)) c.requires.whole header.read)
 
 pub returns-in_err-check_body : goal.returns-in_err-check_body
 returns-in_err-check_body c =

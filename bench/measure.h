@@ -1,0 +1,66 @@
+/* How long pieces of work take, side by side. See README.md. */
+#ifndef MEASURE_H
+#define MEASURE_H
+
+#include <stddef.h>
+#include <stdint.h>
+#include <stdio.h>
+#include <stdlib.h>
+#include <time.h>
+
+#define ROUNDS 15
+
+struct work {
+    uint64_t (*run)(const void *on, uint32_t turns);
+    const void *on;
+    uint32_t turns;
+    double once, twice;
+    double nanoseconds; /* a turn */
+};
+
+static void fail(const char *what) {
+    fprintf(stderr, "%s\n", what);
+    exit(1);
+}
+
+/* of this process alone, so that other work on the machine counts less */
+static double seconds(void) {
+    struct timespec now;
+    clock_gettime(CLOCK_PROCESS_CPUTIME_ID, &now);
+    return (double)now.tv_sec + (double)now.tv_nsec / 1e9;
+}
+
+static double time_of(const struct work *work, uint32_t turns) {
+    double start = seconds();
+    work->run(work->on, turns);
+    return seconds() - start;
+}
+
+static double lesser(double a, double b) {
+    return a < b ? a : b;
+}
+
+/* The turns of each are doubled until they take a fiftieth of a second. Then all of them work in rounds, one after the
+   other, and the shortest time counts. Twice as many turns have to take about twice the time, since a compiler might
+   have taken the work out of the loop. */
+static void measure(struct work *works, size_t count) {
+    for (size_t i = 0; i < count; i++) {
+        works[i].turns = 1;
+        while (time_of(&works[i], works[i].turns) < 0.02 && works[i].turns < 1u << 30)
+            works[i].turns *= 2;
+        works[i].once = works[i].twice = 1e9;
+    }
+    for (int round = 0; round < ROUNDS; round++) {
+        for (size_t i = 0; i < count; i++) {
+            works[i].once = lesser(works[i].once, time_of(&works[i], works[i].turns));
+            works[i].twice = lesser(works[i].twice, time_of(&works[i], 2 * works[i].turns));
+        }
+    }
+    for (size_t i = 0; i < count; i++) {
+        if (works[i].twice < 1.25 * works[i].once || works[i].twice > 4 * works[i].once)
+            fail("the time doesn't grow with the count");
+        works[i].nanoseconds = works[i].twice / (2.0 * works[i].turns) * 1e9;
+    }
+}
+
+#endif
