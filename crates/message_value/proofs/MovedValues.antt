@@ -1,15 +1,14 @@
 -- The bytes of a value, and whether it fits, depend on its place only by the remainder by 8.
-use Rattle.std.proofs.Common.{◌≡◌, ℕ, zero, suc, ◌+◌, ◌*◌, ◌-◌, ◌%◌, ◌≤◌, Bool, true, false, cond, eqb, List, [], ◌∷◌, ◌++◌, length, refl, sym, ap, subst, ◌∙◌, arith}
+use Rattle.std.proofs.Common.{◌≡◌, ℕ, suc, ◌+◌, ◌*◌, ◌-◌, ◌%◌, ◌≤◌, Bool, true, false, cond, eqb, List, ◌++◌, length, refl, sym, ap, subst, ◌∙◌, arith}
 use Rattle.std.specs.Prelude.{◌||◌}
 use Rattle.std.proofs.Math.Nat.{add-mul-mod_self_left}
 use Rattle.signature.specs.DataType.{DataType, DataTypes, basic, variant, array, dict, struct, no_types, one_more}
-use Rattle.signature.specs.BasicType.{basic_alignment}
 use Rattle.signature.specs.Alignment.{alignment_of}
 use Rattle.message_value.specs.declared.order.Order.{Order}
 use Rattle.message_value.specs.Order.{word_bytes}
 use Rattle.message_value.specs.Value.{Value, Values, Entries, number, text, elements, entries, members, of_type, no_values, one_value, no_entries, one_entry}
 use Rattle.message_value.specs.Spelling.{padding, aligned, zeros, padded, followed, signature_bytes, elements_place, array_bytes, entry_alignment, bare_bytes, elements_bytes, entries_bytes, members_bytes, value_bytes, entry_bytes}
-use Rattle.message_value.specs.Fits.{max_array_len, BareFits, ElementsFit, EntriesFit, MembersFit, ValueFits}
+use Rattle.message_value.specs.Fits.{max_array_len, BareFits, ElementsFit, EntriesFit, MembersFit}
 
 -- ---- places
 

@@ -21,9 +21,26 @@ pub enum TextType {
     Signature,
 }
 
+/// Whether a byte is zero, by a look at each, so that the processor looks at many at once.
+fn any_zero(bytes: &[u8]) -> bool
+    ensures { result ≡ list_any (λ byte. byte == 0) bytes.now }
+{
+    let mut found = false;
+    for byte in bytes {
+        found |= *byte == 0;
+    }
+    found
+}
+
+/// Below so many bytes a search is slower than a look at all of them.
+const SHORT: usize = 64;
+
 fn has_zero(bytes: &[u8]) -> bool
     ensures { result ≡ list_any (λ byte. byte == 0) bytes.now }
 {
+    if bytes.len() < SHORT {
+        return any_zero(bytes);
+    }
     memchr(0, bytes).is_some()
 }
 
