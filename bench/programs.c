@@ -27,6 +27,7 @@ static struct bpf_insn program[MAX_INSTRUCTIONS];
 static size_t program_len;
 
 static uint32_t edition;
+
 static void read_message(const char *path) {
     FILE *file = fopen(path, "r");
     unsigned byte;

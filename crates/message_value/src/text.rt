@@ -13,6 +13,9 @@ use crate::order::Order;
 use memchr::memchr;
 use signature::{Signature, check_path};
 
+/// Below so many bytes a look at each of them takes less time than a search, which has to begin and to end.
+const SHORT: usize = 64;
+
 /// A basic type whose values are texts.
 #[derive(Clone, Copy, Debug)]
 pub enum TextType {
@@ -21,7 +24,7 @@ pub enum TextType {
     Signature,
 }
 
-/// Whether a byte is zero, by a look at each, so that the processor looks at many at once.
+/// Whether a byte is zero, by a look at each without an early end, so that the processor looks at many at once.
 fn any_zero(bytes: &[u8]) -> bool
     ensures { result ≡ list_any (λ byte. byte == 0) bytes.now }
 {
@@ -32,9 +35,7 @@ fn any_zero(bytes: &[u8]) -> bool
     found
 }
 
-/// Below so many bytes a search is slower than a look at all of them.
-const SHORT: usize = 64;
-
+/// Whether a byte is zero.
 fn has_zero(bytes: &[u8]) -> bool
     ensures { result ≡ list_any (λ byte. byte == 0) bytes.now }
 {

@@ -99,4 +99,4 @@ extents_there fixed fields bytes front is are = subst (λ (o : Order). AreExtent
 
 -- what its fields say of the types of its body
 pub types_there : (bytes : List ℕ) (front : List Field) → AreBytes bytes → length bytes ≡ whole_len bytes → fields_of bytes ≡ Ok front → SigText (types_in front) (signature_in front)
-types_there bytes front fits whole read = types_spelled (order_in bytes) 16 front (fields_are bytes front fits whole read)
+types_there bytes front fits whole read = types_spelled (order_in bytes) 16 front (fields_are bytes front fits whole read).are

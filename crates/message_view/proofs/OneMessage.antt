@@ -154,15 +154,25 @@ arguments_take order types place bytes arguments fits e =
     let all : bytes ≡ members_bytes order place types b.0.0 = t.0.parts ∙ ap (λ (x : List ℕ). members_bytes order place types b.0.0 ++ x) none ∙ append-nil (members_bytes order place types b.0.0) in
     subst (λ (x : Values). AreArguments order types place bytes x) p.1 (record { spelled = all; fit = t.1 })
 
--- the fields of bytes, where they are read
-pub fields_are : (bytes : List ℕ) (fields : List Field) → IsBytes bytes → length bytes ≡ whole_len bytes → fields_of bytes ≡ Ok fields → AreFields (order_in bytes) fixed_len fields
+-- fields that were read are spelled in their place
+pub record AreRead (bytes : List ℕ) (fields : List Field) : Type 0 where
+  pub are : AreFields (order_in bytes) fixed_len fields
+  pub spelled : take (fields_len bytes) (drop fixed_len bytes) ≡ fields_bytes (order_in bytes) fixed_len fields
+  pub len : fields_len bytes ≡ length (fields_bytes (order_in bytes) fixed_len fields)
+
+pub fields_are : (bytes : List ℕ) (fields : List Field) → IsBytes bytes → length bytes ≡ whole_len bytes → fields_of bytes ≡ Ok fields → AreRead bytes fields
 fields_are bytes fields fits whole e =
     let order = order_in bytes in
     let len = fields_len bytes in
     let text = take len (drop fixed_len bytes) in
     let is_len : length text ≡ len = length-take-le len (drop fixed_len bytes) (omega (arith, length-drop fixed_len bytes, whole)) in
     let f = fields_take len order [] (inside fixed_len text) fields (IsBytes-take len (drop fixed_len bytes) (IsBytes-drop fixed_len bytes fits)) (omega (arith, is_len)) e in
-    rw f.whole f.are
+    let spelled : text ≡ fields_bytes order fixed_len fields = f.spelled ∙ ap (fields_bytes order fixed_len) (sym f.whole) in
+    record {
+      are = rw f.whole f.are;
+      spelled = spelled;
+      len = sym is_len ∙ ap (λ (x : List ℕ). length x) spelled;
+    }
 
 -- what was read lies in its place
 pub record IsRead (bytes : List ℕ) (fields : List Field) (arguments : Values) : Type 0 where
@@ -174,24 +184,21 @@ parts_lie : (bytes : List ℕ) (fields : List Field) (arguments : Values) → Is
 parts_lie bytes fields arguments fits whole e padded found =
     let order = order_in bytes in
     let len = fields_len bytes in
-    let text = take len (drop fixed_len bytes) in
-    let is_len : length text ≡ len = length-take-le len (drop fixed_len bytes) (omega (arith, length-drop fixed_len bytes, whole)) in
-    let f = fields_take len order [] (inside fixed_len text) fields (IsBytes-take len (drop fixed_len bytes) (IsBytes-drop fixed_len bytes fits)) (omega (arith, is_len)) e in
-    let spelled : text ≡ fields_bytes order fixed_len fields = f.spelled ∙ ap (fields_bytes order fixed_len) (sym f.whole) in
-    let same : len ≡ length (fields_bytes order fixed_len fields) = sym is_len ∙ ap (λ (x : List ℕ). length x) spelled in
+    let f = fields_are bytes fields fits whole e in
+    let same : len ≡ length (fields_bytes order fixed_len fields) = f.len in
     let pad : length (header_padding bytes) ≡ padding 8 len = length-take-le (padding 8 len) (drop (fixed_len + len) bytes) (omega (arith, length-drop (fixed_len + len) bytes, whole)) in
     let a = arguments_take order (types_in fields) (body_place len) (body_of bytes) arguments (IsBytes-drop (body_place len) bytes fits) found in
     let body : body_of bytes ≡ members_bytes order (body_place (length (fields_bytes order fixed_len fields))) (types_in fields) arguments = a.spelled ∙ ap (λ (k : ℕ). members_bytes order (body_place k) (types_in fields) arguments) same in
     let body_is : body_len bytes ≡ length (body_of bytes) = omega (arith, whole, length-drop (body_place len) bytes) in
     record {
-      are = rw f.whole f.are;
+      are = f.are;
       fit = subst (λ (k : ℕ). MembersFit order 64 (body_place k) (types_in fields) arguments) same a.fit;
       lies = record {
         is_order = refl;
         is_body_len = body_is ∙ ap (λ (x : List ℕ). length x) body;
         is_serial = refl;
         is_len = same;
-        are_fields = ap (λ (k : ℕ). take k (drop fixed_len bytes)) (sym same) ∙ spelled;
+        are_fields = ap (λ (k : ℕ). take k (drop fixed_len bytes)) (sym same) ∙ f.spelled;
         are_zeros = zeros_are (header_padding bytes) padded ∙ ap zeros (pad ∙ ap (padding 8) same);
         is_body = body;
         is_whole = whole ∙ ap (λ (b : ℕ). body_place len + b) (body_is ∙ ap (λ (x : List ℕ). length x) body) ∙ ap (λ (k : ℕ). body_place k + length (members_bytes order (body_place (length (fields_bytes order fixed_len fields))) (types_in fields) arguments)) same;
