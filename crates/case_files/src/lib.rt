@@ -4,7 +4,8 @@
 //! that begin with `#` are passed over. In a field `\t`, `\n`, `\r`, `\\` and `\xHH` stand for the tab, the
 //! line feed, the carriage return, the backslash and the byte with these two hexadecimal digits.
 //!
-//! A program gives its `Judge` to `judge_files`, which reads the files that its arguments name.
+//! A program has a `Judge` for each table. It hands them to a `Tally`, file by file, and ends with what that says; or it
+//! hands its only one to `judge_files`, which takes the files that the program's arguments name.
 #![tactic(auto)]
 
 mod case;
@@ -18,3 +19,4 @@ pub use error::LineError;
 pub use fields::Fields;
 pub use judging::{Judge, judge_files};
 pub use spelling::escaped;
+pub use tally::Tally;
