@@ -25,14 +25,19 @@ impl Fields {
         Ok(std::str::from_utf8(self.bytes(index)?)?)
     }
 
-    /// The bytes of a field's hexadecimal words: `63*017600 0179` is 63 times `017600`, and then `0179`.
+    /// The bytes of a field's hexadecimal words.
     pub fn digits(&self, alloc: Global, index: usize) -> Result<Vec<u8>, LineError> {
-        let mut bytes = Vec::new(alloc);
-        for word in self.text(index)?.split_whitespace() {
-            bytes.extend_from_slice(word_bytes(alloc, word)?.as_slice())?;
-        }
-        Ok(bytes)
+        digits(alloc, self.text(index)?)
     }
+}
+
+/// The bytes of hexadecimal words: `63*017600 0179` is 63 times `017600`, and then `0179`.
+pub fn digits(alloc: Global, words: &str) -> Result<Vec<u8>, LineError> {
+    let mut bytes = Vec::new(alloc);
+    for word in words.split_whitespace() {
+        bytes.extend_from_slice(word_bytes(alloc, word)?.as_slice())?;
+    }
+    Ok(bytes)
 }
 
 fn word_bytes(alloc: Global, word: &str) -> Result<Vec<u8>, LineError> {

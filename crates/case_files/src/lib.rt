@@ -16,7 +16,7 @@ mod spelling;
 mod tally;
 
 pub use error::LineError;
-pub use fields::Fields;
+pub use fields::{Fields, digits};
 pub use judging::{Judge, judge_files};
 pub use spelling::escaped;
 pub use tally::Tally;
