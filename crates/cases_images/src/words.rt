@@ -1,5 +1,7 @@
 // The words of a summary.
 
+ghost use Rattle.std.specs.Prelude.{◌≤◌};
+
 use crate::asked::{edition_of, image_of};
 use case_files::{Fields, Judge, LineError};
 use std::alloc::Global;
@@ -30,7 +32,9 @@ impl Judge for Words {
 }
 
 /// How many words a summary has.
-fn word_count(edition: Edition) -> u64 {
+fn word_count(edition: Edition) -> u64
+    ensures { result ≤ 244 }
+{
     match edition {
         Edition::One => 226,
         Edition::Two => 244,
