@@ -4,6 +4,7 @@
 mod facts;
 mod matches;
 mod texts;
+mod verdict;
 
 use case_files::Tally;
 use facts::Facts;

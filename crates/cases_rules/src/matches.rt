@@ -1,5 +1,6 @@
 // Of which messages rules hold: by the plain test and by the rule's program.
 
+use crate::verdict::Verdict;
 use bpf_machine::run;
 use bpf_verify::Verified;
 use case_files::{Fields, Judge, LineError, digits};
@@ -30,21 +31,17 @@ impl Judge for Matches {
         for message in inputs.text(1)?.split('|') {
             let bytes = digits(alloc, message)?;
             let verdict = verdict(alloc, &rule, bytes.as_slice(), owner)?;
-            if said.is_some_and(|before| before != verdict) {
-                return Ok(String::from_str(alloc, "messages differ")?);
-            }
-            said = Some(verdict);
+            said = match said {
+                None => Some(verdict),
+                Some(before) => Some(verdict.and(before)),
+            };
         }
-        Ok(String::from_str(alloc, said.unwrap_or("no message"))?)
+        let words = said.map_or("no message", Verdict::words);
+        Ok(String::from_str(alloc, words)?)
     }
 }
 
-fn verdict(
-    alloc: Global,
-    rule: &Rule,
-    bytes: &[u8],
-    owner: &str,
-) -> Result<&'static str, LineError> {
+fn verdict(alloc: Global, rule: &Rule, bytes: &[u8], owner: &str) -> Result<Verdict, LineError> {
     let Ok(view) = View::read(bytes) else {
         return Err(LineError::Unreadable);
     };
@@ -52,12 +49,8 @@ fn verdict(
         "yes" => verdict_of(alloc, rule, &view, true),
         "no" => verdict_of(alloc, rule, &view, false),
         "either" => {
-            let verdict = verdict_of(alloc, rule, &view, true)?;
-            if verdict == verdict_of(alloc, rule, &view, false)? {
-                Ok(verdict)
-            } else {
-                Ok("the owner matters")
-            }
+            let of_owner = verdict_of(alloc, rule, &view, true)?;
+            Ok(of_owner.and(verdict_of(alloc, rule, &view, false)?))
         }
         _ => Err(LineError::Unreadable),
     }
@@ -68,10 +61,10 @@ fn verdict_of(
     rule: &Rule,
     view: &View<'_>,
     owns: bool,
-) -> Result<&'static str, LineError> {
+) -> Result<Verdict, LineError> {
     let program = match program_of(alloc, rule) {
         Ok(program) => program,
-        Err(CompileError::TooLong) => return Ok("no program"),
+        Err(CompileError::TooLong) => return Ok(Verdict::NoProgram),
         Err(CompileError::NoMemory) => return Err(LineError::NoMemory),
     };
     let mut owned = Slots::empty();
@@ -79,12 +72,8 @@ fn verdict_of(
         owned.insert(SLOT);
     }
     let image = Image::new(view, &owned, Edition::Two);
-    match (rule.holds(view, owns), run(&program, &image).verdict != 0) {
-        (true, true) => Ok("match"),
-        (false, false) => Ok("no match"),
-        (true, false) => Ok("match, but not by its program"),
-        (false, true) => Ok("match by its program alone"),
-    }
+    let matches = run(&program, &image).verdict != 0;
+    Ok(Verdict::of(rule.holds(view, owns), matches))
 }
 
 /// The program of a rule.
