@@ -2,7 +2,8 @@
 //!
 //! A case is one line: its name, its inputs, last what is wanted, divided by tabs. Empty lines and lines
 //! that begin with `#` are passed over. In a field `\t`, `\n`, `\r`, `\\` and `\xHH` stand for the tab, the
-//! line feed, the carriage return, the backslash and the byte with these two hexadecimal digits.
+//! line feed, the carriage return, the backslash and the byte with these two hexadecimal digits; `\{255*TEXT\}` stands
+//! for 255 times TEXT, in which no other repetition stands.
 //!
 //! A program gives its `Judge` to `judge_files`, which reads the files that its arguments name.
 #![tactic(auto)]
@@ -11,6 +12,7 @@ mod case;
 mod error;
 mod fields;
 mod judging;
+mod repetition;
 mod spelling;
 mod tally;
 
