@@ -31,23 +31,11 @@ impl Fields {
     }
 }
 
-/// The bytes of hexadecimal words: `63*017600 0179` is 63 times `017600`, and then `0179`.
+/// The bytes of hexadecimal words, divided by blanks.
 pub fn digits(alloc: Global, words: &str) -> Result<Vec<u8>, LineError> {
     let mut bytes = Vec::new(alloc);
     for word in words.split_whitespace() {
-        bytes.extend_from_slice(word_bytes(alloc, word)?.as_slice())?;
-    }
-    Ok(bytes)
-}
-
-fn word_bytes(alloc: Global, word: &str) -> Result<Vec<u8>, LineError> {
-    let Some((count, digits)) = word.split_once('*') else {
-        return Ok(hex::decode(alloc, word)?);
-    };
-    let digits = hex::decode(alloc, digits)?;
-    let mut bytes = Vec::new(alloc);
-    for _ in 0..count.parse::<u32>()? {
-        bytes.extend_from_slice(digits.as_slice())?;
+        bytes.extend_from_slice(hex::decode(alloc, word)?.as_slice())?;
     }
     Ok(bytes)
 }

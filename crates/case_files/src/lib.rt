@@ -2,7 +2,8 @@
 //!
 //! A case is one line: its name, its inputs, last what is wanted, divided by tabs. Empty lines and lines
 //! that begin with `#` are passed over. In a field `\t`, `\n`, `\r`, `\\` and `\xHH` stand for the tab, the
-//! line feed, the carriage return, the backslash and the byte with these two hexadecimal digits.
+//! line feed, the carriage return, the backslash and the byte with these two hexadecimal digits; `\{255*TEXT\}` stands
+//! for 255 times TEXT, in which no other repetition stands.
 //!
 //! A program has a `Judge` for each table. It hands them to a `Tally`, file by file, and ends with what that says; or it
 //! hands its only one to `judge_files`, which takes the files that the program's arguments name.
@@ -12,6 +13,7 @@ mod case;
 mod error;
 mod fields;
 mod judging;
+mod repetition;
 mod spelling;
 mod tally;
 

@@ -1,14 +1,13 @@
 // Writers that fail.
 
-use crate::given::{Full, OneFile};
-use crate::messages::S1;
+use crate::given::{Full, S1, TwoFiles};
 use dbusfan_tool::{Output, tool};
 
 #[test]
 fn full_output(rt: HostRuntime) {
-    let files = OneFile {
-        name: "F",
-        bytes: S1.as_bytes(),
+    let files = TwoFiles {
+        program: b"",
+        message: S1.as_bytes(),
     };
     for (rule, error, status) in [
         ("", "dbusfan: file\n", 4),
@@ -31,9 +30,9 @@ fn full_output(rt: HostRuntime) {
 
 #[test]
 fn full_error(rt: HostRuntime) {
-    let files = OneFile {
-        name: "F",
-        bytes: S1.as_bytes(),
+    let files = TwoFiles {
+        program: b"",
+        message: S1.as_bytes(),
     };
     let mut out = Output::new(Vec::new(rt.alloc()));
     let mut err = Output::new(Full);
