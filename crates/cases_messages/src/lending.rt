@@ -25,8 +25,10 @@ impl Judge for Lent {
             write!(words, "; reply_serial {serial}")?;
         }
         let len = view.body().len();
-        let place = bytes.len().saturating_sub(len);
-        write!(words, "; body {place} {len}")?;
+        match bytes.as_slice().strip_suffix(view.body()) {
+            Some(front) => write!(words, "; body {} {len}", front.len())?,
+            None => words.push_str("; body elsewhere")?,
+        }
         for arg in view.args() {
             push_argument(&mut words, arg, 0)?;
         }
