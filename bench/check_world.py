@@ -11,7 +11,7 @@
 import argparse
 import sys
 
-from checker import outside, text
+from checker import build, compare, outside, text
 
 
 def play(options):

@@ -51,6 +51,7 @@ class World:
 
     def __init__(self):
         self.events = 0
+        self.told = None
         self.connections = set()
         self.next_connection = 1
         self.entries = {}
@@ -63,9 +64,10 @@ class World:
         self.rules = {}
         self.messages = {}
 
-    def play(self, event):
-        """The answer to one event, (its word, its arguments)."""
+    def play(self, event, told=None):
+        """The answer to one event, (its word, its arguments); `told` is what a program answered to it."""
         word, arguments = event
+        self.told = told
         number = self.events
         self.events += 1
         try:
@@ -151,6 +153,9 @@ class World:
         name = rule.sender_name()
         if name is not None:
             self.needs_slot(name)
+        if self.told == "toolong" and rule.weight() > rules.HEAVIEST_COMPILED:
+            raise Refused(self.told)
+        if name is not None:
             self.senders[name] += 1
             self.give_slot(name)
         return self.add_entry(Entry(connection, rule=rule))
