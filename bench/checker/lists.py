@@ -178,17 +178,21 @@ class List:
         self.event("begin %s %s" % (sender, raw.hex() or "-"))
 
     def piece(self):
-        part = self.rng.choices([self.rng.randint(1, 16), 2, 3, 0, 17, FAR], [70, 12, 12, 2, 2, 1])[0]
-        self.event("piece %d %d" % (self.job(), part))
+        rng, job = self.rng, self.job()
+        recipients = self.world.jobs[job].recipients if job in self.world.jobs else []
+        if recipients and rng.random() < 0.6:
+            part = rng.choice(recipients) % bus.PIECES + 1
+        else:
+            part = rng.choices([rng.randint(1, 16), 0, 17, FAR], [90, 4, 4, 1])[0]
+        self.event("piece %d %d" % (job, part))
 
     def end(self):
         self.event("end %d" % self.job())
 
-    def everything(self, profile, count):
-        words = list(PROFILES[profile])
-        weights = list(PROFILES[profile].values())
-        while count > 0:
-            count -= 1
+    def everything(self, profile, count, without=()):
+        words = [word for word in PROFILES[profile] if word not in without]
+        weights = [PROFILES[profile][word] for word in words]
+        for _ in range(count):
             word = self.rng.choices(words, weights)[0]
             if word == "begin" and profile == "faults":
                 self.begin(0.9)
@@ -201,6 +205,31 @@ class List:
             job = len(self.lines)
             if self.event("begin %s %s" % (sender, self.rng.choice(self.valid).raw.hex())) == "begun":
                 self.event("end %d" % job)
+
+
+NO_LEAVING = ("release", "drop", "close", "remove", "detach")
+
+
+def probe_limits(made):
+    """Commands at a limit, by connections that are there and that aren't, with and without faults of their own."""
+    rng = made.rng
+    for _ in range(40):
+        connection = rng.choice([1, 2, 2, 999])
+        new = "n.new%d" % rng.randrange(3)
+        rule = rng.choice(["sender=" + new, "sender=n.a%d" % rng.randrange(8), "member=c", ""])
+        if made.both and connection == 999:
+            made.event("request 999 %s 0" % new)
+            continue
+        line = rng.choice([
+            "add %d %s" % (connection, rule),
+            "add %d %s" % (connection, rng.choice(["member='c", "x=y", "sender=a"])),
+            "remove %d %s" % (connection, rule),
+            "attach %d 2 %s" % (connection, rng.choice([pools.build.program(pools.RET_0).hex(), "-"])),
+            "request %d %s %d" % (connection, rng.choice([new, new, "n.a%d" % rng.randrange(8), "n", names.THE_BUS]), rng.randrange(8)),
+            "request %d n.a%d %d" % (connection, rng.randrange(4), rng.randrange(8)),
+            "release %d n.a%d" % (connection, rng.randrange(8)),
+        ])
+        made.event(line)
 
 
 def connections_of(rng):
@@ -233,6 +262,8 @@ def full_of_names(made):
         raw = pools.build.program((0x20, place), (0x45, 0, 1, 1 << slot % 32), pools.RET_1, pools.RET_0)
         made.event("attach %d %d %s" % (rng.randint(1, 3), rng.choice([1, 2]), raw.hex()))
         made.look([rng.randint(1, 3)])
+    made.everything("names", 60, NO_LEAVING)
+    probe_limits(made)
     made.everything("names", 300)
     made.look([1, 2, 3, "bus"])
 
@@ -240,14 +271,23 @@ def full_of_names(made):
 def full_of_claims(made):
     """As many claims as there may be, on few names or on all."""
     rng = made.rng
-    count = rng.choice([bus.MOST_CONNECTIONS, 64, 5])
+    count = rng.choice([bus.MOST_CONNECTIONS - 6, 64, 5, bus.MOST_CLAIMS // bus.MOST_NAMES])
     for _ in range(count):
+        made.event("connect")
+    for _ in range(3):
         made.event("connect")
     most = bus.MOST_CLAIMS // count + 1
     queues = [(connection, name) for name in range(most) for connection in range(1, count + 1)]
     for connection, name in queues[: bus.MOST_CLAIMS]:
-        made.event("request %d n.a%d %d" % (connection, name, rng.choice([0, 1])))
-    made.names = ["n.a%d" % name for name in rng.sample(range(most), min(most, 5))] + ["n.b1", "n.b2"]
+        flags = rng.choice([0, 1, 5]) if connection == 1 else rng.choice([0, 1, 8])
+        made.event("request %d n.a%d %d" % (connection, name, flags))
+    made.names = ["n.a%d" % name for name in rng.sample(range(min(most, 20)), 5)] + ["n.b1", "n.b2"]
+    newcomers = [count + 1, count + 2, count + 3]
+    for _ in range(60):
+        flags = rng.choice([0, 1, 2, 3, 2, 3, 6])
+        connection = rng.choice(newcomers + [1, 2])
+        made.event("request %d %s %d" % (connection, rng.choice(made.names), flags))
+    probe_limits(made)
     made.everything("names", 300)
     made.look([1, 2, "bus"])
 
@@ -261,6 +301,8 @@ def full_of_entries(made):
             made.event("add %d member=m%d" % (rng.randint(1, 2), number % 50))
         else:
             made.event("attach %d %d %s" % (rng.randint(1, 2), rng.choice([1, 2]), pools.build.program(pools.RET_0).hex()))
+    probe_limits(made)
+    made.everything("mixed", 60, NO_LEAVING)
     made.everything("mixed", 200)
 
 

@@ -321,6 +321,7 @@ WRONG_PARTS = [
     *("member=''", "member=c.d", "member='c' ", "type=Signal", "type=''", "path=a", "path=/a/", "path_namespace=", "interface=a"),
     *("sender=a", "sender=:1", "destination=1.2", "arg0namespace=.a", "arg0namespace=", "arg0namespace=a/", "eavesdrop=TRUE"),
     *("eavesdrop=1", "member='c", "arg0='x", "path='/a", "eavesdrop='true", "arg63='", "x='y", "member=1c'd", "member='c,d'"),
+    *("path=/a,path_namespace=/a", "path_namespace=/,path=/", "path=/a,path_namespace=b", "arg0=x,arg0path=x", "arg0path=x,arg0=y"),
     *("member=c", "path=/a", "path_namespace=/a", "arg0=x", "arg0path=x", "eavesdrop=true", "eavesdrop=false", "", " "),
 ]
 
