@@ -1,15 +1,18 @@
 """Random lists of events. A list is made while it is played, so that it meets what stands and what is gone."""
 
-from . import bus, messages, names, pools, programs, rules, text
+from . import build, bus, messages, names, programs
+from . import random_messages, random_programs, random_rules, rules, text
 
 FAR = (1 << 64) - 1
+WORDS = ("connect", "add", "remove", "attach", "detach", "request", "release", "drop", "close", "begin", "piece", "end")
+# How often each event comes in a list of this kind, in the order of WORDS.
 PROFILES = {
-    "mixed": dict(connect=3, add=10, remove=6, attach=6, detach=4, request=12, release=6, drop=3, close=2, begin=16, piece=12, end=8),
-    "names": dict(connect=3, add=5, remove=3, attach=3, detach=1, request=40, release=14, drop=6, close=3, begin=10, piece=1, end=9),
-    "rules": dict(connect=1, add=30, remove=14, attach=0, detach=0, request=5, release=2, drop=1, close=1, begin=22, piece=1, end=20),
-    "programs": dict(connect=1, add=2, remove=1, attach=30, detach=10, request=14, release=5, drop=2, close=1, begin=20, piece=1, end=18),
-    "jobs": dict(connect=3, add=8, remove=4, attach=4, detach=3, request=4, release=3, drop=2, close=3, begin=16, piece=40, end=10),
-    "faults": dict(connect=2, add=12, remove=6, attach=12, detach=4, request=10, release=6, drop=3, close=3, begin=30, piece=4, end=6),
+    "mixed": (3, 10, 6, 6, 4, 12, 6, 3, 2, 16, 12, 8),
+    "names": (3, 5, 3, 3, 1, 40, 14, 6, 3, 10, 1, 9),
+    "rules": (1, 30, 14, 0, 0, 5, 2, 1, 1, 22, 1, 20),
+    "programs": (1, 2, 1, 30, 10, 14, 5, 2, 1, 20, 1, 18),
+    "jobs": (3, 8, 4, 4, 3, 4, 3, 2, 3, 16, 40, 10),
+    "faults": (2, 12, 6, 12, 4, 10, 6, 3, 3, 30, 4, 6),
 }
 FULL = ("full_of_entries", "full_of_claims", "full_of_names", "full_of_connections")
 ONE_FULL_IN = 400
@@ -26,14 +29,14 @@ class List:
         self.answers = []
         self.gone = []
         self.begun = []
-        self.ended = []
-        self.names = rng.sample(pools.WELL_KNOWN, rng.randint(1, 4))
+        self.words = random_messages.Words(rng)
+        self.names = list(self.words.well_known)
         self.valid = []
         self.raws = [self.new_message(0.0) for _ in range(rng.randint(3, 12))]
-        self.programs = [pools.any_program(rng, self.valid) for _ in range(rng.randint(2, 8))]
+        self.programs = [random_programs.any_program(rng, self.valid) for _ in range(rng.randint(2, 8))]
         self.rules = []
         for _ in range(rng.randint(3, 12)):
-            self.rules.append((pools.random_conditions(rng, self.valid), rng.random() < 0.15))
+            self.rules.append((random_rules.random_conditions(rng, self.words, self.valid), rng.random() < 0.15))
 
     def event(self, line):
         answer = self.world.play(text.read_event(line))
@@ -42,7 +45,10 @@ class List:
         return answer
 
     def new_message(self, broken):
-        raw = pools.broken_message(self.rng) if self.rng.random() < broken else pools.random_draft(self.rng).finish()
+        if self.rng.random() < broken:
+            raw = random_messages.broken_message(self.rng, self.words)
+        else:
+            raw = random_messages.random_draft(self.rng, self.words).finish()
         try:
             self.valid.append(messages.read(raw))
         except messages.Fault:
@@ -67,14 +73,14 @@ class List:
         rng = self.rng
         pick = rng.random()
         if pick < 0.1:
-            rule = pools.wrong_rule(rng, rng.choice(self.rules)[0])
+            rule = random_rules.wrong_rule(rng, rng.choice(self.rules)[0])
         elif pick < 0.11:
-            rule = pools.long_rule(rng)
+            rule = random_rules.long_rule(rng)
         else:
             if pick < 0.25:
-                self.rules[rng.randrange(len(self.rules))] = (pools.random_conditions(rng, self.valid), rng.random() < 0.15)
-            rule = pools.joined(rng, pools.parts_of(rng, *rng.choice(self.rules)))
-        return rule if pools.is_light(rule) and "\n" not in rule else ""
+                self.rules[rng.randrange(len(self.rules))] = (random_rules.random_conditions(rng, self.words, self.valid), rng.random() < 0.15)
+            rule = random_rules.joined(rng, random_rules.parts_of(rng, *rng.choice(self.rules)))
+        return rule if random_rules.is_light(rule) and "\n" not in rule else ""
 
     def is_rule(self, rule):
         try:
@@ -87,7 +93,7 @@ class List:
         pick = self.rng.random()
         if pick < 0.93:
             return self.rng.choice(self.names)
-        return names.THE_BUS if pick < 0.95 else self.rng.choice(pools.BAD_CLAIMS)
+        return names.THE_BUS if pick < 0.95 else self.rng.choice(random_messages.BAD_CLAIMS)
 
     def job(self):
         pick = self.rng.random()
@@ -114,7 +120,8 @@ class List:
         if standing and self.rng.random() < 0.7:
             entry = self.rng.choice(standing)
             conditions = {key: value.decode() for key, value in entry.rule.conditions.items()}
-            rule = pools.joined(self.rng, pools.parts_of(self.rng, conditions, entry.rule.eavesdrops))
+            eavesdrops = entry.rule.eavesdrops != (self.rng.random() < 0.06)
+            rule = random_rules.joined(self.rng, random_rules.parts_of(self.rng, conditions, eavesdrops))
             if len(rule.encode()) <= rules.LONGEST_RULE:
                 connection = entry.connection if self.rng.random() < 0.9 else self.connection()
                 self.event("remove %d %s" % (connection, rule))
@@ -124,11 +131,11 @@ class List:
     def attach(self):
         rng = self.rng
         if rng.random() < 0.2:
-            self.programs[rng.randrange(len(self.programs))] = pools.any_program(rng, self.valid)
+            self.programs[rng.randrange(len(self.programs))] = random_programs.any_program(rng, self.valid)
         raw = rng.choice(self.programs)
         connection = self.connection()
         if self.both and not self.is_there(connection):
-            raw = pools.build.program(pools.RET_1)
+            raw = build.program(random_programs.RET_1)
         self.event("attach %d %d %s" % (connection, rng.choice([1, 2]), raw.hex() or "-"))
 
     def detach(self):
@@ -183,17 +190,16 @@ class List:
         if recipients and rng.random() < 0.6:
             part = rng.choice(recipients) % bus.PIECES + 1
         else:
-            part = rng.choices([rng.randint(1, 16), 0, 17, FAR], [90, 4, 4, 1])[0]
+            part = rng.choices([rng.randint(1, 16), 0, 17, 255], [90, 4, 4, 1])[0]
         self.event("piece %d %d" % (job, part))
 
     def end(self):
         self.event("end %d" % self.job())
 
     def everything(self, profile, count, without=()):
-        words = [word for word in PROFILES[profile] if word not in without]
-        weights = [PROFILES[profile][word] for word in words]
+        weights = [0 if word in without else weight for word, weight in zip(WORDS, PROFILES[profile])]
         for _ in range(count):
-            word = self.rng.choices(words, weights)[0]
+            word = self.rng.choices(WORDS, weights)[0]
             if word == "begin" and profile == "faults":
                 self.begin(0.9)
             else:
@@ -213,7 +219,10 @@ NO_LEAVING = ("release", "drop", "close", "remove", "detach")
 def probe_limits(made):
     """Commands at a limit, by connections that are there and that aren't, with and without faults of their own."""
     rng = made.rng
-    for _ in range(40):
+    for turn in range(60):
+        if turn == 40:
+            made.detach()
+            made.remove()
         connection = rng.choice([1, 2, 2, 999])
         new = "n.new%d" % rng.randrange(3)
         rule = rng.choice(["sender=" + new, "sender=n.a%d" % rng.randrange(8), "member=c", ""])
@@ -224,7 +233,7 @@ def probe_limits(made):
             "add %d %s" % (connection, rule),
             "add %d %s" % (connection, rng.choice(["member='c", "x=y", "sender=a"])),
             "remove %d %s" % (connection, rule),
-            "attach %d 2 %s" % (connection, rng.choice([pools.build.program(pools.RET_0).hex(), "-"])),
+            "attach %d 2 %s" % (connection, rng.choice([build.program(random_programs.RET_0).hex(), "-"])),
             "request %d %s %d" % (connection, rng.choice([new, new, "n.a%d" % rng.randrange(8), "n", names.THE_BUS]), rng.randrange(8)),
             "request %d n.a%d %d" % (connection, rng.randrange(4), rng.randrange(8)),
             "release %d n.a%d" % (connection, rng.randrange(8)),
@@ -259,7 +268,7 @@ def full_of_names(made):
     made.rules += [({"sender": name}, False) for name in made.names + ["n.c1"]]
     for slot in rng.sample(range(bus.MOST_NAMES), 20) + [31, 32, 511, 512, 1023]:
         place = programs.OWNERSHIP + 4 * (slot // 32)
-        raw = pools.build.program((0x20, place), (0x45, 0, 1, 1 << slot % 32), pools.RET_1, pools.RET_0)
+        raw = build.program((0x20, place), (0x45, 0, 1, 1 << slot % 32), random_programs.RET_1, random_programs.RET_0)
         made.event("attach %d %d %s" % (rng.randint(1, 3), rng.choice([1, 2]), raw.hex()))
         made.look([rng.randint(1, 3)])
     made.everything("names", 60, NO_LEAVING)
@@ -296,11 +305,14 @@ def full_of_entries(made):
     made.event("connect")
     made.event("connect")
     rng = made.rng
+    names_too = rng.random() < 0.5
     for number in range(bus.MOST_ENTRIES):
-        if number % 2:
+        if names_too and number < bus.MOST_NAMES:
+            made.event("add %d sender=n.a%d" % (rng.randint(1, 2), number))
+        elif number % 2:
             made.event("add %d member=m%d" % (rng.randint(1, 2), number % 50))
         else:
-            made.event("attach %d %d %s" % (rng.randint(1, 2), rng.choice([1, 2]), pools.build.program(pools.RET_0).hex()))
+            made.event("attach %d %d %s" % (rng.randint(1, 2), rng.choice([1, 2]), build.program(random_programs.RET_0).hex()))
     probe_limits(made)
     made.everything("mixed", 60, NO_LEAVING)
     made.everything("mixed", 200)

@@ -47,7 +47,7 @@ class Message:
 
 
 class Values:
-    """Reads values one after another. `end` and `fault` are the extent that an item must lie in, and what is wrong where it doesn't."""
+    """Reads values one after another. An item has to end by `end`; where it doesn't, `fault` is what is wrong."""
 
     def __init__(self, raw, order, at):
         self.raw = raw
