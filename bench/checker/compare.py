@@ -4,11 +4,12 @@ import os
 import random
 import shlex
 import subprocess
+import time
 from concurrent.futures import ProcessPoolExecutor
 
 from . import bus, lists, text
 
-SHRINK_RUNS = 400
+SHRINK_SECONDS = 30
 NO_JOB = 4000000000
 LONGEST_SHOWN = 400
 FIRST_FULL = len(lists.FULL)
@@ -81,19 +82,17 @@ def renumbered(lines, kept):
 
 def shrunk(options, lines):
     """Fewer lines that still differ, found by leaving out runs of them."""
-    runs = 0
+    stop = time.monotonic() + SHRINK_SECONDS
 
     def differs(kept):
-        nonlocal runs
-        runs += 1
         fewer = renumbered(lines, kept)
         return first_difference(fewer, played(fewer), program_answer(options, as_bytes(fewer))) is not None
 
     kept = list(range(len(lines)))
     size = max(len(kept) // 2, 1)
-    while runs < SHRINK_RUNS:
+    while time.monotonic() < stop:
         at, found = 0, False
-        while at < len(kept) and runs < SHRINK_RUNS:
+        while at < len(kept) and time.monotonic() < stop:
             fewer = kept[:at] + kept[at + size :]
             if differs(fewer):
                 kept, found = fewer, True

@@ -34,9 +34,7 @@ class List:
         self.valid = []
         self.raws = [self.new_message(0.0) for _ in range(rng.randint(3, 12))]
         self.programs = [random_programs.any_program(rng, self.valid) for _ in range(rng.randint(2, 8))]
-        self.rules = []
-        for _ in range(rng.randint(3, 12)):
-            self.rules.append((random_rules.random_conditions(rng, self.words, self.valid), rng.random() < 0.15))
+        self.rules = [self.new_rule() for _ in range(rng.randint(3, 12))]
 
     def event(self, line):
         answer = self.world.play(text.read_event(line))
@@ -54,6 +52,10 @@ class List:
         except messages.Fault:
             pass
         return raw
+
+    def new_rule(self):
+        """Conditions, and whether the rule eavesdrops."""
+        return random_rules.random_conditions(self.rng, self.words, self.valid), self.rng.random() < 0.15
 
     # What the events name
 
@@ -78,7 +80,7 @@ class List:
             rule = random_rules.long_rule(rng)
         else:
             if pick < 0.25:
-                self.rules[rng.randrange(len(self.rules))] = (random_rules.random_conditions(rng, self.words, self.valid), rng.random() < 0.15)
+                self.rules[rng.randrange(len(self.rules))] = self.new_rule()
             rule = random_rules.joined(rng, random_rules.parts_of(rng, *rng.choice(self.rules)))
         return rule if random_rules.is_light(rule) and "\n" not in rule else ""
 
@@ -234,7 +236,8 @@ def probe_limits(made):
             "add %d %s" % (connection, rng.choice(["member='c", "x=y", "sender=a"])),
             "remove %d %s" % (connection, rule),
             "attach %d 2 %s" % (connection, rng.choice([build.program(random_programs.RET_0).hex(), "-"])),
-            "request %d %s %d" % (connection, rng.choice([new, new, "n.a%d" % rng.randrange(8), "n", names.THE_BUS]), rng.randrange(8)),
+            "request %d %s %d" % (connection, new, rng.randrange(8)),
+            "request %d %s %d" % (connection, rng.choice(["n", names.THE_BUS]), rng.randrange(8)),
             "request %d n.a%d %d" % (connection, rng.randrange(4), rng.randrange(8)),
             "release %d n.a%d" % (connection, rng.randrange(8)),
         ])
@@ -306,13 +309,14 @@ def full_of_entries(made):
     made.event("connect")
     rng = made.rng
     names_too = rng.random() < 0.5
+    never = build.program(random_programs.RET_0).hex()
     for number in range(bus.MOST_ENTRIES):
         if names_too and number < bus.MOST_NAMES:
             made.event("add %d sender=n.a%d" % (rng.randint(1, 2), number))
         elif number % 2:
             made.event("add %d member=m%d" % (rng.randint(1, 2), number % 50))
         else:
-            made.event("attach %d %d %s" % (rng.randint(1, 2), rng.choice([1, 2]), build.program(random_programs.RET_0).hex()))
+            made.event("attach %d %d %s" % (rng.randint(1, 2), rng.choice([1, 2]), never))
     probe_limits(made)
     made.everything("mixed", 60, NO_LEAVING)
     made.everything("mixed", 200)
@@ -334,14 +338,22 @@ def make(rng, both=False, events=300, full=None):
 
 
 BAD_LINES = [
-    *("foo", "connect 1", "connect ", " connect", "Connect", "connect\r", "add", "add 1", "add x member=c", "add -1 x", "add +1 "),
-    *("add  member=c", "add 18446744073709551616 ", "remove 1", "remove", "attach 1 3 -", "attach 1 0 -", "attach 1 1", "attach 1 1 06"),
-    *("attach 1 1 0600000001000", "attach 1 1 zz00000000000000", "attach 1 2 0600000001000000 ", "attach 1 -", "attach 1 1 06000000 01000000"),
-    *("detach 1", "detach 1 4294967296", "detach 1 -1", "detach 1 1 ", "detach 1 0x1", "request 1 a.b", "request 1 a.b x", "request 1 a.b 4294967296"),
-    *("request 1 a.b 0 0", "request 1 a.b -1", "request a.b 1 0", "release 1", "release 1 a.b c", "release a.b", "drop", "drop  1", "drop 1 "),
-    *("drop\t1", "drop 1\r", "drop 1\t=> nothing", "drop +1", "drop \u0661", "close", "close x", "close 1.0", "begin 1", "begin 1 6", "begin 1 6c0"),
-    *("begin 1 xx", "begin 1 6c 04", "begin bus", "begin Bus -", "begin - -", "begin 1 0x6c", "begin 1 +6", "begin 1 -6c", "piece 0", "piece 0 x"),
-    *("piece 0 1 1", "piece  1", "piece -1 1", "end", "end x", "end 18446744073709551616", "end 0x1", "end 0 ", "== case", "\r", " ", "\t", " # x"),
+    *("foo", "connect 1", "connect ", " connect", "Connect", "connect\r", "add", "add 1", "add x member=c"),
+    *("add -1 x", "add +1 "),
+    *("add  member=c", "add 18446744073709551616 ", "remove 1", "remove", "attach 1 3 -", "attach 1 0 -"),
+    *("attach 1 1", "attach 1 1 06"),
+    *("attach 1 1 0600000001000", "attach 1 1 zz00000000000000", "attach 1 2 0600000001000000 ", "attach 1 -"),
+    *("attach 1 1 06000000 01000000"),
+    *("detach 1", "detach 1 4294967296", "detach 1 -1", "detach 1 1 ", "detach 1 0x1", "request 1 a.b"),
+    *("request 1 a.b x", "request 1 a.b 4294967296"),
+    *("request 1 a.b 0 0", "request 1 a.b -1", "request a.b 1 0", "release 1", "release 1 a.b c"),
+    *("release a.b", "drop", "drop  1", "drop 1 "),
+    *("drop\t1", "drop 1\r", "drop 1\t=> nothing", "drop +1", "drop \u0661", "close", "close x", "close 1.0"),
+    *("begin 1", "begin 1 6", "begin 1 6c0"),
+    *("begin 1 xx", "begin 1 6c 04", "begin bus", "begin Bus -", "begin - -", "begin 1 0x6c", "begin 1 +6"),
+    *("begin 1 -6c", "piece 0", "piece 0 x"),
+    *("piece 0 1 1", "piece  1", "piece -1 1", "end", "end x", "end 18446744073709551616", "end 0x1"),
+    *("end 0 ", "== case", "\r", " ", "\t", " # x"),
     *("piece 0 18446744073709551616", "detach 1 99999999999999999999999999", "begin 1 \u0661\u0661"),
 ]
 BAD_BYTES = [b"\xff", b"add 1 \xff", b"add 1 \xed\xa0\x80", b"release 1 a.b\xc0\x80", b"remove 1 member='\xe2\x82'"]

@@ -30,7 +30,7 @@ class Fault(Exception):
 
 
 class Message:
-    """A valid message: `fields` holds (value, place, length) of each known field, `args` (code, place, length, text)."""
+    """A valid message: of each known field (value, place, length), of each argument (code, place, length, text)."""
 
     def __init__(self, raw):
         self.raw = raw

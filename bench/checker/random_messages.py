@@ -5,15 +5,35 @@ from . import build, messages, names
 PATHS = ["/", "/a", "/ab", "/a/b", "/a/bc", "/a/b/c", "/aa/bb", "/aa/bb/cc", "/com/example/foo", "/com/example/foobar"]
 INTERFACES = ["a.b", "a.c", "a.b.c", "com.example.I", "com.example.If", "_.x1"]
 MEMBERS = ["c", "cd", "d", "C", "_1"]
-WELL_KNOWN = ["com.example.A", "com.example.B", "com.example.A.B", "com.example.AB", "a.b", "a-b._c", "z.y", "org.freedesktop.DBus2"]
+WELL_KNOWN = [
+    "com.example.A", "com.example.B", "com.example.A.B", "com.example.AB", "a.b", "a-b._c", "z.y",
+    "org.freedesktop.DBus2",
+]
 BUS_NAMES = [":1.1", ":1.2", ":1.10", ":1.3", names.THE_BUS, "com.example.A", "com.example.B", ":a.b"]
-BAD_CLAIMS = [":1.1", "com", "com..a", ".a.b", "a.b.", "a.1b", "1a.b", "a.b/c", "é.b", "a." + 254 * "b", "a.b\t", "/a", "a,b.c"]
+BAD_CLAIMS = [
+    ":1.1", "com", "com..a", ".a.b", "a.b.", "a.1b", "1a.b", "a.b/c", "é.b", "a." + 254 * "b", "a.b\t", "/a",
+    "a,b.c",
+]
 NAMESPACES = ["com", "com.example", "com.example.A", "a", ":1", ":1.1", "a.b", "-x"]
-DOTTED_TEXTS = ["com", "com.example", "com.example.A", "com.example.AB", "com.example.A.x", "a", "a.b", ":1", ":1.1", "com."]
-PATH_TEXTS = ["/", "/aa", "/aa/", "/aa/b", "/aa/bb", "/aa/bb/", "/aa/bb/cc", "/aa/bb/cc/", "aa/", "aa/bb", "//", "a/", "/a", ""]
-ODD_TEXTS = ["", "x", "xy", "X", "'", "\\", ",", "\\'", "it's", "a,b", "'x'", "a b", " ", "é", "ü/", "日本", "x=y", "\\\\", "😀"]
+DOTTED_TEXTS = [
+    "com", "com.example", "com.example.A", "com.example.AB", "com.example.A.x", "a", "a.b", ":1", ":1.1",
+    "com.",
+]
+PATH_TEXTS = [
+    "/", "/aa", "/aa/", "/aa/b", "/aa/bb", "/aa/bb/", "/aa/bb/cc", "/aa/bb/cc/", "aa/", "aa/bb", "//", "a/",
+    "/a", "",
+]
+ODD_TEXTS = [
+    "", "x", "xy", "X", "'", "\\", ",", "\\'", "it's", "a,b", "'x'", "a b", " ", "é", "ü/", "日本", "x=y",
+    "\\\\", "😀",
+]
 TEXTS = DOTTED_TEXTS + PATH_TEXTS + ODD_TEXTS
-OTHER_FIELDS = [("s", "x"), ("u", 7), ("v", ("y", 1)), ("as", ["a", "b"]), ("a{sv}", [("k", ("u", 1))]), ("(yu)", (1, 2)), ("g", "ay")]
+OTHER_FIELDS = [
+    ("s", "x"), ("u", 7), ("v", ("y", 1)), ("as", ["a", "b"]), ("a{sv}", [("k", ("u", 1))]), ("(yu)", (1, 2)),
+    ("g", "ay"),
+]
+BAD_TEXTS = [b"\xff", b"a\0", b"\xed\xa0\x80", b"\xc0\x80", b"\xf4\x90\x80\x80", b"\xe2\x82"]
+BAD_SIGNATURES = ["a", "(", "r", "a{s}", "a{sv", "a{vs}", "()", 33 * "a" + "y", 33 * "(" + "y" + 33 * ")", 254 * "y" + "z"]
 MOST_OF_EACH = 4
 BASIC = "ybnqiuhxtdsog"
 SIGNED = {"n": 15, "i": 31, "x": 63}
@@ -152,7 +172,10 @@ def broken_draft(rng, fault, draft):
         draft.fields = [field for field in draft.fields if field[0] != gone]
     elif fault == "BadName":
         code = rng.choice([1, 2, 3, 4, 6, 7])
-        bad = ["", "a", "1", "/a/", "//", "a..b", ".a", "a.", "a.1", "é.b", 256 * "a", "a." + 254 * "a", "/é", ":1", ":", "a-b"]
+        bad = [
+            "", "a", "1", "/a/", "//", "a..b", ".a", "a.", "a.1", "é.b", 256 * "a", "a." + 254 * "a", "/é",
+            ":1", ":", "a-b",
+        ]
         replace_field(draft, code, messages.FIELD_TYPE[code], rng.choice(bad))
     elif fault == "Reserved":
         code = rng.choice([messages.PATH, messages.INTERFACE])
@@ -164,12 +187,12 @@ def broken_draft(rng, fault, draft):
     elif fault == "BadBool":
         draft.args.insert(rng.randint(0, min(2, len(draft.args))), ("b", rng.choice([2, 256, 0x01000000])))
     elif fault == "BadText" and rng.random() < 0.6:
-        draft.args.append(("s", rng.choice([b"\xff", b"a\0", b"\xed\xa0\x80", b"\xc0\x80", b"\xf4\x90\x80\x80", b"\xe2\x82"])))
+        draft.args.append(("s", rng.choice(BAD_TEXTS)))
     elif fault == "BadSignature":
         if rng.random() < 0.5:
             draft.fields.append((10, rng.choice(["", "yy", "a", "()", "z", "{sv}", "a{vs}"]), 0))
         else:
-            draft.args.append(("g", rng.choice(["a", "(", "r", "a{s}", 33 * "a" + "y", 33 * "(" + "y" + 33 * ")", "a{sv"])))
+            draft.args.append(("g", rng.choice(BAD_SIGNATURES)))
     elif fault == "Depth":
         levels = rng.choice([63, 64, 65, 66])
         if rng.random() < 0.5:

@@ -32,6 +32,25 @@ def random_place(rng, edition, length):
     ])
 
 
+def look_at_low_bits(rng, valid):
+    """Four times the low four bits of a byte."""
+    edition = rng.choice([1, 2])
+    memory = programs.image(edition, rng.choice(valid), set())
+    place = random_place(rng, edition, len(memory))
+    there = 4 * (memory[place] & 0x0F) if place < len(memory) else 0
+    return build.program((0xB1, place), (0x87, 0), (0x15, 0, 1, there), RET_1, RET_0)
+
+
+def look_at_many(rng, valid):
+    """The count of arguments, or one of the last that the image shows."""
+    long = [message for message in valid if len(message.args) >= programs.SHOWN_ARGUMENTS - 1]
+    if not long:
+        return look_at_low_bits(rng, valid)
+    memory = programs.image(1, rng.choice(long), set())
+    place = rng.choice([20, 20, 816, 824, 828, 832, 836, 840])
+    return build.program((0x20, place), (0x15, 0, 1, int.from_bytes(memory[place : place + 4], "big")), RET_1, RET_0)
+
+
 def look_at_slot(rng):
     slot = rng.choices([rng.randrange(4), rng.choice([31, 32, 33]), rng.choice([511, 512, 513, 1023])], [8, 1, 1])[0]
     jump = (0x45, 0, 1, 1 << slot % 32)
@@ -102,7 +121,9 @@ def calculation(rng, valid):
     numbers = [0, 1, 3, 31, 33, 0xFF, 0x80000000, 0xFFFFFFFF, rng.getrandbits(32)]
     body = [(0x00, 0, 0, rng.choice(numbers)), (0x01, 0, 0, rng.choice(numbers)), (0x02, 0, 0, 1)]
     for _ in range(rng.randint(1, 8)):
-        code = rng.choice([rng.choice(programs.ARITHMETIC) + rng.choice([0, 8]), *rng.sample(sorted(programs.CODES), 2)])
+        code = rng.choice([
+            rng.choice(programs.ARITHMETIC) + rng.choice([0, 8]), *rng.sample(sorted(programs.CODES), 2),
+        ])
         if code in programs.JUMPS or code in programs.RETURNS or code == programs.JA:
             continue
         k = rng.choice(numbers)
@@ -169,4 +190,7 @@ def any_program(rng, valid):
         return calculation(rng, valid)
     if pick < 0.42:
         return build.program(rng.choice([RET_1, RET_0]))
-    return rng.choice([look_at_word, look_at_word, look_at_length, look_at_text])(rng, valid) if pick < 0.78 else look_at_slot(rng)
+    if pick < 0.6:
+        return look_at_slot(rng)
+    looks = [look_at_word, look_at_word, look_at_word, look_at_length, look_at_text, look_at_low_bits, look_at_many]
+    return rng.choice(looks)(rng, valid)

@@ -1,12 +1,21 @@
 """Random rules, with and without faults, in many spellings."""
 
-from . import names, rules
+from . import messages, names, rules
+
+FIELDS = {
+    "interface": messages.INTERFACE,
+    "member": messages.MEMBER,
+    "path": messages.PATH,
+    "path_namespace": messages.PATH,
+    "destination": messages.DESTINATION,
+    "sender": messages.SENDER,
+}
 
 
 def true_conditions(message):
     """Conditions that hold of a message, as (key, value)."""
     found = [("type", kind.decode()) for kind, number in rules.KINDS.items() if number == message.kind]
-    for key, field in (("interface", 2), ("member", 3), ("path", 1), ("path_namespace", 1), ("destination", 6), ("sender", 7)):
+    for key, field in FIELDS.items():
         if message.text(field) is not None:
             found.append((key, message.text(field).decode()))
     for number, (code, _, _, text) in enumerate(message.args[:64]):
@@ -21,7 +30,10 @@ def true_conditions(message):
 
 def near_condition(rng, words):
     """A condition with a value of the pools, of any key."""
-    key = rng.choice(["type", "sender", "sender", "interface", "member", "path", "path_namespace", "destination", "arg", "arg", "path_arg", "arg0namespace"])
+    key = rng.choice([
+        "type", "sender", "sender", "interface", "member", "path", "path_namespace", "destination", "arg",
+        "arg", "path_arg", "arg0namespace",
+    ])
     if key == "arg":
         return "arg%d" % rng.choice([0, 0, 0, 1, 2, 62, 63]), rng.choice(words.texts)
     if key == "path_arg":
@@ -52,12 +64,13 @@ def random_conditions(rng, words, valid):
             continue
         given[key] = value
     if rng.random() < 0.02:
-        given = {"arg%d%s" % (number, rng.choice(["", "path"])): "x" for number in rng.sample(range(64), rng.randint(30, 64))}
+        numbers = rng.sample(range(64), rng.randint(30, 64))
+        given = {"arg%d%s" % (number, rng.choice(["", "path"])): "x" for number in numbers}
     return given
 
 
 def spelled(rng, value):
-    """One of the spellings of a value, made from its end, since a backslash alone may not stand before an apostrophe."""
+    """One of a value's spellings, made from its end: a bare backslash may not stand before an apostrophe."""
     if rng.random() < 0.4 and "'" not in value:
         return "'%s'" % value
     text = ""
@@ -105,12 +118,18 @@ def joined(rng, parts):
 
 
 WRONG_PARTS = [
-    *("arg64=x", "arg01=x", "arg00path=x", "arg1namespace=a", "arg999999999999999999999=x", "arg0Path=x", "argx=x", "arg=x"),
-    *("Member=c", "members=c", "type", "member", "=x", "x=y", "path namespace=/", "member =c", "arg0path =x", "arg0namespac=x"),
-    *("member=''", "member=c.d", "member='c' ", "type=Signal", "type=''", "path=a", "path=/a/", "path_namespace=", "interface=a"),
-    *("sender=a", "sender=:1", "destination=1.2", "arg0namespace=.a", "arg0namespace=", "arg0namespace=a/", "eavesdrop=TRUE"),
-    *("eavesdrop=1", "member='c", "arg0='x", "path='/a", "eavesdrop='true", "arg63='", "x='y", "member=1c'd", "member='c,d'"),
-    *("path=/a,path_namespace=/a", "path_namespace=/,path=/", "path=/a,path_namespace=b", "arg0=x,arg0path=x", "arg0path=x,arg0=y"),
+    *("arg64=x", "arg01=x", "arg00path=x", "arg1namespace=a", "arg999999999999999999999=x", "arg0Path=x"),
+    *("argx=x", "arg=x"),
+    *("Member=c", "members=c", "type", "member", "=x", "x=y", "path namespace=/", "member =c", "arg0path =x"),
+    *("arg0namespac=x"),
+    *("member=''", "member=c.d", "member='c' ", "type=Signal", "type=''", "path=a", "path=/a/"),
+    *("path_namespace=", "interface=a"),
+    *("sender=a", "sender=:1", "destination=1.2", "arg0namespace=.a", "arg0namespace=", "arg0namespace=a/"),
+    *("eavesdrop=TRUE"),
+    *("eavesdrop=1", "member='c", "arg0='x", "path='/a", "eavesdrop='true", "arg63='", "x='y", "member=1c'd"),
+    *("member='c,d'"),
+    *("path=/a,path_namespace=/a", "path_namespace=/,path=/", "path=/a,path_namespace=b", "arg0=x,arg0path=x"),
+    *("arg0path=x,arg0=y"),
     *("member=c", "path=/a", "path_namespace=/a", "arg0=x", "arg0path=x", "eavesdrop=true", "eavesdrop=false", "", " "),
 ]
 
