@@ -1,6 +1,6 @@
 """Random lists of events. A list is made while it is played, so that it meets what stands and what is gone."""
 
-from . import build, bus, messages, names, programs
+from . import build, bus, messages, names
 from . import random_messages, random_programs, random_rules, rules, text
 
 FAR = (1 << 64) - 1
@@ -8,7 +8,7 @@ WORDS = ("connect", "add", "remove", "attach", "detach", "request", "release", "
 # How often each event comes in a list of this kind, in the order of WORDS.
 PROFILES = {
     "mixed": (3, 10, 6, 6, 4, 12, 6, 3, 2, 16, 12, 8),
-    "names": (3, 5, 3, 3, 1, 40, 14, 6, 3, 10, 1, 9),
+    "names": (3, 9, 6, 3, 1, 36, 14, 6, 3, 12, 1, 11),
     "rules": (1, 30, 14, 0, 0, 5, 2, 1, 1, 22, 1, 20),
     "programs": (1, 2, 1, 30, 10, 14, 5, 2, 1, 20, 1, 18),
     "jobs": (3, 8, 4, 4, 3, 4, 3, 2, 3, 16, 40, 10),
@@ -244,6 +244,12 @@ def probe_limits(made):
         made.event(line)
 
 
+def watch_slots(made):
+    """A program for each of the first slots, each of a connection of its own: recipients tell the slots owned."""
+    for slot, connection in enumerate(sorted(made.world.connections)[:12]):
+        made.event("attach %d %d %s" % (connection, made.rng.choice([1, 2]), random_programs.for_slot(slot).hex()))
+
+
 def connections_of(rng):
     return rng.choice([1, 2, 3, 4, 6, 10, 20, rng.randint(1, 60)])
 
@@ -270,8 +276,7 @@ def full_of_names(made):
     made.names = ["n.a%d" % rng.randrange(bus.MOST_NAMES) for _ in range(6)] + ["n.b1", "n.b2"]
     made.rules += [({"sender": name}, False) for name in made.names + ["n.c1"]]
     for slot in rng.sample(range(bus.MOST_NAMES), 20) + [31, 32, 511, 512, 1023]:
-        place = programs.OWNERSHIP + 4 * (slot // 32)
-        raw = build.program((0x20, place), (0x45, 0, 1, 1 << slot % 32), random_programs.RET_1, random_programs.RET_0)
+        raw = random_programs.for_slot(slot)
         made.event("attach %d %d %s" % (rng.randint(1, 3), rng.choice([1, 2]), raw.hex()))
         made.look([rng.randint(1, 3)])
     made.everything("names", 60, NO_LEAVING)
@@ -332,6 +337,8 @@ def make(rng, both=False, events=300, full=None):
         return made
     for _ in range(connections_of(rng)):
         made.connect()
+    if rng.random() < 0.3:
+        watch_slots(made)
     made.everything(rng.choice(list(PROFILES)), rng.randint(events // 2, events * 3 // 2))
     made.look(sorted(made.world.connections)[:4] + (["bus"] if made.world.next_connection > 1 else []))
     return made

@@ -6,7 +6,7 @@ PATHS = ["/", "/a", "/ab", "/a/b", "/a/bc", "/a/b/c", "/aa/bb", "/aa/bb/cc", "/c
 INTERFACES = ["a.b", "a.c", "a.b.c", "com.example.I", "com.example.If", "_.x1"]
 MEMBERS = ["c", "cd", "d", "C", "_1"]
 WELL_KNOWN = [
-    "com.example.A", "com.example.B", "com.example.A.B", "com.example.AB", "a.b", "a-b._c", "z.y",
+    "com.example.A", "com.example.B", "com.example.A.B", "com.example.AB", "a.b", "a-b._c", "-.-", "_.b9",
     "org.freedesktop.DBus2",
 ]
 BUS_NAMES = [":1.1", ":1.2", ":1.10", ":1.3", names.THE_BUS, "com.example.A", "com.example.B", ":a.b"]
@@ -33,7 +33,9 @@ OTHER_FIELDS = [
     ("g", "ay"),
 ]
 BAD_TEXTS = [b"\xff", b"a\0", b"\xed\xa0\x80", b"\xc0\x80", b"\xf4\x90\x80\x80", b"\xe2\x82"]
-BAD_SIGNATURES = ["a", "(", "r", "a{s}", "a{sv", "a{vs}", "()", 33 * "a" + "y", 33 * "(" + "y" + 33 * ")", 254 * "y" + "z"]
+BAD_SIGNATURES = [
+    "a", "(", "r", "a{s}", "a{sv", "a{vs}", "()", 33 * "a" + "y", 33 * "(" + "y" + 33 * ")", 254 * "y" + "z",
+]
 MOST_OF_EACH = 4
 BASIC = "ybnqiuhxtdsog"
 SIGNED = {"n": 15, "i": 31, "x": 63}

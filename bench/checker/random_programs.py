@@ -8,9 +8,12 @@ RET_1, RET_0 = (0x06, 1), (0x06, 0)
 def look_at_word(rng, valid):
     """Compares a word, half or byte of the image with what a message has there."""
     edition = rng.choice([1, 2])
-    memory = programs.image(edition, rng.choice(valid), set())
+    message = rng.choice(valid)
+    memory = programs.image(edition, message, set())
     code, size = rng.choice([(0x20, 4), (0x28, 2), (0x30, 1)])
     place = random_place(rng, edition, len(memory))
+    if message.args and rng.random() < 0.4:
+        place = 72 + 12 * rng.randrange(min(len(message.args), programs.SHOWN_ARGUMENTS)) + 4 * rng.randrange(3)
     there = int.from_bytes(memory[place : place + size], "big") if place + size <= len(memory) else 0
     jump = rng.choice([0x15, 0x25, 0x35, 0x45])
     compared = (there + rng.choice([0, 0, 0, 1, -1])) & 0xFFFFFFFF
@@ -23,6 +26,7 @@ def random_place(rng, edition, length):
         4 * rng.randrange(18),
         4 * rng.randrange(18),
         rng.choice([8, 12, 16, 20]),
+        72 + 4 * rng.randrange(9),
         72 + 4 * rng.randrange(12),
         828 + 4 * rng.randrange(3),
         968 + 4 * rng.randrange(2),
@@ -51,10 +55,15 @@ def look_at_many(rng, valid):
     return build.program((0x20, place), (0x15, 0, 1, int.from_bytes(memory[place : place + 4], "big")), RET_1, RET_0)
 
 
+def for_slot(slot):
+    """1 where the sender owns the name of this slot, as edition 2 shows it."""
+    place = programs.OWNERSHIP + 4 * (slot // 32)
+    return build.program((0x20, place), (0x45, 0, 1, 1 << slot % 32), RET_1, RET_0)
+
+
 def look_at_slot(rng):
-    slot = rng.choices([rng.randrange(4), rng.choice([31, 32, 33]), rng.choice([511, 512, 513, 1023])], [8, 1, 1])[0]
-    jump = (0x45, 0, 1, 1 << slot % 32)
-    return build.program((0x20, programs.OWNERSHIP + 4 * (slot // 32)), jump, RET_1, RET_0)
+    low, word_edge, edition_edge = rng.randrange(4), rng.choice([31, 32, 33]), rng.choice([511, 512, 513, 1023])
+    return for_slot(rng.choices([low, word_edge, edition_edge], [8, 1, 1])[0])
 
 
 def look_at_length(rng, valid):
@@ -100,45 +109,57 @@ def random_program(rng):
     return build.program(*stores, *body, (rng.choice([0x06, 0x16]), 0, 0, rng.choice([0, 1])))
 
 
+def block(rng, levels):
+    """Stores, reads, and jumps round two blocks, one of which may be empty."""
+    made = []
+    for _ in range(rng.choice([0, 1, 1, 2])):
+        made.append((rng.choice([0x02, 0x02, 0x03, 0x60, 0x61, 0x00]), 0, 0, rng.randrange(2)))
+    if levels == 0:
+        return made
+    one, other = block(rng, levels - 1), block(rng, levels - 1)
+    test = (rng.choice([0x15, 0x25, 0x35, 0x45]), 0, len(one) + 1, rng.randrange(2))
+    over = (0x05, 0, 0, len(other)) if rng.random() < 0.8 else (0x06, 0, 0, 1)
+    return made + [test] + one + [over] + other + block(rng, levels - 1)
+
+
 def joined_paths(rng):
-    """Jumps round stores and reads of few words: whether each read is stored on every path decides."""
-    count = rng.randint(3, 10)
-    body = []
-    for left in range(count, 0, -1):
-        code = rng.choice([0x02, 0x03, 0x02, 0x15, 0x35, 0x60, 0x61, 0x05, 0x00])
-        word = rng.randrange(2)
-        if code == 0x15 or code == 0x35:
-            body.append((code, rng.randrange(min(left, 3)), rng.randrange(min(left, 3)), word))
-        else:
-            body.append((code, 0, 0, rng.randrange(min(left, 3)) if code == 0x05 else word))
-    return build.program(*body, rng.choice([RET_1, (0x16, 0)]))
+    """Whether each read is stored on every path decides whether such a program is accepted."""
+    return build.program(*block(rng, rng.choice([1, 1, 2])), *block(rng, 0), rng.choice([RET_1, (0x16, 0)]))
+
+
+def step_of(rng, edition, length):
+    """A few instructions that change A or X, of all the kinds that don't jump."""
+    number = rng.choice([0, 1, 2, 3, 7, 31, 32, 33, 0xFF, 0x80000000, 0xFFFFFFFF, rng.getrandbits(32)])
+    word = rng.randrange(programs.SCRATCH_WORDS)
+    kind = rng.randrange(8)
+    if kind < 3:
+        code = rng.choice(programs.ARITHMETIC)
+        if rng.random() < 0.5:
+            return [(0x01, 0, 0, number), (code + 8, 0, 0, 0)]
+        if code in (0x64, 0x74):
+            number %= 32
+        return [(code, 0, 0, number or 7)]
+    if kind == 3:
+        stored, other = rng.choice([(0x02, 0x00), (0x03, 0x01), (0x02, 0x01), (0x03, 0x00)])
+        return [(stored, 0, 0, word), (other, 0, 0, number), (rng.choice([0x60, 0x61]), 0, 0, word)]
+    if kind == 4:
+        return [(rng.choice(list(programs.LOADS)), 0, 0, random_place(rng, edition, length))]
+    if kind == 5:
+        start = rng.choice([0, 24, 71, length - 8, 0xFFFFFFFF])
+        return [(0x01, 0, 0, start), (rng.choice(list(programs.INDIRECT_LOADS)), 0, 0, rng.choice([0, 1, 2, 5]))]
+    if kind == 6:
+        return [(0xB1, 0, 0, random_place(rng, edition, length))]
+    return [(rng.choice([0x07, 0x87, 0x84, 0x80, 0x81, 0x00, 0x01]), 0, 0, number)]
 
 
 def calculation(rng, valid):
-    """Arithmetic over loads, compared with what it gives for a message, so that each step counts."""
+    """Steps whose A and X together are compared with what they are for a message, so that each step counts."""
     edition = rng.choice([1, 2])
     memory = programs.image(edition, rng.choice(valid), set())
-    numbers = [0, 1, 3, 31, 33, 0xFF, 0x80000000, 0xFFFFFFFF, rng.getrandbits(32)]
-    body = [(0x00, 0, 0, rng.choice(numbers)), (0x01, 0, 0, rng.choice(numbers)), (0x02, 0, 0, 1)]
-    for _ in range(rng.randint(1, 8)):
-        code = rng.choice([
-            rng.choice(programs.ARITHMETIC) + rng.choice([0, 8]), *rng.sample(sorted(programs.CODES), 2),
-        ])
-        if code in programs.JUMPS or code in programs.RETURNS or code == programs.JA:
-            continue
-        k = rng.choice(numbers)
-        if code in programs.LOADS or code == 0xB1:
-            k = random_place(rng, edition, len(memory) - 4)
-        elif code in programs.INDIRECT_LOADS:
-            body.append((0x01, 0, 0, rng.choice([0, 24, 971, 0xFFFFFFFF])))
-            k = rng.choice([0, 1, 2, 5])
-        elif code in (0x60, 0x61, 0x02, 0x03):
-            k = 1
-        elif code in (0x64, 0x74):
-            k %= 32
-        elif code in (0x34, 0x94):
-            k = k or 7
-        body.append((code, 0, 0, k))
+    body = [(0x00, 0, 0, rng.getrandbits(32)), (0x01, 0, 0, rng.getrandbits(32))]
+    for _ in range(rng.randint(1, 6)):
+        body += step_of(rng, edition, len(memory))
+    body.append((0xAC, 0, 0, 0))
     verdict, _ = programs.run(body + [(0x16, 0, 0, 0)], memory)
     return build.program(*body, (0x15, 0, 1, verdict), RET_1, RET_0)
 
@@ -182,13 +203,13 @@ def any_program(rng, valid):
         return count * build.program(one) + build.program(RET_1)
     if pick < 0.17:
         return wrong_program(rng, valid)
-    if pick < 0.22:
+    if pick < 0.25:
         return joined_paths(rng)
-    if pick < 0.28 or not valid:
+    if pick < 0.29 or not valid:
         return random_program(rng)
-    if pick < 0.4:
+    if pick < 0.5:
         return calculation(rng, valid)
-    if pick < 0.42:
+    if pick < 0.52:
         return build.program(rng.choice([RET_1, RET_0]))
     if pick < 0.6:
         return look_at_slot(rng)
