@@ -32,6 +32,12 @@ OTHER_FIELDS = [
     ("s", "x"), ("u", 7), ("v", ("y", 1)), ("as", ["a", "b"]), ("a{sv}", [("k", ("u", 1))]), ("(yu)", (1, 2)),
     ("g", "ay"),
 ]
+BAD_NAMES = [
+    *("", "a", "1", "/a/", "//", "/é", "a..b", ".a", "a.", "a.1", "é.b", ":1", ":", "a-b"),
+    *(256 * "a", "a." + 254 * "a"),
+]
+UNKNOWN_FIELD = 10
+NOT_ONE_TYPE = ["", "yy", "a", "()", "z", "{sv}", "a{vs}", 33 * "(" + "y" + 33 * ")"]
 BAD_TEXTS = [b"\xff", b"a\0", b"\xed\xa0\x80", b"\xc0\x80", b"\xf4\x90\x80\x80", b"\xe2\x82"]
 BAD_SIGNATURES = [
     "a", "(", "r", "a{s}", "a{sv", "a{vs}", "()", 33 * "a" + "y", 33 * "(" + "y" + 33 * ")", 254 * "y" + "z",
@@ -154,64 +160,61 @@ def nested_variants(count):
     return content
 
 
-def broken_draft(rng, fault, draft):
-    """A draft with one fault, or None where the fault is made in the bytes."""
+def broken_field(rng, fault, draft):
+    """Gives the draft a wrong field, or takes one away; whether it did."""
     if fault == "FieldCode":
         draft.fields.insert(rng.randint(0, len(draft.fields)), (0, "y", 1))
     elif fault == "FieldType":
-        code = rng.randint(1, 9)
-        replace_field(draft, code, "y", 1)
+        replace_field(draft, rng.randint(1, 9), "y", 1)
     elif fault == "FieldTwice":
-        again = [field for field in draft.fields if field[0] < 10]
-        if not again:
-            return None
-        draft.fields.append(rng.choice(again))
+        known = [field for field in draft.fields if field[0] in messages.FIELD_TYPE]
+        draft.fields += rng.sample(known, min(len(known), 1))
     elif fault == "FieldMissing":
-        needed = messages.REQUIRED.get(draft.kind)
-        if not needed:
-            return None
-        gone = rng.choice(needed)
+        gone = rng.choice(messages.REQUIRED.get(draft.kind, (messages.PATH,)))
         draft.fields = [field for field in draft.fields if field[0] != gone]
     elif fault == "BadName":
-        code = rng.choice([1, 2, 3, 4, 6, 7])
-        bad = [
-            "", "a", "1", "/a/", "//", "a..b", ".a", "a.", "a.1", "é.b", 256 * "a", "a." + 254 * "a", "/é",
-            ":1", ":", "a-b",
-        ]
-        replace_field(draft, code, messages.FIELD_TYPE[code], rng.choice(bad))
+        code = rng.choice([messages.PATH, *messages.NAME_CHECK])
+        replace_field(draft, code, messages.FIELD_TYPE[code], rng.choice(BAD_NAMES))
     elif fault == "Reserved":
-        code = rng.choice([messages.PATH, messages.INTERFACE])
+        code = rng.choice(list(messages.RESERVED))
         replace_field(draft, code, messages.FIELD_TYPE[code], messages.RESERVED[code].decode())
     elif fault == "UnixFds":
         replace_field(draft, messages.UNIX_FDS, "u", rng.choice([1, 0x01000000]))
     elif fault == "Serial" and rng.random() < 0.5:
         replace_field(draft, messages.REPLY_SERIAL, "u", 0)
-    elif fault == "BadBool":
+    elif fault == "BadSignature" and rng.random() < 0.5:
+        draft.fields.append((UNKNOWN_FIELD, rng.choice(NOT_ONE_TYPE), 0))
+    elif fault == "Depth" and rng.random() < 0.5:
+        draft.fields.append((UNKNOWN_FIELD, "v", nested_variants(rng.choice([62, 63, 64]))))
+    else:
+        return False
+    return True
+
+
+def broken_argument(rng, fault, draft):
+    """Gives the draft a wrong argument; whether it did."""
+    if fault == "BadBool":
         draft.args.insert(rng.randint(0, min(2, len(draft.args))), ("b", rng.choice([2, 256, 0x01000000])))
     elif fault == "BadText" and rng.random() < 0.6:
         draft.args.append(("s", rng.choice(BAD_TEXTS)))
     elif fault == "BadSignature":
-        if rng.random() < 0.5:
-            draft.fields.append((10, rng.choice(["", "yy", "a", "()", "z", "{sv}", "a{vs}"]), 0))
-        else:
-            draft.args.append(("g", rng.choice(BAD_SIGNATURES)))
+        draft.args.append(("g", rng.choice(BAD_SIGNATURES)))
     elif fault == "Depth":
-        levels = rng.choice([63, 64, 65, 66])
-        if rng.random() < 0.5:
-            draft.args.append(("v", nested_variants(levels)))
-        else:
-            draft.fields.append((10, "v", nested_variants(levels - 1)))
-    elif fault == "ArrayInBody":
-        one = rng.choice(["as", "au", "aas", "a(yu)", "a{sv}", "aay", "at", "av", "a{yt}", "a(s)"])
-        draft.args.append((one, random_value(rng, names.types_of(one.encode())[0])))
-        raw = draft.finish()
-        return damaged(rng, bytearray(raw), draft.body)
+        draft.args.append(("v", nested_variants(rng.choice([63, 64, 65]))))
     elif fault == "ArrayLength" and rng.random() < 0.3:
         draft.args.append(("au", [1, 2]))
         draft.signature = "".join(one for one, _ in draft.args[:-1]) + rng.choice(["at", "ax"])
     else:
-        return None
-    return draft.finish()
+        return False
+    return True
+
+
+def damaged_array(rng, draft):
+    """A message with an array, with some bytes of its body changed."""
+    one = rng.choice(["as", "au", "aas", "a(yu)", "a{sv}", "aay", "at", "av", "a{yt}", "a(s)"])
+    draft.args.append((one, random_value(rng, names.types_of(one.encode())[0])))
+    raw = draft.finish()
+    return damaged(rng, bytearray(raw), draft.body)
 
 
 def break_bytes(rng, fault, draft, raw):
@@ -245,7 +248,7 @@ FAULTS = (
 ).split()
 
 
-ARRAYS = ["ArrayInBody"] * 3
+ARRAYS = "an array in the body"
 
 
 def damaged(rng, raw, start):
@@ -260,11 +263,14 @@ def damaged(rng, raw, start):
 
 def broken_message(rng, words):
     """Bytes in which a fault or two were planted; now and then they are a message all the same."""
-    fault = rng.choice(FAULTS + ARRAYS)
+    fault = rng.choice(FAULTS + 3 * [ARRAYS])
     draft = random_draft(rng, words)
+    if fault == ARRAYS:
+        return damaged_array(rng, draft)
+    planted = broken_field(rng, fault, draft) or broken_argument(rng, fault, draft)
     raw = draft.finish()
-    broken = broken_draft(rng, fault, draft)
-    raw = break_bytes(rng, fault, draft, raw) if broken is None else broken
+    if not planted:
+        raw = break_bytes(rng, fault, draft, raw)
     if rng.random() < 0.45:
         raw = damaged(rng, bytearray(raw), rng.choice([0, 0, draft.body]))
     if rng.random() < 0.1:
