@@ -313,7 +313,7 @@ def full_of_entries(made):
     made.event("connect")
     made.event("connect")
     rng = made.rng
-    names_too = rng.random() < 0.5
+    names_too = rng.random() < 0.8
     never = build.program(random_programs.RET_0).hex()
     for number in range(bus.MOST_ENTRIES):
         if names_too and number < bus.MOST_NAMES:
