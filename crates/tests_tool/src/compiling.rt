@@ -9,7 +9,7 @@ use std::test::Fail;
 
 // Asserts that a rule has a program, which is accepted.
 fn assert_compiles(rt: &impl Abort, alloc: Global, rule: &str) {
-    let nothing = OneFile {
+    let mut nothing = OneFile {
         name: "F",
         bytes: b"",
     };
@@ -18,13 +18,13 @@ fn assert_compiles(rt: &impl Abort, alloc: Global, rule: &str) {
     let answered = tool(
         alloc,
         ["compile", "--", rule].as_slice(),
-        &nothing,
+        &mut nothing,
         &mut out,
         &mut err,
     );
     assert_eq!(rt; answered, 0, "at {rule}");
     assert!(rt; err.writer.is_empty(), "at {rule}");
-    let program = OneFile {
+    let mut program = OneFile {
         name: "F",
         bytes: out.writer.as_slice(),
     };
@@ -32,7 +32,7 @@ fn assert_compiles(rt: &impl Abort, alloc: Global, rule: &str) {
     let checked = tool(
         alloc,
         ["check", "F"].as_slice(),
-        &program,
+        &mut program,
         &mut counted,
         &mut err,
     );

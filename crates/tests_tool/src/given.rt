@@ -5,8 +5,6 @@ ghost use Rattle.std.specs.Str.{bytes_eq};
 
 use dbusfan_tool::{FileError, Files, Output, tool};
 use std::alloc::{AllocError, Global};
-use std::io;
-use std::io::Write;
 use std::process::Abort;
 
 /// One file.
@@ -17,9 +15,9 @@ pub struct OneFile<'a> {
 }
 
 impl<'a> Files for OneFile<'a> {
-    ghost may_give = { λ f name given. given ≡ (if bytes_eq name f.name.now then Some f.bytes.now else None) };
+    ghost gives = { λ f name given g. (g ≡ f) × (given ≡ (if bytes_eq name f.name.now then Some f.bytes.now else None)) };
 
-    fn read(&self, alloc: Global, name: &str) -> Result<Vec<u8>, FileError> {
+    fn read(&mut self, alloc: Global, name: &str) -> Result<Vec<u8>, FileError> {
         if name != self.name {
             return Err(FileError::File);
         }
@@ -35,29 +33,15 @@ pub struct TwoFiles<'a> {
 }
 
 impl<'a> Files for TwoFiles<'a> {
-    ghost may_give = { λ f name given. given ≡ (if bytes_eq name (codes "P") then Some f.program.now else if bytes_eq name (codes "F") then Some f.message.now else None) };
+    ghost gives = { λ f name given g. (g ≡ f) × (given ≡ (if bytes_eq name (codes "P") then Some f.program.now else if bytes_eq name (codes "F") then Some f.message.now else None)) };
 
-    fn read(&self, alloc: Global, name: &str) -> Result<Vec<u8>, FileError> {
+    fn read(&mut self, alloc: Global, name: &str) -> Result<Vec<u8>, FileError> {
         let bytes = match name {
             "P" => self.program,
             "F" => self.message,
             _ => return Err(FileError::File),
         };
         Vec::from_slice(alloc, bytes).map_err(|_| FileError::Memory)
-    }
-}
-
-/// A writer that takes nothing.
-#[derive(Drop)]
-pub struct Full;
-
-impl Write for Full {
-    fn write(&mut self, _buf: &[u8]) -> io::Result<usize> {
-        Err(io::Error::from(io::ErrorKind::StorageFull))
-    }
-
-    fn flush(&mut self) -> io::Result<()> {
-        Ok(())
     }
 }
 
@@ -71,11 +55,11 @@ pub fn assert_says(
     error: &str,
     status: u8,
 ) -> Result<(), AllocError> {
-    let files = OneFile {
+    let mut files = OneFile {
         name: "F",
         bytes: text,
     };
-    assert_says_over(rt, alloc, line, &files, output, error, status)
+    assert_says_over(rt, alloc, line, &mut files, output, error, status)
 }
 
 /// Asserts what the command line says to the words of a line, which `|` divides.
@@ -83,7 +67,7 @@ pub fn assert_says_over<F: Files>(
     rt: &impl Abort,
     alloc: Global,
     line: &str,
-    files: &F,
+    files: &mut F,
     output: &str,
     error: &str,
     status: u8,
@@ -109,13 +93,13 @@ pub fn assert_says_over<F: Files>(
 /// Asserts that the command line gives help to the words of a line.
 pub fn assert_helps(rt: &impl Abort, alloc: Global, line: &str) -> Result<(), AllocError> {
     let words: Vec<&str> = line.split('|').collect(alloc)?;
-    let files = OneFile {
+    let mut files = OneFile {
         name: "F",
         bytes: b"",
     };
     let mut out = Output::new(Vec::new(alloc));
     let mut err = Output::new(Vec::new(alloc));
-    let answered = tool(alloc, words.as_slice(), &files, &mut out, &mut err);
+    let answered = tool(alloc, words.as_slice(), &mut files, &mut out, &mut err);
     let text = String::from_utf8_lossy(alloc, out.writer.as_slice())?;
     assert!(rt; text.as_str().contains("Usage: dbusfan"), "at {line}");
     assert!(rt; err.writer.is_empty(), "at {line}");

@@ -150,11 +150,11 @@ fn help(rt: HostRuntime) -> Result<(), Fail> {
 fn no_words(rt: HostRuntime) {
     let mut out = Output::new(Vec::new(rt.alloc()));
     let mut err = Output::new(Vec::new(rt.alloc()));
-    let files = OneFile {
+    let mut files = OneFile {
         name: "F",
         bytes: b"",
     };
-    let answered = tool(rt.alloc(), &[], &files, &mut out, &mut err);
+    let answered = tool(rt.alloc(), &[], &mut files, &mut out, &mut err);
     assert!(rt; out.writer.is_empty());
     assert_eq!(rt; err.writer.as_slice(), b"dbusfan: usage\n".as_slice());
     assert_eq!(rt; answered, 3);

@@ -20,11 +20,11 @@ fn assert_runs(
     output: &str,
     status: u8,
 ) -> Result<(), AllocError> {
-    let files = TwoFiles {
+    let mut files = TwoFiles {
         program: program.as_bytes(),
         message: message.as_bytes(),
     };
-    assert_says_over(rt, alloc, line, &files, output, "", status)
+    assert_says_over(rt, alloc, line, &mut files, output, "", status)
 }
 
 #[test]
@@ -40,12 +40,12 @@ fn ancillary_load(rt: HostRuntime) -> Result<(), Fail> {
     let program = "ld [0xffffefff]\nret #1\n";
     let output = "verdict 0 steps 1\n";
     assert_runs(&rt, rt.alloc(), "run|P|F", program, S1, output, 1)?;
-    let files = TwoFiles {
+    let mut files = TwoFiles {
         program: b"ld [0xfffff000]\nret #1\n",
         message: S1.as_bytes(),
     };
     let error = "dbusfan: program Ancillary at 0\n";
-    assert_says_over(&rt, rt.alloc(), "run|P|F", &files, "", error, 2)?;
+    assert_says_over(&rt, rt.alloc(), "run|P|F", &mut files, "", error, 2)?;
     Ok(())
 }
 
@@ -175,11 +175,11 @@ fn order_of_faults(rt: HostRuntime) -> Result<(), Fail> {
         ("run|-|F", "ret #1", S1, "dbusfan: file\n", 4),
         ("run|P|-", "ret #1", S1, "dbusfan: file\n", 4),
     ] {
-        let files = TwoFiles {
+        let mut files = TwoFiles {
             program: program.as_bytes(),
             message: message.as_bytes(),
         };
-        assert_says_over(&rt, rt.alloc(), line, &files, "", error, status)?;
+        assert_says_over(&rt, rt.alloc(), line, &mut files, "", error, status)?;
     }
     Ok(())
 }
