@@ -141,7 +141,7 @@ fn writers_that_never_fail(rt: HostRuntime) {
             assert!(rt; place.writer.is_same && place.writer.rest.is_empty());
             assert!(rt; !place.has_failed);
         }
-        assert_eq!(rt; out.writer.flushes + err.writer.flushes, 1);
+        assert_eq!(rt; out.writer.flushes.saturating_add(err.writer.flushes), 1);
     }
 }
 
