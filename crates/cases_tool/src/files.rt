@@ -5,7 +5,6 @@ ghost use Rattle.std.specs.Prelude.{⊤};
 use case_files::LineError;
 use dbusfan_tool::{FileError, Files};
 use std::alloc::Global;
-use std::cell::Cell;
 
 /// A file, or standard input under its name `-`.
 #[derive(Drop)]
@@ -18,14 +17,14 @@ struct NamedFile<'a> {
 #[derive(Drop)]
 pub struct CaseFiles<'a> {
     files: Vec<NamedFile<'a>>,
-    input_was_read: Cell<bool>,
+    input_was_read: bool,
 }
 
 impl<'a> CaseFiles<'a> {
     pub fn new(alloc: Global) -> CaseFiles<'a> {
         CaseFiles {
             files: Vec::new(alloc),
-            input_was_read: Cell::new(false),
+            input_was_read: false,
         }
     }
 
@@ -50,15 +49,16 @@ impl<'a> CaseFiles<'a> {
 
 impl<'a> Files for CaseFiles<'a> {
     // Nothing is known of what a case gives.
-    ghost may_give = { λ _ _ _. ⊤ };
+    ghost gives = { λ _ _ _ _. ⊤ };
 
-    fn read(&self, alloc: Global, name: &str) -> Result<Vec<u8>, FileError> {
+    fn read(&mut self, alloc: Global, name: &str) -> Result<Vec<u8>, FileError> {
         let mut found = self
             .files
             .iter()
             .filter(|file| file.name == name.as_bytes());
         let file = found.next().ok_or(FileError::File)?;
-        let is_at_end = name == "-" && self.input_was_read.replace(true);
+        let is_at_end = name == "-" && self.input_was_read;
+        self.input_was_read = self.input_was_read || name == "-";
         let bytes = if is_at_end {
             b"".as_slice()
         } else {

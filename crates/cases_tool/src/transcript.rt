@@ -23,7 +23,7 @@ impl Judge for Commands {
         files.add(inputs.bytes(SECOND_FILE)?)?;
         let mut transcript = String::new(alloc);
         for command in inputs.text(COMMANDS)?.split(" ; ") {
-            put_said(alloc, command, &files, &mut transcript)?;
+            put_said(alloc, command, &mut files, &mut transcript)?;
         }
         Ok(transcript)
     }
@@ -33,7 +33,7 @@ impl Judge for Commands {
 fn put_said(
     alloc: Global,
     command: &str,
-    files: &CaseFiles<'_>,
+    files: &mut CaseFiles<'_>,
     transcript: &mut String,
 ) -> Result<(), LineError> {
     let words: Vec<&str> = command.split('|').collect(alloc)?;

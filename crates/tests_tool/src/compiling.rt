@@ -13,16 +13,16 @@ fn accepted(rt: HostRuntime) {
         "sender='org.freedesktop.DBus'",
         "sender='a.b',arg0='x',arg1path='/a/'",
     ] {
-        let nothing = TwoFiles {
+        let mut nothing = TwoFiles {
             program: b"",
             message: b"",
         };
         let mut out = Output::new(Vec::new(rt.alloc()));
         let mut err = Output::new(Vec::new(rt.alloc()));
         let words = ["compile", "--", rule];
-        let answered = tool(rt.alloc(), words.as_slice(), &nothing, &mut out, &mut err);
+        let answered = tool(rt.alloc(), words.as_slice(), &mut nothing, &mut out, &mut err);
         assert_eq!(rt; answered, 0, "at {rule}");
-        let compiled = TwoFiles {
+        let mut compiled = TwoFiles {
             program: out.writer.as_slice(),
             message: b"",
         };
@@ -31,7 +31,7 @@ fn accepted(rt: HostRuntime) {
         let answered = tool(
             rt.alloc(),
             words.as_slice(),
-            &compiled,
+            &mut compiled,
             &mut count,
             &mut err,
         );

@@ -1,11 +1,9 @@
-// Files and writers in memory.
+// Files in memory.
 
 ghost use Rattle.std.specs.Prelude.{⊤};
 
 use dbusfan_tool::{FileError, Files};
 use std::alloc::Global;
-use std::io;
-use std::io::Write;
 
 /// A signal with path `/a`, interface `a.b` and member `c`, without its line's end.
 pub const S1: &str =
@@ -20,28 +18,14 @@ pub struct TwoFiles<'a> {
 
 impl<'a> Files for TwoFiles<'a> {
     // The tests ask nothing of what they give.
-    ghost may_give = { λ _ _ _. ⊤ };
+    ghost gives = { λ _ _ _ _. ⊤ };
 
-    fn read(&self, alloc: Global, name: &str) -> Result<Vec<u8>, FileError> {
+    fn read(&mut self, alloc: Global, name: &str) -> Result<Vec<u8>, FileError> {
         let bytes = match name {
             "P" => self.program,
             "F" => self.message,
             _ => return Err(FileError::File),
         };
         Vec::from_slice(alloc, bytes).map_err(|_| FileError::Memory)
-    }
-}
-
-/// A writer that takes nothing.
-#[derive(Drop)]
-pub struct Full;
-
-impl Write for Full {
-    fn write(&mut self, _buf: &[u8]) -> io::Result<usize> {
-        Err(io::Error::from(io::ErrorKind::StorageFull))
-    }
-
-    fn flush(&mut self) -> io::Result<()> {
-        Ok(())
     }
 }

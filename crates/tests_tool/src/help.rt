@@ -20,13 +20,13 @@ fn help(rt: HostRuntime) -> Result<(), Fail> {
         "run|--help",
     ] {
         let words: Vec<&str> = line.split('|').collect(rt.alloc())?;
-        let files = TwoFiles {
+        let mut files = TwoFiles {
             program: b"",
             message: S1.as_bytes(),
         };
         let mut out = Output::new(Vec::new(rt.alloc()));
         let mut err = Output::new(Vec::new(rt.alloc()));
-        let answered = tool(rt.alloc(), words.as_slice(), &files, &mut out, &mut err);
+        let answered = tool(rt.alloc(), words.as_slice(), &mut files, &mut out, &mut err);
         let text = String::from_utf8_lossy(rt.alloc(), out.writer.as_slice())?;
         assert!(rt; text.as_str().contains("Usage: dbusfan"), "at {line}");
         assert!(rt; err.writer.is_empty(), "at {line}");

@@ -20,14 +20,14 @@ fn jumps(alloc: Global) -> Result<String, Fail> {
 #[test]
 fn longest_jumps(rt: HostRuntime) -> Result<(), Fail> {
     let program = jumps(rt.alloc())?;
-    let files = TwoFiles {
+    let mut files = TwoFiles {
         program: program.as_bytes(),
         message: S1.as_bytes(),
     };
     let mut out = Output::new(Vec::new(rt.alloc()));
     let mut err = Output::new(Vec::new(rt.alloc()));
     let words = ["run", "P", "F"];
-    let answered = tool(rt.alloc(), words.as_slice(), &files, &mut out, &mut err);
+    let answered = tool(rt.alloc(), words.as_slice(), &mut files, &mut out, &mut err);
     assert_eq!(rt; out.writer.as_slice(), b"verdict 1 steps 4096\n".as_slice());
     assert!(rt; err.writer.is_empty());
     assert_eq!(rt; answered, 0);
