@@ -20,7 +20,13 @@ fn accepted(rt: HostRuntime) {
         let mut out = Output::new(Vec::new(rt.alloc()));
         let mut err = Output::new(Vec::new(rt.alloc()));
         let words = ["compile", "--", rule];
-        let answered = tool(rt.alloc(), words.as_slice(), &mut nothing, &mut out, &mut err);
+        let answered = tool(
+            rt.alloc(),
+            words.as_slice(),
+            &mut nothing,
+            &mut out,
+            &mut err,
+        );
         assert_eq!(rt; answered, 0, "at {rule}");
         let mut compiled = TwoFiles {
             program: out.writer.as_slice(),
