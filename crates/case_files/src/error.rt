@@ -4,6 +4,7 @@ use hex::FromHexError;
 use std::alloc::{AllocError, AllocFailed};
 use std::error::Error;
 use std::fmt;
+use std::num::{ParseIntError, TryFromIntError};
 use std::str::Utf8Error;
 
 /// Why a line of a file of cases can't be judged.
@@ -52,5 +53,17 @@ impl From<FromHexError> for LineError {
             FromHexError::OutOfMemory => LineError::NoMemory,
             _ => LineError::Unreadable,
         }
+    }
+}
+
+impl From<ParseIntError> for LineError {
+    fn from(_error: ParseIntError) -> LineError {
+        LineError::Unreadable
+    }
+}
+
+impl From<TryFromIntError> for LineError {
+    fn from(_error: TryFromIntError) -> LineError {
+        LineError::Unreadable
     }
 }

@@ -25,13 +25,29 @@ impl Fields {
         Ok(std::str::from_utf8(self.bytes(index)?)?)
     }
 
-    /// The bytes that a field's hexadecimal digits stand for. Blanks between them are for the eye alone.
+    /// The bytes of a field's hexadecimal words.
     pub fn digits(&self, alloc: Global, index: usize) -> Result<Vec<u8>, LineError> {
-        let mut bytes = Vec::new(alloc);
-        for word in self.text(index)?.split_whitespace() {
-            let decoded = hex::decode(alloc, word)?;
-            bytes.extend_from_slice(decoded.as_slice())?;
-        }
-        Ok(bytes)
+        digits(alloc, self.text(index)?)
     }
+}
+
+/// The bytes of hexadecimal words: `63*017600 0179` is 63 times `017600`, and then `0179`.
+pub fn digits(alloc: Global, words: &str) -> Result<Vec<u8>, LineError> {
+    let mut bytes = Vec::new(alloc);
+    for word in words.split_whitespace() {
+        bytes.extend_from_slice(word_bytes(alloc, word)?.as_slice())?;
+    }
+    Ok(bytes)
+}
+
+fn word_bytes(alloc: Global, word: &str) -> Result<Vec<u8>, LineError> {
+    let Some((count, digits)) = word.split_once('*') else {
+        return Ok(hex::decode(alloc, word)?);
+    };
+    let digits = hex::decode(alloc, digits)?;
+    let mut bytes = Vec::new(alloc);
+    for _ in 0..count.parse::<u32>()? {
+        bytes.extend_from_slice(digits.as_slice())?;
+    }
+    Ok(bytes)
 }

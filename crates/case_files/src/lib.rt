@@ -5,7 +5,8 @@
 //! line feed, the carriage return, the backslash and the byte with these two hexadecimal digits; `\{255*TEXT\}` stands
 //! for 255 times TEXT, in which no other repetition stands.
 //!
-//! A program gives its `Judge` to `judge_files`, which reads the files that its arguments name.
+//! A program has a `Judge` for each table. It hands them to a `Tally`, file by file, and ends with what that says; or it
+//! hands its only one to `judge_files`, which takes the files that the program's arguments name.
 #![tactic(auto)]
 
 mod case;
@@ -17,6 +18,7 @@ mod spelling;
 mod tally;
 
 pub use error::LineError;
-pub use fields::Fields;
+pub use fields::{Fields, digits};
 pub use judging::{Judge, judge_files};
 pub use spelling::escaped;
+pub use tally::Tally;
