@@ -6,44 +6,25 @@ use case_files::LineError;
 use dbusfan_tool::{FileError, Files};
 use std::alloc::Global;
 
-/// A file, or standard input under its name `-`.
-#[derive(Drop)]
-struct NamedFile<'a> {
-    name: &'a [u8],
-    bytes: &'a [u8],
-}
-
-/// The files of a case. Standard input is at its end once it was read.
+/// The two files of a case, each spelled as its name, `=` and its bytes, or as nothing where there is none. Standard
+/// input, whose name is `-`, is at its end once it was read.
 #[derive(Drop)]
 pub struct CaseFiles<'a> {
-    files: Vec<NamedFile<'a>>,
+    first: &'a [u8],
+    second: &'a [u8],
     input_was_read: bool,
 }
 
 impl<'a> CaseFiles<'a> {
-    pub fn new(alloc: Global) -> CaseFiles<'a> {
-        CaseFiles {
-            files: Vec::new(alloc),
+    pub fn new(first: &'a [u8], second: &'a [u8]) -> Result<CaseFiles<'a>, LineError> {
+        if !is_spelled(first) || !is_spelled(second) {
+            return Err(LineError::Unreadable);
+        }
+        Ok(CaseFiles {
+            first,
+            second,
             input_was_read: false,
-        }
-    }
-
-    /// One more file, spelled as its name, `=` and its bytes. An empty field spells none.
-    pub fn add(&mut self, spelled: &'a [u8]) -> Result<(), LineError> {
-        if spelled.is_empty() {
-            return Ok(());
-        }
-        let end = spelled
-            .iter()
-            .position(|byte| *byte == b'=')
-            .ok_or(LineError::Unreadable)?;
-        let (name, bytes) = spelled.split_at(end);
-        let file = NamedFile {
-            name,
-            bytes: &bytes[1..],
-        };
-        self.files.push(file)?;
-        Ok(())
+        })
     }
 }
 
@@ -52,18 +33,26 @@ impl<'a> Files for CaseFiles<'a> {
     ghost gives = { λ _ _ _ _. ⊤ };
 
     fn read(&mut self, alloc: Global, name: &str) -> Result<Vec<u8>, FileError> {
-        let mut found = self
-            .files
-            .iter()
-            .filter(|file| file.name == name.as_bytes());
-        let file = found.next().ok_or(FileError::File)?;
-        let is_at_end = name == "-" && self.input_was_read;
-        self.input_was_read = self.input_was_read || name == "-";
-        let bytes = if is_at_end {
-            b"".as_slice()
-        } else {
-            file.bytes
-        };
-        Vec::from_slice(alloc, bytes).map_err(|_| FileError::Memory)
+        let found = content(self.first, name).or(content(self.second, name));
+        let mut bytes = found.ok_or(FileError::File)?;
+        if name == "-" {
+            if self.input_was_read {
+                bytes = b"";
+            }
+            self.input_was_read = true;
+        }
+        match Vec::from_slice(alloc, bytes) {
+            Ok(read) => Ok(read),
+            Err(_) => Err(FileError::Memory),
+        }
     }
+}
+
+fn is_spelled(field: &[u8]) -> bool {
+    field.is_empty() || field.contains(&b'=')
+}
+
+/// The bytes that a field spells of the file with this name.
+fn content<'a>(field: &'a [u8], name: &str) -> Option<&'a [u8]> {
+    field.strip_prefix(name.as_bytes())?.strip_prefix(b"=")
 }

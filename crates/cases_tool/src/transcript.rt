@@ -4,6 +4,7 @@ use crate::files::CaseFiles;
 use case_files::{Fields, Judge, LineError};
 use dbusfan_tool::{Output, tool};
 use std::alloc::Global;
+use std::fmt::Write;
 
 /// The field of the commands, and those of the files.
 const COMMANDS: usize = 0;
@@ -18,9 +19,7 @@ impl Judge for Commands {
     const INPUTS: usize = 3;
 
     fn came(&self, alloc: Global, inputs: &Fields) -> Result<String, LineError> {
-        let mut files = CaseFiles::new(alloc);
-        files.add(inputs.bytes(FIRST_FILE)?)?;
-        files.add(inputs.bytes(SECOND_FILE)?)?;
+        let mut files = CaseFiles::new(inputs.bytes(FIRST_FILE)?, inputs.bytes(SECOND_FILE)?)?;
         let mut transcript = String::new(alloc);
         for command in inputs.text(COMMANDS)?.split(" ; ") {
             put_said(alloc, command, &mut files, &mut transcript)?;
@@ -44,12 +43,9 @@ fn put_said(
     let mut out = Output::new(Vec::new(alloc));
     let mut err = Output::new(Vec::new(alloc));
     let status = tool(alloc, words, files, &mut out, &mut err);
-    transcript.push_str(std::str::from_utf8(out.writer.as_slice())?)?;
-    if !err.writer.is_empty() {
-        transcript.push('!')?;
-    }
-    transcript.push_str(std::str::from_utf8(err.writer.as_slice())?)?;
-    let line = format!(in alloc; "[{status}]")?;
-    transcript.push_str(line.as_str())?;
+    let out = std::str::from_utf8(out.writer.as_slice())?;
+    let err = std::str::from_utf8(err.writer.as_slice())?;
+    let mark = if err.is_empty() { "" } else { "!" };
+    write!(transcript, "{out}{mark}{err}[{status}]")?;
     Ok(())
 }
