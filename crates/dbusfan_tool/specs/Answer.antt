@@ -1,5 +1,5 @@
 -- What a command has to say, and how it is said.
-use Rattle.std.specs.Prelude.{◌≡◌, ℕ, Bool, true, false, List, [], ◌++◌, codes, decimal, Option, Result, Ok, Err, string_bytes, if◌then◌else◌, ◌==◌}
+use Rattle.std.specs.Prelude.{◌≡◌, ℕ, Bool, true, false, List, [], ◌++◌, codes, decimal, Result, Ok, Err, string_bytes, if◌then◌else◌, ◌==◌}
 use Rattle.bpf_code.specs.declared.instruction.Ins.{Ins}
 use Rattle.bpf_machine.specs.declared.machine.Outcome.{Outcome}
 use Rattle.dbusfan_tool.specs.declared.fault.Fault.{Fault}

@@ -1,5 +1,5 @@
 -- What a write does to an output.
-use Rattle.std.specs.Prelude.{◌≡◌, ◌≢◌, ◌⊎◌, ℕ, Bool, true, false, List, []}
+use Rattle.std.specs.Prelude.{◌≡◌, ◌≢◌, ◌⊎◌, ℕ, true, false, List, []}
 use Rattle.dbusfan_tool.specs.declared.output.Output.{Output}
 
 module _ {W : Type 0} (takes : W → List ℕ → W → Type 0) (flushes : W → W → Type 0) (may_fail : W → Type 0) where

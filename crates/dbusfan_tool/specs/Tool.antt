@@ -1,5 +1,5 @@
 -- What the rows of the command line come to.
-use Rattle.std.specs.Prelude.{◌≡◌, ◌<◌, ◌⊎◌, ◌↔◌, ℕ, Bool, List, [], Option, Some, None, Result, Ok, Err, IsTrue}
+use Rattle.std.specs.Prelude.{◌≡◌, ◌<◌, ◌⊎◌, ◌↔◌, ℕ, Bool, List, [], Some, None, Result, Ok, Err, IsTrue}
 use Rattle.dbusfan_tool.specs.declared.fault.Fault.{Fault}
 use Rattle.dbusfan_tool.specs.declared.fault.Fault.TheVariants.{Rule, Message as BadMessage, Hex, File, Memory}
 use Rattle.message_value.specs.declared.fault.MsgError.{MsgError}

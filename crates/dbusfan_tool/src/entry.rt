@@ -17,10 +17,11 @@ use crate::writer::Writer;
 use crate::{assembling, checking, compiling, matching, running, usage};
 use std::alloc::Global;
 
-/// Does what the words behind the program's name ask for, and answers the status that the program ends
+/// Does what the words after the program's name ask for, and answers the status that the program ends
 /// with: 0 or 1 for what was found, 2 for a text that is wrong, 3 for words that are no row of the
 /// command line, 4 where a file can't be read or `out` can't be written, 5 for want of memory. The whole
-/// output is formed before any of it is written.
+/// output is formed before any of it is written, and flushed after. Each file is read once: standard
+/// input would give other bytes the second time.
 pub fn tool<'a, F: Files, O: Writer, E: Writer>(
     alloc: Global,
     words: &'a [&'a str],

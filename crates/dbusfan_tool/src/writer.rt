@@ -1,9 +1,11 @@
 // Writers.
 
-ghost use Rattle.std.specs.Prelude.{◌≡◌, ℕ, List, ◌++◌, ⊤, OnOk, OnErr};
+ghost use Rattle.std.specs.Prelude.{◌≡◌, ℕ, List, ◌++◌, ⊤, IsOk, OnOk, OnErr, IfErr};
+ghost use Rattle.std.specs.IoError.{error_kind};
 
 use std::alloc::{AllocError, Allocator};
 use std::io;
+use std::io::ErrorKind;
 
 /// Takes texts as a whole, and may keep them back until it is flushed.
 pub trait Writer {
@@ -37,15 +39,23 @@ impl<A: Allocator> Writer for Vec<u8, A> {
 
     ghost may_fail = { λ _. ⊤ };
 
-    fn take_all(&mut self, text: &[u8]) -> io::Result<()> {
+    fn take_all(&mut self, text: &[u8]) -> io::Result<()>
+        ensures taken { OnOk result (self.new.items ≡ self.old.items ++ text.now) }
+        ensures fault { IfErr result (λ error. error_kind error ≡ ErrorKind.OutOfMemory) }
+    {
         self.extend_from_slice(text).map_err(of_memory)
     }
 
-    fn flush_all(&mut self) -> io::Result<()> {
+    fn flush_all(&mut self) -> io::Result<()>
+        ensures kept { self.new.items ≡ self.old.items }
+        ensures fine { IsOk result }
+    {
         Ok(())
     }
 }
 
-fn of_memory(_refused: AllocError) -> io::Error {
-    io::Error::from(io::ErrorKind::OutOfMemory)
+fn of_memory(_refused: AllocError) -> io::Error
+    ensures { error_kind result ≡ ErrorKind.OutOfMemory }
+{
+    io::Error::from(ErrorKind::OutOfMemory)
 }
