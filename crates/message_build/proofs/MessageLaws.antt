@@ -38,7 +38,7 @@ the h s types arguments = record { order = Little; kind = h.kind; flags = h.flag
 abbrev made : Order → Kind → ℕ → ℕ → List Field → DataTypes → Values → Message
 made order kind flags serial fields types arguments = record { order = order; kind = kind; flags = flags; serial = serial; fields = fields; types = types; arguments = arguments }
 
-same_message : (o p : Order) (k l : Kind) (f g s t : ℕ) (x y : List Field) (types : DataTypes) (arguments : Values) → o ≡ p → k ≡ l → f ≡ g → s ≡ t → x ≡ y → made o k f s x types arguments ≡ made p l g t y types arguments
+pub same_message : (o p : Order) (k l : Kind) (f g s t : ℕ) (x y : List Field) (types : DataTypes) (arguments : Values) → o ≡ p → k ≡ l → f ≡ g → s ≡ t → x ≡ y → made o k f s x types arguments ≡ made p l g t y types arguments
 same_message o p k l f g s t x y types arguments order kind flags serial fields =
     ap (λ (v : Order). made v k f s x types arguments) order
     ∙ ap (λ (v : Kind). made p v f s x types arguments) kind
@@ -50,7 +50,7 @@ is_the : (h : Header) (s body : List ℕ) (given : Given) (m : Message) → Asks
 is_the h s body given m asks =
     same_message m.order Little m.kind h.kind m.flags h.flags m.serial h.serial m.fields (fields_set h s) m.types m.arguments asks.order asks.kind asks.flags asks.serial asks.fields
 
-body_alike : (n : ℕ) → Alike (body_place n) 0
+pub body_alike : (n : ℕ) → Alike (body_place n) 0
 body_alike n = record { is = omega arith }
 
 -- the bytes of its body
