@@ -1,7 +1,7 @@
 // Messages as long as they may be, and longer ones.
 
 use crate::signals::{FIELDS, bytes_of, signal};
-use message_build::{BuildError, Builder, stamp};
+use message_build::{BuildError, stamp};
 use message_view::View;
 use signature::check_bus_name;
 use std::alloc::Global;
@@ -10,68 +10,69 @@ use std::test::Fail;
 /// The longest message, in bytes.
 const MAX_MESSAGE_LEN: usize = 134_217_728;
 
-/// A quarter of it, in which a string of 5 bytes less has room with its length and its zero byte.
-const QUARTER: usize = 33_554_432;
+/// The longest array, in bytes.
+const MAX_ARRAY_LEN: usize = 67_108_864;
 
-/// The header of the signal of `signal` with the signature `ssss`, in bytes.
+/// The header of the signal of `signal` with the signature `ayay`, in bytes.
 const HEADER_LEN: usize = 80;
+
+/// How many bytes the second array has in the longest message, after the first one, which is as long as it may be.
+const SECOND_LEN: usize = MAX_MESSAGE_LEN - HEADER_LEN - 4 - MAX_ARRAY_LEN - 4;
 
 /// The longest bus name, in bytes.
 const MAX_NAME_LEN: usize = 255;
 
-/// A string of this byte alone.
-fn filled(alloc: Global, byte: u8, len: usize) -> Result<String, Fail> {
-    let bytes = vec![in alloc; byte; len]?;
-    Ok(String::from_utf8(bytes)?)
+/// Adds an array of bytes, at a multiple of 4.
+fn push_array(body: &mut Vec<u8>, len: usize) -> Result<(), Fail> {
+    let part = [7; 4096];
+    body.extend_from_slice(&(len as u32).to_le_bytes())?;
+    for _ in 0..len / part.len() {
+        body.extend_from_slice(&part)?;
+    }
+    body.extend_from_slice(&part[..len % part.len()])?;
+    Ok(())
 }
 
-/// A signal of four strings: three that fill a quarter each, and this one.
-fn four_strings<'a>(alloc: Global, last: &str) -> Result<Builder<'a>, Fail> {
-    let long = filled(alloc, b'a', QUARTER - 5)?;
-    let mut builder = signal(alloc);
-    builder.arg_str(long.as_str())?;
-    builder.arg_str(long.as_str())?;
-    builder.arg_str(long.as_str())?;
-    builder.arg_str(last)?;
-    Ok(builder)
+/// Two arrays of bytes, the first as long as an array may be.
+fn two_arrays(alloc: Global, second_len: usize) -> Result<Vec<u8>, Fail> {
+    let mut body = Vec::with_capacity(alloc, MAX_MESSAGE_LEN)?;
+    push_array(&mut body, MAX_ARRAY_LEN)?;
+    push_array(&mut body, second_len)?;
+    Ok(body)
 }
 
 #[test]
 fn longest_message(rt: HostRuntime) -> Result<(), Fail> {
-    let last = filled(rt.alloc(), b'b', QUARTER - 5 - HEADER_LEN)?;
-    let bytes = four_strings(rt.alloc(), last.as_str())?.finish(rt.alloc())?;
+    let body = two_arrays(rt.alloc(), SECOND_LEN)?;
+    let mut builder = signal(rt.alloc());
+    builder.raw_body(b"ayay", body.as_slice())?;
+    let bytes = builder.finish(rt.alloc())?;
     assert_eq!(rt; bytes.len(), MAX_MESSAGE_LEN);
     let view = View::read(bytes.as_slice())?;
-    assert_eq!(rt; view.args().count(), 4);
+    assert!(rt; view.body() == body.as_slice());
     Ok(())
 }
 
 // One byte more than a message may have; and the same in a builder that asks for no message at any size.
 #[test]
 fn body_too_large(rt: HostRuntime) -> Result<(), Fail> {
-    let last = filled(rt.alloc(), b'b', QUARTER - 4 - HEADER_LEN)?;
-    let mut builder = four_strings(rt.alloc(), last.as_str())?;
+    let body = two_arrays(rt.alloc(), SECOND_LEN + 1)?;
+    let mut builder = signal(rt.alloc());
+    builder.raw_body(b"ayay", body.as_slice())?;
     assert_eq!(rt; builder.finish(rt.alloc()).err(), Some(BuildError::TooLarge));
-    builder.raw_body(b"", b"")?;
+    builder.arg_bool(true)?;
     assert_eq!(rt; builder.finish(rt.alloc()).err(), Some(BuildError::Invalid));
     Ok(())
 }
 
-// A string with a zero byte in a body that is too long.
+// More bytes than a message may have, which aren't values of the signature: a boolean is 0 or 1.
 #[test]
 fn long_body_of_another_form(rt: HostRuntime) -> Result<(), Fail> {
-    let last = filled(rt.alloc(), b'\0', QUARTER)?;
-    let builder = four_strings(rt.alloc(), last.as_str())?;
-    assert_eq!(rt; builder.finish(rt.alloc()).err(), Some(BuildError::Invalid));
-    Ok(())
-}
-
-// More bytes than a message may have, which aren't values of the signature.
-#[test]
-fn long_raw_body(rt: HostRuntime) -> Result<(), Fail> {
-    let bytes = filled(rt.alloc(), b'a', MAX_MESSAGE_LEN)?;
+    let mut body = two_arrays(rt.alloc(), MAX_ARRAY_LEN)?;
+    assert!(rt; body.len() > MAX_MESSAGE_LEN);
+    body.extend_from_slice(&[2, 0, 0, 0])?;
     let mut builder = signal(rt.alloc());
-    builder.raw_body(b"u", bytes.as_bytes())?;
+    builder.raw_body(b"ayayb", body.as_slice())?;
     assert_eq!(rt; builder.finish(rt.alloc()).err(), Some(BuildError::Invalid));
     Ok(())
 }
