@@ -7,7 +7,7 @@ use Rattle.bpf_text.specs.declared.operands.Targets.TheVariants as lent_targets
 use Rattle.bpf_text.specs.declared.row.Jumps.{Jumps as LentJumps}
 use Rattle.bpf_text.specs.declared.row.Jumps.TheVariants as lent_jumps
 use Rattle.bpf_text.specs.declared.row.Row.{Row as LentRow}
-use Rattle.bpf_text.specs.declared.draft.Label.{Label as LentLabel}
+use Rattle.bpf_text.specs.declared.named_labels.Label.{Label as LentLabel}
 use Rattle.bpf_text.specs.declared.draft.Noted.{Noted as LentNoted}
 use Rattle.std.specs.Option.{option_map}
 use Rattle.bpf_text.specs.Source.{Label, Noted, Sketch}
@@ -46,4 +46,4 @@ abbrev pub noted_view : LentNoted → Noted
 noted_view noted = record { again = noted.again; row = option_map row_view noted.row }
 
 abbrev pub sketch_view : LentDraft → Sketch
-sketch_view draft = record { labels = map label_view draft.labels.items; lines = map noted_view draft.lines.items; count = draft.count }
+sketch_view draft = record { labels = draft.labels; lines = map noted_view draft.lines.items; count = draft.count }

@@ -5,6 +5,7 @@
 
 mod assembler;
 mod draft;
+mod named_labels;
 mod lexis;
 mod line;
 mod mnemonic;
