@@ -1,6 +1,7 @@
 -- The map beside the labels, with one label more.
 use Rattle.std.proofs.Common.{◌≡◌, ℕ, Bool, true, false, cond, List, [], ◌∷◌, ◌++◌, Option, Some, None, refl, sym, ap, ◌∙◌}
-use Rattle.std.specs.Prelude.{is_some, nat_cmp}
+use Rattle.std.specs.Prelude.{is_some, ◌||◌}
+use Rattle.std.specs.Ordering.{nat_cmp}
 use Rattle.std.specs.Option.{option_map}
 use Rattle.std.specs.List.{find}
 use Rattle.std.specs.Str.{bytes_eq}
@@ -36,6 +37,12 @@ defined_push [] label name = only_label (bytes_eq label.name name) label
 defined_push (first ∷ labels) label name =
     is_first (bytes_eq first.name name) first (find (λ (l : Label). bytes_eq l.name name) (labels ++ label ∷ [])) (find (λ (l : Label). bytes_eq l.name name) labels) (cond (bytes_eq label.name name) (Some label.place) None) (defined_push labels label name)
 
+after_push : (labels : List Label) (label : Label) (name : List ℕ) (o : Option ℕ) (b : Bool) → defined labels name ≡ o → bytes_eq label.name name ≡ b → defined (labels ++ label ∷ []) name ≡ first_or o (cond b (Some label.place) None)
+after_push labels label name o b e is =
+    defined_push labels label name
+    ∙ ap (λ (x : Option ℕ). first_or x (cond (bytes_eq label.name name) (Some label.place) None)) e
+    ∙ ap (λ (x : Bool). first_or o (cond x (Some label.place) None)) is
+
 -- a name that some label has is defined
 pub has_defined : (labels : List Label) (name : List ℕ) → has_name labels name ≡ is_some (defined labels name)
 unfolding defined
@@ -43,7 +50,7 @@ has_defined [] name = refl
 has_defined (first ∷ labels) name = go (bytes_eq first.name name) (has_defined labels name)
   where
     go : (b : Bool) → has_name labels name ≡ is_some (option_map (λ (l : Label). l.place) (find (λ (l : Label). bytes_eq l.name name) labels))
-        → cond b true (has_name labels name) ≡ is_some (option_map (λ (l : Label). l.place) (cond b (Some first) (find (λ (l : Label). bytes_eq l.name name) labels)))
+        → (b || has_name labels name) ≡ is_some (option_map (λ (l : Label). l.place) (cond b (Some first) (find (λ (l : Label). bytes_eq l.name name) labels)))
     go true e = refl
     go false e = e
 
@@ -57,8 +64,8 @@ known_push places labels label finds known = λ name.
     go name (bytes_eq label.name name) refl (defined labels name) refl
   where
     go : (name : List ℕ) (b : Bool) → bytes_eq label.name name ≡ b → (o : Option ℕ) → defined labels name ≡ o → get_by (λ key. slice_cmp nat_cmp name key.now) places ≡ defined (labels ++ label ∷ []) name
-    go name b is (Some place) e = finds name ∙ e ∙ sym (defined_push labels label name ∙ rw (e, is) refl)
-    go name false is None e = finds name ∙ e ∙ sym (defined_push labels label name ∙ rw (e, is) refl)
+    go name b is (Some place) e = finds name ∙ e ∙ sym (after_push labels label name (Some place) b e is)
+    go name false is None e = finds name ∙ e ∙ sym (after_push labels label name None false e is)
     go name true is None e =
         let same : label.name ≡ name = (bytes_eq-Decides label.name name).0 is in
         let some : is_some (defined labels name) ≡ true = ap is_some (sym (finds name)) ∙ ap (λ (n : List ℕ). is_some (get_by (λ key. slice_cmp nat_cmp n key.now) places)) (sym same) ∙ known in
@@ -71,9 +78,11 @@ pub new_push : (before places : BTreeMap (Bor (List ℕ)) ℕ) (labels : List La
     → Finds places (labels ++ label ∷ [])
 new_push before places labels label finds new updates = λ name. go name (bytes_eq label.name name) refl (defined labels name) refl
   where
+    updated : (name : List ℕ) (b : Bool) → bytes_eq label.name name ≡ b → get_by (λ key. slice_cmp nat_cmp name key.now) places ≡ cond b (Some label.place) (get_by (λ key. slice_cmp nat_cmp name key.now) before)
+    updated name b is = updates name ∙ ap (λ (x : Bool). cond x (Some label.place) (get_by (λ key. slice_cmp nat_cmp name key.now) before)) is
     go : (name : List ℕ) (b : Bool) → bytes_eq label.name name ≡ b → (o : Option ℕ) → defined labels name ≡ o → get_by (λ key. slice_cmp nat_cmp name key.now) places ≡ defined (labels ++ label ∷ []) name
-    go name false is o e = updates name ∙ rw is refl ∙ finds name ∙ sym (defined_push labels label name ∙ rw is refl ∙ first_or_none (defined labels name))
-    go name true is None e = updates name ∙ rw is refl ∙ sym (defined_push labels label name ∙ rw (e, is) refl)
+    go name false is o e = updated name false is ∙ finds name ∙ e ∙ sym (after_push labels label name o false e is ∙ first_or_none o)
+    go name true is None e = updated name true is ∙ sym (after_push labels label name None true e is)
     go name true is (Some place) e =
         let same : label.name ≡ name = (bytes_eq-Decides label.name name).0 is in
         let none : is_some (defined labels name) ≡ false = ap is_some (sym (finds name)) ∙ ap (λ (n : List ℕ). is_some (get_by (λ key. slice_cmp nat_cmp n key.now) before)) (sym same) ∙ new in

@@ -23,9 +23,8 @@ pub(crate) struct Labels<'a> {
 
 impl<'a> Model for Labels<'a> {
     ghost use Rattle.std.specs.Prelude.{List, map};
-    ghost use Rattle.bpf_text.specs.LabelPlaces.{Finds};
+    ghost use Rattle.bpf_text.specs.LabelPlaces.{Finds, label_view};
     ghost use Rattle.bpf_text.specs.Source.{Label};
-    ghost use Rattle.bpf_text.specs.Views.{label_view};
 
     ghost Value = { List Label };
 
