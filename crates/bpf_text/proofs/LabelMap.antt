@@ -80,6 +80,7 @@ new_push before places labels label finds new updates = λ name. go name (bytes_
   where
     updated : (name : List ℕ) (b : Bool) → bytes_eq label.name name ≡ b → get_by (λ key. slice_cmp nat_cmp name key.now) places ≡ cond b (Some label.place) (get_by (λ key. slice_cmp nat_cmp name key.now) before)
     updated name b is = updates name ∙ ap (λ (x : Bool). cond x (Some label.place) (get_by (λ key. slice_cmp nat_cmp name key.now) before)) is
+
     go : (name : List ℕ) (b : Bool) → bytes_eq label.name name ≡ b → (o : Option ℕ) → defined labels name ≡ o → get_by (λ key. slice_cmp nat_cmp name key.now) places ≡ defined (labels ++ label ∷ []) name
     go name false is o e = updated name false is ∙ finds name ∙ e ∙ sym (after_push labels label name o false e is ∙ first_or_none o)
     go name true is None e = updated name true is ∙ sym (after_push labels label name None true e is)

@@ -4,8 +4,8 @@ ghost use Rattle.bpf_code.specs.declared.error.CodeError.{CodeError};
 ghost use Rattle.bpf_text.specs.Source.{lines_of, SourceText, IsTextFault};
 
 use crate::draft::Draft;
-use crate::named_labels::Labels;
 use crate::line::add_line;
+use crate::named_labels::Labels;
 use crate::resolve::program;
 use bpf_code::{CodeError, Ins};
 use memchr::memchr;

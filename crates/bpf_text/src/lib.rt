@@ -5,10 +5,10 @@
 
 mod assembler;
 mod draft;
-mod named_labels;
 mod lexis;
 mod line;
 mod mnemonic;
+mod named_labels;
 mod operands;
 mod printer;
 mod resolve;

@@ -5,8 +5,8 @@ ghost use Rattle.bpf_text.specs.Source.{label_at, IsLine, Line, TakesLabels, wit
 ghost use Rattle.bpf_text.specs.Views.{sketch_view};
 
 use crate::draft::{Draft, Noted};
-use crate::named_labels::Labels;
 use crate::lexis::{sign, word};
+use crate::named_labels::Labels;
 use crate::row::statement;
 use bpf_code::CodeError;
 

@@ -1,5 +1,5 @@
 -- Fields that hold what they may are fields of a valid message, and the other way round.
-use Rattle.std.proofs.Common.{◌≡◌, ℕ, ◌+◌, ◌<◌, ◌≤◌, ◌^◌, Bool, true, false, ltb, lit<, List, [], ◌∷◌, ◌++◌, length, Option, Some, None, refl, arith}
+use Rattle.std.proofs.Common.{◌≡◌, ℕ, ◌+◌, ◌<◌, ◌≤◌, ◌^◌, Bool, true, false, ltb, lit<, List, [], ◌∷◌, length, Option, Some, None, refl, arith}
 use Rattle.std.specs.Prelude.{◌&&◌, not, is_some}
 use Rattle.std.specs.List.{list_all}
 use Rattle.std.specs.Str.{bytes_eq}
@@ -12,7 +12,7 @@ use Rattle.message_value.specs.declared.order.Order.TheVariants.{Little}
 use Rattle.message_value.specs.Fits.{IsOneType}
 use Rattle.message_view.specs.Header.{code_of, local_path, local_interface}
 use Rattle.message_view.specs.Message.{Field}
-use Rattle.message_view.specs.Spelling.{field_front, field_value_place, field_bytes, fields_bytes}
+use Rattle.message_view.specs.Spelling.{field_bytes}
 use Rattle.message_view.specs.Valid.{IsField, IsOnce, AreFields}
 use Rattle.message_build.specs.declared.field.HeaderField.{HeaderField}
 use Rattle.message_build.specs.declared.field.HeaderField.TheVariants.{Path, Interface, Member, ErrorName, ReplySerial, Destination, Sender, Signature}

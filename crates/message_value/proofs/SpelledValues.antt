@@ -1,6 +1,6 @@
 -- Reading gives values exactly where bytes spell them.
-use Rattle.std.proofs.Common.{◌≡◌, ℕ, ◌+◌, List, ◌++◌, length, Ok, ap, ap₂, sym, ◌∙◌}
-use Rattle.std.specs.Prelude.{◌↔◌, Result}
+use Rattle.std.proofs.Common.{◌≡◌, ℕ, ◌+◌, List, ◌++◌, length, Ok, ap, sym, ◌∙◌}
+use Rattle.std.specs.Prelude.{◌↔◌}
 use Rattle.signature.specs.DataType.{DataType, DataTypes}
 use Rattle.message_value.specs.declared.order.Order.{Order}
 use Rattle.message_value.specs.declared.fault.MsgError.{MsgError}
@@ -32,6 +32,7 @@ value_reading levels order type value before after bytes = (read, again)
     read e =
         let t = value_takes levels order type before (value, after) bytes e in
         record { fits = t.1; spelled = between before after (value_bytes order before.place type value) t.0 }
+
     again : IsSpelled levels order type value before after → value_at levels order type before ≡ Ok (value, after)
     again s =
         let spelling = value_bytes order before.place type value in
@@ -47,6 +48,7 @@ members_reading levels order types values before after bytes = (read, again)
     read e =
         let t = members_takes levels order types before (values, after) bytes e in
         record { fit = t.1; spelled = between before after (members_bytes order before.place types values) t.0 }
+
     again : AreSpelled levels order types values before after → members_at (value_at levels order) types before ≡ Ok (values, after)
     again s =
         let spelling = members_bytes order before.place types values in
