@@ -56,6 +56,7 @@ valid_at_its_size bytes m = (there, back)
   where
     there : Valid bytes m → IsValidButForSize m × (IsTooLarge m → ⊥) × (bytes ≡ message_bytes m)
     there v = (valid_sound bytes m v, valid_within bytes m v, v.spelled)
+
     back : IsValidButForSize m × (IsTooLarge m → ⊥) × (bytes ≡ message_bytes m) → Valid bytes m
     back s =
         let short : length (header_bytes m) ≤ max_array_len = not_above max_array_len (length (header_bytes m)) (λ long. s.1 (inl long)) in

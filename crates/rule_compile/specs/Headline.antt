@@ -23,4 +23,4 @@ pub record Headline (program : List Ins) (bytes slots : List ℕ) (edition : Edi
   pub ends : Ends program (image_bytes edition message slots) verdict steps
   pub within : steps ≤ length program
   pub decides : (rule : RuleTree) (slot : Option ℕ) (owned : List ℕ → Bool) → IsCompiled rule slot program → IsSet slots → AgreeOn rule slot owned slots → edition ≡ Two
-    → (0 < verdict) ↔ Holds rule message owned
+      → (0 < verdict) ↔ Holds rule message owned

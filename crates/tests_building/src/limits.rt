@@ -60,7 +60,10 @@ fn body_too_large(rt: HostRuntime) -> Result<(), Fail> {
     let body = two_arrays(rt.alloc(), SECOND_LEN + 1)?;
     let mut builder = signal(rt.alloc());
     builder.raw_body(b"ayay", body.as_slice())?;
-    assert_eq!(rt; builder.finish(rt.alloc()).err(), Some(BuildError::TooLarge));
+    assert_eq!(rt;
+        builder.finish(rt.alloc()).err(),
+        Some(BuildError::TooLarge)
+    );
     builder.arg_bool(true)?;
     assert_eq!(rt; builder.finish(rt.alloc()).err(), Some(BuildError::Invalid));
     Ok(())

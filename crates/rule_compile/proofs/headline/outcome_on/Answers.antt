@@ -1,4 +1,4 @@
-use Rattle.std.proofs.Common.{◌≡◌, ℕ, List, subst}
+use Rattle.std.proofs.Common.{ℕ, List, subst}
 use Rattle.bpf_code.specs.declared.instruction.Ins.{Ins}
 use Rattle.bpf_code.specs.Steps.{Ends}
 use Rattle.message_view.specs.Message.{Message}
@@ -23,5 +23,5 @@ returns c =
       ends = ends;
       within = c.run.ensures.few;
       decides = λ rule slot owned compiled set agree two.
-        compiled c.args.view.now m slots owned verdict steps valid set agree (subst (λ (edition : Edition). Ends program (image_bytes edition m slots) verdict steps) two ends);
+          compiled c.args.view.now m slots owned verdict steps valid set agree (subst (λ (edition : Edition). Ends program (image_bytes edition m slots) verdict steps) two ends);
     }
