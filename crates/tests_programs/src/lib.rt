@@ -5,6 +5,8 @@
 #[cfg(test)]
 mod byte_forms;
 #[cfg(test)]
+mod many_labels;
+#[cfg(test)]
 mod refusals;
 #[cfg(test)]
 mod texts;

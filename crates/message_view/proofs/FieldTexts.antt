@@ -1,5 +1,5 @@
 -- Where the texts of the known fields lie in a message's bytes.
-use Rattle.std.proofs.Common.{◌≡◌, ℕ, ◌+◌, Bool, true, false, cond, eqb, List, [], ◌∷◌, ◌++◌, length, Option, Some, None, refl, sym, ap, subst}
+use Rattle.std.proofs.Common.{◌≡◌, ℕ, ◌+◌, ◌≤◌, Bool, true, false, cond, eqb, List, [], ◌∷◌, ◌++◌, length, Option, Some, None, refl, sym, ap, subst, arith}
 use Rattle.std.proofs.lemmas.Bool.{eqb-true}
 use Rattle.signature.specs.DataType.{DataType, basic}
 use Rattle.signature.specs.Alignment.{alignment_of}
@@ -17,11 +17,11 @@ use Rattle.message_view.specs.declared.extent.TextField.TheVariants.{Path, Inter
 use Rattle.message_view.specs.Header.{kind_byte, code_of}
 use Rattle.message_view.specs.Message.{Field, Message, field_with, text_in}
 use Rattle.message_view.specs.Spelling.{fixed_len, field_value_place, field_bytes, fields_bytes, header_bytes, body_bytes, message_bytes}
-use Rattle.message_view.specs.Places.{text_field_code, text_extent, extent_from, extent_of}
+use Rattle.message_view.specs.Places.{text_field_code, text_extent, extent_from, extent_of, text_of, IsSlice}
 use Rattle.message_view.specs.Valid.{Valid, IsAllowed, AreFields, levels_in_field}
-use Rattle.summary.specs.Shown.{AreBytes}
-use Rattle.summary.proofs.TextBytes.{text_bytes}
-use Rattle.summary.proofs.TextStands.{Stands, stands_here, stands_before, stands_behind}
+use Rattle.message_value.specs.Words.{AreBytes}
+use Rattle.message_view.proofs.TextBytes.{text_bytes}
+use Rattle.message_view.proofs.TextStands.{Stands, stands_here, stands_before, stands_behind, stands_within, stands_slice}
 
 -- ---- a text among bytes
 
@@ -117,10 +117,6 @@ fields_said known order place (field ∷ fields) are =
 
 -- ---- the message
 
--- the text of a field
-abbrev pub text_of : TextField → Message → Option (List ℕ)
-text_of known m = text_in (field_with (text_field_code known) m.fields)
-
 pub texts_said : (known : TextField) (bytes : List ℕ) (m : Message) → Valid bytes m → Said (message_bytes m) 0 (extent_of known m) (text_of known m)
 texts_said known bytes m valid =
     let w0 : List ℕ = word_bytes m.order (length (body_bytes m)) in
@@ -135,3 +131,17 @@ texts_said known bytes m valid =
     (said_behind w1 (w2 ++ r2) 4 8 extent text (length-word_bytes m.order m.serial)
     (said_behind w2 r2 4 12 extent text (length-word_bytes m.order (length (header_bytes m)))
     (said_before (header_bytes m) last 16 extent text (fields_said known m.order fixed_len m.fields valid.fields)))))
+
+-- ---- slices
+
+said_slice : (bytes : List ℕ) (extent : Option Extent) (text : Option (List ℕ)) → Said bytes 0 extent text → IsSlice bytes extent text
+said_slice bytes None None said = tt
+said_slice bytes None (Some text) said = absurd said
+said_slice bytes (Some extent) None said = absurd said
+said_slice bytes (Some extent) (Some text) said =
+    let within : extent.place + length text ≤ 0 + length bytes = stands_within bytes text 0 extent.place said.1 in
+    (omega (arith, within, said.0), stands_slice bytes text extent.place extent.len said.1 said.0)
+
+pub fields_sliced : (known : TextField) (bytes : List ℕ) (m : Message) → Valid bytes m → IsSlice bytes (extent_of known m) (text_of known m)
+fields_sliced known bytes m valid =
+    subst (λ (b : List ℕ). IsSlice b (extent_of known m) (text_of known m)) (sym valid.spelled) (said_slice (message_bytes m) (extent_of known m) (text_of known m) (texts_said known bytes m valid))

@@ -1,7 +1,8 @@
 -- Texts among bytes of which the first has a place.
-use Rattle.std.proofs.Common.{◌≡◌, ℕ, ◌+◌, ◌≤◌, List, ◌++◌, length, refl, sym, ap, ◌∙◌, append_assoc, arith}
-use Rattle.std.proofs.lemmas.List.{length-append}
-use Rattle.summary.specs.Shown.{AreBytes, Lies}
+use Rattle.std.proofs.Common.{◌≡◌, ℕ, ◌+◌, ◌≤◌, List, ◌++◌, length, take, refl, sym, ap, ◌∙◌, append_assoc, arith}
+use Rattle.std.proofs.lemmas.List.{length-append, take_at, drop_at}
+use Rattle.message_value.specs.Words.{AreBytes}
+use Rattle.message_view.specs.Places.{slice_at}
 
 -- The text, which is made of bytes, stands at a place among bytes that begin at another.
 pub record Stands (bytes : List ℕ) (start place : ℕ) (text : List ℕ) : Type 0 where
@@ -43,5 +44,10 @@ pub stands_within : (bytes text : List ℕ) (start place : ℕ) → Stands bytes
 stands_within bytes text start place s =
     omega (arith, s.here, ap (λ (x : List ℕ). length x) s.parts, length-append s.front (text ++ s.behind), length-append text s.behind)
 
-pub stands_lies : (image text : List ℕ) (place : ℕ) → Stands image 0 place text → Lies image place text
-stands_lies image text place s = (s.front, s.behind, s.parts, omega (arith, s.here))
+-- it is the slice of the bytes there
+pub stands_slice : (bytes text : List ℕ) (place len : ℕ) → Stands bytes 0 place text → len ≡ length text → slice_at bytes place len ≡ text
+stands_slice bytes text place len s is =
+    let front : length s.front ≡ place = omega (arith, s.here) in
+    ap (λ (b : List ℕ). slice_at b place len) s.parts
+    ∙ ap (λ (b : List ℕ). take len b) (drop_at s.front (text ++ s.behind) place front)
+    ∙ take_at text s.behind len (sym is)

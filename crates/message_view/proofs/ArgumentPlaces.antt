@@ -1,13 +1,14 @@
 -- Where the arguments of a message lie in its bytes.
-use Rattle.std.proofs.Common.{◌≡◌, ℕ, ◌+◌, ◌<◌, ◌≤◌, Bool, true, false, cond, eqb, ltb, List, [], ◌∷◌, ◌++◌, length, get_or, Option, Some, None, refl, ap, inl, inr, arith}
-use Rattle.std.specs.List.{list_any, list_all}
+use Rattle.std.proofs.Common.{◌≡◌, ℕ, ◌+◌, ◌<◌, ◌≤◌, Bool, true, false, cond, eqb, ltb, List, [], ◌∷◌, ◌++◌, length, get_or, Option, Some, None, IfSome, refl, sym, subst, ap, inl, inr, arith}
+use Rattle.std.specs.List.{list_any, list_all, All}
 use Rattle.std.proofs.lemmas.Bool.{eqb-true, ltb-true, or_cases, and_parts}
 use Rattle.std.proofs.lemmas.List.{length-append}
+use Rattle.std.proofs.lemmas.List.Elements.{All-nil, All-cons}
 use Rattle.signature.specs.Code.{basic_codes}
 use Rattle.signature.specs.DataType.{DataType, DataTypes, basic, variant, array, dict, struct, one_more, spelling, Fits, AllFit}
 use Rattle.signature.specs.Alignment.{alignment_of}
 use Rattle.message_value.specs.declared.order.Order.{Order}
-use Rattle.message_value.specs.Order.{word_bytes}
+use Rattle.message_value.specs.Order.{order_byte, word_bytes}
 use Rattle.message_value.specs.Value.{Value, Values, one_value}
 use Rattle.message_value.specs.Value.{text as text_value}
 use Rattle.message_value.specs.Spelling.{padding, aligned, zeros, bare_bytes, value_bytes, members_bytes}
@@ -15,9 +16,14 @@ use Rattle.message_value.specs.Fits.{max_levels, BareFits, MembersFit}
 use Rattle.message_value.specs.Arguments.{Argument, argument_of, arguments_from}
 use Rattle.message_value.proofs.WordBytes.{length-word_bytes}
 use Rattle.message_value.proofs.ReadItems.{length-zeros}
-use Rattle.summary.specs.Shown.{AreBytes}
-use Rattle.summary.proofs.TextBytes.{text_bytes}
-use Rattle.summary.proofs.TextStands.{Stands, stands_here, stands_before, stands_behind}
+use Rattle.message_value.specs.Words.{AreBytes}
+use Rattle.message_view.specs.Header.{kind_byte}
+use Rattle.message_view.specs.Message.{Message}
+use Rattle.message_view.specs.Places.{slice_at, LiesIn}
+use Rattle.message_view.specs.Spelling.{body_place, header_bytes, body_bytes, arguments_of, message_bytes}
+use Rattle.message_view.specs.Valid.{Valid}
+use Rattle.message_view.proofs.TextBytes.{text_bytes}
+use Rattle.message_view.proofs.TextStands.{Stands, stands_here, stands_before, stands_behind, stands_slice}
 
 -- ---- one argument
 
@@ -122,3 +128,40 @@ arguments_have order place (one_more t ts) (one_value v vs) typed fit =
       places_behind first more (length first) place (arguments_from order (place + length first) ts vs) refl (arguments_have order (place + length first) ts vs typed.1 fit.1),
     )
 arguments_have order place _ _ typed fit = tt
+
+-- ---- messages
+
+-- the places of a message's arguments
+pub message_places : (bytes : List ℕ) (m : Message) → Valid bytes m → HavePlaces (message_bytes m) 0 (arguments_of m)
+message_places bytes m valid =
+    let header : List ℕ = header_bytes m in
+    let body : List ℕ = body_bytes m in
+    let pad : List ℕ = zeros (padding 8 (length header)) in
+    let w0 : List ℕ = word_bytes m.order (length body) in
+    let w1 : List ℕ = word_bytes m.order m.serial in
+    let w2 : List ℕ = word_bytes m.order (length header) in
+    let r3 : List ℕ = header ++ (pad ++ body) in
+    let all : List Argument = arguments_of m in
+    places_behind (order_byte m.order ∷ kind_byte m.kind ∷ m.flags ∷ 1 ∷ []) (w0 ++ (w1 ++ (w2 ++ r3))) 4 0 all refl
+    (places_behind w0 (w1 ++ (w2 ++ r3)) 4 4 all (length-word_bytes m.order (length body))
+    (places_behind w1 (w2 ++ r3) 4 8 all (length-word_bytes m.order m.serial)
+    (places_behind w2 r3 4 12 all (length-word_bytes m.order (length header))
+    (places_behind header (pad ++ body) (length header) 16 all refl
+    (places_behind pad body (padding 8 (length header)) (16 + length header) all (length-zeros (padding 8 (length header)))
+    (arguments_have m.order (body_place (length header)) m.types m.arguments valid.types.fits valid.arguments))))))
+
+-- ---- slices
+
+place_lies : (bytes : List ℕ) (a : Argument) → HasPlace bytes 0 a → LiesIn bytes a
+place_lies bytes a has = (omega (arith, has.within), go a.text has.stands)
+  where
+    go : (text : Option (List ℕ)) → TextStands bytes 0 a.place a.len text → IfSome text (λ t. slice_at bytes a.place a.len ≡ t)
+    go None stands = tt
+    go (Some text) stands = stands_slice bytes text a.place a.len stands.1 stands.0
+
+places_lie : (bytes : List ℕ) (arguments : List Argument) → HavePlaces bytes 0 arguments → All (LiesIn bytes) arguments
+places_lie bytes [] have = All-nil (LiesIn bytes)
+places_lie bytes (a ∷ more) have = All-cons (LiesIn bytes) a more (place_lies bytes a have.0) (places_lie bytes more have.1)
+
+pub arguments_lie : (bytes : List ℕ) (m : Message) → Valid bytes m → All (LiesIn bytes) (arguments_of m)
+arguments_lie bytes m valid = subst (λ (b : List ℕ). All (LiesIn b) (arguments_of m)) (sym valid.spelled) (places_lie (message_bytes m) (arguments_of m) (message_places bytes m valid))
