@@ -1,9 +1,8 @@
 // Messages as long as they may be, and longer ones.
 
-use crate::signals::{FIELDS, bytes_of, signal};
-use message_build::{BuildError, stamp};
+use crate::signals::signal;
+use message_build::BuildError;
 use message_view::View;
-use signature::check_bus_name;
 use std::alloc::Global;
 use std::test::Fail;
 
@@ -18,9 +17,6 @@ const HEADER_LEN: u32 = 80;
 
 /// How many bytes the second array has in the longest message, after the first one, which is as long as it may be.
 const SECOND_LEN: u32 = MAX_MESSAGE_LEN - HEADER_LEN - 4 - MAX_ARRAY_LEN - 4;
-
-/// The longest bus name, in bytes.
-const MAX_NAME_LEN: usize = 255;
 
 /// Adds an array of bytes, at a multiple of 4.
 fn push_array(body: &mut Vec<u8>, word: u32) -> Result<(), Fail> {
@@ -78,25 +74,5 @@ fn long_body_of_another_form(rt: HostRuntime) -> Result<(), Fail> {
     let mut builder = signal(rt.alloc());
     builder.raw_body(b"ayayb", body.as_slice())?;
     assert_eq!(rt; builder.finish(rt.alloc()).err(), Some(BuildError::Invalid));
-    Ok(())
-}
-
-#[test]
-fn stamped_with_longest_name(rt: HostRuntime) -> Result<(), Fail> {
-    let bytes = bytes_of(rt.alloc(), &["6c040001 00000000 01000000 2a000000", FIELDS])?;
-    let view = View::read(bytes.as_slice())?;
-    let mut sender = String::from_str(rt.alloc(), ":1.")?;
-    for _ in 0..MAX_NAME_LEN - 3 {
-        sender.push_str("7")?;
-    }
-    if !check_bus_name(sender.as_str()) {
-        return Err(Fail::from("a name of 255 bytes"));
-    }
-    let stamped = stamp(rt.alloc(), &view, sender.as_str())?;
-    let fixed = "6c040001 00000000 01000000 38010000";
-    let mut wanted = bytes_of(rt.alloc(), &[fixed, FIELDS, "07017300 ff000000"])?;
-    wanted.extend_from_slice(sender.as_bytes())?;
-    wanted.push(0)?;
-    assert_eq!(rt; stamped, wanted);
     Ok(())
 }
