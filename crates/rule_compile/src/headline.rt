@@ -13,6 +13,6 @@ pub fn outcome_on(program: &Verified, view: &View<'_>, owned: &Slots, edition: E
     ensures { Headline program.now view.now owned.now edition result.verdict result.steps }
 {
     let (_code, _bytes) = (program.code(), view.raw());
-    let image = Image::new(view, owned, Edition::One);
+    let image = Image::new(view, owned, edition);
     run(program, &image)
 }

@@ -3,17 +3,13 @@ use Rattle.std.proofs.Common.{◌≡◌, ℕ, zero, suc, ◌+◌, ◌*◌, ◌/�
 use Rattle.std.specs.Prelude.{slice_get}
 use Rattle.std.proofs.lemmas.List.{length-append, length-take-le, get_or-take, get_or_append_left}
 use Rattle.bpf_code.specs.Loads.{load_word}
-use Rattle.message_value.specs.Order.{order_byte, word_bytes}
-use Rattle.message_value.specs.Spelling.{padding, zeros}
 use Rattle.message_value.specs.Arguments.{Argument}
-use Rattle.message_value.proofs.WordBytes.{length-word_bytes}
-use Rattle.message_value.proofs.ReadItems.{length-zeros}
 use Rattle.message_view.specs.declared.extent.Extent.{Extent}
 use Rattle.message_view.specs.declared.extent.TextField.TheVariants.{Path, Interface, Member, ErrorName, Destination, Sender}
 use Rattle.message_view.specs.Header.{kind_byte}
 use Rattle.message_view.specs.Message.{Message}
 use Rattle.message_view.specs.Places.{extent_of, text_of}
-use Rattle.message_view.specs.Spelling.{body_place, header_bytes, body_bytes, arguments_of, message_bytes}
+use Rattle.message_view.specs.Spelling.{arguments_of, message_bytes}
 use Rattle.message_view.specs.Valid.{Valid}
 use Rattle.message_view.proofs.TextStands.{Stands, stands_behind, stands_moved, stands_within}
 use Rattle.message_view.proofs.FieldTexts.{Said, texts_said}
