@@ -60,10 +60,7 @@ fn faults_and_their_lines(rt: HostRuntime) -> Result<(), Fail> {
     for (fault, text) in [
         (Fault::Code(CodeError::Line(1)), "code Line at 1"),
         (Fault::Code(CodeError::Length), "code Length"),
-        (
-            Fault::Program(VerifyError::Jump(7)),
-            "program Jump at 7",
-        ),
+        (Fault::Program(VerifyError::Jump(7)), "program Jump at 7"),
         (Fault::Hex, "hex"),
         (Fault::Usage, "usage"),
         (Fault::File, "file"),
