@@ -27,18 +27,16 @@ pub struct Claims {
 }
 
 impl Model for Claims {
-    ghost use Rattle.std.specs.Prelude.{◌≡◌, ◌≤◌, true, vec_capacity};
-    ghost use Rattle.owners.specs.Registry.{Registry, IsRegistry};
+    ghost use Rattle.std.specs.Prelude.{◌≤◌, vec_capacity};
+    ghost use Rattle.owners.specs.Registry.{Registry};
 
     ghost Value = { Registry };
 
-    ghost use Rattle.owners.specs.Kept.{registry, are_held};
+    ghost use Rattle.owners.specs.Kept.{registry, IsKept};
 
     ghost view = { λ c. registry c.claims.items c.slots.items };
 
-    ghost invariant = { λ c. IsRegistry (registry c.claims.items c.slots.items)
-        × (are_held c.claims.items c.slots.items ≡ true)
-        × (4096 ≤ vec_capacity c.claims) };
+    ghost invariant = { λ c. IsKept c.claims.items c.slots.items × (4096 ≤ vec_capacity c.claims) };
 }
 
 impl Claims {

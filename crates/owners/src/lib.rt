@@ -8,6 +8,7 @@ mod claim;
 mod claims;
 mod error;
 mod holding;
+mod step;
 mod well_known;
 
 pub use answer::{Change, Dropped, NameReply, Named};
