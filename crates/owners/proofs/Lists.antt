@@ -57,6 +57,10 @@ pub Each-always : {X : Type 0} (P : X → Type 0) → ((x : X) → P x) → (xs 
 Each-always P h [] = tt
 Each-always P h (x ∷ xs) = (h x, Each-always P h xs)
 
+pub Each-both : {X : Type 0} (P Q : X → Type 0) (xs : List X) → Each P xs → Each Q xs → Each (λ x. P x × Q x) xs
+Each-both P Q [] e f = tt
+Each-both P Q (x ∷ xs) e f = ((e.0, f.0), Each-both P Q xs e.1 f.1)
+
 pub and_false : (a b : Bool) → b ≡ false → (a && b) ≡ false
 and_false true b e = e
 and_false false b e = refl
@@ -66,7 +70,8 @@ pub Each-any : {X : Type 0} (p : X → Bool) (xs : List X) → Each (λ x. (q : 
 Each-any p [] = tt
 Each-any {X} p (x ∷ xs) = (
   λ q h. or_left (q x) (list_any q xs) h,
-  Each-weaker (λ (y : X). (q : X → Bool) → q y ≡ true → list_any q xs ≡ true) (λ (y : X). (q : X → Bool) → q y ≡ true → list_any q (x ∷ xs) ≡ true) (λ y h q e. or_right (q x) (list_any q xs) (h q e)) xs (Each-any p xs))
+  Each-weaker (λ (y : X). (q : X → Bool) → q y ≡ true → list_any q xs ≡ true) (λ (y : X). (q : X → Bool) → q y ≡ true → list_any q (x ∷ xs) ≡ true) (λ y h q e. or_right (q x) (list_any q xs) (h q e)) xs (Each-any p xs),
+)
 
 pub map-same : {X Y : Type 0} (f g : X → Y) (xs : List X) → Each (λ x. f x ≡ g x) xs → map f xs ≡ map g xs
 map-same f g [] e = refl

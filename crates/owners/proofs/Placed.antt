@@ -34,7 +34,8 @@ own_at : (claims : List SlotClaim) (slots : List (Option Holding)) → IsPlaced 
 own_at claims slots p slot k h g name e n f =
     rw f (same_from_decides (bytes_eq g.name name) (k == slot) (bytes_eq-Decides g.name name) (
       λ s. let same : k ≡ slot = eqb-true k slot s in let both : Some (Some g) ≡ Some (Some h) = sym f ∙ ap (slice_get slots) same ∙ e in let one : g ≡ h = cc in ap (λ (x : Holding). x.name) one ∙ n,
-      λ m. eq-eqb k slot (p.unique k slot g h f e (m ∙ sym n))))
+      λ m. eq-eqb k slot (p.unique k slot g h f e (m ∙ sym n)),
+    ))
 
 pub tells_own : (claims : List SlotClaim) (slots : List (Option Holding)) → IsPlaced claims slots → (slot : ℕ) (h : Holding) (name : List ℕ) → slice_get slots slot ≡ Some (Some h) → h.name ≡ name → Tells slots slot name
 tells_own claims slots p slot h name e n = record {
@@ -53,9 +54,11 @@ free_at : (slots : List (Option Holding)) (slot k : ℕ) (g : Holding) (name : L
 free_at slots slot k g name none free f =
     rw f (same_from_decides (bytes_eq g.name name) (k == slot) (
       λ s. no_slot name slots k g none f (same_name g.name name s),
-      λ (x : ⊥). absurd x) (
+      λ (x : ⊥). absurd x,
+    ) (
       λ s. let same : k ≡ slot = eqb-true k slot s in false≢true (sym free ∙ ap (λ i. is_name (slice_get slots i)) (sym same) ∙ ap is_name f),
-      λ (x : ⊥). absurd x))
+      λ (x : ⊥). absurd x,
+    ))
 
 pub tells_free : (slots : List (Option Holding)) (slot : ℕ) (name : List ℕ) → slot_of name slots ≡ None → is_name (slice_get slots slot) ≡ false → Tells slots slot name
 tells_free slots slot name none free = record {

@@ -7,10 +7,11 @@ use Rattle.owners.specs.declared.claim.SlotClaim.{SlotClaim}
 use Rattle.owners.specs.declared.step.Step.{Step}
 use Rattle.owners.specs.declared.step.Step.TheVariants as steps
 use Rattle.owners.specs.declared.answer.Change.{Change}
+use Rattle.owners.specs.declared.answer.Named.{Named}
 use Rattle.owners.specs.declared.answer.NameReply.{NameReply}
 use Rattle.owners.specs.declared.answer.NameReply.TheVariants.{PrimaryOwner, InQueue, Exists, AlreadyOwner, Released, NonExistent, NotOwner}
 use Rattle.owners.specs.Queues.{Claim, has_flag, allow_replacement, replace_existing, do_not_queue}
-use Rattle.owners.specs.Registry.{Registry, max_names, max_claims, is_unused}
+use Rattle.owners.specs.Registry.{Registry, max_names, max_claims, is_unused, change_of}
 
 abbrev pub name_at : Option (Option Holding) → List ℕ
 name_at (Some (Some holding)) = holding.name
@@ -122,3 +123,24 @@ pub record IsKept (claims : List SlotClaim) (slots : List (Option Holding)) : Ty
 abbrev pub change_for : List ℕ → NameReply → Option ℕ → ℕ → Option Change
 change_for name PrimaryOwner old connection = Some (record { name = name; old = old; new = Some connection })
 change_for name _ old connection = None
+
+-- each claim's slot is below the number of slots
+abbrev pub are_slots : List SlotClaim → Bool
+are_slots claims = list_all (λ (c : SlotClaim). nat_lt c.slot max_names) claims
+
+-- what a release is answered
+abbrev pub slot_release_reply : ℕ → ℕ → List SlotClaim → NameReply
+slot_release_reply slot connection claims =
+    if list_any (is_slot_claim slot connection) claims then Released
+    else if is_some (find (is_on_slot slot) claims) then NotOwner
+    else NonExistent
+
+abbrev pub slot_release_answer : ℕ → List ℕ → ℕ → List SlotClaim → Named
+slot_release_answer slot name connection claims = record {
+  answer = slot_release_reply slot connection claims;
+  change = change_of name (slot_owner slot claims) (slot_owner slot (slot_without slot connection claims));
+}
+
+-- the name that a claim is on
+abbrev pub claim_name : List (Option Holding) → SlotClaim → List ℕ
+claim_name slots claim = name_at (slice_get slots claim.slot)

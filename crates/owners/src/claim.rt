@@ -1,6 +1,6 @@
 // Claims as they are kept: each with the slot of its name.
 
-ghost use Rattle.std.specs.Prelude.{◌≡◌, ◌+◌, ◌≤◌, ◌<◌, ℕ, filter, find, length, map, vec_capacity, ◌==◌, not, if◌then◌else◌};
+ghost use Rattle.std.specs.Prelude.{◌≡◌, ◌+◌, ◌≤◌, ◌<◌, ℕ, filter, find, length, map, vec_capacity, ◌==◌, not, option_map, if◌then◌else◌};
 ghost use Rattle.std.specs.List.{list_any, list_all};
 ghost use Rattle.std.specs.Option.{option_eq};
 ghost use Rattle.owners.specs.Kept.{is_on_slot, is_by, is_slot_claim, slot_without, slot_with_flags};
@@ -23,6 +23,16 @@ impl SlotClaim {
         } else {
             self
         }
+    }
+}
+
+/// The connection whose claim it is.
+pub(crate) fn connection_of(claim: Option<SlotClaim>) -> Option<u64>
+    ensures { result ≡ option_map (λ c. c.connection) claim }
+{
+    match claim {
+        Some(claim) => Some(claim.connection),
+        None => None,
     }
 }
 
@@ -54,9 +64,7 @@ pub(crate) fn first_other(claims: &[SlotClaim], slot: u16, connection: u64) -> O
 pub(crate) fn has_claim(claims: &[SlotClaim], slot: u16, connection: u64) -> bool
     ensures { result ≡ list_any (is_slot_claim slot connection) claims.now }
 {
-    claims
-        .iter()
-        .any(|claim| claim.slot == slot && claim.connection == connection)
+    claims.iter().any(|claim| claim.slot == slot && claim.connection == connection)
 }
 
 /// Takes the connection's claim on the name that has the slot away.

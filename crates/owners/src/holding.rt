@@ -1,13 +1,15 @@
 // The slots of names.
 
-ghost use Rattle.std.specs.Prelude.{◌≡◌, ◌+◌, ◌≤◌, ◌<◌, ℕ, Some, option_map, length, slice_get, slice_set, IfSome};
+ghost use Rattle.std.specs.Prelude.{◌≡◌, ◌+◌, ◌≤◌, ◌<◌, ℕ, Some, option_map, length, slice_get, slice_set, unwrap_or, true};
 ghost use Rattle.summary.specs.Sets.{has_slot};
 ghost use Rattle.owners.specs.Registry.{is_unused, is_held_by, slot_of, slot_next, first_free, rules_at};
-ghost use Rattle.owners.specs.Kept.{kept_at};
-
-use summary::Slots;
+ghost use Rattle.owners.specs.Kept.{kept_at, is_name, name_at};
 
 use crate::well_known::WellKnown;
+use summary::Slots;
+
+/// A number that is no slot's.
+const NO_SLOT: u16 = u16::MAX;
 
 /// A name that has a slot, with the number of rules whose sender it is.
 #[derive(Drop)]
@@ -66,6 +68,25 @@ pub(crate) fn slot_next(slots: &[Option<Holding>], name: &str) -> Option<u16>
     }
 }
 
+/// The slot that a name has, or a number that is no slot's.
+pub(crate) fn known_slot(slots: &[Option<Holding>], name: &str) -> u16
+    requires { length slots.now ≤ 1024 }
+    ensures { result ≡ unwrap_or (slot_of name.now slots.now) NO_SLOT }
+{
+    slot_of(slots, name).unwrap_or(NO_SLOT)
+}
+
+/// The name that has a slot.
+pub(crate) fn name_at(slots: &[Option<Holding>], slot: u16) -> &WellKnown
+    requires { is_name (slice_get slots.now slot) ≡ true }
+    ensures { result.now ≡ name_at (slice_get slots.now slot) }
+{
+    match slots.get(slot as usize) {
+        Some(Some(holding)) => &holding.name,
+        _ => unreachable!(),
+    }
+}
+
 /// How many rules have the name of a slot as their sender.
 pub(crate) fn rules_at(slots: &[Option<Holding>], slot: u16) -> u32
     ensures { result ≡ rules_at (slice_get slots.now slot) }
@@ -81,7 +102,10 @@ pub(crate) fn hold(slots: &mut [Option<Holding>], slot: u16, name: &WellKnown, r
     requires { slot < length slots.old }
     ensures { slots.new ≡ slice_set slots.old slot (Some (record { name = name.now; rules = rules })) }
 {
-    slots[slot as usize] = Some(Holding { name: name.copy(), rules });
+    slots[slot as usize] = Some(Holding {
+        name: name.copy(),
+        rules,
+    });
 }
 
 /// Whether a slot is let go where its name is claimed or not.
@@ -97,7 +121,8 @@ fn is_unused(slot: &Option<Holding>, claimed: bool) -> bool
 /// Lets go each slot whose name has neither a claim nor a rule.
 pub(crate) fn let_go(slots: &mut [Option<Holding>], claimed: &Slots)
     requires { length slots.old ≤ 1024 }
-    ensures { (slot : ℕ) → slice_get slots.new slot ≡ kept_at (has_slot claimed.now slot) (slice_get slots.old slot) }
+    ensures size { length slots.new ≡ length slots.old }
+    ensures kept { (slot : ℕ) → slice_get slots.new slot ≡ kept_at (has_slot claimed.now slot) (slice_get slots.old slot) }
 {
     for i in 0..slots.len() {
         if is_unused(&slots[i], claimed.contains(i as u16)) {

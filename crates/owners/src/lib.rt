@@ -8,6 +8,10 @@ mod claim;
 mod claims;
 mod error;
 mod holding;
+mod least;
+mod marks;
+mod plan;
+mod release;
 mod step;
 mod well_known;
 

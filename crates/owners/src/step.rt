@@ -40,7 +40,11 @@ fn has_flag(flags: u32, flag: u32) -> bool
 fn leaving_owner(owner: SlotClaim) -> Option<u64>
     ensures { result ≡ leaving_owner owner }
 {
-    if has_flag(owner.flags, DO_NOT_QUEUE) { Some(owner.connection) } else { None }
+    if has_flag(owner.flags, DO_NOT_QUEUE) {
+        Some(owner.connection)
+    } else {
+        None
+    }
 }
 
 fn may_replace(owner: SlotClaim, flags: u32) -> bool
@@ -82,7 +86,11 @@ pub(crate) fn reply_of(owner: Option<SlotClaim>, connection: u64, flags: u32) ->
     if may_replace(owner, flags) {
         return NameReply::PrimaryOwner;
     }
-    if has_flag(flags, DO_NOT_QUEUE) { NameReply::Exists } else { NameReply::InQueue }
+    if has_flag(flags, DO_NOT_QUEUE) {
+        NameReply::Exists
+    } else {
+        NameReply::InQueue
+    }
 }
 
 /// Whether the step makes one claim more than there may be, where there are `len` of them.

@@ -7,4 +7,5 @@ use Rattle.owners.proofs.holding.first_free.Given as goal
 abbrev pub invariant-loop-slot : goal.invariant-loop-slot
 invariant-loop-slot l = record {
   place : l.place ≡ l.slot-index;
-  rest : position_from is_none l.place (drop l.slot-index l.slots) ≡ first_free l.slots }
+  rest : position_from is_none l.place (drop l.slot-index l.slots) ≡ first_free l.slots;
+}

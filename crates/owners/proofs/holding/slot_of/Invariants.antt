@@ -6,4 +6,5 @@ use Rattle.owners.proofs.holding.slot_of.Given as goal
 abbrev pub invariant-loop-slot : goal.invariant-loop-slot
 invariant-loop-slot l = record {
   place : l.place ≡ l.slot-index;
-  rest : position_from (is_held_by l.name) l.place (drop l.slot-index l.slots) ≡ slot_of l.name l.slots }
+  rest : position_from (is_held_by l.name) l.place (drop l.slot-index l.slots) ≡ slot_of l.name l.slots;
+}
