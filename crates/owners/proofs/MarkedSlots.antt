@@ -13,8 +13,8 @@ use Rattle.owners.specs.Kept.{is_on_slot, slot_owner, are_slots}
 use Rattle.owners.proofs.Lists.{and_parts}
 
 -- the claim at a place, and those after it
-pub rest_is : (claims : List SlotClaim) (i : ℕ) (c : SlotClaim) → i < length claims → c ≡ get_or claims i c → drop i claims ≡ c ∷ drop (i + 1) claims
-rest_is claims i c h e = rw add-one (drop-cons claims i c h ∙ ap (λ (x : SlotClaim). x ∷ drop (suc i) claims) (sym e))
+pub rest_at : (claims : List SlotClaim) (i : ℕ) (d : SlotClaim) → i < length claims → drop i claims ≡ get_or claims i d ∷ drop (i + 1) claims
+rest_at claims i d h = rw add-one (drop-cons claims i d h)
 
 eqb-swap : (m n : ℕ) → (m == n) ≡ (n == m)
 eqb-swap m n = same_from_decides (m == n) (n == m) (Decides-eqb m n) (λ e. sym (eqb-true n m e), λ e. eq-eqb n m (sym e))

@@ -11,7 +11,7 @@ use Rattle.owners.specs.declared.answer.Named.{Named}
 use Rattle.owners.specs.declared.answer.NameReply.{NameReply}
 use Rattle.owners.specs.declared.answer.NameReply.TheVariants.{PrimaryOwner, InQueue, Exists, AlreadyOwner, Released, NonExistent, NotOwner}
 use Rattle.owners.specs.Queues.{Claim, has_flag, allow_replacement, replace_existing, do_not_queue}
-use Rattle.owners.specs.Registry.{Registry, max_names, max_claims, is_unused, change_of}
+use Rattle.owners.specs.Registry.{Registry, max_names, max_claims, is_unused, is_after, change_of}
 
 abbrev pub name_at : Option (Option Holding) → List ℕ
 name_at (Some (Some holding)) = holding.name
@@ -144,3 +144,6 @@ slot_release_answer slot name connection claims = record {
 -- the name that a claim is on
 abbrev pub claim_name : List (Option Holding) → SlotClaim → List ℕ
 claim_name slots claim = name_at (slice_get slots claim.slot)
+
+abbrev pub is_named_after : Option (List ℕ) → List (Option Holding) → SlotClaim → Bool
+is_named_after other slots claim = is_after other (claim_name slots claim)

@@ -6,7 +6,7 @@ use crate::answer::{Dropped, Named};
 use crate::claim::{SlotClaim, connection_of, first_on, remove, remove_all};
 use crate::error::ClaimError;
 use crate::holding::{Holding, hold, known_slot, let_go, rules_at, slot_next, slot_of};
-use crate::least::{least_after, least_of};
+use crate::least::{copy_of, least_after, least_of};
 use crate::marks::{claimed_slots, owned_slots};
 use crate::plan::plan_of;
 use crate::release::{dropped_by, release_answer};
@@ -122,7 +122,7 @@ impl Claims {
         };
         let rules = rules_at(self.slots.as_slice(), plan.slot);
         do_step(&mut self.claims, plan.step, claim);
-        hold(self.slots.as_mut_slice(), plan.slot, name, rules);
+        hold(&mut self.slots, plan.slot, name, rules);
         Ok(plan.named)
     }
 
@@ -145,7 +145,7 @@ impl Claims {
         let named = release_answer(self.claims.as_slice(), slot, name, connection);
         remove(&mut self.claims, slot, connection);
         let claimed = claimed_slots(self.claims.as_slice());
-        let_go(self.slots.as_mut_slice(), &claimed);
+        let_go(&mut self.slots, &claimed);
         named
     }
 
@@ -187,7 +187,7 @@ impl Claims {
     {
         remove_all(&mut self.claims, connection);
         let claimed = claimed_slots(self.claims.as_slice());
-        let_go(self.slots.as_mut_slice(), &claimed);
+        let_go(&mut self.slots, &claimed);
     }
 
     /// The primary owner of a name, if it has one.
@@ -204,7 +204,8 @@ impl Claims {
         ensures name { result ≡ next_name (option_map (λ name. name.now) after.entry) self.now.claims }
         ensures registry { IsRegistry self.now }
     {
-        least_after(self.claims.as_slice(), self.slots.as_slice(), after)
+        let other = copy_of(after);
+        least_after(self.claims.as_slice(), self.slots.as_slice(), &other)
     }
 
     /// The slots of the names that a connection is the primary owner of.
@@ -256,7 +257,7 @@ impl Claims {
             return Err(ClaimError::NamesFull);
         };
         let rules = rules_at(self.slots.as_slice(), slot);
-        hold(self.slots.as_mut_slice(), slot, name, rules + 1);
+        hold(&mut self.slots, slot, name, rules + 1);
         Ok(slot)
     }
 
@@ -268,8 +269,8 @@ impl Claims {
     {
         let slot = known_slot(self.slots.as_slice(), name.as_str());
         let rules = rules_at(self.slots.as_slice(), slot);
-        hold(self.slots.as_mut_slice(), slot, name, rules - 1);
+        hold(&mut self.slots, slot, name, rules - 1);
         let claimed = claimed_slots(self.claims.as_slice());
-        let_go(self.slots.as_mut_slice(), &claimed);
+        let_go(&mut self.slots, &claimed);
     }
 }

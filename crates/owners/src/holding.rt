@@ -98,9 +98,10 @@ pub(crate) fn rules_at(slots: &[Option<Holding>], slot: u16) -> u32
 }
 
 /// Gives a slot to a name that has this number of rules.
-pub(crate) fn hold(slots: &mut [Option<Holding>], slot: u16, name: &WellKnown, rules: u32)
-    requires { slot < length slots.old }
-    ensures { slots.new ≡ slice_set slots.old slot (Some (record { name = name.now; rules = rules })) }
+pub(crate) fn hold(slots: &mut Vec<Option<Holding>>, slot: u16, name: &WellKnown, rules: u32)
+    requires { slot < length slots.old.items }
+    ensures slots { slots.new.items ≡ slice_set slots.old.items slot (Some (record { name = name.now; rules = rules })) }
+    ensures size { length slots.new.items ≡ length slots.old.items }
 {
     slots[slot as usize] = Some(Holding {
         name: name.copy(),
@@ -119,10 +120,10 @@ fn is_unused(slot: &Option<Holding>, claimed: bool) -> bool
 }
 
 /// Lets go each slot whose name has neither a claim nor a rule.
-pub(crate) fn let_go(slots: &mut [Option<Holding>], claimed: &Slots)
-    requires { length slots.old ≤ 1024 }
-    ensures size { length slots.new ≡ length slots.old }
-    ensures kept { (slot : ℕ) → slice_get slots.new slot ≡ kept_at (has_slot claimed.now slot) (slice_get slots.old slot) }
+pub(crate) fn let_go(slots: &mut Vec<Option<Holding>>, claimed: &Slots)
+    requires { length slots.old.items ≤ 1024 }
+    ensures size { length slots.new.items ≡ length slots.old.items }
+    ensures kept { (slot : ℕ) → slice_get slots.new.items slot ≡ kept_at (has_slot claimed.now slot) (slice_get slots.old.items slot) }
 {
     for i in 0..slots.len() {
         if is_unused(&slots[i], claimed.contains(i as u16)) {

@@ -2,7 +2,7 @@
 
 ghost use Rattle.std.specs.Prelude.{◌≡◌, ◌==◌, true, Some, filter, map, option_map, slice_get, if◌then◌else◌};
 ghost use Rattle.owners.specs.Registry.{lesser, least, is_after};
-ghost use Rattle.owners.specs.Kept.{is_by, are_held, claim_name};
+ghost use Rattle.owners.specs.Kept.{is_by, is_named_after, are_held, claim_name};
 
 use crate::claim::SlotClaim;
 use crate::holding::{Holding, name_at};
@@ -25,12 +25,22 @@ fn lesser_if(counts: bool, name: &WellKnown, other: Option<WellKnown>) -> Option
     if counts { lesser(name, other) } else { other }
 }
 
-fn is_after(other: Option<&WellKnown>, name: &WellKnown) -> bool
-    ensures { result ≡ is_after (option_map (λ other. other.now) other.entry) name.now }
+fn is_after(other: &Option<WellKnown>, name: &WellKnown) -> bool
+    ensures { result ≡ is_after other.now name.now }
 {
     match other {
         Some(other) => *other < *name,
         None => true,
+    }
+}
+
+/// The name again, if there is one.
+pub(crate) fn copy_of(name: Option<&WellKnown>) -> Option<WellKnown>
+    ensures { result ≡ option_map (λ name. name.now) name.entry }
+{
+    match name {
+        Some(name) => Some(name.copy()),
+        None => None,
     }
 }
 
@@ -58,17 +68,17 @@ pub(crate) fn least_of(
 pub(crate) fn least_after(
     claims: &[SlotClaim],
     slots: &[Option<Holding>],
-    after: Option<&WellKnown>,
+    other: &Option<WellKnown>,
 ) -> Option<WellKnown>
     requires { are_held claims.now slots.now ≡ true }
-    ensures { result ≡ least (map (claim_name slots.now) (filter (λ c. is_after (option_map (λ other. other.now) after.entry) (claim_name slots.now c)) claims.now)) }
+    ensures { result ≡ least (map (claim_name slots.now) (filter (is_named_after other.now slots.now) claims.now)) }
 {
     let mut least = None;
     let mut left = claims.len();
     while left > 0 {
         left -= 1;
         let name = name_at(slots, claims[left].slot);
-        let counts = is_after(after, name);
+        let counts = is_after(other, name);
         least = lesser_if(counts, name, least);
     }
     least

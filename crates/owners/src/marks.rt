@@ -9,14 +9,14 @@ ghost use Rattle.owners.specs.Kept.{is_on_slot, slot_owner, are_slots};
 use crate::claim::SlotClaim;
 use summary::Slots;
 
-/// The set, and the slot if it is to be in it.
-fn with_slot(mut slots: Slots, slot: u16, is_in: bool) -> Slots
-    requires { slot < 1024 }
-    ensures slots { (other : ℕ) → has_slot result other ≡ ((is_in && (other == slot)) || has_slot slots other) }
+/// The set, and the slot if its first claim is met and is the connection's own.
+fn with_owned(mut slots: Slots, slot: u16, is_first: bool, is_own: bool) -> Slots
+    requires inside { slot < 1024 }
+    requires set { IsSet slots }
+    ensures slots { (other : ℕ) → has_slot result other ≡ (((is_first && is_own) && (other == slot)) || has_slot slots other) }
     ensures set { IsSet result }
 {
-    let _ = slots.contains(slot);
-    if is_in {
+    if is_first && is_own {
         slots.insert(slot);
     }
     slots
@@ -44,11 +44,8 @@ pub(crate) fn owned_slots(claims: &[SlotClaim], connection: u64) -> Slots
     let mut owned = Slots::empty();
     for claim in claims {
         let is_first = !seen.contains(claim.slot);
-        owned = with_slot(
-            owned,
-            claim.slot,
-            is_first && claim.connection == connection,
-        );
+        let is_own = claim.connection == connection;
+        owned = with_owned(owned, claim.slot, is_first, is_own);
         seen.insert(claim.slot);
     }
     owned

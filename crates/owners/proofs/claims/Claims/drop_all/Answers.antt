@@ -32,12 +32,12 @@ invariant_of-self c =
     let left = filter (λ (x : SlotClaim). not (is_by connection x)) cs in
     let held = Each-filter (HeldAt ss) (λ (x : SlotClaim). not (is_by connection x)) cs (each_held cs ss kept.placed.held) in
     let left_is : c.as_slice.result.now ≡ left = c.as_slice.ensures.value ∙ c.remove_all.ensures.claims in
-    let gone : AreLetGo left ss c.let_go.new.slots = let_go_by left ss c.let_go.new.slots (has_slot c.claimed_slots-claimed.result)
-      (c.let_go.ensures.size ∙ ap length c.as_mut_slice.ensures.value)
-      (λ k. c.claimed_slots-claimed.ensures k ∙ ap (list_any (is_on_slot k)) left_is)
-      (λ k. c.let_go.ensures.kept k ∙ ap (λ l. kept_at (has_slot c.claimed_slots-claimed.result k) (slice_get l k)) c.as_mut_slice.ensures.value) in
-    let done = drop_all_done cs ss c.let_go.new.slots kept connection gone in
-    (subst (λ l. IsKept l c.let_go.new.slots) (sym c.remove_all.ensures.claims) done.0, omega (arith, c.self.invariant.1, c.remove_all.ensures.room))
+    let gone : AreLetGo left ss c.let_go.new.slots.items = let_go_by left ss c.let_go.new.slots.items (has_slot c.claimed_slots-claimed.result)
+    (c.let_go.ensures.size)
+    (λ k. c.claimed_slots-claimed.ensures k ∙ ap (list_any (is_on_slot k)) left_is)
+    (λ k. c.let_go.ensures.kept k) in
+    let done = drop_all_done cs ss c.let_go.new.slots.items kept connection gone in
+    (subst (λ l. IsKept l c.let_go.new.slots.items) (sym c.remove_all.ensures.claims) done.0, omega (arith, c.self.invariant.1, c.remove_all.ensures.room))
 
 pub returns-clause-after : goal.returns-clause-after
 returns-clause-after c =
@@ -48,12 +48,12 @@ returns-clause-after c =
     let left = filter (λ (x : SlotClaim). not (is_by connection x)) cs in
     let held = Each-filter (HeldAt ss) (λ (x : SlotClaim). not (is_by connection x)) cs (each_held cs ss kept.placed.held) in
     let left_is : c.as_slice.result.now ≡ left = c.as_slice.ensures.value ∙ c.remove_all.ensures.claims in
-    let gone : AreLetGo left ss c.let_go.new.slots = let_go_by left ss c.let_go.new.slots (has_slot c.claimed_slots-claimed.result)
-      (c.let_go.ensures.size ∙ ap length c.as_mut_slice.ensures.value)
-      (λ k. c.claimed_slots-claimed.ensures k ∙ ap (list_any (is_on_slot k)) left_is)
-      (λ k. c.let_go.ensures.kept k ∙ ap (λ l. kept_at (has_slot c.claimed_slots-claimed.result k) (slice_get l k)) c.as_mut_slice.ensures.value) in
-    let done = drop_all_done cs ss c.let_go.new.slots kept connection gone in
-    ap (λ l. registry l c.let_go.new.slots) c.remove_all.ensures.claims ∙ done.1 ∙ ap (after_drop_all connection) c.self.view_is
+    let gone : AreLetGo left ss c.let_go.new.slots.items = let_go_by left ss c.let_go.new.slots.items (has_slot c.claimed_slots-claimed.result)
+    (c.let_go.ensures.size)
+    (λ k. c.claimed_slots-claimed.ensures k ∙ ap (list_any (is_on_slot k)) left_is)
+    (λ k. c.let_go.ensures.kept k) in
+    let done = drop_all_done cs ss c.let_go.new.slots.items kept connection gone in
+    ap (λ l. registry l c.let_go.new.slots.items) c.remove_all.ensures.claims ∙ done.1 ∙ ap (after_drop_all connection) c.self.view_is
 
 pub returns-clause-registry : goal.returns-clause-registry
 returns-clause-registry c =
@@ -64,9 +64,9 @@ returns-clause-registry c =
     let left = filter (λ (x : SlotClaim). not (is_by connection x)) cs in
     let held = Each-filter (HeldAt ss) (λ (x : SlotClaim). not (is_by connection x)) cs (each_held cs ss kept.placed.held) in
     let left_is : c.as_slice.result.now ≡ left = c.as_slice.ensures.value ∙ c.remove_all.ensures.claims in
-    let gone : AreLetGo left ss c.let_go.new.slots = let_go_by left ss c.let_go.new.slots (has_slot c.claimed_slots-claimed.result)
-      (c.let_go.ensures.size ∙ ap length c.as_mut_slice.ensures.value)
-      (λ k. c.claimed_slots-claimed.ensures k ∙ ap (list_any (is_on_slot k)) left_is)
-      (λ k. c.let_go.ensures.kept k ∙ ap (λ l. kept_at (has_slot c.claimed_slots-claimed.result k) (slice_get l k)) c.as_mut_slice.ensures.value) in
-    let done = drop_all_done cs ss c.let_go.new.slots kept connection gone in
-    kept_is_registry c.remove_all.new.claims.items c.let_go.new.slots (subst (λ l. IsKept l c.let_go.new.slots) (sym c.remove_all.ensures.claims) done.0)
+    let gone : AreLetGo left ss c.let_go.new.slots.items = let_go_by left ss c.let_go.new.slots.items (has_slot c.claimed_slots-claimed.result)
+    (c.let_go.ensures.size)
+    (λ k. c.claimed_slots-claimed.ensures k ∙ ap (list_any (is_on_slot k)) left_is)
+    (λ k. c.let_go.ensures.kept k) in
+    let done = drop_all_done cs ss c.let_go.new.slots.items kept connection gone in
+    kept_is_registry c.remove_all.new.claims.items c.let_go.new.slots.items (subst (λ l. IsKept l c.let_go.new.slots.items) (sym c.remove_all.ensures.claims) done.0)

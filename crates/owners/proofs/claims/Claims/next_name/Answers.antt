@@ -1,8 +1,7 @@
-use Rattle.std.proofs.Common.{◌-◌, ℕ, List, ap, subst, ◌∙◌, map}
-use Rattle.std.specs.Borrow.{Bor}
-use Rattle.std.specs.Prelude.{filter, option_map}
-use Rattle.owners.specs.Registry.{Registry, IsRegistry, least, next_name, is_after}
-use Rattle.owners.specs.Kept.{claim_name}
+use Rattle.std.proofs.Common.{Bor, ℕ, List, ap, subst, ◌∙◌, map}
+use Rattle.std.specs.Prelude.{Option, filter, option_map}
+use Rattle.owners.specs.Registry.{Registry, IsRegistry, least, next_name}
+use Rattle.owners.specs.Kept.{is_named_after, claim_name}
 use Rattle.owners.proofs.Settled.{kept_is_registry}
 use Rattle.owners.proofs.Questions.{next_shown}
 use Rattle.owners.proofs.claims.Claims.next_name.Goals as goal
@@ -13,8 +12,9 @@ returns-clause-name c =
     let ss = c.self.inside.slots.items in
     let other = option_map (λ (n : Bor (List ℕ)). n.now) c.args.after in
     c.least_after.ensures
-    ∙ ap (λ l. least (map (claim_name c.as_slice-2.result.now) (filter (λ x. is_after other (claim_name c.as_slice-2.result.now x)) l))) c.as_slice.ensures.value
-    ∙ ap (λ l. least (map (claim_name l) (filter (λ x. is_after other (claim_name l x)) cs))) c.as_slice-2.ensures.value
+    ∙ ap (λ (o : Option (List ℕ)). least (map (claim_name c.as_slice-2.result.now) (filter (is_named_after o c.as_slice-2.result.now) c.as_slice.result.now))) c.copy_of-other.ensures
+    ∙ ap (λ l. least (map (claim_name c.as_slice-2.result.now) (filter (is_named_after other c.as_slice-2.result.now) l))) c.as_slice.ensures.value
+    ∙ ap (λ l. least (map (claim_name l) (filter (is_named_after other l) cs))) c.as_slice-2.ensures.value
     ∙ next_shown cs ss other
     ∙ ap (λ (r : Registry). next_name other r.claims) c.self.view_is
 

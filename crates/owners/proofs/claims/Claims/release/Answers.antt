@@ -40,12 +40,12 @@ invariant_of-self c =
     let left = slot_without slot connection cs in
     let held = Each-filter (HeldAt ss) (λ (x : SlotClaim). not (is_slot_claim slot connection x)) cs (each_held cs ss kept.placed.held) in
     let left_is : c.as_slice-3.result.now ≡ left = c.as_slice-3.ensures.value ∙ c.remove.ensures.claims in
-    let gone : AreLetGo left ss c.let_go.new.slots = let_go_by left ss c.let_go.new.slots (has_slot c.claimed_slots-claimed.result)
-      (c.let_go.ensures.size ∙ ap length c.as_mut_slice.ensures.value)
-      (λ k. c.claimed_slots-claimed.ensures k ∙ ap (list_any (is_on_slot k)) left_is)
-      (λ k. c.let_go.ensures.kept k ∙ ap (λ l. kept_at (has_slot c.claimed_slots-claimed.result k) (slice_get l k)) c.as_mut_slice.ensures.value) in
-    let done = release_done cs ss c.let_go.new.slots kept slot connection name told gone in
-    (subst (λ l. IsKept l c.let_go.new.slots) (sym c.remove.ensures.claims) done.0, omega (arith, c.self.invariant.1, c.remove.ensures.room))
+    let gone : AreLetGo left ss c.let_go.new.slots.items = let_go_by left ss c.let_go.new.slots.items (has_slot c.claimed_slots-claimed.result)
+    (c.let_go.ensures.size)
+    (λ k. c.claimed_slots-claimed.ensures k ∙ ap (list_any (is_on_slot k)) left_is)
+    (λ k. c.let_go.ensures.kept k) in
+    let done = release_done cs ss c.let_go.new.slots.items kept slot connection name told gone in
+    (subst (λ l. IsKept l c.let_go.new.slots.items) (sym c.remove.ensures.claims) done.0, omega (arith, c.self.invariant.1, c.remove.ensures.room))
 
 pub returns-clause-answer : goal.returns-clause-answer
 returns-clause-answer c =
@@ -73,12 +73,12 @@ returns-clause-after c =
     let left = slot_without slot connection cs in
     let held = Each-filter (HeldAt ss) (λ (x : SlotClaim). not (is_slot_claim slot connection x)) cs (each_held cs ss kept.placed.held) in
     let left_is : c.as_slice-3.result.now ≡ left = c.as_slice-3.ensures.value ∙ c.remove.ensures.claims in
-    let gone : AreLetGo left ss c.let_go.new.slots = let_go_by left ss c.let_go.new.slots (has_slot c.claimed_slots-claimed.result)
-      (c.let_go.ensures.size ∙ ap length c.as_mut_slice.ensures.value)
-      (λ k. c.claimed_slots-claimed.ensures k ∙ ap (list_any (is_on_slot k)) left_is)
-      (λ k. c.let_go.ensures.kept k ∙ ap (λ l. kept_at (has_slot c.claimed_slots-claimed.result k) (slice_get l k)) c.as_mut_slice.ensures.value) in
-    let done = release_done cs ss c.let_go.new.slots kept slot connection name told gone in
-    ap (λ l. registry l c.let_go.new.slots) c.remove.ensures.claims ∙ done.1 ∙ ap (after_release name connection) c.self.view_is
+    let gone : AreLetGo left ss c.let_go.new.slots.items = let_go_by left ss c.let_go.new.slots.items (has_slot c.claimed_slots-claimed.result)
+    (c.let_go.ensures.size)
+    (λ k. c.claimed_slots-claimed.ensures k ∙ ap (list_any (is_on_slot k)) left_is)
+    (λ k. c.let_go.ensures.kept k) in
+    let done = release_done cs ss c.let_go.new.slots.items kept slot connection name told gone in
+    ap (λ l. registry l c.let_go.new.slots.items) c.remove.ensures.claims ∙ done.1 ∙ ap (after_release name connection) c.self.view_is
 
 pub returns-clause-registry : goal.returns-clause-registry
 returns-clause-registry c =
@@ -93,9 +93,9 @@ returns-clause-registry c =
     let left = slot_without slot connection cs in
     let held = Each-filter (HeldAt ss) (λ (x : SlotClaim). not (is_slot_claim slot connection x)) cs (each_held cs ss kept.placed.held) in
     let left_is : c.as_slice-3.result.now ≡ left = c.as_slice-3.ensures.value ∙ c.remove.ensures.claims in
-    let gone : AreLetGo left ss c.let_go.new.slots = let_go_by left ss c.let_go.new.slots (has_slot c.claimed_slots-claimed.result)
-      (c.let_go.ensures.size ∙ ap length c.as_mut_slice.ensures.value)
-      (λ k. c.claimed_slots-claimed.ensures k ∙ ap (list_any (is_on_slot k)) left_is)
-      (λ k. c.let_go.ensures.kept k ∙ ap (λ l. kept_at (has_slot c.claimed_slots-claimed.result k) (slice_get l k)) c.as_mut_slice.ensures.value) in
-    let done = release_done cs ss c.let_go.new.slots kept slot connection name told gone in
-    kept_is_registry c.remove.new.claims.items c.let_go.new.slots (subst (λ l. IsKept l c.let_go.new.slots) (sym c.remove.ensures.claims) done.0)
+    let gone : AreLetGo left ss c.let_go.new.slots.items = let_go_by left ss c.let_go.new.slots.items (has_slot c.claimed_slots-claimed.result)
+    (c.let_go.ensures.size)
+    (λ k. c.claimed_slots-claimed.ensures k ∙ ap (list_any (is_on_slot k)) left_is)
+    (λ k. c.let_go.ensures.kept k) in
+    let done = release_done cs ss c.let_go.new.slots.items kept slot connection name told gone in
+    kept_is_registry c.remove.new.claims.items c.let_go.new.slots.items (subst (λ l. IsKept l c.let_go.new.slots.items) (sym c.remove.ensures.claims) done.0)

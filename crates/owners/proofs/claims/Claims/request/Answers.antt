@@ -26,8 +26,7 @@ hold-requires c =
     let slot = plan.slot in
     let claim = claim_at slot connection flags in
     let told = next_tells cs ss kept.placed name slot plan_is.slot_is in
-    let long : length c.as_mut_slice.result.now ≡ length ss = ap length c.as_mut_slice.ensures.value in
-    omega (arith, told.1)
+    told.1
 
 pub invariant_of-self : goal.invariant_of-self
 invariant_of-self c =
@@ -44,10 +43,10 @@ invariant_of-self c =
     let told = next_tells cs ss kept.placed name slot plan_is.slot_is in
     let rules = rules_of name ss in
     let rules_is : c.rules_at-rules.result ≡ rules = c.rules_at-rules.ensures ∙ ap (λ l. rules_at (slice_get l slot)) c.as_slice-3.ensures.value ∙ sym told.2 in
-    let after : c.hold.new.slots ≡ held_slots ss slot name rules = c.hold.ensures ∙ ap (λ l. held_slots l slot name c.rules_at-rules.result) c.as_mut_slice.ensures.value ∙ ap (held_slots ss slot name) rules_is in
+    let after : c.hold.new.slots.items ≡ held_slots ss slot name rules = c.hold.ensures.slots ∙ ap (held_slots ss slot name) rules_is in
     let step : c.do_step.new.claims.items ≡ step_done (step_for claim cs) claim cs = c.do_step.ensures.claims ∙ ap (λ (s : Step). step_done s claim cs) plan_is.step_is in
     let done = request_done cs ss kept claim name rules plan_is.slot_is (subst (λ (s : Step). length (step_done s claim cs) ≤ max_claims) plan_is.step_is plan_is.fits) in
-    let new_kept : IsKept c.do_step.new.claims.items c.hold.new.slots = subst (λ l. IsKept l c.hold.new.slots) (sym step) (subst (IsKept (step_done (step_for claim cs) claim cs)) (sym after) done.0) in
+    let new_kept : IsKept c.do_step.new.claims.items c.hold.new.slots.items = subst (λ l. IsKept l c.hold.new.slots.items) (sym step) (subst (IsKept (step_done (step_for claim cs) claim cs)) (sym after) done.0) in
     (new_kept, c.do_step.ensures.room)
 
 pub returns-clause-after : goal.returns-clause-after
@@ -65,11 +64,11 @@ returns-clause-after c =
     let told = next_tells cs ss kept.placed name slot plan_is.slot_is in
     let rules = rules_of name ss in
     let rules_is : c.rules_at-rules.result ≡ rules = c.rules_at-rules.ensures ∙ ap (λ l. rules_at (slice_get l slot)) c.as_slice-3.ensures.value ∙ sym told.2 in
-    let after : c.hold.new.slots ≡ held_slots ss slot name rules = c.hold.ensures ∙ ap (λ l. held_slots l slot name c.rules_at-rules.result) c.as_mut_slice.ensures.value ∙ ap (held_slots ss slot name) rules_is in
+    let after : c.hold.new.slots.items ≡ held_slots ss slot name rules = c.hold.ensures.slots ∙ ap (held_slots ss slot name) rules_is in
     let step : c.do_step.new.claims.items ≡ step_done (step_for claim cs) claim cs = c.do_step.ensures.claims ∙ ap (λ (s : Step). step_done s claim cs) plan_is.step_is in
     let done = request_done cs ss kept claim name rules plan_is.slot_is (subst (λ (s : Step). length (step_done s claim cs) ≤ max_claims) plan_is.step_is plan_is.fits) in
-    let new_kept : IsKept c.do_step.new.claims.items c.hold.new.slots = subst (λ l. IsKept l c.hold.new.slots) (sym step) (subst (IsKept (step_done (step_for claim cs) claim cs)) (sym after) done.0) in
-    ap (λ l. registry l c.hold.new.slots) step ∙ ap (registry (step_done (step_for claim cs) claim cs)) after ∙ done.1
+    let new_kept : IsKept c.do_step.new.claims.items c.hold.new.slots.items = subst (λ l. IsKept l c.hold.new.slots.items) (sym step) (subst (IsKept (step_done (step_for claim cs) claim cs)) (sym after) done.0) in
+    ap (λ l. registry l c.hold.new.slots.items) step ∙ ap (registry (step_done (step_for claim cs) claim cs)) after ∙ done.1
     ∙ sym (request_after name connection flags (registry cs ss) plan.named plan_is.answer)
     ∙ ap (after_request name connection flags) c.self.view_is
 
@@ -88,8 +87,8 @@ returns-clause-registry c =
     let told = next_tells cs ss kept.placed name slot plan_is.slot_is in
     let rules = rules_of name ss in
     let rules_is : c.rules_at-rules.result ≡ rules = c.rules_at-rules.ensures ∙ ap (λ l. rules_at (slice_get l slot)) c.as_slice-3.ensures.value ∙ sym told.2 in
-    let after : c.hold.new.slots ≡ held_slots ss slot name rules = c.hold.ensures ∙ ap (λ l. held_slots l slot name c.rules_at-rules.result) c.as_mut_slice.ensures.value ∙ ap (held_slots ss slot name) rules_is in
+    let after : c.hold.new.slots.items ≡ held_slots ss slot name rules = c.hold.ensures.slots ∙ ap (held_slots ss slot name) rules_is in
     let step : c.do_step.new.claims.items ≡ step_done (step_for claim cs) claim cs = c.do_step.ensures.claims ∙ ap (λ (s : Step). step_done s claim cs) plan_is.step_is in
     let done = request_done cs ss kept claim name rules plan_is.slot_is (subst (λ (s : Step). length (step_done s claim cs) ≤ max_claims) plan_is.step_is plan_is.fits) in
-    let new_kept : IsKept c.do_step.new.claims.items c.hold.new.slots = subst (λ l. IsKept l c.hold.new.slots) (sym step) (subst (IsKept (step_done (step_for claim cs) claim cs)) (sym after) done.0) in
-    kept_is_registry c.do_step.new.claims.items c.hold.new.slots new_kept
+    let new_kept : IsKept c.do_step.new.claims.items c.hold.new.slots.items = subst (λ l. IsKept l c.hold.new.slots.items) (sym step) (subst (IsKept (step_done (step_for claim cs) claim cs)) (sym after) done.0) in
+    kept_is_registry c.do_step.new.claims.items c.hold.new.slots.items new_kept

@@ -32,8 +32,7 @@ hold-requires c =
     let slot = c.in-Some.slot in
     let next : slot_next name ss ≡ Some slot = sym (c.in-Some.ensures ∙ ap (λ t. slot_next t c.as_slice.result.now) c.as_str.ensures ∙ ap (slot_next name) c.as_slice.ensures.value) in
     let told = next_tells cs ss kept.placed name slot next in
-    let long : length c.as_mut_slice.result.now ≡ length ss = ap length c.as_mut_slice.ensures.value in
-    omega (arith, told.1)
+    told.1
 
 pub invariant_of-self : goal.invariant_of-self
 invariant_of-self c =
@@ -46,7 +45,7 @@ invariant_of-self c =
     let told = next_tells cs ss kept.placed name slot next in
     let rules = rules_at (slice_get ss slot) in
     let rules_is : c.rules_at-rules.result ≡ rules = c.rules_at-rules.ensures ∙ ap (λ l. rules_at (slice_get l slot)) c.as_slice-2.ensures.value in
-    let after : c.hold.new.slots ≡ held_slots ss slot name (rules + 1) = c.hold.ensures ∙ ap (λ l. held_slots l slot name (c.rules_at-rules.result + 1)) c.as_mut_slice.ensures.value ∙ ap (λ n. held_slots ss slot name (n + 1)) rules_is in
+    let after : c.hold.new.slots.items ≡ held_slots ss slot name (rules + 1) = c.hold.ensures.slots ∙ ap (λ n. held_slots ss slot name (n + 1)) rules_is in
     let done = slot_for_done cs ss kept slot name next in
     (subst (IsKept cs) (sym after) done.0, c.self.invariant.1)
 
@@ -61,7 +60,7 @@ returns-clause-after c =
     let told = next_tells cs ss kept.placed name slot next in
     let rules = rules_at (slice_get ss slot) in
     let rules_is : c.rules_at-rules.result ≡ rules = c.rules_at-rules.ensures ∙ ap (λ l. rules_at (slice_get l slot)) c.as_slice-2.ensures.value in
-    let after : c.hold.new.slots ≡ held_slots ss slot name (rules + 1) = c.hold.ensures ∙ ap (λ l. held_slots l slot name (c.rules_at-rules.result + 1)) c.as_mut_slice.ensures.value ∙ ap (λ n. held_slots ss slot name (n + 1)) rules_is in
+    let after : c.hold.new.slots.items ≡ held_slots ss slot name (rules + 1) = c.hold.ensures.slots ∙ ap (λ n. held_slots ss slot name (n + 1)) rules_is in
     let done = slot_for_done cs ss kept slot name next in
     ap (registry cs) after ∙ done.1 ∙ ap (after_slot_for name) c.self.view_is
 
@@ -76,6 +75,6 @@ returns-clause-registry c =
     let told = next_tells cs ss kept.placed name slot next in
     let rules = rules_at (slice_get ss slot) in
     let rules_is : c.rules_at-rules.result ≡ rules = c.rules_at-rules.ensures ∙ ap (λ l. rules_at (slice_get l slot)) c.as_slice-2.ensures.value in
-    let after : c.hold.new.slots ≡ held_slots ss slot name (rules + 1) = c.hold.ensures ∙ ap (λ l. held_slots l slot name (c.rules_at-rules.result + 1)) c.as_mut_slice.ensures.value ∙ ap (λ n. held_slots ss slot name (n + 1)) rules_is in
+    let after : c.hold.new.slots.items ≡ held_slots ss slot name (rules + 1) = c.hold.ensures.slots ∙ ap (λ n. held_slots ss slot name (n + 1)) rules_is in
     let done = slot_for_done cs ss kept slot name next in
-    kept_is_registry cs c.hold.new.slots (subst (IsKept cs) (sym after) done.0)
+    kept_is_registry cs c.hold.new.slots.items (subst (IsKept cs) (sym after) done.0)

@@ -40,8 +40,7 @@ hold-requires c =
     let told = next_tells cs ss kept.placed name slot next in
     let rules = rules_at (slice_get ss slot) in
     let rules_is : c.rules_at-rules.result ≡ rules = c.rules_at-rules.ensures ∙ ap (λ l. rules_at (slice_get l slot)) c.as_slice-2.ensures.value in
-    let long : length c.as_mut_slice.result.now ≡ length ss = ap length c.as_mut_slice.ensures.value in
-    omega (arith, told.1)
+    told.1
 
 pub claimed_slots-claimed-requires : goal.claimed_slots-claimed-requires
 claimed_slots-claimed-requires c =
@@ -65,13 +64,13 @@ invariant_of-self c =
     let rules = rules_at (slice_get ss slot) in
     let rules_is : c.rules_at-rules.result ≡ rules = c.rules_at-rules.ensures ∙ ap (λ l. rules_at (slice_get l slot)) c.as_slice-2.ensures.value in
     let between = held_slots ss slot name (rules - 1) in
-    let between_is : c.hold.new.slots ≡ between = c.hold.ensures ∙ ap (λ l. held_slots l slot name (c.rules_at-rules.result - 1)) c.as_mut_slice.ensures.value ∙ ap (λ n. held_slots ss slot name (n - 1)) rules_is in
-    let slots_is : c.as_mut_slice-2.result.now ≡ between = c.as_mut_slice-2.ensures.value ∙ between_is in
-    let gone : AreLetGo cs between c.let_go.new.slots = let_go_by cs between c.let_go.new.slots (has_slot c.claimed_slots-claimed.result)
-      (c.let_go.ensures.size ∙ ap length slots_is)
-      (λ k. c.claimed_slots-claimed.ensures k ∙ ap (list_any (is_on_slot k)) c.as_slice-3.ensures.value)
-      (λ k. c.let_go.ensures.kept k ∙ ap (λ l. kept_at (has_slot c.claimed_slots-claimed.result k) (slice_get l k)) slots_is) in
-    let done = slot_free_done cs ss c.let_go.new.slots kept slot name next gone in
+    let between_is : c.hold.new.slots.items ≡ between = c.hold.ensures.slots ∙ ap (λ n. held_slots ss slot name (n - 1)) rules_is in
+    let slots_is = between_is in
+    let gone : AreLetGo cs between c.let_go.new.slots.items = let_go_by cs between c.let_go.new.slots.items (has_slot c.claimed_slots-claimed.result)
+    (c.let_go.ensures.size ∙ ap length slots_is)
+    (λ k. c.claimed_slots-claimed.ensures k ∙ ap (list_any (is_on_slot k)) c.as_slice-3.ensures.value)
+    (λ k. c.let_go.ensures.kept k ∙ ap (λ l. kept_at (has_slot c.claimed_slots-claimed.result k) (slice_get l k)) slots_is) in
+    let done = slot_free_done cs ss c.let_go.new.slots.items kept slot name next gone in
     (done.0, c.self.invariant.1)
 
 pub returns-clause-after : goal.returns-clause-after
@@ -89,13 +88,13 @@ returns-clause-after c =
     let rules = rules_at (slice_get ss slot) in
     let rules_is : c.rules_at-rules.result ≡ rules = c.rules_at-rules.ensures ∙ ap (λ l. rules_at (slice_get l slot)) c.as_slice-2.ensures.value in
     let between = held_slots ss slot name (rules - 1) in
-    let between_is : c.hold.new.slots ≡ between = c.hold.ensures ∙ ap (λ l. held_slots l slot name (c.rules_at-rules.result - 1)) c.as_mut_slice.ensures.value ∙ ap (λ n. held_slots ss slot name (n - 1)) rules_is in
-    let slots_is : c.as_mut_slice-2.result.now ≡ between = c.as_mut_slice-2.ensures.value ∙ between_is in
-    let gone : AreLetGo cs between c.let_go.new.slots = let_go_by cs between c.let_go.new.slots (has_slot c.claimed_slots-claimed.result)
-      (c.let_go.ensures.size ∙ ap length slots_is)
-      (λ k. c.claimed_slots-claimed.ensures k ∙ ap (list_any (is_on_slot k)) c.as_slice-3.ensures.value)
-      (λ k. c.let_go.ensures.kept k ∙ ap (λ l. kept_at (has_slot c.claimed_slots-claimed.result k) (slice_get l k)) slots_is) in
-    let done = slot_free_done cs ss c.let_go.new.slots kept slot name next gone in
+    let between_is : c.hold.new.slots.items ≡ between = c.hold.ensures.slots ∙ ap (λ n. held_slots ss slot name (n - 1)) rules_is in
+    let slots_is = between_is in
+    let gone : AreLetGo cs between c.let_go.new.slots.items = let_go_by cs between c.let_go.new.slots.items (has_slot c.claimed_slots-claimed.result)
+    (c.let_go.ensures.size ∙ ap length slots_is)
+    (λ k. c.claimed_slots-claimed.ensures k ∙ ap (list_any (is_on_slot k)) c.as_slice-3.ensures.value)
+    (λ k. c.let_go.ensures.kept k ∙ ap (λ l. kept_at (has_slot c.claimed_slots-claimed.result k) (slice_get l k)) slots_is) in
+    let done = slot_free_done cs ss c.let_go.new.slots.items kept slot name next gone in
     done.1 ∙ ap (after_slot_free name) c.self.view_is
 
 pub returns-clause-registry : goal.returns-clause-registry
@@ -113,11 +112,11 @@ returns-clause-registry c =
     let rules = rules_at (slice_get ss slot) in
     let rules_is : c.rules_at-rules.result ≡ rules = c.rules_at-rules.ensures ∙ ap (λ l. rules_at (slice_get l slot)) c.as_slice-2.ensures.value in
     let between = held_slots ss slot name (rules - 1) in
-    let between_is : c.hold.new.slots ≡ between = c.hold.ensures ∙ ap (λ l. held_slots l slot name (c.rules_at-rules.result - 1)) c.as_mut_slice.ensures.value ∙ ap (λ n. held_slots ss slot name (n - 1)) rules_is in
-    let slots_is : c.as_mut_slice-2.result.now ≡ between = c.as_mut_slice-2.ensures.value ∙ between_is in
-    let gone : AreLetGo cs between c.let_go.new.slots = let_go_by cs between c.let_go.new.slots (has_slot c.claimed_slots-claimed.result)
-      (c.let_go.ensures.size ∙ ap length slots_is)
-      (λ k. c.claimed_slots-claimed.ensures k ∙ ap (list_any (is_on_slot k)) c.as_slice-3.ensures.value)
-      (λ k. c.let_go.ensures.kept k ∙ ap (λ l. kept_at (has_slot c.claimed_slots-claimed.result k) (slice_get l k)) slots_is) in
-    let done = slot_free_done cs ss c.let_go.new.slots kept slot name next gone in
-    kept_is_registry cs c.let_go.new.slots done.0
+    let between_is : c.hold.new.slots.items ≡ between = c.hold.ensures.slots ∙ ap (λ n. held_slots ss slot name (n - 1)) rules_is in
+    let slots_is = between_is in
+    let gone : AreLetGo cs between c.let_go.new.slots.items = let_go_by cs between c.let_go.new.slots.items (has_slot c.claimed_slots-claimed.result)
+    (c.let_go.ensures.size ∙ ap length slots_is)
+    (λ k. c.claimed_slots-claimed.ensures k ∙ ap (list_any (is_on_slot k)) c.as_slice-3.ensures.value)
+    (λ k. c.let_go.ensures.kept k ∙ ap (λ l. kept_at (has_slot c.claimed_slots-claimed.result k) (slice_get l k)) slots_is) in
+    let done = slot_free_done cs ss c.let_go.new.slots.items kept slot name next gone in
+    kept_is_registry cs c.let_go.new.slots.items done.0

@@ -1,5 +1,0 @@
-use Rattle.std.proofs.Common.{◌≡◌}
-use Rattle.owners.proofs.least.least_after.Goals as goal
-
-pub loop-left-preserved : goal.loop-left-preserved
-loop-left-preserved c = ?
