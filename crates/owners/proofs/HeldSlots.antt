@@ -1,16 +1,15 @@
 -- What stays when a slot is given to a name.
-use Rattle.std.specs.Prelude.{◌≡◌, ◌<◌, ◌≤◌, ℕ, Bool, true, false, List, Option, Some, None, map, length, set, slice_get, ◌==◌, ◌⊎◌}
+use Rattle.std.specs.Prelude.{◌≡◌, ◌<◌, ℕ, true, List, Option, Some, map, length, slice_get, ◌⊎◌}
 use Rattle.std.specs.Str.{bytes_eq}
-use Rattle.std.proofs.Common.{refl, sym, ap, subst, ◌∙◌, arith, inl, inr, length-set}
+use Rattle.std.proofs.Common.{sym, ap, ◌∙◌, inl, inr, length-set}
 use Rattle.std.proofs.lemmas.Bool.{eqb-true, eq-eqb}
 use Rattle.std.proofs.lemmas.Slice.Eq.{bytes_eq-Decides}
 use Rattle.owners.specs.declared.holding.Holding.{Holding}
 use Rattle.owners.specs.declared.claim.SlotClaim.{SlotClaim}
 use Rattle.owners.specs.Queues.{Claim}
-use Rattle.owners.specs.Registry.{max_names}
-use Rattle.owners.specs.Kept.{name_at, shown, is_name, are_held, IsPlaced}
+use Rattle.owners.specs.Kept.{name_at, shown, is_name, IsPlaced}
 use Rattle.owners.proofs.Lists.{Each, Each-weaker, all-from_Each, map-same}
-use Rattle.owners.proofs.Placed.{Tells, same_name, tells_own, held_slots, read_held, HeldAt, each_held}
+use Rattle.owners.proofs.Placed.{Tells, same_name, held_slots, read_held, HeldAt, each_held}
 
 pub is_at : (slots : List (Option Holding)) (slot : ℕ) (name : List ℕ) → Tells slots slot name → (k : ℕ) (g : Holding) → slice_get slots k ≡ Some (Some g) → g.name ≡ name → k ≡ slot
 is_at slots slot name t k g f n =

@@ -1,10 +1,9 @@
 -- How a request changes the owner of a name.
-use Rattle.std.specs.Prelude.{◌≡◌, ℕ, Bool, true, false, not, List, [], ◌∷◌, ◌++◌, Option, Some, None, map, find, filter, option_map, nat_eq, ◌&&◌, ◌==◌, if◌then◌else◌}
+use Rattle.std.specs.Prelude.{◌≡◌, ℕ, Bool, true, false, not, List, [], ◌∷◌, Option, Some, None, find, option_map, nat_eq, ◌==◌, if◌then◌else◌}
 use Rattle.std.specs.Str.{bytes_eq}
-use Rattle.std.proofs.Common.{refl, sym, ap, subst, ◌∙◌}
+use Rattle.std.proofs.Common.{refl, ap, ◌∙◌}
 use Rattle.std.proofs.lemmas.Bool.{eq-eqb}
 use Rattle.owners.specs.declared.answer.Change.{Change}
-use Rattle.owners.specs.declared.answer.NameReply.{NameReply}
 use Rattle.owners.specs.declared.answer.NameReply.TheVariants.{PrimaryOwner, InQueue, Exists, AlreadyOwner}
 use Rattle.owners.specs.Queues.{Claim, is_on, is_claim, owner_of, has_flag, may_replace, do_not_queue, has_claim, with_flags, with_last, without, replaced, requested, requested_by, request_reply, first_claim}
 use Rattle.owners.specs.Registry.{change_of, change_between}

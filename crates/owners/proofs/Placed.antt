@@ -1,19 +1,17 @@
 -- What slots tell of names, and a name that gets a slot.
-use Rattle.std.specs.Prelude.{◌≡◌, ◌<◌, ◌≤◌, ◌+◌, ℕ, Bool, true, false, not, List, [], ◌∷◌, Option, Some, None, map, length, set, slice_get, is_none, nat_eq, nat_lt, unwrap_or, ◌&&◌, ◌||◌, ◌==◌, ◌⊎◌}
-use Rattle.std.specs.List.{list_any, list_all, position_from}
-use Rattle.std.specs.Bool.{Decides}
+use Rattle.std.specs.Prelude.{◌≡◌, ◌<◌, ◌≤◌, ℕ, Bool, true, false, List, Option, Some, None, length, set, slice_get, is_none, unwrap_or, ◌&&◌, ◌==◌, ◌⊎◌}
 use Rattle.std.specs.Str.{bytes_eq}
-use Rattle.std.proofs.Common.{refl, sym, ap, subst, ◌∙◌, arith, inl, inr, length-set}
+use Rattle.std.proofs.Common.{refl, sym, ap, ◌∙◌, arith, inl, inr}
 use Rattle.std.proofs.lemmas.Bool.{false≢true, eqb-true, eq-eqb, eqb-false}
-use Rattle.std.proofs.lemmas.Bool.Decides.{same_from_decides, Decides-eqb}
+use Rattle.std.proofs.lemmas.Bool.Decides.{same_from_decides}
 use Rattle.std.proofs.lemmas.Slice.Eq.{bytes_eq-Decides}
 use Rattle.std.proofs.lemmas.Option.{slice_get_past, slice_get_within}
 use Rattle.owners.specs.declared.holding.Holding.{Holding}
 use Rattle.owners.specs.declared.claim.SlotClaim.{SlotClaim}
-use Rattle.owners.specs.Queues.{Claim, is_on, is_of, is_claim}
-use Rattle.owners.specs.Registry.{is_held_by, slot_of, slot_next, first_free, or_else, rules_at, rules_in, rules_of, max_names}
-use Rattle.owners.specs.Kept.{name_at, shown, is_name, is_on_slot, is_by, is_slot_claim, are_held, IsPlaced}
-use Rattle.owners.proofs.Lists.{Each, Each-from_all, Each-weaker, all-from_Each, found, finds, slice_get-set_same, slice_get-set_other}
+use Rattle.owners.specs.Queues.{is_on, is_claim}
+use Rattle.owners.specs.Registry.{is_held_by, slot_of, slot_next, first_free, or_else, rules_at, rules_in, rules_of}
+use Rattle.owners.specs.Kept.{name_at, shown, is_name, is_on_slot, is_slot_claim, are_held, IsPlaced}
+use Rattle.owners.proofs.Lists.{Each, Each-from_all, Each-weaker, found, finds, slice_get-set_same, slice_get-set_other}
 
 pub same_name : (a b : List ℕ) → bytes_eq a b ≡ true → a ≡ b
 same_name a b = (bytes_eq-Decides a b).0

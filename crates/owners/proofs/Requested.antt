@@ -1,19 +1,18 @@
 -- What a request does to kept claims is what it does to claims on names.
-use Rattle.std.specs.Prelude.{◌≡◌, ◌<◌, ◌≤◌, ◌+◌, ℕ, suc, Bool, true, false, not, List, [], ◌∷◌, ◌++◌, Option, Some, None, map, find, filter, length, option_map, slice_get, is_none, nat_lt, nat_le, nat_eq, ◌&&◌, ◌||◌, ◌==◌, if◌then◌else◌}
-use Rattle.std.specs.List.{list_any, list_all}
-use Rattle.std.specs.Bool.{Decides}
-use Rattle.std.proofs.Common.{refl, sym, ap, subst, ◌∙◌, arith, length-append}
+use Rattle.std.specs.Prelude.{◌≡◌, ◌≤◌, ◌+◌, ℕ, suc, Bool, true, false, not, List, [], ◌∷◌, ◌++◌, Option, Some, None, map, find, length, option_map, slice_get, nat_lt, nat_le, ◌&&◌, ◌==◌, if◌then◌else◌}
+use Rattle.std.specs.List.{list_any}
+use Rattle.std.proofs.Common.{refl, sym, ap, ◌∙◌, arith, length-append}
 use Rattle.std.proofs.lemmas.List.{map-append}
-use Rattle.std.proofs.lemmas.Bool.{false≢true, eqb-true, eq-eqb, leb-true, le-leb}
+use Rattle.std.proofs.lemmas.Bool.{eq-eqb, leb-true, le-leb}
 use Rattle.std.proofs.lemmas.Bool.Decides.{same_from_decides, Decides-ltb}
 use Rattle.owners.specs.declared.holding.Holding.{Holding}
 use Rattle.owners.specs.declared.claim.SlotClaim.{SlotClaim}
 use Rattle.owners.specs.declared.step.Step.{Step}
 use Rattle.owners.specs.declared.step.Step.TheVariants as steps
-use Rattle.owners.specs.Queues.{Claim, is_on, is_claim, has_flag, may_replace, do_not_queue, has_claim, with_flags, with_last, without, replaced, requested, requested_by}
+use Rattle.owners.specs.Queues.{Claim, is_on, is_claim, has_flag, may_replace, do_not_queue, with_flags, with_last, without, requested, requested_by}
 use Rattle.owners.specs.Registry.{max_claims}
-use Rattle.owners.specs.Kept.{shown, name_at, is_on_slot, is_by, is_slot_claim, slot_without, slot_with_flags, without_owner, leaving_owner, step_of, step_done, adds, is_over}
-use Rattle.owners.proofs.Lists.{Each, Each-weaker, Each-always, Each-filter, and_false, or_right, filter-map, find-map, any-map, map-map_same, find_passes, find-filter, any-from_find, any-filter, any-append, any-append_last, length-filter-le, length-without, without_none, length-map}
+use Rattle.owners.specs.Kept.{shown, name_at, is_on_slot, is_slot_claim, slot_without, slot_with_flags, without_owner, step_of, step_done, is_over}
+use Rattle.owners.proofs.Lists.{Each, Each-weaker, Each-filter, or_right, filter-map, find-map, any-map, map-map_same, length-filter-le, length-without, without_none, length-map}
 use Rattle.owners.proofs.Placed.{Tells, HeldAt, on_agrees, claim_agrees}
 
 -- ---- each change, before and after the names are shown

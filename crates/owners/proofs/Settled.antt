@@ -1,14 +1,14 @@
 -- Slots that are let go when nobody needs them.
-use Rattle.std.specs.Prelude.{◌≡◌, ◌<◌, ◌≤◌, ℕ, Bool, true, false, not, List, [], ◌∷◌, Option, Some, None, map, length, option_map, slice_get, is_some, ◌&&◌, ◌||◌, ◌==◌, if◌then◌else◌}
-use Rattle.std.specs.List.{list_any, list_all}
-use Rattle.std.proofs.Common.{refl, sym, ap, subst, ◌∙◌, arith}
-use Rattle.std.proofs.lemmas.Bool.{false≢true, eq-eqb}
+use Rattle.std.specs.Prelude.{◌≡◌, ◌≤◌, ℕ, Bool, true, false, List, Option, Some, None, map, length, option_map, slice_get, is_some, ◌==◌, if◌then◌else◌}
+use Rattle.std.specs.List.{list_any}
+use Rattle.std.proofs.Common.{refl, sym, ap, ◌∙◌, arith}
+use Rattle.std.proofs.lemmas.Bool.{eq-eqb}
 use Rattle.std.proofs.lemmas.Option.{slice_get-map}
 use Rattle.owners.specs.declared.holding.Holding.{Holding}
 use Rattle.owners.specs.declared.claim.SlotClaim.{SlotClaim}
 use Rattle.owners.specs.Queues.{Claim, is_on}
 use Rattle.owners.specs.Registry.{Registry, IsRegistry, is_held_by, is_unused, kept, settled, slot_of, max_claims}
-use Rattle.owners.specs.Kept.{name_at, shown, registry, is_name, is_on_slot, are_held, kept_if, kept_at, IsPlaced, AreUsed, IsKept}
+use Rattle.owners.specs.Kept.{name_at, shown, registry, is_name, is_on_slot, kept_at, IsPlaced, IsKept}
 use Rattle.owners.proofs.Lists.{Each, Each-weaker, Each-both, Each-any, Each-map, all-from_Each, and_false, any-map, map-same, finds, length-map, same_elements}
 use Rattle.owners.proofs.Placed.{tells_own, HeldAt, each_held, holds_name, name_same, slot_holds, on_agrees}
 

@@ -1,9 +1,8 @@
 -- The steps on kept claims and slots are those on names.
-use Rattle.std.specs.Prelude.{◌≡◌, ◌<◌, ◌≤◌, ◌+◌, ◌-◌, ℕ, zero, suc, Bool, true, false, not, List, [], ◌∷◌, ◌++◌, Option, Some, None, Result, Ok, Err, map, find, filter, length, option_map, slice_get, replicate, is_none, is_some, is_ok, nat_lt, nat_eq, unwrap_or, ◌&&◌, ◌||◌, ◌==◌, ◌⊎◌, if◌then◌else◌}
-use Rattle.std.specs.List.{list_any, list_all}
-use Rattle.std.specs.Option.{option_eq}
-use Rattle.std.proofs.Common.{refl, sym, ap, subst, ◌∙◌, arith, inl, inr}
-use Rattle.std.proofs.lemmas.Bool.{false≢true, eqb-true, eq-eqb}
+use Rattle.std.specs.Prelude.{◌≡◌, ◌≤◌, ◌+◌, ◌-◌, ℕ, Bool, true, false, not, List, [], ◌∷◌, Option, Some, None, Result, Ok, Err, map, find, filter, length, option_map, slice_get, is_none, is_some, is_ok, nat_lt, ◌&&◌, ◌==◌, ◌⊎◌, if◌then◌else◌}
+use Rattle.std.specs.List.{list_any}
+use Rattle.std.proofs.Common.{refl, sym, ap, ◌∙◌, arith, inl, inr}
+use Rattle.std.proofs.lemmas.Bool.{eqb-true}
 use Rattle.owners.specs.declared.holding.Holding.{Holding}
 use Rattle.owners.specs.declared.claim.SlotClaim.{SlotClaim}
 use Rattle.owners.specs.declared.step.Step.{Step}
@@ -13,11 +12,11 @@ use Rattle.owners.specs.declared.error.ClaimError.TheVariants.{NamesFull, QueueF
 use Rattle.owners.specs.declared.answer.Named.{Named}
 use Rattle.owners.specs.declared.answer.NameReply.{NameReply}
 use Rattle.owners.specs.declared.answer.NameReply.TheVariants.{Released, NonExistent, NotOwner}
-use Rattle.owners.specs.Queues.{Claim, is_on, is_of, is_claim, owner_of, requested, request_reply, release_reply, first_claim, without, without_all, has_claim}
-use Rattle.owners.specs.Registry.{Registry, settled, slot_of, slot_next, with_rules, put_at, rules_of, rules_at, is_unused, max_claims, max_names, request_answer, after_request, release_answer, after_release, after_drop_all, after_slot_for, after_slot_free, change_of, change_between, is_owned_slot, is_owned_holding, least, names_of, least_of, next_name, is_after}
-use Rattle.owners.specs.Kept.{name_at, shown, registry, is_name, is_on_slot, is_by, is_slot_claim, slot_without, slot_with_flags, without_owner, step_done, is_over, reply_of, change_for, slot_owner, slot_release_reply, slot_release_answer, claim_name, are_held, IsPlaced, AreUsed, IsKept}
-use Rattle.owners.proofs.Lists.{Each, Each-weaker, Each-always, Each-filter, Each-append, Each-map, all-from_Each, and_false, filter-map, find-map, any-map, map-map, length-map, length-filter-le, slice_get-set_same}
-use Rattle.owners.proofs.Placed.{Tells, tells_own, next_tells, known_tells, no_slot_number, HeldAt, each_held, on_agrees, claim_agrees, held_slots, read_held}
+use Rattle.owners.specs.Queues.{Claim, is_on, is_of, is_claim, owner_of, requested, request_reply, release_reply, first_claim, without, has_claim}
+use Rattle.owners.specs.Registry.{Registry, settled, slot_next, with_rules, put_at, rules_of, rules_at, is_unused, max_claims, request_answer, after_request, release_answer, after_release, after_drop_all, after_slot_for, after_slot_free, change_of, change_between}
+use Rattle.owners.specs.Kept.{name_at, shown, registry, is_name, is_on_slot, is_by, is_slot_claim, slot_without, without_owner, step_done, is_over, reply_of, change_for, slot_owner, slot_release_answer, AreUsed, IsKept}
+use Rattle.owners.proofs.Lists.{Each, Each-weaker, Each-always, Each-filter, Each-append, Each-map, all-from_Each, filter-map, find-map, any-map, length-map, length-filter-le, slice_get-set_same}
+use Rattle.owners.proofs.Placed.{Tells, tells_own, next_tells, HeldAt, each_held, on_agrees, claim_agrees, held_slots, read_held}
 use Rattle.owners.proofs.HeldSlots.{placed_still, each_held_still, shown_still}
 use Rattle.owners.proofs.Requested.{step_for, step_shown, step_fits, without_shown}
 use Rattle.owners.proofs.OwnerChanges.{request_changes}

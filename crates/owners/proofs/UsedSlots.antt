@@ -1,5 +1,5 @@
 -- After a request each slot has a claim or a rule still.
-use Rattle.std.specs.Prelude.{◌≡◌, ◌<◌, ℕ, Bool, true, false, not, List, [], ◌∷◌, ◌++◌, Option, Some, None, find, filter, length, slice_get, ◌&&◌, ◌||◌, ◌==◌, ◌⊎◌, if◌then◌else◌}
+use Rattle.std.specs.Prelude.{◌≡◌, ◌<◌, ℕ, Bool, true, false, not, List, [], ◌∷◌, ◌++◌, Option, Some, None, find, length, slice_get, ◌&&◌, ◌==◌, ◌⊎◌, if◌then◌else◌}
 use Rattle.std.specs.List.{list_any}
 use Rattle.std.proofs.Common.{refl, sym, ap, ◌∙◌, inl, inr}
 use Rattle.std.proofs.lemmas.Bool.{false≢true, eqb-true, eq-eqb}
@@ -9,7 +9,7 @@ use Rattle.owners.specs.declared.step.Step.{Step}
 use Rattle.owners.specs.declared.step.Step.TheVariants as steps
 use Rattle.owners.specs.Queues.{has_flag, do_not_queue}
 use Rattle.owners.specs.Registry.{is_unused}
-use Rattle.owners.specs.Kept.{is_on_slot, is_by, is_slot_claim, slot_without, slot_with_flags, without_owner, step_of, step_done, AreUsed}
+use Rattle.owners.specs.Kept.{is_on_slot, is_slot_claim, slot_without, slot_with_flags, without_owner, step_of, step_done, AreUsed}
 use Rattle.owners.proofs.Lists.{Each-always, and_false, or_left, or_right, any-map, find-filter, any-from_find, any-filter, any-append, any-append_last}
 use Rattle.owners.proofs.Placed.{held_slots, read_held}
 use Rattle.owners.proofs.Requested.{step_for}

@@ -1,7 +1,6 @@
 -- Inner: the claims as they are kept, each with the slot of its name.
-use Rattle.std.specs.Prelude.{◌≡◌, ◌≤◌, ◌+◌, ℕ, Bool, true, false, not, List, [], ◌∷◌, ◌++◌, Option, Some, None, map, filter, find, length, option_map, is_some, is_none, slice_get, nat_lt, nat_le, nat_eq, ◌&&◌, ◌||◌, ◌==◌, if◌then◌else◌}
+use Rattle.std.specs.Prelude.{◌≡◌, ◌≤◌, ℕ, Bool, true, false, not, List, [], ◌∷◌, ◌++◌, Option, Some, None, map, filter, find, length, option_map, is_some, is_none, slice_get, nat_lt, nat_le, ◌&&◌, ◌==◌, if◌then◌else◌}
 use Rattle.std.specs.List.{list_any, list_all}
-use Rattle.std.specs.Option.{option_eq}
 use Rattle.owners.specs.declared.holding.Holding.{Holding}
 use Rattle.owners.specs.declared.claim.SlotClaim.{SlotClaim}
 use Rattle.owners.specs.declared.step.Step.{Step}

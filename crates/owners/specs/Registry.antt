@@ -1,5 +1,5 @@
 -- The names with their claims and slots, and each step on them (D-Bus Specification, "Message Bus Names").
-use Rattle.std.specs.Prelude.{◌≡◌, ◌≤◌, ◌+◌, ◌-◌, ℕ, Bool, true, false, not, List, [], ◌∷◌, Option, Some, None, Result, Ok, Err, map, filter, length, replicate, is_none, is_some, is_ok, slice_get, slice_set, option_map, nat_lt, nat_eq, ◌&&◌, ◌==◌, if◌then◌else◌}
+use Rattle.std.specs.Prelude.{◌≡◌, ◌≤◌, ◌+◌, ◌-◌, ℕ, Bool, true, false, not, List, [], ◌∷◌, Option, Some, None, Result, Ok, Err, map, filter, length, replicate, is_none, is_some, is_ok, slice_get, slice_set, nat_lt, nat_eq, ◌&&◌, ◌==◌, if◌then◌else◌}
 use Rattle.std.specs.List.{list_any, list_all, position_from}
 use Rattle.std.specs.Option.{option_eq, ok_or}
 use Rattle.std.specs.Str.{bytes_eq}
@@ -12,7 +12,7 @@ use Rattle.owners.specs.declared.answer.Change.{Change}
 use Rattle.owners.specs.declared.answer.Named.{Named}
 use Rattle.owners.specs.declared.answer.Dropped.{Dropped}
 use Rattle.owners.specs.declared.answer.Dropped.TheVariants.{Nothing, Waiting, Changed}
-use Rattle.owners.specs.Queues.{Claim, is_on, is_of, owner_of, first_claim, has_claim, without, without_all, requested, request_reply, release_reply}
+use Rattle.owners.specs.Queues.{Claim, is_on, is_of, owner_of, first_claim, without, without_all, requested, request_reply, release_reply}
 
 -- how many names can have a slot
 abbrev pub max_names : ℕ

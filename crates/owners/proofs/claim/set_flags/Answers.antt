@@ -1,4 +1,3 @@
-use Rattle.owners.proofs.UsedSlots.{used_after}
 use Rattle.std.proofs.Common.{◌≡◌, ◌++◌, map, take, drop, set, get_or, ap, ◌∙◌, arith, add-one}
 use Rattle.std.specs.Prelude.{if◌then◌else◌}
 use Rattle.owners.specs.declared.claim.SlotClaim.{SlotClaim}

@@ -1,4 +1,4 @@
-use Rattle.std.proofs.Common.{get_or, ◌≡◌, arith}
+use Rattle.std.proofs.Common.{get_or, arith}
 use Rattle.summary.specs.Sets.{has_slot}
 use Rattle.owners.specs.declared.claim.SlotClaim.{SlotClaim}
 use Rattle.owners.proofs.MarkedSlots.{rest_at, marked_more, slots_rest}

@@ -1,4 +1,4 @@
-use Rattle.std.specs.Prelude.{◌≡◌, ◌+◌, ◌==◌, ℕ, Bool, not, get_or, drop, ◌∷◌}
+use Rattle.std.specs.Prelude.{not, get_or}
 use Rattle.std.proofs.Common.{sym, ap, ◌∙◌, arith}
 use Rattle.summary.specs.Sets.{has_slot}
 use Rattle.owners.specs.declared.claim.SlotClaim.{SlotClaim}

@@ -1,5 +1,5 @@
 use Rattle.std.proofs.lemmas.Bool.{ltb-false}
-use Rattle.std.proofs.Common.{◌≤◌, ◌≡◌, ◌-◌, ℕ, true, false, sym, ap, subst, ◌∙◌, length}
+use Rattle.std.proofs.Common.{◌≤◌, ◌≡◌, ℕ, true, false, sym, ap, subst, ◌∙◌, length}
 use Rattle.std.specs.Prelude.{Some, find, option_map, nat_lt}
 use Rattle.std.specs.List.{list_any}
 use Rattle.owners.specs.declared.claim.SlotClaim.{SlotClaim}

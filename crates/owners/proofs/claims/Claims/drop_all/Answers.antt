@@ -1,10 +1,10 @@
-use Rattle.std.proofs.Common.{◌≡◌, ◌-◌, sym, ap, subst, ◌∙◌, arith, length}
-use Rattle.std.specs.Prelude.{not, filter, slice_get}
+use Rattle.std.proofs.Common.{◌≡◌, sym, ap, subst, ◌∙◌, arith}
+use Rattle.std.specs.Prelude.{not, filter}
 use Rattle.std.specs.List.{list_any}
 use Rattle.summary.specs.Sets.{has_slot}
 use Rattle.owners.specs.declared.claim.SlotClaim.{SlotClaim}
 use Rattle.owners.specs.Registry.{after_drop_all}
-use Rattle.owners.specs.Kept.{registry, is_on_slot, is_by, are_slots, IsKept, kept_at}
+use Rattle.owners.specs.Kept.{registry, is_on_slot, is_by, are_slots, IsKept}
 use Rattle.owners.proofs.Lists.{Each-filter}
 use Rattle.owners.proofs.Placed.{HeldAt, each_held}
 use Rattle.owners.proofs.Settled.{AreLetGo, let_go_by, kept_is_registry}

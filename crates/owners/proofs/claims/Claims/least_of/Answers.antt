@@ -1,4 +1,4 @@
-use Rattle.std.proofs.Common.{◌-◌, ap, subst, ◌∙◌, map}
+use Rattle.std.proofs.Common.{ap, subst, ◌∙◌, map}
 use Rattle.std.specs.Prelude.{filter}
 use Rattle.owners.specs.Registry.{Registry, IsRegistry, least, least_of}
 use Rattle.owners.specs.Kept.{is_by, claim_name}

@@ -1,10 +1,10 @@
-use Rattle.std.proofs.Common.{◌≡◌, ◌-◌, sym, ap, subst, ◌∙◌, arith, length}
-use Rattle.std.specs.Prelude.{not, slice_get, unwrap_or}
+use Rattle.std.proofs.Common.{◌≡◌, sym, ap, subst, ◌∙◌, arith}
+use Rattle.std.specs.Prelude.{not, unwrap_or}
 use Rattle.std.specs.List.{list_any}
 use Rattle.summary.specs.Sets.{has_slot}
 use Rattle.owners.specs.declared.claim.SlotClaim.{SlotClaim}
 use Rattle.owners.specs.Registry.{slot_of, release_answer, after_release}
-use Rattle.owners.specs.Kept.{registry, is_on_slot, is_slot_claim, slot_without, slot_release_answer, are_slots, IsKept, kept_at}
+use Rattle.owners.specs.Kept.{registry, is_on_slot, is_slot_claim, slot_without, slot_release_answer, are_slots, IsKept}
 use Rattle.owners.proofs.Lists.{Each-filter}
 use Rattle.owners.proofs.Placed.{Tells, known_tells, no_slot_number, HeldAt, each_held}
 use Rattle.owners.proofs.Settled.{AreLetGo, let_go_by, kept_is_registry}

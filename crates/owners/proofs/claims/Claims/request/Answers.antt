@@ -1,4 +1,4 @@
-use Rattle.std.proofs.Common.{◌≤◌, ◌≡◌, ◌-◌, sym, ap, subst, ◌∙◌, arith, length}
+use Rattle.std.proofs.Common.{◌≤◌, ◌≡◌, sym, ap, subst, ◌∙◌, length}
 use Rattle.std.specs.Prelude.{slice_get}
 use Rattle.owners.specs.declared.step.Step.{Step}
 use Rattle.owners.specs.Registry.{IsRegistry, rules_of, rules_at, max_claims, after_request}

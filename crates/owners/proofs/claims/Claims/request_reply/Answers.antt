@@ -1,4 +1,4 @@
-use Rattle.std.proofs.Common.{◌-◌, subst}
+use Rattle.std.proofs.Common.{subst}
 use Rattle.owners.specs.Registry.{IsRegistry}
 use Rattle.owners.proofs.Settled.{kept_is_registry}
 use Rattle.owners.proofs.claims.Claims.request_reply.Goals as goal

@@ -1,4 +1,4 @@
-use Rattle.std.proofs.Common.{◌≡◌, ◌+◌, ◌-◌, sym, ap, subst, ◌∙◌, arith, length}
+use Rattle.std.proofs.Common.{◌≡◌, ◌+◌, sym, ap, subst, ◌∙◌, arith}
 use Rattle.std.specs.Prelude.{Some, slice_get}
 use Rattle.owners.specs.Registry.{Registry, IsRegistry, slot_next, rules_of, rules_at, after_slot_for}
 use Rattle.owners.specs.Kept.{registry, IsKept}

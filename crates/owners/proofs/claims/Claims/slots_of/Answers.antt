@@ -1,4 +1,4 @@
-use Rattle.std.proofs.Common.{◌-◌, sym, ap, subst, ◌∙◌}
+use Rattle.std.proofs.Common.{sym, ap, subst, ◌∙◌}
 use Rattle.std.specs.Prelude.{Some, nat_eq}
 use Rattle.std.specs.Option.{option_eq}
 use Rattle.owners.specs.Registry.{Registry, IsRegistry, is_owned_slot}
