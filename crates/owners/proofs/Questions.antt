@@ -7,11 +7,11 @@ use Rattle.std.proofs.lemmas.Bool.Decides.{Decides-ltb}
 use Rattle.std.proofs.lemmas.Option.{slice_get_within, slice_get_past}
 use Rattle.owners.specs.declared.holding.Holding.{Holding}
 use Rattle.owners.specs.declared.claim.SlotClaim.{SlotClaim}
-use Rattle.owners.specs.Queues.{Claim, is_of}
+use Rattle.owners.specs.Queues.{queue_of, is_on, Claim, is_of}
 use Rattle.owners.specs.Registry.{lesser, least, least_of, next_name, is_after, is_owned_slot, is_owned_holding, max_names, slot_of, rules_at, rules_in, rules_of, slot_next, first_free, or_else}
-use Rattle.owners.specs.Kept.{shown, registry, is_name, is_on_slot, is_by, slot_owner, claim_name, are_slots, IsKept}
+use Rattle.owners.specs.Kept.{slot_queue, shown, registry, is_name, is_on_slot, is_by, slot_owner, claim_name, are_slots, IsKept}
 use Rattle.owners.proofs.Lists.{Each, Each-weaker, Each-always, all-from_Each, filter-map, map-map}
-use Rattle.owners.proofs.Placed.{tells_own, HeldAt, each_held, no_slot_number}
+use Rattle.owners.proofs.Placed.{Tells, on_agrees, tells_own, HeldAt, each_held, no_slot_number}
 use Rattle.owners.proofs.Steps.{owner_shown}
 
 -- ---- the slots that a connection owns
@@ -55,6 +55,13 @@ slot_fits slots size c h = by (slice_get slots c.slot) refl h
 pub slots_fit : (slots : List (Option Holding)) → length slots ≡ max_names → (claims : List SlotClaim) → Each (HeldAt slots) claims → are_slots claims ≡ true
 slots_fit slots size claims e =
     all-from_Each (λ (c : SlotClaim). nat_lt c.slot max_names) claims (Each-weaker (HeldAt slots) (λ (c : SlotClaim). nat_lt c.slot max_names ≡ true) (slot_fits slots size) claims e)
+
+-- ---- the queue of a name
+
+pub queue_shown : (slots : List (Option Holding)) (slot : ℕ) (name : List ℕ) → Tells slots slot name → (claims : List SlotClaim) → Each (HeldAt slots) claims → slot_queue slot claims ≡ queue_of name (map (shown slots) claims)
+queue_shown slots slot name t claims e =
+    sym (ap (map (λ (c : Claim). c.connection)) (filter-map (is_on name) (is_on_slot slot) (shown slots) claims (on_agrees slots slot name t claims e))
+    ∙ map-map (λ (c : Claim). c.connection) (shown slots) (filter (is_on_slot slot) claims))
 
 -- ---- the rules of a name
 

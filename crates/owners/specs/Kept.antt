@@ -146,3 +146,7 @@ claim_name slots claim = name_at (slice_get slots claim.slot)
 
 abbrev pub is_named_after : Option (List ℕ) → List (Option Holding) → SlotClaim → Bool
 is_named_after other slots claim = is_after other (claim_name slots claim)
+
+-- the connections with a claim on the name that has the slot
+abbrev pub slot_queue : ℕ → List SlotClaim → List ℕ
+slot_queue slot claims = map (λ (c : SlotClaim). c.connection) (filter (is_on_slot slot) claims)

@@ -9,6 +9,7 @@ use crate::holding::{Holding, hold, known_slot, let_go, rules_at, slot_next, slo
 use crate::least::{copy_of, least_after, least_of};
 use crate::marks::{claimed_slots, owned_slots};
 use crate::plan::plan_of;
+use crate::queue::Queue;
 use crate::release::{dropped_by, release_answer};
 use crate::step::do_step;
 use crate::well_known::WellKnown;
@@ -197,6 +198,15 @@ impl Claims {
     {
         let slot = known_slot(self.slots.as_slice(), name);
         connection_of(first_on(self.claims.as_slice(), slot))
+    }
+
+    /// The connections that own a name or wait for it, in order, the primary owner first.
+    pub fn queue_of(&self, name: &str) -> Queue<'_>
+        ensures queue { result ≡ queue_of name.now self.now.claims }
+        ensures registry { IsRegistry self.now }
+    {
+        let slot = known_slot(self.slots.as_slice(), name);
+        Queue::new(self.claims.as_slice(), slot)
     }
 
     /// The least owned name after another in the order of bytes, or the least of all.

@@ -92,6 +92,10 @@ fn takeover_and_close(rt: HostRuntime) -> Result<(), Fail> {
         changed(NameReply::PrimaryOwner, &name, Some(1), Some(2))
     );
     assert_eq!(rt; claims.owner_of("com.example.A"), Some(2));
+    let mut queue = claims.queue_of("com.example.A");
+    assert_eq!(rt; queue.next(), Some(2));
+    assert_eq!(rt; queue.next(), Some(1));
+    assert_eq!(rt; queue.next(), None);
     claims.drop_all(2);
     assert_eq!(rt; claims.owner_of("com.example.A"), Some(1));
     Ok(())
