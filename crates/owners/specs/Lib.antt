@@ -1,0 +1,6 @@
+pub mod Numbers
+pub mod WellKnown
+pub mod Queues
+pub mod Registry
+pub mod Kept
+pub mod Plan

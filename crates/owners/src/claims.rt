@@ -1,0 +1,286 @@
+// The names with their claims and slots.
+
+ghost use Rattle.std.specs.Prelude.{◌≡◌, None, replicate, IfOk};
+
+use crate::answer::{Dropped, Named};
+use crate::claim::{SlotClaim, connection_of, first_on, remove, remove_all};
+use crate::error::ClaimError;
+use crate::holding::{Holding, hold, known_slot, let_go, rules_at, slot_next, slot_of};
+use crate::least::{copy_of, least_after, least_of};
+use crate::marks::{claimed_slots, owned_slots};
+use crate::plan::plan_of;
+use crate::queue::Queue;
+use crate::release::{dropped_by, release_answer};
+use crate::step::do_step;
+use crate::well_known::WellKnown;
+use std::alloc::{AllocError, Global};
+use std::marker::Model;
+use summary::Slots;
+
+/// How many names can have a slot.
+pub const MAX_NAMES: usize = 1024;
+
+/// How many claims there can be.
+pub const MAX_CLAIMS: usize = 4096;
+
+/// How many rules can have one name as their sender.
+pub const MAX_RULES: u32 = 16384;
+
+/// The claims of connections on well-known names, and the slots of the names. All its room is taken by `new`.
+#[derive(Drop)]
+pub struct Claims {
+    claims: Vec<SlotClaim>,
+    slots: Vec<Option<Holding>>,
+}
+
+impl Model for Claims {
+    ghost use Rattle.std.specs.Prelude.{◌≤◌, vec_capacity};
+    ghost use Rattle.owners.specs.Registry.{Registry};
+
+    ghost Value = { Registry };
+
+    ghost use Rattle.owners.specs.Kept.{registry, IsKept};
+
+    ghost view = { λ c. registry c.claims.items c.slots.items };
+
+    ghost invariant = { λ c. IsKept c.claims.items c.slots.items × (4096 ≤ vec_capacity c.claims) };
+}
+
+/// As many free slots as there can be names.
+fn free_slots(alloc: Global) -> Result<Vec<Option<Holding>>, AllocError>
+    ensures { IfOk result (λ slots. slots.items ≡ replicate 1024 None) }
+{
+    let mut slots = Vec::with_capacity(alloc, MAX_NAMES)?;
+    for _place in 0..MAX_NAMES {
+        slots.push(None)?;
+    }
+    Ok(slots)
+}
+
+impl Claims {
+    ghost use Rattle.std.specs.Prelude.{◌≡◌, ◌<◌, ◌+◌, ℕ, List, Some, option_map, IfOk};
+    ghost use Rattle.summary.specs.Sets.{has_slot, IsSet};
+    ghost use Rattle.owners.specs.Queues.{owner_of, queue_of};
+    ghost use Rattle.owners.specs.Registry.{IsRegistry, opening, slot_of, slot_next, rules_of, request_answer, after_request, release_answer, after_release, least_of, drop_one_answer, after_drop_one, after_drop_all, after_slot_for, after_slot_free, slot_for_answer, is_owned_slot, next_name};
+
+    /// No claims and no names.
+    pub fn new(alloc: Global) -> Result<Claims, AllocError>
+        ensures opening { IfOk result (λ names. names ≡ opening) }
+        ensures registry { IfOk result (λ names. IsRegistry names) }
+    {
+        let claims = Vec::with_capacity(alloc, MAX_CLAIMS)?;
+        let slots = free_slots(alloc)?;
+        Ok(Claims { claims, slots })
+    }
+
+    /// What `request` would answer.
+    pub fn request_reply(
+        &self,
+        name: &WellKnown,
+        connection: u64,
+        flags: u32,
+    ) -> Result<Named, ClaimError>
+        ensures answer { result ≡ request_answer name.now connection flags self.now }
+        ensures registry { IsRegistry self.now }
+    {
+        let plan = plan_of(
+            self.claims.as_slice(),
+            self.slots.as_slice(),
+            name,
+            connection,
+            flags,
+        )?;
+        Ok(plan.named)
+    }
+
+    /// A connection asks for a name (RequestName). After an error nothing has changed.
+    ///
+    /// # Errors
+    ///
+    /// NamesFull where the name has no slot and none is free, then QueueFull where there would be more than
+    /// 4,096 claims.
+    pub fn request(
+        &mut self,
+        name: &WellKnown,
+        connection: u64,
+        flags: u32,
+    ) -> Result<Named, ClaimError>
+        ensures answer { result ≡ request_answer name.now connection flags self.old }
+        ensures after { self.new ≡ after_request name.now connection flags self.old }
+        ensures registry { IsRegistry self.new }
+    {
+        let plan = plan_of(
+            self.claims.as_slice(),
+            self.slots.as_slice(),
+            name,
+            connection,
+            flags,
+        )?;
+        let claim = SlotClaim {
+            connection,
+            flags,
+            slot: plan.slot,
+        };
+        let rules = rules_at(self.slots.as_slice(), plan.slot);
+        do_step(&mut self.claims, plan.step, claim);
+        hold(&mut self.slots, plan.slot, name, rules);
+        Ok(plan.named)
+    }
+
+    /// What `release` would answer.
+    pub fn release_reply(&self, name: &WellKnown, connection: u64) -> Named
+        ensures answer { result ≡ release_answer name.now connection self.now }
+        ensures registry { IsRegistry self.now }
+    {
+        let slot = known_slot(self.slots.as_slice(), name.as_str());
+        release_answer(self.claims.as_slice(), slot, name, connection)
+    }
+
+    /// A connection gives up its claim on a name, whether it owns it or waits for it (ReleaseName).
+    pub fn release(&mut self, name: &WellKnown, connection: u64) -> Named
+        ensures answer { result ≡ release_answer name.now connection self.old }
+        ensures after { self.new ≡ after_release name.now connection self.old }
+        ensures registry { IsRegistry self.new }
+    {
+        let slot = known_slot(self.slots.as_slice(), name.as_str());
+        let named = release_answer(self.claims.as_slice(), slot, name, connection);
+        remove(&mut self.claims, slot, connection);
+        let claimed = claimed_slots(self.claims.as_slice());
+        let_go(&mut self.slots, &claimed);
+        named
+    }
+
+    /// The least of the names that a connection has a claim on.
+    fn least_of(&self, connection: u64) -> Option<WellKnown>
+        ensures name { result ≡ least_of connection self.now.claims }
+        ensures registry { IsRegistry self.now }
+    {
+        least_of(self.claims.as_slice(), self.slots.as_slice(), connection)
+    }
+
+    /// What `drop_one` would answer.
+    pub fn drop_one_reply(&self, connection: u64) -> Dropped
+        ensures answer { result ≡ drop_one_answer connection self.now }
+        ensures registry { IsRegistry self.now }
+    {
+        match self.least_of(connection) {
+            Some(name) => dropped_by(self.release_reply(&name, connection)),
+            None => Dropped::Nothing,
+        }
+    }
+
+    /// A connection gives up its claim on the least of its names, in the order of bytes.
+    pub fn drop_one(&mut self, connection: u64) -> Dropped
+        ensures answer { result ≡ drop_one_answer connection self.old }
+        ensures after { self.new ≡ after_drop_one connection self.old }
+        ensures registry { IsRegistry self.new }
+    {
+        let Some(name) = self.least_of(connection) else {
+            return Dropped::Nothing;
+        };
+        dropped_by(self.release(&name, connection))
+    }
+
+    /// A connection gives up all its claims.
+    pub fn drop_all(&mut self, connection: u64)
+        ensures after { self.new ≡ after_drop_all connection self.old }
+        ensures registry { IsRegistry self.new }
+    {
+        remove_all(&mut self.claims, connection);
+        let claimed = claimed_slots(self.claims.as_slice());
+        let_go(&mut self.slots, &claimed);
+    }
+
+    /// The primary owner of a name, if it has one.
+    pub fn owner_of(&self, name: &str) -> Option<u64>
+        ensures owner { result ≡ owner_of name.now self.now.claims }
+        ensures registry { IsRegistry self.now }
+    {
+        let slot = known_slot(self.slots.as_slice(), name);
+        connection_of(first_on(self.claims.as_slice(), slot))
+    }
+
+    /// The connections that own a name or wait for it, in order, the primary owner first.
+    pub fn queue_of(&self, name: &str) -> Queue<'_>
+        ensures queue { result ≡ queue_of name.now self.now.claims }
+        ensures registry { IsRegistry self.now }
+    {
+        let slot = known_slot(self.slots.as_slice(), name);
+        Queue::new(self.claims.as_slice(), slot)
+    }
+
+    /// The least owned name after another in the order of bytes, or the least of all.
+    pub fn next_name(&self, after: Option<&WellKnown>) -> Option<WellKnown>
+        ensures name { result ≡ next_name (option_map (λ name. name.now) after.entry) self.now.claims }
+        ensures registry { IsRegistry self.now }
+    {
+        let other = copy_of(after);
+        least_after(self.claims.as_slice(), self.slots.as_slice(), &other)
+    }
+
+    /// The slots of the names that a connection is the primary owner of.
+    pub fn slots_of(&self, connection: u64) -> Slots
+        ensures owned { (slot : ℕ) → has_slot result slot ≡ is_owned_slot connection self.now slot }
+        ensures set { IsSet result }
+        ensures registry { IsRegistry self.now }
+    {
+        owned_slots(self.claims.as_slice(), connection)
+    }
+
+    /// The slot that a name has.
+    pub fn slot_of(&self, name: &str) -> Option<u16>
+        ensures slot { result ≡ slot_of name.now self.now.slots }
+        ensures registry { IsRegistry self.now }
+    {
+        slot_of(self.slots.as_slice(), name)
+    }
+
+    /// The slot that a name has, else the lowest free one; None where all are used.
+    pub fn slot_next(&self, name: &str) -> Option<u16>
+        ensures slot { result ≡ slot_next name.now self.now.slots }
+        ensures registry { IsRegistry self.now }
+    {
+        slot_next(self.slots.as_slice(), name)
+    }
+
+    /// How many rules have a name as their sender.
+    pub fn rules_of(&self, name: &str) -> u32
+        ensures rules { result ≡ rules_of name.now self.now.slots }
+        ensures registry { IsRegistry self.now }
+    {
+        let slot = known_slot(self.slots.as_slice(), name);
+        rules_at(self.slots.as_slice(), slot)
+    }
+
+    /// A rule with the name as its sender is added; the name's slot. After an error nothing has changed.
+    ///
+    /// # Errors
+    ///
+    /// NamesFull where the name has no slot and none is free.
+    pub fn slot_for(&mut self, name: &WellKnown) -> Result<u16, ClaimError>
+        requires { rules_of name.now self.old.slots < 16384 }
+        ensures slot { result ≡ slot_for_answer name.now self.old }
+        ensures after { self.new ≡ after_slot_for name.now self.old }
+        ensures registry { IsRegistry self.new }
+    {
+        let Some(slot) = slot_next(self.slots.as_slice(), name.as_str()) else {
+            return Err(ClaimError::NamesFull);
+        };
+        let rules = rules_at(self.slots.as_slice(), slot);
+        hold(&mut self.slots, slot, name, rules + 1);
+        Ok(slot)
+    }
+
+    /// A rule with the name as its sender is removed.
+    pub fn slot_free(&mut self, name: &WellKnown)
+        requires { 0 < rules_of name.now self.old.slots }
+        ensures after { self.new ≡ after_slot_free name.now self.old }
+        ensures registry { IsRegistry self.new }
+    {
+        let slot = known_slot(self.slots.as_slice(), name.as_str());
+        let rules = rules_at(self.slots.as_slice(), slot);
+        hold(&mut self.slots, slot, name, rules - 1);
+        let claimed = claimed_slots(self.claims.as_slice());
+        let_go(&mut self.slots, &claimed);
+    }
+}
