@@ -12,3 +12,4 @@ pub mod ValueBytes
 pub mod ReadRules
 pub mod Namespaces
 pub mod TextArgs
+pub mod FixedFound

@@ -1,13 +1,10 @@
-// A library with one function.
+//! Lists over the places 0 to N - 1, each place in one list at most: a place is put at the front of a list and taken
+//! out of its midst in constant time, and nothing grows. The layers above use that each list is as it was but for
+//! the place that was put or taken.
 #![tactic(auto)]
 
-ghost use Rattle.std.specs.Prelude.{◌≡◌};
-ghost use Rattle.place_lists.specs.Echo.{echo_of};
+mod lists;
+mod walk;
 
-// The `ensures` clause is the contract: what `echo` returns is `echo_of` of its argument, a definition
-// in `specs/Echo.antt`, which a caller's clause can cite too.
-pub fn echo(x: usize) -> usize
-    ensures { result ≡ echo_of x }
-{
-    x
-}
+pub use lists::Lists;
+pub use walk::Walk;
