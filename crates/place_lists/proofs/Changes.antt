@@ -98,9 +98,9 @@ module _ (heads next prev : List ℕ) (places_of : ℕ → List ℕ) (h : AreLin
   }
 
 -- what is known after a change, of the lists that the walks give
-pub record Changed (heads next list : List ℕ) (at : ℕ) (heads' next' prev' : List ℕ) : Type 0 where
+pub record Changed (heads next ys : List ℕ) (at : ℕ) (heads' next' prev' : List ℕ) : Type 0 where
   pub linked : AreLinked heads' next' prev' (list_of heads' next')
-  pub view : map (list_from next') heads' ≡ set (map (list_from next) heads) at list
+  pub view : map (list_from next') heads' ≡ set (map (list_from next) heads) at ys
   pub as_many : length next' ≡ length next
 
 changed_lists : (heads next prev : List ℕ) (h : AreLinked heads next prev (list_of heads next)) (list head : ℕ) (xs next' prev' : List ℕ) → Changes heads next prev (list_of heads next) list head xs next' prev' → Changed heads next xs list (set heads list head) next' prev'
@@ -287,3 +287,51 @@ list_from-next next here low e = sym e ∙ walk-step (length next) next here low
 
 pub list_from-end : (next : List ℕ) (here : ℕ) → length next ≤ here → list_from next here ≡ []
 list_from-end next here above = walk-beyond (length next) next here above
+
+-- a list that contracts see has a head
+pub within-seen : (heads next : List ℕ) (s : PlaceLists) (list : ℕ) → seen heads next ≡ s → list < length s.lists → list < length heads
+within-seen heads next s list e low = omega (arith, ap (λ (t : PlaceLists). length t.lists) e, length-map heads (list_from next))
+
+-- the writes of a push, one after the other
+pub pushed-by : (heads next prev : List ℕ) (list place head : ℕ) (next' between prev' : List ℕ) → AreLinked heads next prev (list_of heads next) → list < length heads → place < length next → IsFree (seen heads next) place
+    → head ≡ get_or heads list end_link → next' ≡ set next place head → between ≡ set prev place end_link → prev' ≡ set between head place
+    → Changed heads next (place ∷ places_in (seen heads next) list) list (set heads list place) next' prev'
+pushed-by heads next prev list place head next' between prev' h within low free is_head is_next is_between is_prev =
+    let ys : List ℕ = place ∷ places_in (seen heads next) list in
+    let old : ℕ = get_or heads list end_link in
+    subst
+    (λ (n : List ℕ). Changed heads next ys list (set heads list place) n prev')
+    (sym (is_next ∙ ap (λ (k : ℕ). set next place k) is_head))
+    (subst
+      (λ (p : List ℕ). Changed heads next ys list (set heads list place) (set next place old) p)
+      (sym (is_prev ∙ ap (λ (l : List ℕ). set l head place) is_between ∙ ap (λ (k : ℕ). set (set prev place end_link) k place) is_head))
+      (pushed heads next prev list place h within low free))
+
+-- the writes of a removal
+pub removed-by : (heads next prev : List ℕ) (list place head before after new_head : ℕ) (next' prev' : List ℕ) → AreLinked heads next prev (list_of heads next) → list < length heads → has_place place (places_in (seen heads next) list) ≡ true
+    → head ≡ get_or heads list end_link → before ≡ get_or prev place end_link → after ≡ get_or next place end_link
+    → new_head ≡ cond (eqb head place) after head → next' ≡ set next before after → prev' ≡ set prev after before
+    → Changed heads next (without place (places_in (seen heads next) list)) list (set heads list new_head) next' prev'
+removed-by heads next prev list place head before after new_head next' prev' h within stands is_head is_before is_after is_new is_next is_prev =
+    let ys : List ℕ = without place (places_in (seen heads next) list) in
+    let old : ℕ = get_or heads list end_link in
+    let p : ℕ = get_or prev place end_link in
+    let q : ℕ = get_or next place end_link in
+    let headed : new_head ≡ cond (eqb old place) q old = is_new ∙ ap (λ (k : ℕ). cond (eqb k place) after k) is_head ∙ ap (λ (k : ℕ). cond (eqb old place) k old) is_after in
+    let forth : next' ≡ set next p q = is_next ∙ ap (λ (k : ℕ). set next k after) is_before ∙ ap (λ (k : ℕ). set next p k) is_after in
+    let back : prev' ≡ set prev q p = is_prev ∙ ap (λ (k : ℕ). set prev k before) is_after ∙ ap (λ (k : ℕ). set prev q k) is_before in
+    subst
+    (λ (k : ℕ). Changed heads next ys list (set heads list k) next' prev')
+    (sym headed)
+    (subst
+      (λ (n : List ℕ). Changed heads next ys list (set heads list (cond (eqb old place) q old)) n prev')
+      (sym forth)
+      (subst
+        (λ (l : List ℕ). Changed heads next ys list (set heads list (cond (eqb old place) q old)) (set next p q) l)
+        (sym back)
+        (removed heads next prev list place h within stands)))
+
+-- what contracts see after a change
+pub seen-changed : (heads next : List ℕ) (list : ℕ) (ys heads' next' prev' : List ℕ) → Changed heads next ys list heads' next' prev' → seen heads' next' ≡ record { lists = set (map (list_from next) heads) list ys; places = length next }
+seen-changed heads next list ys heads' next' prev' c =
+    ap (λ (ls : List (List ℕ)). record { lists = ls; places = length next' }) c.view ∙ ap (λ (n : ℕ). record { lists = set (map (list_from next) heads) list ys; places = n }) c.as_many
