@@ -2,3 +2,4 @@ pub mod CompiledRule
 pub mod AttachedProgram
 pub mod Entries
 pub mod OfferedEntries
+pub mod PlacedEntries

@@ -7,6 +7,7 @@ mod attachment;
 mod entry;
 mod offered;
 mod rule_program;
+mod shelf;
 mod table;
 
 pub use attachment::Attachment;

@@ -1,9 +1,9 @@
 use Rattle.std.proofs.Common.{◌≡◌, ◌<◌, subst, sym, ap, ◌∙◌, arith, ℕ, List, ◌∷◌, length, get_or}
 use Rattle.std.proofs.Math.ListN.{set}
 use Rattle.std.proofs.lemmas.List.{get_or_read}
-use Rattle.place_lists.specs.PlaceLists.{PlaceLists, IsFree, places_in}
+use Rattle.place_lists.specs.PlaceLists.{PlaceLists, AreApart, IsFree, places_in}
 use Rattle.place_lists.specs.Links.{end_link}
-use Rattle.place_lists.proofs.Changes.{Changed, seen, pushed-by, seen-changed, within-seen}
+use Rattle.place_lists.proofs.Changes.{Changed, AreApart-seen, seen, pushed-by, seen-changed, within-seen}
 use Rattle.place_lists.proofs.lists.Lists.push.Goals as goal
 
 change : (c : goal.After-self-1) → Changed c.self.inside.heads.items c.self.inside.next.items (c.args.place ∷ places_in (seen c.self.inside.heads.items c.self.inside.next.items) c.args.list) c.args.list (set c.self.inside.heads.items c.args.list c.args.place) c.set_link.new.links.items c.set_link-3.new.links.items
@@ -20,8 +20,11 @@ change c =
 pub invariant_of-self : goal.invariant_of-self
 invariant_of-self c = (change c).linked
 
-pub returns : goal.returns
-returns c =
+pub returns-clause-apart : goal.returns-clause-apart
+returns-clause-apart c = subst AreApart c.self.view_is (AreApart-seen c.self.inside.heads.items c.self.inside.next.items c.self.inside.prev.items c.self.invariant)
+
+pub returns-clause-pushed : goal.returns-clause-pushed
+returns-clause-pushed c =
     let i = c.self.inside in
     seen-changed i.heads.items i.next.items c.args.list (c.args.place ∷ places_in (seen i.heads.items i.next.items) c.args.list) (set i.heads.items c.args.list c.args.place) c.set_link.new.links.items c.set_link-3.new.links.items (change c)
     ∙ ap (λ (s : PlaceLists). record { lists = set s.lists c.args.list (c.args.place ∷ places_in s c.args.list); places = s.places }) c.self.view_is

@@ -2,9 +2,9 @@ use Rattle.std.proofs.Common.{◌≡◌, ◌<◌, subst, sym, ap, ◌∙◌, ari
 use Rattle.std.proofs.Math.ListN.{set}
 use Rattle.std.proofs.lemmas.List.{get_or_read}
 use Rattle.std.proofs.lemmas.Bool.{eq-eqb, ne_eqb, cond-true, cond-false}
-use Rattle.place_lists.specs.PlaceLists.{PlaceLists, has_place, places_in, without}
+use Rattle.place_lists.specs.PlaceLists.{PlaceLists, AreApart, has_place, places_in, without}
 use Rattle.place_lists.specs.Links.{end_link}
-use Rattle.place_lists.proofs.Changes.{Changed, seen, below, removed-by, seen-changed, within-seen}
+use Rattle.place_lists.proofs.Changes.{Changed, AreApart-seen, seen, below, removed-by, seen-changed, within-seen}
 use Rattle.place_lists.proofs.lists.Lists.remove.Goals as goal
 use Rattle.place_lists.proofs.lists.Lists.remove.Goals.{then-head-place, else-head-place}
 
@@ -51,8 +51,11 @@ change c =
 pub invariant_of-self : goal.invariant_of-self
 invariant_of-self c = (change c).linked
 
-pub returns : goal.returns
-returns c =
+pub returns-clause-apart : goal.returns-clause-apart
+returns-clause-apart c = subst AreApart c.self.view_is (AreApart-seen c.self.inside.heads.items c.self.inside.next.items c.self.inside.prev.items c.self.invariant)
+
+pub returns-clause-removed : goal.returns-clause-removed
+returns-clause-removed c =
     let i = c.self.inside in
     seen-changed i.heads.items i.next.items c.args.list (without c.args.place (places_in (seen i.heads.items i.next.items) c.args.list)) (set i.heads.items c.args.list c.if-head-place.t-30) c.set_link.new.links.items c.set_link-2.new.links.items (change c)
     ∙ ap (λ (s : PlaceLists). record { lists = set s.lists c.args.list (without c.args.place (places_in s c.args.list)); places = s.places }) c.self.view_is
