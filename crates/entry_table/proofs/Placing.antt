@@ -72,7 +72,7 @@ cond_none : (b : Bool) (c : Option Entry) → c ≡ None → cond b c None ≡ c
 cond_none true c e = refl
 cond_none false c e = sym e
 
-pick : (place x : ℕ) (ys : List Placed) → Entry → Bool → Option Entry
+abbrev pick : (place x : ℕ) (ys : List Placed) → Entry → Bool → Option Entry
 pick place x ys e t = option_map {T = Placed} {U = Entry} (λ (y : Placed). y.1) (cond t (Some (x, e)) (find (λ (y : Placed). eqb place y.0) ys))
 
 among_cell : (cells : List (Option Entry)) (place x : ℕ) (ys : List Placed) (has : Bool) → entry_at place ys ≡ cond has (get_or cells place None) None → (c : Option Entry) → get_or cells x None ≡ c → (b : Bool) → eqb place x ≡ b → entry_at place (cons_cell (option_map (λ (e : Entry). (x, e)) c) ys) ≡ cond (b || has) (get_or cells place None) None

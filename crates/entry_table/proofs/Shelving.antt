@@ -1,8 +1,8 @@
 -- What a shelf keeps when an entry is put or taken.
-use Rattle.std.proofs.Common.{◌≡◌, ◌≢◌, ℕ, suc, ◌<◌, ◌≤◌, ◌+◌, Bool, true, false, not, ◌||◌, cond, List, [], ◌∷◌, map, length, get_or, refl, sym, ap, ◌∙◌, subst, eqb, ◌⊎◌, inl, inr, arith, get_or-set_same, get_or-set_other}
+use Rattle.std.proofs.Common.{◌≡◌, ◌≢◌, ℕ, suc, ◌<◌, ◌≤◌, ◌+◌, Bool, true, false, not, ◌||◌, cond, List, [], ◌∷◌, ◌++◌, map, length, get_or, refl, sym, ap, ◌∙◌, subst, eqb, ◌⊎◌, inl, inr, arith, get_or-set_same, get_or-set_other}
 use Rattle.std.proofs.Math.ListN.{set}
-use Rattle.std.proofs.lemmas.List.{length-set, length-map}
-use Rattle.std.proofs.lemmas.Bool.{eqb-true, ne_eqb, eq-eqb, or_left, or_right, or_cases, or_parts, cases_eq, cases_Bool, false≢true, both_ways, cond-true, cond-false, not_from_true, not_from_false}
+use Rattle.std.proofs.lemmas.List.{length-set, length-map, length_push, get_or_append_left, get_or_push, get_or_past}
+use Rattle.std.proofs.lemmas.Bool.{eqb-true, ne_eqb, eq-eqb, or_left, or_right, or_cases, or_parts, cases_eq, cases_lt, cases_Bool, false≢true, both_ways, cond-true, cond-false, not_from_true, not_from_false}
 use Rattle.std.specs.Prelude.{Option, Some, None, is_some}
 use Rattle.place_lists.specs.PlaceLists.{PlaceLists, places_in, has_place, without, AreOnce, AreApart, IsFree}
 use Rattle.place_lists.proofs.Places.{Out, Out-from_test, AreOnce-without, without-here, without-cons}
@@ -165,3 +165,30 @@ pub record IsMade (cells : List (Option Entry)) (ages : PlaceLists) (n : ℕ) : 
   pub none : places_in ages 0 ≡ []
   pub many : length (places_in ages 1) ≡ n
   pub below : (p : ℕ) → has_place p (places_in ages 1) ≡ true → p < n
+
+pub IsMade-more : (cells cells' : List (Option Entry)) (ages ages' : PlaceLists) (n : ℕ) → IsMade cells ages n → cells' ≡ cells ++ None ∷ [] → ages' ≡ record ages { lists = set ages.lists 1 (n ∷ places_in ages 1) } → IsMade cells' ages' (n + 1)
+IsMade-more cells cells' ages ages' n h grown pushed =
+    let first : places_in ages' 0 ≡ [] = ap (λ (s : PlaceLists). places_in s 0) pushed ∙ lists_other ages 1 0 (n ∷ places_in ages 1) (λ e. omega arith) ∙ h.none in
+    let second : places_in ages' 1 ≡ n ∷ places_in ages 1 = ap (λ (s : PlaceLists). places_in s 1) pushed ∙ lists_at ages 1 (n ∷ places_in ages 1) (omega (arith, h.two)) in
+    record {
+      long = ap (λ (xs : List (Option Entry)). length xs) grown ∙ length_push cells None ∙ ap (λ (k : ℕ). k + 1) h.long;
+      empty = λ p. ap (λ (xs : List (Option Entry)). get_or xs p None) grown ∙ empty_at p;
+      places = ap (λ (s : PlaceLists). s.places) pushed ∙ h.places;
+      two = ap (λ (s : PlaceLists). length s.lists) pushed ∙ length-set ages.lists 1 (n ∷ places_in ages 1) ∙ h.two;
+      none = first;
+      many = omega (arith, ap (λ (xs : List ℕ). length xs) second, h.many);
+      below = λ p stands. elim (or_cases (eqb p n) (has_place p (places_in ages 1)) (sym (ap (has_place p) second) ∙ stands)) [
+        inl e ↦ omega (arith, eqb-true p n e)
+      | inr later ↦ omega (arith, h.below p later)
+      ];
+    }
+  where
+    empty_at : (p : ℕ) → get_or (cells ++ None ∷ []) p None ≡ None
+    empty_at p =
+        elim (cases_lt p (length cells)) [
+          inl low ↦ get_or_append_left cells (None ∷ []) None p low ∙ h.empty p
+        | inr above ↦ (elim (cases_eq p (length cells)) [
+            inl e ↦ get_or_push cells None None p (sym e)
+          | inr ne ↦ get_or_past (cells ++ None ∷ []) p None (omega (arith, length_push cells None))
+          ])
+        ]

@@ -3,3 +3,4 @@ pub mod AttachedProgram
 pub mod Entries
 pub mod OfferedEntries
 pub mod PlacedEntries
+pub mod Searching

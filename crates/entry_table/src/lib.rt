@@ -7,6 +7,7 @@ mod attachment;
 mod entry;
 mod offered;
 mod rule_program;
+mod search;
 mod shelf;
 mod table;
 
