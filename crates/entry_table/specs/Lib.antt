@@ -4,3 +4,4 @@ pub mod Entries
 pub mod OfferedEntries
 pub mod PlacedEntries
 pub mod Searching
+pub mod FoundTexts

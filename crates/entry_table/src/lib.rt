@@ -10,6 +10,7 @@ mod rule_program;
 mod search;
 mod shelf;
 mod table;
+mod texts;
 
 pub use attachment::Attachment;
 pub use entry::{Entry, Filter};

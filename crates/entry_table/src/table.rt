@@ -4,6 +4,7 @@ use crate::entry::{Entry, Filter};
 use crate::offered::Offered;
 use crate::search::{Wanted, last_place};
 use crate::shelf::Shelf;
+use crate::texts::Texts;
 use match_rule::Rule;
 use message_view::View;
 use std::alloc::{AllocError, Global};
@@ -169,7 +170,6 @@ impl EntryTable {
     pub fn offered<'a>(&'a self, view: &View<'a>) -> Offered<'a>
         ensures { (m : Message) → Valid view.now m → AreOffered self.now.entries m result }
     {
-        let _ = view.kind();
-        Offered::of(&[])
+        Offered::at(&self.shelf, Texts::of_message(view), self.shelf.walk())
     }
 }
