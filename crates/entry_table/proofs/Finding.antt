@@ -1,12 +1,13 @@
 -- The entry that a search finds, and what is left when it is taken.
-use Rattle.std.proofs.Common.{◌≡◌, ◌≢◌, ℕ, suc, ◌<◌, ◌≤◌, ◌+◌, Bool, true, false, not, ◌||◌, cond, List, [], ◌∷◌, ◌++◌, map, reverse, length, get_or, refl, sym, ap, ◌∙◌, subst, eqb, ◌⊎◌, inl, inr, arith}
+use Rattle.std.proofs.Common.{◌≡◌, ◌≢◌, ℕ, suc, ◌<◌, ◌≤◌, ◌+◌, Bool, true, false, not, ◌||◌, ◌&&◌, cond, List, [], ◌∷◌, ◌++◌, map, reverse, length, get_or, refl, sym, ap, ◌∙◌, subst, eqb, ◌⊎◌, inl, inr, arith}
 use Rattle.std.proofs.lemmas.List.{reverse-append, append-nil, length-reverse, length-map, length_push}
 use Rattle.std.proofs.lemmas.List.Elements.{filter-append, All-nil, All-push}
 use Rattle.std.proofs.lemmas.List.Folds.{find-append}
 use Rattle.std.proofs.lemmas.List.Quantifiers.{all_pairs_push}
 use Rattle.std.proofs.lemmas.Bool.{eqb-true, eqb-false, ne_eqb, eq-eqb, or_left, or_right, or_parts, cases_Bool, cond-true, cond-false, not_from_true, not_from_false, false≢true}
-use Rattle.std.specs.Prelude.{Option, Some, None, option_map, IfSome, find, filter, All, AllPairs}
+use Rattle.std.specs.Prelude.{Option, Some, None, option_map, IfSome, is_some, find, filter, All, AllPairs}
 use Rattle.std.specs.Option.{option_or}
+use Rattle.std.specs.List.{list_any}
 use Rattle.place_lists.specs.PlaceLists.{has_place, AreOnce}
 use Rattle.entry_table.specs.declared.entry.Entry.{Entry}
 use Rattle.entry_table.specs.declared.search.Wanted.{Wanted}
@@ -117,8 +118,8 @@ pub has_place-entry : (place : ℕ) (e : Entry) (held : List Placed) → entry_a
 has_place-entry place e [] at = absurd cc
 has_place-entry place e (x ∷ xs) at =
     elim (cases_Bool (eqb place x.0)) [
-      inl here ↦ or_left (eqb place x.0) (has_place place (places_of xs)) here
-    | inr there ↦ or_right (eqb place x.0) (has_place place (places_of xs)) (has_place-entry place e xs (sym (ap (seen_first place x xs) there) ∙ at))
+      | inl here ↦ or_left (eqb place x.0) (has_place place (places_of xs)) here
+      | inr there ↦ or_right (eqb place x.0) (has_place place (places_of xs)) (has_place-entry place e xs (sym (ap (seen_first place x xs) there) ∙ at))
     ]
 
 but_at-out : (place : ℕ) (xs : List Placed) → has_place place (places_of xs) ≡ false → but_at place xs ≡ xs
@@ -141,8 +142,8 @@ below-at : (id place : ℕ) (e : Entry) (xs : List Placed) → AreBelow id xs �
 below-at id place e [] below at = absurd cc
 below-at id place e (x ∷ xs) below at =
     elim (cases_Bool (eqb place x.0)) [
-      inl here ↦ (let same : x.1 ≡ e = some_same x.1 e (sym (ap (seen_first place x xs) here) ∙ at) in subst (λ (f : Entry). f.id < id) same below.0)
-    | inr there ↦ below-at id place e xs below.1 (sym (ap (seen_first place x xs) there) ∙ at)
+      | inl here ↦ (let same : x.1 ≡ e = some_same x.1 e (sym (ap (seen_first place x xs) here) ∙ at) in subst (λ (f : Entry). f.id < id) same below.0)
+      | inr there ↦ below-at id place e xs below.1 (sym (ap (seen_first place x xs) there) ∙ at)
     ]
   where
     some_same : (f g : Entry) → Some f ≡ Some g → f ≡ g
@@ -156,17 +157,17 @@ removed_entries place e [] once falls at = absurd cc
 removed_entries place e (x ∷ xs) once falls at =
     let seen : List Placed → List Entry = λ ys. map (λ (y : Placed). y.1) ys in
     elim (cases_Bool (eqb place x.0)) [
-      inl here ↦ (
-        let same : x.1 ≡ e = some_one x.1 e (sym (ap (seen_first place x xs) here) ∙ at) in
-        let out : has_place place (places_of xs) ≡ false = ap (λ (k : ℕ). has_place k (places_of xs)) (eqb-true place x.0 here) ∙ once.0 in
-        ap seen (cond-false (not (eqb place x.0)) (x ∷ but_at place xs) (but_at place xs) (not_from_true (eqb place x.0) here) ∙ but_at-out place xs out)
-        ∙ sym (cond-false (not (eqb x.1.id e.id)) (x.1 ∷ others e.id (seen xs)) (others e.id (seen xs)) (not_from_true (eqb x.1.id e.id) (eq-eqb x.1.id e.id (ap (λ (f : Entry). f.id) same)))
+      | inl here ↦ (
+          let same : x.1 ≡ e = some_one x.1 e (sym (ap (seen_first place x xs) here) ∙ at) in
+          let out : has_place place (places_of xs) ≡ false = ap (λ (k : ℕ). has_place k (places_of xs)) (eqb-true place x.0 here) ∙ once.0 in
+          ap seen (cond-false (not (eqb place x.0)) (x ∷ but_at place xs) (but_at place xs) (not_from_true (eqb place x.0) here) ∙ but_at-out place xs out)
+          ∙ sym (cond-false (not (eqb x.1.id e.id)) (x.1 ∷ others e.id (seen xs)) (others e.id (seen xs)) (not_from_true (eqb x.1.id e.id) (eq-eqb x.1.id e.id (ap (λ (f : Entry). f.id) same)))
           ∙ others-below e.id xs (subst (λ (f : Entry). AreBelow f.id xs) same falls.0)))
-    | inr there ↦ (
-        let later : entry_at place xs ≡ Some e = sym (ap (seen_first place x xs) there) ∙ at in
-        ap seen (cond-true (not (eqb place x.0)) (x ∷ but_at place xs) (but_at place xs) (not_from_false (eqb place x.0) there))
-        ∙ ap (λ (es : List Entry). x.1 ∷ es) (removed_entries place e xs once.1 falls.1 later)
-        ∙ sym (cond-true (not (eqb x.1.id e.id)) (x.1 ∷ others e.id (seen xs)) (others e.id (seen xs)) (not_from_false (eqb x.1.id e.id) (ne_eqb x.1.id e.id (λ i. omega (arith, below-at x.1.id place e xs falls.0 later))))))
+      | inr there ↦ (
+          let later : entry_at place xs ≡ Some e = sym (ap (seen_first place x xs) there) ∙ at in
+          ap seen (cond-true (not (eqb place x.0)) (x ∷ but_at place xs) (but_at place xs) (not_from_false (eqb place x.0) there))
+          ∙ ap (λ (es : List Entry). x.1 ∷ es) (removed_entries place e xs once.1 falls.1 later)
+          ∙ sym (cond-true (not (eqb x.1.id e.id)) (x.1 ∷ others e.id (seen xs)) (others e.id (seen xs)) (not_from_false (eqb x.1.id e.id) (ne_eqb x.1.id e.id (λ i. omega (arith, below-at x.1.id place e xs falls.0 later))))))
     ]
 
 reverse_joined : (b : Bool) (f : Entry) (es fs : List Entry) → fs ≡ reverse es → fs ++ cond b (f ∷ []) [] ≡ reverse (cond b (f ∷ es) es)
@@ -187,32 +188,32 @@ AreBelow-but : (id place : ℕ) (held : List Placed) → AreBelow id held → Ar
 AreBelow-but id place [] h = tt
 AreBelow-but id place (x ∷ xs) h =
     elim (cases_Bool (not (eqb place x.0))) [
-      inl keeps ↦ subst (AreBelow id) (sym (cond-true (not (eqb place x.0)) (x ∷ but_at place xs) (but_at place xs) keeps)) (h.0, AreBelow-but id place xs h.1)
-    | inr drops ↦ subst (AreBelow id) (sym (cond-false (not (eqb place x.0)) (x ∷ but_at place xs) (but_at place xs) drops)) (AreBelow-but id place xs h.1)
+      | inl keeps ↦ subst (AreBelow id) (sym (cond-true (not (eqb place x.0)) (x ∷ but_at place xs) (but_at place xs) keeps)) (h.0, AreBelow-but id place xs h.1)
+      | inr drops ↦ subst (AreBelow id) (sym (cond-false (not (eqb place x.0)) (x ∷ but_at place xs) (but_at place xs) drops)) (AreBelow-but id place xs h.1)
     ]
 
 AreGiven-but : (last place : ℕ) (held : List Placed) → AreGiven last held → AreGiven last (but_at place held)
 AreGiven-but last place [] h = tt
 AreGiven-but last place (x ∷ xs) h =
     elim (cases_Bool (not (eqb place x.0))) [
-      inl keeps ↦ subst (AreGiven last) (sym (cond-true (not (eqb place x.0)) (x ∷ but_at place xs) (but_at place xs) keeps)) (h.0, AreGiven-but last place xs h.1)
-    | inr drops ↦ subst (AreGiven last) (sym (cond-false (not (eqb place x.0)) (x ∷ but_at place xs) (but_at place xs) drops)) (AreGiven-but last place xs h.1)
+      | inl keeps ↦ subst (AreGiven last) (sym (cond-true (not (eqb place x.0)) (x ∷ but_at place xs) (but_at place xs) keeps)) (h.0, AreGiven-but last place xs h.1)
+      | inr drops ↦ subst (AreGiven last) (sym (cond-false (not (eqb place x.0)) (x ∷ but_at place xs) (but_at place xs) drops)) (AreGiven-but last place xs h.1)
     ]
 
 IdsFall-but : (place : ℕ) (held : List Placed) → IdsFall held → IdsFall (but_at place held)
 IdsFall-but place [] h = tt
 IdsFall-but place (x ∷ xs) h =
     elim (cases_Bool (not (eqb place x.0))) [
-      inl keeps ↦ subst IdsFall (sym (cond-true (not (eqb place x.0)) (x ∷ but_at place xs) (but_at place xs) keeps)) (AreBelow-but x.1.id place xs h.0, IdsFall-but place xs h.1)
-    | inr drops ↦ subst IdsFall (sym (cond-false (not (eqb place x.0)) (x ∷ but_at place xs) (but_at place xs) drops)) (IdsFall-but place xs h.1)
+      | inl keeps ↦ subst IdsFall (sym (cond-true (not (eqb place x.0)) (x ∷ but_at place xs) (but_at place xs) keeps)) (AreBelow-but x.1.id place xs h.0, IdsFall-but place xs h.1)
+      | inr drops ↦ subst IdsFall (sym (cond-false (not (eqb place x.0)) (x ∷ but_at place xs) (but_at place xs) drops)) (IdsFall-but place xs h.1)
     ]
 
-length-but : (place : ℕ) (e : Entry) (held : List Placed) → AreOnce (places_of held) → entry_at place held ≡ Some e → length (but_at place held) + 1 ≡ length held
+pub length-but : (place : ℕ) (e : Entry) (held : List Placed) → AreOnce (places_of held) → entry_at place held ≡ Some e → length (but_at place held) + 1 ≡ length held
 length-but place e [] once at = absurd cc
 length-but place e (x ∷ xs) once at =
     elim (cases_Bool (eqb place x.0)) [
-      inl here ↦ omega (arith, ap (λ (ys : List Placed). length ys) (cond-false (not (eqb place x.0)) (x ∷ but_at place xs) (but_at place xs) (not_from_true (eqb place x.0) here) ∙ but_at-out place xs (ap (λ (k : ℕ). has_place k (places_of xs)) (eqb-true place x.0 here) ∙ once.0)))
-    | inr there ↦ omega (arith, ap (λ (ys : List Placed). length ys) (cond-true (not (eqb place x.0)) (x ∷ but_at place xs) (but_at place xs) (not_from_false (eqb place x.0) there)), length-but place e xs once.1 (sym (ap (seen_first place x xs) there) ∙ at))
+      | inl here ↦ omega (arith, ap (λ (ys : List Placed). length ys) (cond-false (not (eqb place x.0)) (x ∷ but_at place xs) (but_at place xs) (not_from_true (eqb place x.0) here) ∙ but_at-out place xs (ap (λ (k : ℕ). has_place k (places_of xs)) (eqb-true place x.0 here) ∙ once.0)))
+      | inr there ↦ omega (arith, ap (λ (ys : List Placed). length ys) (cond-true (not (eqb place x.0)) (x ∷ but_at place xs) (but_at place xs) (not_from_false (eqb place x.0) there)), length-but place e xs once.1 (sym (ap (seen_first place x xs) there) ∙ at))
     ]
 
 -- the table without the entry at a place
@@ -262,3 +263,77 @@ AreEntries-held held last count h = record {
   given = all_given last held h.given;
   few = omega (arith, length-entries_of held, h.few);
 }
+
+-- what a walk over all places finds
+pub searched : (held : List Placed) (wanted : Wanted) (connection : ℕ) (walk : List ℕ) (r : Option ℕ) → AreOnce (places_of held) → walk ≡ places_of held → r ≡ last_place (λ place. is_wanted_in wanted connection (entry_at place held)) walk
+    → IsFound held (is_wanted wanted connection) r (find (is_wanted wanted connection) (entries_of held))
+searched held wanted connection walk r once over is =
+    let f = IsFound-search held wanted connection once in
+    record {
+      here = is ∙ ap (last_place (λ place. is_wanted_in wanted connection (entry_at place held))) over ∙ f.here;
+      first = f.first;
+      kept = f.kept;
+    }
+
+some_mapped : {A B : Type 0} (f : A → B) (o : Option A) → is_some (option_map f o) ≡ is_some o
+some_mapped f None = refl
+some_mapped f (Some x) = refl
+
+some_first : (e : Entry) (r : Option Entry) (b : Bool) → is_some (cond b (Some e) r) ≡ (b || is_some r)
+some_first e r true = refl
+some_first e r false = refl
+
+some-find : (test : Entry → Bool) (es : List Entry) → is_some (find test es) ≡ list_any test es
+some-find test [] = refl
+some-find test (e ∷ es) = some_first e (find test es) (test e) ∙ ap (λ (b : Bool). test e || b) (some-find test es)
+
+pub found-any : (held : List Placed) (test : Entry → Bool) (r : Option ℕ) → IsFound held test r (find test (entries_of held)) → is_some r ≡ list_any test (entries_of held)
+found-any held test r f =
+    ap (λ (o : Option ℕ). is_some o) f.here ∙ some_mapped (λ (y : Placed). y.0) (oldest_of test held) ∙ sym (some_mapped (λ (y : Placed). y.1) (oldest_of test held)) ∙ ap (λ (o : Option Entry). is_some o) (sym f.first) ∙ some-find test (entries_of held)
+
+-- a test that the entry at the place fails keeps what it kept
+kept_others : (place : ℕ) (e : Entry) (test : Entry → Bool) (held : List Placed) → AreOnce (places_of held) → entry_at place held ≡ Some e → test e ≡ false → filter test (map (λ (y : Placed). y.1) (but_at place held)) ≡ filter test (map (λ (y : Placed). y.1) held)
+kept_others place e test [] once at fails = absurd cc
+kept_others place e test (x ∷ xs) once at fails =
+    let seen : List Placed → List Entry = λ ys. map (λ (y : Placed). y.1) ys in
+    elim (cases_Bool (eqb place x.0)) [
+      | inl here ↦ (
+          let same : x.1 ≡ e = some_one x.1 e (sym (ap (seen_first place x xs) here) ∙ at) in
+          ap (λ (ys : List Placed). filter test (seen ys)) (cond-false (not (eqb place x.0)) (x ∷ but_at place xs) (but_at place xs) (not_from_true (eqb place x.0) here) ∙ but_at-out place xs (ap (λ (k : ℕ). has_place k (places_of xs)) (eqb-true place x.0 here) ∙ once.0))
+          ∙ sym (cond-false (test x.1) (x.1 ∷ filter test (seen xs)) (filter test (seen xs)) (ap test same ∙ fails)))
+      | inr there ↦ (
+          ap (λ (ys : List Placed). filter test (seen ys)) (cond-true (not (eqb place x.0)) (x ∷ but_at place xs) (but_at place xs) (not_from_false (eqb place x.0) there))
+          ∙ ap (λ (es : List Entry). cond (test x.1) (x.1 ∷ es) es) (kept_others place e test xs once.1 (sym (ap (seen_first place x xs) there) ∙ at) fails))
+    ]
+
+pub filter-but : (place : ℕ) (e : Entry) (test : Entry → Bool) (held : List Placed) → AreOnce (places_of held) → entry_at place held ≡ Some e → test e ≡ false → filter test (entries_of (but_at place held)) ≡ filter test (entries_of held)
+filter-but place e test held once at fails =
+    filter-reverse test (map (λ (y : Placed). y.1) (but_at place held)) ∙ ap reverse (kept_others place e test held once at fails) ∙ sym (filter-reverse test (map (λ (y : Placed). y.1) held))
+
+-- what none passes keeps all
+pub filter-none : (test : Entry → Bool) (es : List Entry) → find test es ≡ None → filter (λ (e : Entry). not (test e)) es ≡ es
+filter-none test [] none = refl
+filter-none test (e ∷ es) none =
+    elim (cases_Bool (test e)) [
+      | inl passes ↦ absurd (let found : Some e ≡ None = sym (cond-true (test e) (Some e) (find test es) passes) ∙ none in cc)
+      | inr fails ↦ cond-true (not (test e)) (e ∷ filter (λ (f : Entry). not (test f)) es) (filter (λ (f : Entry). not (test f)) es) (not_from_false (test e) fails)
+          ∙ ap (λ (fs : List Entry). e ∷ fs) (filter-none test es (sym (cond-false (test e) (Some e) (find test es) fails) ∙ none))
+    ]
+
+-- what is found passes
+pub find-passes : (test : Entry → Bool) (es : List Entry) (e : Entry) → find test es ≡ Some e → test e ≡ true
+find-passes test [] e found = absurd cc
+find-passes test (f ∷ es) e found =
+    elim (cases_Bool (test f)) [
+      | inl passes ↦ ap test (some_one e f (sym (sym (cond-true (test f) (Some f) (find test es) passes) ∙ found))) ∙ passes
+      | inr fails ↦ find-passes test es e (sym (cond-false (test f) (Some f) (find test es) fails) ∙ found)
+    ]
+
+-- tests that agree find the same
+pub find-same : (p q : Entry → Bool) → ((e : Entry) → p e ≡ q e) → (es : List Entry) → find p es ≡ find q es
+find-same p q same [] = refl
+find-same p q same (e ∷ es) = ap (λ (b : Bool). cond b (Some e) (find p es)) (same e) ∙ ap (λ (o : Option Entry). cond (q e) (Some e) o) (find-same p q same es)
+
+pub and-true : (b : Bool) → (b && true) ≡ b
+and-true true = refl
+and-true false = refl

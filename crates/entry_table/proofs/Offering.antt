@@ -16,15 +16,15 @@ use Rattle.entry_table.specs.PlacedEntries.{Placed, places_of, entry_at}
 use Rattle.entry_table.specs.Searching.{entries_of, AreBelow, IdsFall}
 use Rattle.entry_table.proofs.Finding.{AreKept, AreKept-all, entries_of-cons}
 
+abbrev consed : Option Entry → List Entry → List Entry
+consed None es = es
+consed (Some e) es = e ∷ es
+
 -- the entries at their own places
 entries-kept : (all xs : List Placed) → AreKept all xs → filter_map (λ (place : ℕ). entry_at place all) (places_of xs) ≡ map (λ (x : Placed). x.1) xs
 entries-kept all [] kept = refl
 entries-kept all (x ∷ xs) kept =
     ap (λ (o : Option Entry). consed o (filter_map (λ (place : ℕ). entry_at place all) (places_of xs))) kept.0 ∙ ap (λ (es : List Entry). x.1 ∷ es) (entries-kept all xs kept.1)
-  where
-    abbrev consed : Option Entry → List Entry → List Entry
-    consed None es = es
-    consed (Some e) es = e ∷ es
 
 pub offered_at-all : (held : List Placed) (found : FixedTexts) → AreOnce (places_of held) → offered_at held found (places_of held) ≡ filter (λ (e : Entry). are_found (texts_fixed e.filter) found) (map (λ (x : Placed). x.1) held)
 offered_at-all held found once = ap (filter (λ (e : Entry). are_found (texts_fixed e.filter) found)) (entries-kept held held (AreKept-all held once))
@@ -32,8 +32,8 @@ offered_at-all held found once = ap (filter (λ (e : Entry). are_found (texts_fi
 contains-cons : (y : Entry) (ys : List Entry) (e : Entry) → Contains (y ∷ ys) e → (y ≡ e) ⊎ Contains ys e
 contains-cons y ys e h =
     elim (Contains-append_cases (y ∷ []) ys e h) [
-      inl first ↦ (elim (Contains-push_cases [] y e first) [ inl none ↦ absurd (omega (arith, none.1)) | inr same ↦ inl same ])
-    | inr later ↦ inr later
+      | inl first ↦ (elim (Contains-push_cases [] y e first) [ inl none ↦ absurd (omega (arith, none.1)) | inr same ↦ inl same ])
+      | inr later ↦ inr later
     ]
 
 contains-first : (y : Entry) (ys : List Entry) (e : Entry) → y ≡ e → Contains (y ∷ ys) e
@@ -46,21 +46,21 @@ filter-contains : (q : Entry → Bool) (ys : List Entry) (e : Entry) → Contain
 filter-contains q [] e h = absurd (omega (arith, h.1))
 filter-contains q (y ∷ ys) e h =
     elim (cases_Bool (q y)) [
-      inl passes ↦ (elim (contains-cons y (filter q ys) e (subst (λ (es : List Entry). Contains es e) (cond-true (q y) (y ∷ filter q ys) (filter q ys) passes) h)) [
-        inl same ↦ (contains-first y ys e same, ap q (sym same) ∙ passes)
-      | inr later ↦ (let found = filter-contains q ys e later in (contains-later y ys e found.0, found.1))
+      | inl passes ↦ (elim (contains-cons y (filter q ys) e (subst (λ (es : List Entry). Contains es e) (cond-true (q y) (y ∷ filter q ys) (filter q ys) passes) h)) [
+        | inl same ↦ (contains-first y ys e same, ap q (sym same) ∙ passes)
+        | inr later ↦ (let found = filter-contains q ys e later in (contains-later y ys e found.0, found.1))
       ])
-    | inr fails ↦ (let found = filter-contains q ys e (subst (λ (es : List Entry). Contains es e) (cond-false (q y) (y ∷ filter q ys) (filter q ys) fails) h) in (contains-later y ys e found.0, found.1))
+      | inr fails ↦ (let found = filter-contains q ys e (subst (λ (es : List Entry). Contains es e) (cond-false (q y) (y ∷ filter q ys) (filter q ys) fails) h) in (contains-later y ys e found.0, found.1))
     ]
 
 contains-filter : (q : Entry → Bool) (ys : List Entry) (e : Entry) → Contains ys e → q e ≡ true → Contains (filter q ys) e
 contains-filter q [] e h passes = absurd (omega (arith, h.1))
 contains-filter q (y ∷ ys) e h passes =
     elim (contains-cons y ys e h) [
-      inl same ↦ subst (λ (es : List Entry). Contains es e) (sym (cond-true (q y) (y ∷ filter q ys) (filter q ys) (ap q same ∙ passes))) (contains-first y (filter q ys) e same)
-    | inr later ↦ (elim (cases_Bool (q y)) [
-        inl also ↦ subst (λ (es : List Entry). Contains es e) (sym (cond-true (q y) (y ∷ filter q ys) (filter q ys) also)) (contains-later y (filter q ys) e (contains-filter q ys e later passes))
-      | inr fails ↦ subst (λ (es : List Entry). Contains es e) (sym (cond-false (q y) (y ∷ filter q ys) (filter q ys) fails)) (contains-filter q ys e later passes)
+      | inl same ↦ subst (λ (es : List Entry). Contains es e) (sym (cond-true (q y) (y ∷ filter q ys) (filter q ys) (ap q same ∙ passes))) (contains-first y (filter q ys) e same)
+      | inr later ↦ (elim (cases_Bool (q y)) [
+        | inl also ↦ subst (λ (es : List Entry). Contains es e) (sym (cond-true (q y) (y ∷ filter q ys) (filter q ys) also)) (contains-later y (filter q ys) e (contains-filter q ys e later passes))
+        | inr fails ↦ subst (λ (es : List Entry). Contains es e) (sym (cond-false (q y) (y ∷ filter q ys) (filter q ys) fails)) (contains-filter q ys e later passes)
       ])
     ]
 
@@ -68,16 +68,16 @@ reversed : (held : List Placed) (e : Entry) → Contains (map (λ (x : Placed). 
 reversed [] e h = absurd (omega (arith, h.1))
 reversed (x ∷ xs) e h =
     subst (λ (es : List Entry). Contains es e) (sym (entries_of-cons x xs)) (elim (contains-cons x.1 (map (λ (x : Placed). x.1) xs) e h) [
-      inl same ↦ Contains-append_right (entries_of xs) (x.1 ∷ []) e (contains-first x.1 [] e same)
-    | inr later ↦ Contains-append_left (entries_of xs) (x.1 ∷ []) e (reversed xs e later)
+      | inl same ↦ Contains-append_right (entries_of xs) (x.1 ∷ []) e (contains-first x.1 [] e same)
+      | inr later ↦ Contains-append_left (entries_of xs) (x.1 ∷ []) e (reversed xs e later)
     ])
 
 turned_back : (held : List Placed) (e : Entry) → Contains (entries_of held) e → Contains (map (λ (x : Placed). x.1) held) e
 turned_back [] e h = absurd (omega (arith, h.1))
 turned_back (x ∷ xs) e h =
     elim (Contains-append_cases (entries_of xs) (x.1 ∷ []) e (subst (λ (es : List Entry). Contains es e) (entries_of-cons x xs) h)) [
-      inl later ↦ contains-later x.1 (map (λ (x : Placed). x.1) xs) e (turned_back xs e later)
-    | inr first ↦ (elim (contains-cons x.1 [] e first) [ inl same ↦ contains-first x.1 (map (λ (x : Placed). x.1) xs) e same | inr none ↦ absurd (omega (arith, none.1)) ])
+      | inl later ↦ contains-later x.1 (map (λ (x : Placed). x.1) xs) e (turned_back xs e later)
+      | inr first ↦ (elim (contains-cons x.1 [] e first) [ inl same ↦ contains-first x.1 (map (λ (x : Placed). x.1) xs) e same | inr none ↦ absurd (omega (arith, none.1)) ])
     ]
 
 ids_apart : (id : ℕ) (xs : List Placed) → AreBelow id xs → All (λ (f : Entry). id ≢ f.id) (map (λ (x : Placed). x.1) xs)
@@ -115,8 +115,8 @@ module _ (asked found : FixedTexts) where
   test-AreFound h =
       and_from (is_text_found asked.member found.member && is_text_found asked.interface found.interface && is_text_found asked.path found.path) (is_text_found asked.arg0 found.arg0)
       (and_from (is_text_found asked.member found.member && is_text_found asked.interface found.interface) (is_text_found asked.path found.path)
-        (and_from (is_text_found asked.member found.member) (is_text_found asked.interface found.interface) (found_text asked.member found.member h.member) (found_text asked.interface found.interface h.interface))
-        (found_text asked.path found.path h.path))
+      (and_from (is_text_found asked.member found.member) (is_text_found asked.interface found.interface) (found_text asked.member found.member h.member) (found_text asked.interface found.interface h.interface))
+      (found_text asked.path found.path h.path))
       (found_text asked.arg0 found.arg0 h.arg0)
 
 -- exactly the entries that a message is offered to, each once

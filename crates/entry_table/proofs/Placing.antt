@@ -53,16 +53,16 @@ placed_at-without cells place [] = refl
 placed_at-without cells place (x ∷ xs) =
     let rest = placed_at-without cells place xs in
     elim (cases_Bool (not (eqb place x))) [
-      inl keeps ↦ ap (placed_at cells) (cond-true (not (eqb place x)) (x ∷ without place xs) (without place xs) keeps) ∙ kept_cell place x (placed_at cells xs) (placed_at cells (without place xs)) rest keeps (get_or cells x None)
-    | inr drops ↦ ap (placed_at cells) (cond-false (not (eqb place x)) (x ∷ without place xs) (without place xs) drops) ∙ dropped_cell place x (placed_at cells xs) (placed_at cells (without place xs)) rest drops (get_or cells x None)
+      | inl keeps ↦ ap (placed_at cells) (cond-true (not (eqb place x)) (x ∷ without place xs) (without place xs) keeps) ∙ kept_cell place x (placed_at cells xs) (placed_at cells (without place xs)) rest keeps (get_or cells x None)
+      | inr drops ↦ ap (placed_at cells) (cond-false (not (eqb place x)) (x ∷ without place xs) (without place xs) drops) ∙ dropped_cell place x (placed_at cells xs) (placed_at cells (without place xs)) rest drops (get_or cells x None)
     ]
 
 pub has_place-gone : (place : ℕ) (places : List ℕ) → has_place place (without place places) ≡ false
 has_place-gone place [] = refl
 has_place-gone place (x ∷ xs) =
     elim (cases_Bool (eqb place x)) [
-      inl here ↦ ap (has_place place) (cond-false (not (eqb place x)) (x ∷ without place xs) (without place xs) (not_from_true (eqb place x) here)) ∙ has_place-gone place xs
-    | inr there ↦ ap (has_place place) (cond-true (not (eqb place x)) (x ∷ without place xs) (without place xs) (not_from_false (eqb place x) there)) ∙ or_from (eqb place x) (has_place place (without place xs)) there (has_place-gone place xs)
+      | inl here ↦ ap (has_place place) (cond-false (not (eqb place x)) (x ∷ without place xs) (without place xs) (not_from_true (eqb place x) here)) ∙ has_place-gone place xs
+      | inr there ↦ ap (has_place place) (cond-true (not (eqb place x)) (x ∷ without place xs) (without place xs) (not_from_false (eqb place x) there)) ∙ or_from (eqb place x) (has_place place (without place xs)) there (has_place-gone place xs)
     ]
 
 pub placed_at-take : (cells : List (Option Entry)) (place : ℕ) (places : List ℕ) → placed_at (set cells place None) (without place places) ≡ but_at place (placed_at cells places)

@@ -50,8 +50,8 @@ pub IsFree-between : (ages : PlaceLists) (place from : ℕ) → from < length ag
 IsFree-between ages place from low stands apart list within =
     let under : list < length ages.lists = omega (arith, length-set ages.lists from (without place (places_in ages from)), within) in
     elim (cases_eq list from) [
-      inl e ↦ ap (λ (k : ℕ). has_place place (places_in (record ages { lists = set ages.lists from (without place (places_in ages from)) }) k)) e ∙ ap (has_place place) (lists_at ages from (without place (places_in ages from)) low) ∙ has_place-gone place (places_in ages from)
-    | inr ne ↦ ap (has_place place) (lists_other ages from list (without place (places_in ages from)) ne) ∙ elsewhere list under ne (has_place place (places_in ages list)) refl
+      | inl e ↦ ap (λ (k : ℕ). has_place place (places_in (record ages { lists = set ages.lists from (without place (places_in ages from)) }) k)) e ∙ ap (has_place place) (lists_at ages from (without place (places_in ages from)) low) ∙ has_place-gone place (places_in ages from)
+      | inr ne ↦ ap (has_place place) (lists_other ages from list (without place (places_in ages from)) ne) ∙ elsewhere list under ne (has_place place (places_in ages list)) refl
     ]
   where
     elsewhere : (list : ℕ) → list < length ages.lists → list ≢ from → (b : Bool) → has_place place (places_in ages list) ≡ b → has_place place (places_in ages list) ≡ false
@@ -62,10 +62,10 @@ length-without : (place : ℕ) (xs : List ℕ) → AreOnce xs → has_place plac
 length-without place [] once stands = absurd (false≢true stands)
 length-without place (x ∷ xs) once stands =
     elim (cases_eq place x) [
-      inl e ↦ subst (λ (k : ℕ). length (without k (x ∷ xs)) + 1 ≡ length (x ∷ xs)) (sym e) (omega (arith, ap (λ (ys : List ℕ). length ys) (without-here x xs (Out-from_test x xs once.0))))
-    | inr ne ↦ (elim (or_cases (eqb place x) (has_place place xs) stands) [
-        inl first ↦ absurd (ne (eqb-true place x first))
-      | inr later ↦ omega (arith, ap (λ (ys : List ℕ). length ys) (without-cons place x xs ne), length-without place xs once.1 later)
+      | inl e ↦ subst (λ (k : ℕ). length (without k (x ∷ xs)) + 1 ≡ length (x ∷ xs)) (sym e) (omega (arith, ap (λ (ys : List ℕ). length ys) (without-here x xs (Out-from_test x xs once.0))))
+      | inr ne ↦ (elim (or_cases (eqb place x) (has_place place xs) stands) [
+        | inl first ↦ absurd (ne (eqb-true place x first))
+        | inr later ↦ omega (arith, ap (λ (ys : List ℕ). length ys) (without-cons place x xs ne), length-without place xs once.1 later)
       ])
     ]
 
@@ -76,9 +76,9 @@ IsShelf-put cells ages place e h apart stands out =
     let between : PlaceLists = record ages { lists = set ages.lists 1 vacant } in
     let wide : length between.lists ≡ 2 = length-set ages.lists 1 vacant ∙ h.two in
     let first : places_in (moved ages place 1 0) 0 ≡ place ∷ places_in ages 0 =
-        lists_at between 0 (place ∷ places_in between 0) (omega (arith, wide)) ∙ ap (λ (xs : List ℕ). place ∷ xs) (lists_other ages 1 0 vacant (λ e. omega arith)) in
+    lists_at between 0 (place ∷ places_in between 0) (omega (arith, wide)) ∙ ap (λ (xs : List ℕ). place ∷ xs) (lists_other ages 1 0 vacant (λ e. omega arith)) in
     let second : places_in (moved ages place 1 0) 1 ≡ vacant =
-        lists_other between 0 1 (place ∷ places_in between 0) (λ e. omega arith) ∙ lists_at ages 1 vacant (omega (arith, h.two)) in
+    lists_other between 0 1 (place ∷ places_in between 0) (λ e. omega arith) ∙ lists_at ages 1 vacant (omega (arith, h.two)) in
     let low : place < room = omega (arith, apart.below 1 place (omega (arith, h.two)) stands, h.places) in
     record {
       long = length-set cells place (Some e) ∙ h.long;
@@ -86,8 +86,8 @@ IsShelf-put cells ages place e h apart stands out =
       two = length-set between.lists 0 (place ∷ places_in between 0) ∙ wide;
       once = subst AreOnce (sym first) (out, h.once);
       same = λ p. elim (cases_eq p place) [
-        inl is ↦ ap (λ (c : Option Entry). is_some c) (ap (λ (k : ℕ). get_or (set cells place (Some e)) k None) is ∙ get_or-set_same cells place (Some e) None (omega (arith, low, h.long))) ∙ sym (ap (has_place p) first ∙ or_left (eqb p place) (has_place p (places_in ages 0)) (eq-eqb p place is))
-      | inr ne ↦ ap (λ (c : Option Entry). is_some c) (get_or-set_other cells place p (Some e) None ne) ∙ h.same p ∙ sym (ap (has_place p) first ∙ ap (λ (b : Bool). b || has_place p (places_in ages 0)) (ne_eqb p place ne))
+        | inl is ↦ ap (λ (c : Option Entry). is_some c) (ap (λ (k : ℕ). get_or (set cells place (Some e)) k None) is ∙ get_or-set_same cells place (Some e) None (omega (arith, low, h.long))) ∙ sym (ap (has_place p) first ∙ or_left (eqb p place) (has_place p (places_in ages 0)) (eq-eqb p place is))
+        | inr ne ↦ ap (λ (c : Option Entry). is_some c) (get_or-set_other cells place p (Some e) None ne) ∙ h.same p ∙ sym (ap (has_place p) first ∙ ap (λ (b : Bool). b || has_place p (places_in ages 0)) (ne_eqb p place ne))
       ];
       all = omega (arith, h.all, ap (λ (xs : List ℕ). length xs) first, ap (λ (xs : List ℕ). length xs) second, length-without place (places_in ages 1) (apart.once 1 (omega (arith, h.two))) stands);
     }
@@ -98,7 +98,7 @@ held-put cells ages place e h apart stands out =
     let vacant : List ℕ = without place (places_in ages 1) in
     let between : PlaceLists = record ages { lists = set ages.lists 1 vacant } in
     let first : places_in (moved ages place 1 0) 0 ≡ place ∷ places_in ages 0 =
-        lists_at between 0 (place ∷ places_in between 0) (omega (arith, length-set ages.lists 1 vacant, h.two)) ∙ ap (λ (xs : List ℕ). place ∷ xs) (lists_other ages 1 0 vacant (λ e. omega arith)) in
+    lists_at between 0 (place ∷ places_in between 0) (omega (arith, length-set ages.lists 1 vacant, h.two)) ∙ ap (λ (xs : List ℕ). place ∷ xs) (lists_other ages 1 0 vacant (λ e. omega arith)) in
     ap (placed_at (set cells place (Some e))) first ∙ placed_at-put cells place e (places_in ages 0) (omega (arith, apart.below 1 place (omega (arith, h.two)) stands, h.places, h.long)) out
 
 -- an entry is taken from its place
@@ -108,9 +108,9 @@ IsShelf-take cells ages place h apart stands =
     let between : PlaceLists = record ages { lists = set ages.lists 0 used } in
     let wide : length between.lists ≡ 2 = length-set ages.lists 0 used ∙ h.two in
     let first : places_in (moved ages place 0 1) 0 ≡ used =
-        lists_other between 1 0 (place ∷ places_in between 1) (λ e. omega arith) ∙ lists_at ages 0 used (omega (arith, h.two)) in
+    lists_other between 1 0 (place ∷ places_in between 1) (λ e. omega arith) ∙ lists_at ages 0 used (omega (arith, h.two)) in
     let second : places_in (moved ages place 0 1) 1 ≡ place ∷ places_in ages 1 =
-        lists_at between 1 (place ∷ places_in between 1) (omega (arith, wide)) ∙ ap (λ (xs : List ℕ). place ∷ xs) (lists_other ages 0 1 used (λ e. omega arith)) in
+    lists_at between 1 (place ∷ places_in between 1) (omega (arith, wide)) ∙ ap (λ (xs : List ℕ). place ∷ xs) (lists_other ages 0 1 used (λ e. omega arith)) in
     let low : place < room = omega (arith, apart.below 0 place (omega (arith, h.two)) stands, h.places) in
     record {
       long = length-set cells place None ∙ h.long;
@@ -118,8 +118,8 @@ IsShelf-take cells ages place h apart stands =
       two = length-set between.lists 1 (place ∷ places_in between 1) ∙ wide;
       once = subst AreOnce (sym first) (AreOnce-without place (places_in ages 0) h.once);
       same = λ p. elim (cases_eq p place) [
-        inl is ↦ ap (λ (c : Option Entry). is_some c) (ap (λ (k : ℕ). get_or (set cells place None) k None) is ∙ get_or-set_same cells place None None (omega (arith, low, h.long))) ∙ sym (ap (has_place p) first ∙ ap (λ (k : ℕ). has_place p (without k (places_in ages 0))) (sym is) ∙ has_place-gone p (places_in ages 0))
-      | inr ne ↦ ap (λ (c : Option Entry). is_some c) (get_or-set_other cells place p None None ne) ∙ h.same p ∙ sym (ap (has_place p) first ∙ has_place-kept p place ne (places_in ages 0))
+        | inl is ↦ ap (λ (c : Option Entry). is_some c) (ap (λ (k : ℕ). get_or (set cells place None) k None) is ∙ get_or-set_same cells place None None (omega (arith, low, h.long))) ∙ sym (ap (has_place p) first ∙ ap (λ (k : ℕ). has_place p (without k (places_in ages 0))) (sym is) ∙ has_place-gone p (places_in ages 0))
+        | inr ne ↦ ap (λ (c : Option Entry). is_some c) (get_or-set_other cells place p None None ne) ∙ h.same p ∙ sym (ap (has_place p) first ∙ has_place-kept p place ne (places_in ages 0))
       ];
       all = omega (arith, h.all, ap (λ (xs : List ℕ). length xs) first, ap (λ (xs : List ℕ). length xs) second, length-without place (places_in ages 0) h.once stands);
     }
@@ -128,8 +128,8 @@ IsShelf-take cells ages place h apart stands =
     has_place-kept p q ne [] = refl
     has_place-kept p q ne (x ∷ xs) =
         elim (cases_Bool (eqb q x)) [
-          inl here ↦ ap (has_place p) (cond-false (not (eqb q x)) (x ∷ without q xs) (without q xs) (not_from_true (eqb q x) here)) ∙ has_place-kept p q ne xs ∙ sym (ap (λ (b : Bool). b || has_place p xs) (ne_eqb p x (λ e. ne (e ∙ sym (eqb-true q x here)))))
-        | inr there ↦ ap (has_place p) (cond-true (not (eqb q x)) (x ∷ without q xs) (without q xs) (not_from_false (eqb q x) there)) ∙ ap (λ (b : Bool). eqb p x || b) (has_place-kept p q ne xs)
+          | inl here ↦ ap (has_place p) (cond-false (not (eqb q x)) (x ∷ without q xs) (without q xs) (not_from_true (eqb q x) here)) ∙ has_place-kept p q ne xs ∙ sym (ap (λ (b : Bool). b || has_place p xs) (ne_eqb p x (λ e. ne (e ∙ sym (eqb-true q x here)))))
+          | inr there ↦ ap (has_place p) (cond-true (not (eqb q x)) (x ∷ without q xs) (without q xs) (not_from_false (eqb q x) there)) ∙ ap (λ (b : Bool). eqb p x || b) (has_place-kept p q ne xs)
         ]
 
 pub held-take : (cells : List (Option Entry)) (ages : PlaceLists) (place : ℕ) → IsShelf cells ages → placed_at (set cells place None) (places_in (moved ages place 0 1) 0) ≡ but_at place (placed_at cells (places_in ages 0))
@@ -137,7 +137,7 @@ held-take cells ages place h =
     let used : List ℕ = without place (places_in ages 0) in
     let between : PlaceLists = record ages { lists = set ages.lists 0 used } in
     let first : places_in (moved ages place 0 1) 0 ≡ used =
-        lists_other between 1 0 (place ∷ places_in between 1) (λ e. omega arith) ∙ lists_at ages 0 used (omega (arith, h.two)) in
+    lists_other between 1 0 (place ∷ places_in between 1) (λ e. omega arith) ∙ lists_at ages 0 used (omega (arith, h.two)) in
     ap (placed_at (set cells place None)) first ∙ placed_at-take cells place (places_in ages 0)
 
 -- a vacant place isn't used
@@ -178,17 +178,17 @@ IsMade-more cells cells' ages ages' n h grown pushed =
       none = first;
       many = omega (arith, ap (λ (xs : List ℕ). length xs) second, h.many);
       below = λ p stands. elim (or_cases (eqb p n) (has_place p (places_in ages 1)) (sym (ap (has_place p) second) ∙ stands)) [
-        inl e ↦ omega (arith, eqb-true p n e)
-      | inr later ↦ omega (arith, h.below p later)
+        | inl e ↦ omega (arith, eqb-true p n e)
+        | inr later ↦ omega (arith, h.below p later)
       ];
     }
   where
     empty_at : (p : ℕ) → get_or (cells ++ None ∷ []) p None ≡ None
     empty_at p =
         elim (cases_lt p (length cells)) [
-          inl low ↦ get_or_append_left cells (None ∷ []) None p low ∙ h.empty p
-        | inr above ↦ (elim (cases_eq p (length cells)) [
-            inl e ↦ get_or_push cells None None p (sym e)
-          | inr ne ↦ get_or_past (cells ++ None ∷ []) p None (omega (arith, length_push cells None))
+          | inl low ↦ get_or_append_left cells (None ∷ []) None p low ∙ h.empty p
+          | inr above ↦ (elim (cases_eq p (length cells)) [
+            | inl e ↦ get_or_push cells None None p (sym e)
+            | inr ne ↦ get_or_past (cells ++ None ∷ []) p None (omega (arith, length_push cells None))
           ])
         ]

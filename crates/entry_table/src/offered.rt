@@ -19,11 +19,7 @@ fn is_offered(entry: &Entry, found: &Texts<'_>) -> bool
 }
 
 /// The next of the entries at these places that a message with these texts is offered to.
-fn next_offered<'a>(
-    shelf: &'a Shelf,
-    found: &Texts<'_>,
-    places: &mut Walk<'_>,
-) -> Option<&'a Entry>
+fn next_offered<'a>(shelf: &'a Shelf, found: &Texts<'_>, places: &mut Walk<'_>) -> Option<&'a Entry>
     ensures { MatchOption result ((offered_at shelf.entry.now found.now places.old ≡ []) × (offered_at shelf.entry.now found.now places.new ≡ [])) (λ e. offered_at shelf.entry.now found.now places.old ≡ e.now ∷ offered_at shelf.entry.now found.now places.new) }
 {
     while let Some(place) = places.next() {

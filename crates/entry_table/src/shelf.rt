@@ -8,6 +8,7 @@ use std::marker::Model;
 
 /// The list of the places that are used, and that of the others.
 const USED: usize = 0;
+
 const VACANT: usize = 1;
 
 /// Room for each entry, at a place of its own. Contracts see places and entries, what was put last first.

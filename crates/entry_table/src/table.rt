@@ -40,7 +40,7 @@ impl Model for EntryTable {
 }
 
 impl EntryTable {
-    ghost use Rattle.std.specs.Prelude.{◌≡◌, ◌+◌, Bool, false, ◌++◌, ◌∷◌, [], IfOk, IfNone, IfSome, Option, option_map, find, List, ◌==◌};
+    ghost use Rattle.std.specs.Prelude.{◌≡◌, ◌+◌, Bool, false, ◌++◌, ◌∷◌, [], IfOk, IfNone, IfSome, Option, option_map, find, filter, length, ◌<◌, List, ◌==◌};
     ghost use Rattle.std.specs.List.{list_any};
     ghost use Rattle.message_view.specs.Message.{Message};
     ghost use Rattle.message_view.specs.Valid.{Valid};
@@ -127,6 +127,9 @@ impl EntryTable {
     fn take(&mut self, connection: u64, wanted: Wanted<'_>) -> Option<Entry>
         ensures entry { result ≡ find (is_wanted wanted.entry connection) self.old.entries }
         ensures rest { IfSome result (λ e. self.new ≡ entries_but (λ f. f.id == e.id) self.old) }
+        // Each other entry stays.
+        ensures kept { IfSome result (λ e. (test : Entry → Bool) → test e ≡ false → filter test self.new.entries ≡ filter test self.old.entries) }
+        ensures fewer { IfSome result (λ e. length self.new.entries < length self.old.entries) }
         ensures unchanged { IfNone result (self.new ≡ self.old) }
     {
         let found = last_place(&self.shelf, self.shelf.walk(), wanted, connection);
@@ -162,7 +165,7 @@ impl EntryTable {
     pub fn remove_all(&mut self, connection: u64)
         ensures { self.new ≡ entries_but (is_of connection) self.old }
     {
-        while self.remove_oldest(connection).is_some() {}
+        'theirs: while let Some(_) = self.take(connection, Wanted::Any) {}
     }
 
     /// The entries that a message is offered to: attached programs, and the rules whose member, interface, path and

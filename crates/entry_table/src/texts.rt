@@ -36,13 +36,7 @@ fn string_of<'a>(arg: Arg<'a>) -> Option<&'a str>
     ensures { option_map (λ text. text.now) result ≡ string_in (text_in (Some (shown_arg arg.entry))) }
 {
     match arg.text {
-        Some(text) => {
-            if arg.code == b's' {
-                Some(text)
-            } else {
-                None
-            }
-        }
+        Some(text) => { if arg.code == b's' { Some(text) } else { None } }
         None => None,
     }
 }

@@ -44,7 +44,7 @@ invariant_of-self c =
     let stands = ap (has_place c.args.place) (sym (places-held cells ages c.self.invariant)) ∙ ap (λ (held : List Placed). has_place c.args.place (places_of held)) c.self.view_is ∙ c.requires in
     subst (λ (s : PlaceLists). IsShelf (set cells c.from.result c.take-cell.new.self) s) (sym (moved-by ages c.remove.new.self c.push.new.self c.args.place 0 1 c.remove.ensures.removed c.push.ensures.pushed))
     (subst (λ (k : ℕ). IsShelf (set cells k c.take-cell.new.self) (moved ages c.args.place 0 1)) (sym c.from.ensures)
-      (subst (λ (o : Option Entry). IsShelf (set cells c.args.place o) (moved ages c.args.place 0 1)) (sym c.take-cell.ensures.after) (IsShelf-take cells ages c.args.place c.self.invariant c.remove.ensures.apart stands)))
+    (subst (λ (o : Option Entry). IsShelf (set cells c.args.place o) (moved ages c.args.place 0 1)) (sym c.take-cell.ensures.after) (IsShelf-take cells ages c.args.place c.self.invariant c.remove.ensures.apart stands)))
 
 pub returns-clause-entry : goal.returns-clause-entry
 returns-clause-entry c =

@@ -12,4 +12,4 @@ returns c = λ m valid.
     let held = c.self.inside.shelf in
     subst (λ (t : Entries). AreOffered t.entries m c.at.result) c.self.view_is
     (AreOffered-all held m c.at.result c.walk.ensures.once c.self.invariant.ids
-      (c.at.ensures ∙ ap (λ (found : FixedTexts). offered_at held found c.walk.result) (c.of_message.ensures m valid) ∙ ap (λ (places : List ℕ). offered_at held (texts_of m) places) c.walk.ensures.value))
+    (c.at.ensures ∙ ap (λ (found : FixedTexts). offered_at held found c.walk.result) (c.of_message.ensures m valid) ∙ ap (λ (places : List ℕ). offered_at held (texts_of m) places) c.walk.ensures.value))

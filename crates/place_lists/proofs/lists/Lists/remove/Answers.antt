@@ -28,8 +28,8 @@ index-after-requires c =
 headed : (c : goal.After-self-1) → c.if-head-place.t-30 ≡ cond (eqb c.index-head.result.now c.args.place) c.index-after.result.now c.index-head.result.now
 headed c =
     elim c.if-head-place.branch [
-      then-head-place w ↦ w.t-30-is ∙ sym (cond-true (eqb c.index-head.result.now c.args.place) c.index-after.result.now c.index-head.result.now (eq-eqb c.index-head.result.now c.args.place w.if-head-place.true))
-    | else-head-place w ↦ w.t-30-is ∙ sym (cond-false (eqb c.index-head.result.now c.args.place) c.index-after.result.now c.index-head.result.now (ne_eqb c.index-head.result.now c.args.place w.if-head-place.false))
+      | then-head-place w ↦ w.t-30-is ∙ sym (cond-true (eqb c.index-head.result.now c.args.place) c.index-after.result.now c.index-head.result.now (eq-eqb c.index-head.result.now c.args.place w.if-head-place.true))
+      | else-head-place w ↦ w.t-30-is ∙ sym (cond-false (eqb c.index-head.result.now c.args.place) c.index-after.result.now c.index-head.result.now (ne_eqb c.index-head.result.now c.args.place w.if-head-place.false))
     ]
 
 change : (c : goal.After-self-1) → Changed c.self.inside.heads.items c.self.inside.next.items (without c.args.place (places_in (seen c.self.inside.heads.items c.self.inside.next.items) c.args.list)) c.args.list (set c.self.inside.heads.items c.args.list c.if-head-place.t-30) c.set_link.new.links.items c.set_link-2.new.links.items
