@@ -1,17 +1,17 @@
 -- The entry that a search finds, and what is left when it is taken.
-use Rattle.std.proofs.Common.{◌≡◌, ◌≢◌, ℕ, suc, ◌<◌, ◌≤◌, ◌+◌, Bool, true, false, not, ◌||◌, ◌&&◌, cond, List, [], ◌∷◌, ◌++◌, map, reverse, length, get_or, refl, sym, ap, ◌∙◌, subst, eqb, ◌⊎◌, inl, inr, arith}
-use Rattle.std.proofs.lemmas.List.{reverse-append, append-nil, length-reverse, length-map, length_push}
+use Rattle.std.proofs.Common.{◌≡◌, ℕ, ◌<◌, ◌≤◌, ◌+◌, Bool, true, false, not, ◌||◌, ◌&&◌, cond, List, [], ◌∷◌, ◌++◌, map, reverse, length, refl, sym, ap, ◌∙◌, subst, eqb, inl, inr, arith}
+use Rattle.std.proofs.lemmas.List.{reverse-append, append-nil, length-reverse, length-map}
 use Rattle.std.proofs.lemmas.List.Elements.{filter-append, All-nil, All-push}
 use Rattle.std.proofs.lemmas.List.Folds.{find-append}
 use Rattle.std.proofs.lemmas.List.Quantifiers.{all_pairs_push}
-use Rattle.std.proofs.lemmas.Bool.{eqb-true, eqb-false, ne_eqb, eq-eqb, or_left, or_right, or_parts, cases_Bool, cond-true, cond-false, not_from_true, not_from_false, false≢true}
+use Rattle.std.proofs.lemmas.Bool.{eqb-true, eqb-false, ne_eqb, eq-eqb, or_left, or_right, or_parts, cases_Bool, cond-true, cond-false, not_from_true, not_from_false}
 use Rattle.std.specs.Prelude.{Option, Some, None, option_map, IfSome, is_some, find, filter, All, AllPairs}
 use Rattle.std.specs.Option.{option_or}
 use Rattle.std.specs.List.{list_any}
 use Rattle.place_lists.specs.PlaceLists.{has_place, AreOnce}
 use Rattle.entry_table.specs.declared.entry.Entry.{Entry}
 use Rattle.entry_table.specs.declared.search.Wanted.{Wanted}
-use Rattle.entry_table.specs.Entries.{AreEntries, Entries}
+use Rattle.entry_table.specs.Entries.{AreEntries}
 use Rattle.entry_table.specs.PlacedEntries.{Placed, places_of, entry_at, but_at}
 use Rattle.entry_table.specs.Searching.{is_wanted, is_wanted_in, or_place, last_place, entries_of, AreGiven, AreBelow, IdsFall, IsTable}
 

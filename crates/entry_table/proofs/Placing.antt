@@ -1,10 +1,9 @@
 -- Entries put at places and taken from them.
-use Rattle.std.proofs.Common.{◌≡◌, ◌≢◌, ℕ, ◌<◌, ◌≤◌, Bool, true, false, not, ◌||◌, cond, List, [], ◌∷◌, map, length, get_or, refl, sym, ap, ◌∙◌, subst, eqb, ◌⊎◌, inl, inr, arith, get_or-set_same, get_or-set_other}
+use Rattle.std.proofs.Common.{◌≡◌, ℕ, ◌<◌, Bool, true, false, not, ◌||◌, cond, List, [], ◌∷◌, length, get_or, refl, sym, ap, ◌∙◌, eqb, inl, inr, get_or-set_same, get_or-set_other}
 use Rattle.std.proofs.Math.ListN.{set}
-use Rattle.std.proofs.lemmas.Bool.{eqb-true, eqb-false, ne_eqb, eq-eqb, or_parts, or_from, or_left, or_right, cond-true, cond-false, cases_eq, cases_Bool, false≢true, not_from_true, not_from_false}
-use Rattle.std.specs.Prelude.{Option, Some, None, is_some, option_map, find, filter}
-use Rattle.std.specs.List.{filter_map}
-use Rattle.place_lists.specs.PlaceLists.{has_place, without, AreOnce}
+use Rattle.std.proofs.lemmas.Bool.{eqb-true, eqb-false, eq-eqb, or_parts, or_from, or_left, or_right, cond-true, cond-false, cases_Bool, false≢true, not_from_true, not_from_false}
+use Rattle.std.specs.Prelude.{Option, Some, None, is_some, option_map, find}
+use Rattle.place_lists.specs.PlaceLists.{has_place, without}
 use Rattle.entry_table.specs.declared.entry.Entry.{Entry}
 use Rattle.entry_table.specs.PlacedEntries.{Placed, cell_at, placed_at, places_of, entry_at, but_at}
 

@@ -1,11 +1,11 @@
 -- What a shelf keeps when an entry is put or taken.
-use Rattle.std.proofs.Common.{◌≡◌, ◌≢◌, ℕ, suc, ◌<◌, ◌≤◌, ◌+◌, Bool, true, false, not, ◌||◌, cond, List, [], ◌∷◌, ◌++◌, map, length, get_or, refl, sym, ap, ◌∙◌, subst, eqb, ◌⊎◌, inl, inr, arith, get_or-set_same, get_or-set_other}
+use Rattle.std.proofs.Common.{◌≡◌, ◌≢◌, ℕ, ◌<◌, ◌+◌, Bool, true, false, not, ◌||◌, List, [], ◌∷◌, ◌++◌, length, get_or, refl, sym, ap, ◌∙◌, subst, eqb, inl, inr, arith, get_or-set_same, get_or-set_other}
 use Rattle.std.proofs.Math.ListN.{set}
 use Rattle.std.proofs.lemmas.List.{length-set, length-map, length_push, get_or_append_left, get_or_push, get_or_past}
-use Rattle.std.proofs.lemmas.Bool.{eqb-true, ne_eqb, eq-eqb, or_left, or_right, or_cases, or_parts, cases_eq, cases_lt, cases_Bool, false≢true, both_ways, cond-true, cond-false, not_from_true, not_from_false}
+use Rattle.std.proofs.lemmas.Bool.{eqb-true, ne_eqb, eq-eqb, or_left, or_cases, cases_eq, cases_lt, cases_Bool, false≢true, cond-true, cond-false, not_from_true, not_from_false}
 use Rattle.std.specs.Prelude.{Option, Some, None, is_some}
 use Rattle.place_lists.specs.PlaceLists.{PlaceLists, places_in, has_place, without, AreOnce, AreApart, IsFree}
-use Rattle.place_lists.proofs.Places.{Out, Out-from_test, AreOnce-without, without-here, without-cons}
+use Rattle.place_lists.proofs.Places.{Out-from_test, AreOnce-without, without-here, without-cons}
 use Rattle.entry_table.specs.declared.entry.Entry.{Entry}
 use Rattle.entry_table.specs.PlacedEntries.{Placed, placed_at, places_of, entry_at, but_at, room, IsShelf}
 use Rattle.entry_table.proofs.Placing.{AreFilled, has_place-gone, placed_at-put, placed_at-take, places_of-placed, entry_at-placed}

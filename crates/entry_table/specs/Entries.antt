@@ -1,5 +1,5 @@
 -- The entries of the bus.
-use Rattle.std.specs.Prelude.{◌≡◌, ℕ, ◌≤◌, Bool, true, false, not, ◌&&◌, ◌||◌, List, [], filter, find, length, reverse, Option, option_map, ◌==◌, nat_le, All, AllPairs, ◌<◌}
+use Rattle.std.specs.Prelude.{ℕ, ◌≤◌, Bool, true, false, not, ◌&&◌, ◌||◌, List, [], filter, length, ◌==◌, nat_le, All, AllPairs, ◌<◌}
 use Rattle.match_rule.specs.RuleTree.{RuleTree, rule_eq}
 use Rattle.entry_table.specs.declared.entry.Entry.{Entry}
 use Rattle.entry_table.specs.declared.entry.Filter.{Filter}

@@ -1,5 +1,5 @@
 -- Inner: entries at their places.
-use Rattle.std.specs.Prelude.{◌≡◌, ℕ, ◌+◌, Bool, true, not, List, [], ◌∷◌, map, filter, find, length, Option, Some, None, is_some, option_map, ◌==◌, slice_index_or}
+use Rattle.std.specs.Prelude.{◌≡◌, ℕ, ◌+◌, not, List, map, filter, find, length, Option, None, is_some, option_map, ◌==◌, slice_index_or}
 use Rattle.std.specs.List.{filter_map}
 use Rattle.place_lists.specs.PlaceLists.{PlaceLists, places_in, has_place, AreOnce}
 use Rattle.entry_table.specs.declared.entry.Entry.{Entry}

@@ -4,7 +4,7 @@ use Rattle.entry_table.specs.declared.entry.Entry.{Entry}
 use Rattle.entry_table.specs.declared.search.Wanted.{Wanted}
 use Rattle.entry_table.specs.declared.search.Wanted.TheVariants.{Any, Id, EqualRule, Attachment}
 use Rattle.entry_table.specs.Entries.{is_of, is_rule, is_attached}
-use Rattle.entry_table.specs.PlacedEntries.{Placed, entry_at}
+use Rattle.entry_table.specs.PlacedEntries.{Placed}
 
 -- the entry is what is wanted, whoever has it
 abbrev pub suits : Wanted → Entry → Bool

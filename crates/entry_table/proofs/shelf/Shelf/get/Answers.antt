@@ -1,5 +1,5 @@
-use Rattle.std.proofs.Common.{◌≡◌, subst, sym, ap, ◌∙◌, arith, ℕ, List, get_or}
-use Rattle.std.specs.Prelude.{Option, Some, None, option_map}
+use Rattle.std.proofs.Common.{subst, sym, ap, ◌∙◌, arith, ℕ, List, get_or}
+use Rattle.std.specs.Prelude.{Option, None}
 use Rattle.place_lists.specs.PlaceLists.{AreOnce}
 use Rattle.entry_table.specs.declared.entry.Entry.{Entry}
 use Rattle.entry_table.specs.PlacedEntries.{Placed, places_of, entry_at}

@@ -1,8 +1,7 @@
-use Rattle.std.proofs.Common.{◌≡◌, ◌<◌, subst, sym, ap, ◌∙◌, arith, ℕ, List, [], ◌∷◌, true, false, length, refl}
+use Rattle.std.proofs.Common.{subst, sym, ap, ◌∙◌, arith, ℕ, List, ◌∷◌, length, refl}
 use Rattle.std.proofs.Math.ListN.{set}
-use Rattle.std.specs.Prelude.{Option, Some}
+use Rattle.std.specs.Prelude.{Some}
 use Rattle.place_lists.specs.PlaceLists.{PlaceLists, IsFree, places_in, has_place}
-use Rattle.entry_table.specs.declared.entry.Entry.{Entry}
 use Rattle.entry_table.specs.PlacedEntries.{Placed, placed_at, places_of, IsShelf}
 use Rattle.entry_table.proofs.Shelving.{some_vacant, IsFree-between, IsShelf-put, held-put, places-held, unused, moved-by, moved, has_place-front}
 use Rattle.entry_table.proofs.shelf.Shelf.put.Goals as goal

@@ -1,4 +1,4 @@
-use Rattle.std.proofs.Common.{◌≡◌, subst, sym, ap, ◌∙◌, List}
+use Rattle.std.proofs.Common.{subst, sym, ap, ◌∙◌, List}
 use Rattle.place_lists.specs.PlaceLists.{AreOnce}
 use Rattle.entry_table.specs.PlacedEntries.{Placed, places_of}
 use Rattle.entry_table.proofs.Shelving.{once-held, places-held}

@@ -1,4 +1,4 @@
-use Rattle.std.proofs.Common.{◌<◌, ◌+◌, ℕ, List, subst, sym, ap, arith, length, refl, eqb}
+use Rattle.std.proofs.Common.{◌<◌, ◌+◌, List, subst, sym, ap, arith, length, refl, eqb}
 use Rattle.std.proofs.lemmas.Bool.{or_parts, leb-false}
 use Rattle.std.specs.Prelude.{nat_le}
 use Rattle.entry_table.specs.declared.entry.Entry.{Entry}

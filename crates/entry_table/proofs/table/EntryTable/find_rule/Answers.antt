@@ -1,5 +1,5 @@
-use Rattle.std.proofs.Common.{◌≡◌, sym, ap, ◌∙◌, ℕ}
-use Rattle.std.specs.Prelude.{Option, Some, None, option_map, find}
+use Rattle.std.proofs.Common.{sym, ap, ◌∙◌, ℕ}
+use Rattle.std.specs.Prelude.{Some, None, option_map, find}
 use Rattle.entry_table.specs.declared.entry.Entry.{Entry}
 use Rattle.entry_table.specs.declared.search.Wanted.TheVariants.{EqualRule}
 use Rattle.entry_table.specs.Entries.{Entries, has_rule}

@@ -1,4 +1,4 @@
-use Rattle.std.proofs.Common.{◌≡◌, sym, ap, ◌∙◌}
+use Rattle.std.proofs.Common.{ap, ◌∙◌}
 use Rattle.std.specs.List.{list_any}
 use Rattle.entry_table.specs.declared.search.Wanted.TheVariants.{Attachment}
 use Rattle.entry_table.specs.Entries.{Entries, is_attachment}

@@ -1,6 +1,6 @@
 use Rattle.std.proofs.Common.{subst}
-use Rattle.entry_table.specs.Entries.{Entries, AreEntries}
-use Rattle.entry_table.proofs.Finding.{AreEntries-held, IsFound-search, found-none, found-some, found-there, has_place-entry, entries_of-but, IsTable-but, IsTable-more}
+use Rattle.entry_table.specs.Entries.{AreEntries}
+use Rattle.entry_table.proofs.Finding.{AreEntries-held}
 use Rattle.entry_table.proofs.table.EntryTable.last_id.Goals as goal
 
 pub returns-clause-sound : goal.returns-clause-sound

@@ -1,7 +1,6 @@
-use Rattle.std.proofs.Common.{◌≡◌, subst, sym, ap, ◌∙◌, List, ℕ}
+use Rattle.std.proofs.Common.{subst, ap, ◌∙◌, List, ℕ}
 use Rattle.entry_table.specs.Entries.{Entries}
 use Rattle.entry_table.specs.OfferedEntries.{AreOffered}
-use Rattle.entry_table.specs.PlacedEntries.{places_of}
 use Rattle.entry_table.specs.FoundTexts.{offered_at}
 use Rattle.match_rule.specs.FixedTexts.{FixedTexts, texts_of}
 use Rattle.entry_table.proofs.Offering.{AreOffered-all}

@@ -1,4 +1,4 @@
-use Rattle.std.proofs.Common.{◌≡◌, ◌∙◌}
+use Rattle.std.proofs.Common.{◌∙◌}
 use Rattle.entry_table.specs.declared.search.Wanted.TheVariants.{Any}
 use Rattle.entry_table.specs.Entries.{is_of}
 use Rattle.entry_table.specs.Searching.{is_wanted}

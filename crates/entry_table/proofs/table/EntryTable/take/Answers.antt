@@ -1,10 +1,10 @@
-use Rattle.std.proofs.Common.{◌≡◌, ◌+◌, ◌-◌, ◌<◌, ℕ, List, Bool, false, length, subst, sym, ap, ◌∙◌, arith}
-use Rattle.std.specs.Prelude.{Option, Some, None, find, filter, ◌==◌}
+use Rattle.std.proofs.Common.{◌≡◌, ◌+◌, ◌-◌, List, length, subst, sym, ap, ◌∙◌, arith}
+use Rattle.std.specs.Prelude.{Some, None, find, filter, ◌==◌}
 use Rattle.entry_table.specs.declared.entry.Entry.{Entry}
 use Rattle.entry_table.specs.Entries.{Entries, entries_but}
 use Rattle.entry_table.specs.PlacedEntries.{Placed}
 use Rattle.entry_table.specs.Searching.{is_wanted, entries_of, IsTable}
-use Rattle.entry_table.proofs.Finding.{IsFound, searched, found-some, found-none, found-there, has_place-entry, oldest_of, entries_of-but, IsTable-but, length-but, length-entries_of, filter-but}
+use Rattle.entry_table.proofs.Finding.{searched, found-some, found-none, found-there, has_place-entry, oldest_of, entries_of-but, IsTable-but, length-but, length-entries_of, filter-but}
 use Rattle.entry_table.proofs.table.EntryTable.take.Goals as goal
 
 pub take-entry-requires : goal.take-entry-requires
