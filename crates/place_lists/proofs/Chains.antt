@@ -1,8 +1,8 @@
 -- How writes to links change one list.
-use Rattle.std.proofs.Common.{◌≡◌, ◌≢◌, ℕ, zero, suc, ◌<◌, ◌≤◌, Bool, true, false, not, cond, List, [], ◌∷◌, length, get_or, refl, sym, ap, ◌∙◌, subst, eqb, ltb, ◌⊎◌, inl, inr, arith, get_or-set_same, get_or-set_other}
+use Rattle.std.proofs.Common.{◌≡◌, ◌≢◌, ℕ, zero, suc, ◌<◌, ◌≤◌, true, false, cond, List, [], ◌∷◌, length, get_or, refl, sym, ap, ◌∙◌, subst, eqb, ltb, ◌⊎◌, inl, inr, arith, get_or-set_same, get_or-set_other}
 use Rattle.std.proofs.Math.ListN.{set}
 use Rattle.std.proofs.lemmas.List.{length-set}
-use Rattle.std.proofs.lemmas.Bool.{eqb-true, eqb-false, ne_eqb, eq-eqb, lt-ltb, le-ltb, or_cases, cond-true, cond-false, cases_eq, false≢true}
+use Rattle.std.proofs.lemmas.Bool.{eqb-true, ne_eqb, eq-eqb, lt-ltb, le-ltb, or_cases, cond-true, cond-false, cases_eq, false≢true}
 use Rattle.place_lists.specs.PlaceLists.{has_place, without, AreOnce}
 use Rattle.place_lists.specs.Links.{end_link, walk, IsLinked}
 use Rattle.place_lists.proofs.Places.{Out, Out-from_test, Out-differs, has_place-here, has_place-later, without-cons, without-here}

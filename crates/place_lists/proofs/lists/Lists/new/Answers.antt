@@ -1,6 +1,6 @@
 use Rattle.std.proofs.Common.{◌≡◌, ap, ◌∙◌, ℕ, List}
 use Rattle.std.specs.Prelude.{replicate}
-use Rattle.place_lists.specs.Links.{AreLinked, list_of, end_link}
+use Rattle.place_lists.specs.Links.{end_link}
 use Rattle.place_lists.proofs.Changes.{AreLinked-empty, seen-empty, seen}
 use Rattle.place_lists.proofs.lists.Lists.new.Goals as goal
 

@@ -1,4 +1,4 @@
-use Rattle.std.proofs.Common.{◌≡◌, ◌<◌, subst, sym, ap, ◌∙◌, arith, ℕ, List, ◌∷◌, length, get_or}
+use Rattle.std.proofs.Common.{◌<◌, subst, sym, ap, ◌∙◌, arith, ◌∷◌, length}
 use Rattle.std.proofs.Math.ListN.{set}
 use Rattle.std.proofs.lemmas.List.{get_or_read}
 use Rattle.place_lists.specs.PlaceLists.{PlaceLists, AreApart, IsFree, places_in}

@@ -1,7 +1,7 @@
 use Rattle.std.proofs.Common.{◌≡◌, ◌<◌, subst, sym, ap, ◌∙◌, arith, ℕ, length, get_or}
 use Rattle.std.proofs.lemmas.Bool.{ltb-true}
 use Rattle.place_lists.specs.Links.{end_link, HasEnded}
-use Rattle.place_lists.proofs.Changes.{HasEnded-next, list_from-next, list_from-end}
+use Rattle.place_lists.proofs.Changes.{HasEnded-next}
 use Rattle.place_lists.proofs.walk.WalkIterator.next.Goals as goal
 
 pub invariant_of-self : goal.invariant_of-self
