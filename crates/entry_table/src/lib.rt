@@ -16,4 +16,4 @@ pub use attachment::Attachment;
 pub use entry::{Entry, Filter};
 pub use offered::Offered;
 pub use rule_program::RuleProgram;
-pub use table::{EntryTable, IndexKey, MAX_ENTRIES};
+pub use table::{EntryTable, MAX_ENTRIES};

@@ -13,14 +13,6 @@ use std::marker::Model;
 /// How many entries a table holds at most.
 pub const MAX_ENTRIES: usize = 16384;
 
-/// The secret of an index: who doesn't know it can't choose texts that lie together. Nothing uses it until there is
-/// an index.
-#[derive(Clone, Copy)]
-pub struct IndexKey {
-    pub first: u64,
-    pub second: u64,
-}
-
 /// The entries of a bus, by rising id.
 #[derive(Drop)]
 pub struct EntryTable {
@@ -51,7 +43,7 @@ impl EntryTable {
     ghost use Rattle.entry_table.specs.Searching.{is_wanted};
 
     /// A table without entries. Only this call takes memory.
-    pub fn new(alloc: Global, _key: IndexKey) -> Result<EntryTable, AllocError>
+    pub fn new(alloc: Global) -> Result<EntryTable, AllocError>
         ensures { IfOk result (λ table. table ≡ no_entries) }
     {
         Ok(EntryTable {

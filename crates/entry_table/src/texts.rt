@@ -1,4 +1,4 @@
-// The texts that the index looks entries up by.
+// The texts of a message that decide which entries it is offered to.
 
 ghost use Rattle.std.specs.Prelude.{◌≡◌, ◌↔◌, IsTrue, Some, option_map};
 ghost use Rattle.message_value.specs.ShownArguments.{shown_arg};
