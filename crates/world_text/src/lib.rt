@@ -9,9 +9,11 @@ mod error;
 mod event;
 mod hex_word;
 mod line;
+mod list;
 mod number;
 
 pub use answer::{ClaimWord, Owner, RefusalWord, TextAnswer};
-pub use error::LineError;
+pub use error::{LineError, ListError};
 pub use event::TextEvent;
 pub use line::Line;
+pub use list::read_list;
