@@ -133,11 +133,16 @@ impl fmt::Display for TextAnswer<'_> {
             TextAnswer::Entry(entry) => write!(f, "entry {entry}"),
             TextAnswer::Done => f.write_str("done"),
             TextAnswer::Name(answer) => write!(f, "name {answer}"),
-            TextAnswer::NameMoved { answer, from, to } =>
-                write!(f, "name {answer} from {from} to {to}"),
+            TextAnswer::NameMoved { answer, from, to } => write!(
+                f,
+                "name {answer} from {from} to {to}"
+            ),
             TextAnswer::Nothing => f.write_str("nothing"),
             TextAnswer::Waiting => f.write_str("waiting"),
-            TextAnswer::Changed { name, from, to } => write!(f, "changed {name} from {from} to {to}"),
+            TextAnswer::Changed { name, from, to } => write!(
+                f,
+                "changed {name} from {from} to {to}"
+            ),
             TextAnswer::Refused(refusal) => {
                 let name = refusal.name();
                 write!(f, "refused {name}")

@@ -19,9 +19,15 @@ pub enum TextEvent<'a> {
     /// `connect`
     Connect,
     /// `add C RULE`
-    Add { connection: u64, rule: &'a str },
+    Add {
+        connection: u64,
+        rule: &'a str,
+    },
     /// `remove C RULE`
-    Remove { connection: u64, rule: &'a str },
+    Remove {
+        connection: u64,
+        rule: &'a str,
+    },
     /// `attach C E HEX`, with the bytes of the program's instructions
     Attach {
         connection: u64,
@@ -29,7 +35,10 @@ pub enum TextEvent<'a> {
         program: Vec<u8>,
     },
     /// `detach C ID`
-    Detach { connection: u64, entry: u32 },
+    Detach {
+        connection: u64,
+        entry: u32,
+    },
     /// `request C NAME FLAGS`
     Request {
         connection: u64,
@@ -37,17 +46,32 @@ pub enum TextEvent<'a> {
         flags: u32,
     },
     /// `release C NAME`
-    Release { connection: u64, name: &'a str },
+    Release {
+        connection: u64,
+        name: &'a str,
+    },
     /// `drop C`
-    DropOne { connection: u64 },
+    DropOne {
+        connection: u64,
+    },
     /// `close C`
-    Close { connection: u64 },
+    Close {
+        connection: u64,
+    },
     /// `begin C HEX`, or `begin bus HEX` of the bus itself
-    Begin { sender: Option<u64>, bytes: Vec<u8> },
+    Begin {
+        sender: Option<u64>,
+        bytes: Vec<u8>,
+    },
     /// `piece JOB PART`
-    Piece { job: u64, part: u64 },
+    Piece {
+        job: u64,
+        part: u64,
+    },
     /// `end JOB`
-    End { job: u64 },
+    End {
+        job: u64,
+    },
 }
 
 impl<'a> TextEvent<'a> {
