@@ -1,0 +1,210 @@
+// The state of the bus.
+
+use crate::command::{Command, Reply};
+use crate::connection::Connection;
+use crate::connections::Connections;
+use crate::mailbox::Mailbox;
+use crate::refusal::Refusal;
+use crate::registration_table::RegistrationTable;
+use entry_table::Offered;
+use message_view::View;
+use owners::WellKnown;
+use std::alloc::{AllocError, Global};
+use std::marker::Model;
+use summary::Slots;
+
+/// The state of the bus: what a command is answered. All its room is taken by `new`.
+#[derive(Drop)]
+pub struct BusState<M: Mailbox> {
+    commands: u64,
+    connections: Connections<M>,
+    registrations: RegistrationTable,
+}
+
+impl<M: Mailbox> Model for BusState<M> {
+    ghost use Rattle.program_table.specs.State.{State};
+    ghost use Rattle.program_table.specs.Counts.{AreCounts};
+
+    ghost Value = { State M };
+
+    ghost view = { λ s. record { commands = s.commands; connections = s.connections.connections; last_connection = s.connections.last; registrations = s.registrations } };
+
+    ghost invariant = { λ s. AreCounts s.commands s.connections };
+}
+
+impl<M: Mailbox> BusState<M> {
+    ghost use Rattle.std.specs.Prelude.{◌≡◌, ◌<◌, IfOk, option_map, option_copied};
+    ghost use Rattle.message_view.specs.Message.{Message};
+    ghost use Rattle.message_view.specs.Valid.{Valid};
+    ghost use Rattle.owners.specs.Queues.{owner_of};
+    ghost use Rattle.owners.specs.Registry.{next_name};
+    ghost use Rattle.entry_table.specs.OfferedEntries.{AreOffered};
+    ghost use Rattle.program_table.specs.Connections.{mailbox_of, commands_of};
+    ghost use Rattle.program_table.specs.SlotNames.{slot_next};
+    ghost use Rattle.program_table.specs.State.{opening};
+    ghost use Rattle.program_table.specs.Does.{reply_to, max_commands, answer_of, row, connect_row, connected};
+    ghost use Rattle.program_table.specs.Recipients.{AreOwnedSlots};
+    ghost use Rattle.program_table.specs.IsState.{IsState};
+
+    /// Nobody is connected.
+    pub fn new(alloc: Global) -> Result<BusState<M>, AllocError>
+        ensures { IfOk result (λ state. state ≡ opening) }
+    {
+        Ok(BusState {
+            commands: 0,
+            connections: Connections::new(alloc)?,
+            registrations: RegistrationTable::new(alloc)?,
+        })
+    }
+
+    /// What the command would be answered.
+    pub fn answer(&self, command: &Command<M>) -> Reply
+        ensures { result ≡ reply_to self.now command.now }
+    {
+        match self.decide(command) {
+            Ok(reply) => reply,
+            Err(refusal) => Reply::Refused(refusal),
+        }
+    }
+
+    /// The reply to a command that is accepted, or the first refusal.
+    fn decide(&self, command: &Command<M>) -> Result<Reply, Refusal>
+        ensures { result ≡ answer_of self.now command.now }
+    {
+        if self.commands == u64::MAX {
+            return Err(Refusal::Closed);
+        }
+        self.row(command)
+    }
+
+    /// The same, where one more command can be counted.
+    fn row(&self, command: &Command<M>) -> Result<Reply, Refusal>
+        requires { self.now.commands < max_commands }
+        ensures { result ≡ row self.now command.now }
+    {
+        match command {
+            Command::Connect(_) => self.connect_row(),
+            Command::AddRule(connection, program) => {
+                self.connected(*connection)?;
+                self.registrations.add_rule_answer(program)
+            }
+            Command::RemoveRule(connection, rule) => {
+                self.connected(*connection)?;
+                self.registrations.remove_rule_answer(*connection, rule)
+            }
+            Command::Attach(connection, _) => {
+                self.connected(*connection)?;
+                self.registrations.attach_answer()
+            }
+            Command::Detach(connection, id) => {
+                self.connected(*connection)?;
+                self.registrations.detach_answer(*connection, *id)
+            }
+            Command::Request(connection, name, flags) => {
+                self.connected(*connection)?;
+                self.registrations.request_answer(name, *connection, *flags)
+            }
+            Command::Release(connection, name) => {
+                self.connected(*connection)?;
+                Ok(self.registrations.release_answer(name, *connection))
+            }
+            Command::DropOne(connection) => {
+                self.connected(*connection)?;
+                Ok(self.registrations.drop_answer(*connection))
+            }
+            Command::Close(connection) => {
+                self.connected(*connection)?;
+                Ok(Reply::Done)
+            }
+        }
+    }
+
+    fn connect_row(&self) -> Result<Reply, Refusal>
+        requires { self.now.commands < max_commands }
+        ensures { result ≡ connect_row self.now }
+    {
+        if self.connections.is_full() {
+            Err(Refusal::ConnectionsFull)
+        } else {
+            Ok(Reply::Connected(self.connections.last() + 1))
+        }
+    }
+
+    /// Whether the connection is there.
+    fn connected(&self, connection: u64) -> Result<(), Refusal>
+        ensures { result ≡ connected connection self.now }
+    {
+        if self.connections.contains(connection) {
+            Ok(())
+        } else {
+            Err(Refusal::Closed)
+        }
+    }
+
+    /// How many commands were accepted.
+    pub fn commands(&self) -> u64
+        ensures { result ≡ self.now.commands }
+    {
+        self.commands
+    }
+
+    /// How many commands of a connection were accepted, its Connect included; 0 where it isn't connected.
+    pub fn commands_of(&self, connection: u64) -> u64
+        ensures { result ≡ commands_of connection self.now.connections }
+    {
+        self.connections.commands_of(connection)
+    }
+
+    /// The connections by rising number.
+    pub fn connections(&self) -> &[Connection<M>]
+        ensures { result.now ≡ self.now.connections }
+    {
+        self.connections.as_slice()
+    }
+
+    /// Where the messages for a connection go.
+    pub fn mailbox_of(&self, connection: u64) -> Option<&M>
+        ensures { option_copied result ≡ mailbox_of connection self.now.connections }
+    {
+        self.connections.mailbox_of(connection)
+    }
+
+    /// The primary owner of a name.
+    pub fn owner_of(&self, name: &str) -> Option<u64>
+        ensures { result ≡ owner_of name.now self.now.registrations.claims }
+    {
+        self.registrations.owner_of(name)
+    }
+
+    /// The least owned name after another in the order of bytes, or the least of all.
+    pub fn next_name(&self, after: Option<&WellKnown>) -> Option<WellKnown>
+        ensures { result ≡ next_name (option_map (λ name. name.now) after.entry) self.now.registrations.claims }
+    {
+        self.registrations.next_name(after)
+    }
+
+    /// The slot that a name has, or gets when it needs one; None where all are used.
+    pub fn slot_next(&self, name: &str) -> Option<u16>
+        ensures { result ≡ slot_next name.now self.now.registrations.slots }
+    {
+        self.registrations.slot_next(name)
+    }
+
+    /// The slots of the names whose primary owner is the sender. None is the bus.
+    pub fn slots_of(&self, sender: Option<u64>) -> Slots
+        ensures { AreOwnedSlots self.now.registrations sender result }
+    {
+        self.registrations.slots_of(sender)
+    }
+
+    /// The entries that a message is offered to: attached programs, and the rules whose member, interface, path and
+    /// `arg0` conditions, where there are such, hold of the message.
+    pub fn offered<'a>(&'a self, view: &View<'a>) -> Offered<'a>
+        ensures offered { (m : Message) → Valid view.now m → AreOffered self.now.registrations.entries m result }
+        // Entries are of connections, rules have the slots of their senders, and no name has two slots.
+        ensures state { IsState self.now }
+    {
+        let _ = self.connections.last();
+        self.registrations.offered(view)
+    }
+}
