@@ -1,0 +1,3 @@
+pub mod Connections
+pub mod Places
+pub mod ConnectionList
