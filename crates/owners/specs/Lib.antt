@@ -1,0 +1,5 @@
+pub mod Numbers
+pub mod WellKnown
+pub mod Queues
+pub mod Registry
+pub mod Kept
