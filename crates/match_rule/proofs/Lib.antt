@@ -8,7 +8,9 @@ pub mod Spelled
 pub mod Found
 pub mod OneSender
 pub mod SmallNumbers
+pub mod SenderNames
 pub mod ValueBytes
 pub mod ReadRules
 pub mod Namespaces
 pub mod TextArgs
+pub mod FixedFound

@@ -6,7 +6,7 @@ use Rattle.match_rule.specs.Condition.{value_of}
 use Rattle.match_rule.specs.RuleTree.{RuleTree, weight_of}
 use Rattle.match_rule.specs.Grammar.{rule_with}
 use Rattle.match_rule.specs.Reading.{terms_at}
-use Rattle.match_rule.specs.Parts.{tree_at, has_one_sender, have_small_numbers}
+use Rattle.match_rule.specs.Parts.{tree_at, has_one_sender, have_small_numbers, have_sender_names}
 use Rattle.match_rule.proofs.PartReads.{bind_ok}
 use Rattle.match_rule.proofs.Turns.{read_weight}
 use Rattle.match_rule.proofs.Spelled.{rule_at-tree}
@@ -14,6 +14,7 @@ use Rattle.match_rule.proofs.Found.{rule_found}
 use Rattle.match_rule.proofs.OneSender.{own_keys_one_sender}
 use Rattle.match_rule.proofs.SmallNumbers.{parts_small}
 use Rattle.match_rule.proofs.ValueBytes.{parts_bytes_are}
+use Rattle.match_rule.proofs.SenderNames.{parts_names}
 
 pub tree_weight : (text : List ℕ) (rule : RuleTree) → length text ≤ 1024 → tree_at text ≡ Ok rule → weight_of rule ≤ 41992
 tree_weight text rule short e =
@@ -35,3 +36,8 @@ pub value_bytes : (text : List ℕ) (rule : RuleTree) → length text ≤ 1024 �
 value_bytes text rule short e =
     let is = rule_found text rule (rule_at-tree text short ∙ e) in
     subst (λ (r : RuleTree). All (λ c. AreBytes (value_of c)) r.conditions) (sym is.says) (parts_bytes_are is.parts is.terms is.said)
+
+pub sender_names : (text : List ℕ) (rule : RuleTree) → length text ≤ 1024 → tree_at text ≡ Ok rule → have_sender_names rule.conditions ≡ true
+sender_names text rule short e =
+    let is = rule_found text rule (rule_at-tree text short ∙ e) in
+    ap (λ (r : RuleTree). have_sender_names r.conditions) is.says ∙ parts_names is.parts is.terms is.said

@@ -9,3 +9,4 @@ pub mod Parts
 pub mod Arguments
 pub mod Holds
 pub mod Equality
+pub mod FixedTexts

@@ -1,6 +1,7 @@
 -- What the parts in front said: their conditions, and what one of them said of eavesdropping.
 use Rattle.std.specs.Prelude.{ℕ, Bool, true, false, not, ◌&&◌, List, [], ◌∷◌, ◌++◌, map, Option, Some, None, unwrap_or, nat_le, Result, Ok}
 use Rattle.std.specs.List.{list_all, list_any}
+use Rattle.signature.specs.Name.{is_bus_name}
 use Rattle.match_rule.specs.declared.fault.RuleError.{RuleError}
 use Rattle.match_rule.specs.declared.condition.Condition.{Condition}
 use Rattle.match_rule.specs.declared.condition.Condition.TheVariants.{Sender, Arg, ArgPath}
@@ -50,3 +51,11 @@ has_small_number _ = true
 
 abbrev pub have_small_numbers : List Condition → Bool
 have_small_numbers conditions = list_all has_small_number conditions
+
+-- the sender that a condition asks for is a bus name
+abbrev pub has_sender_name : Condition → Bool
+has_sender_name (Sender name) = is_bus_name name
+has_sender_name _ = true
+
+abbrev pub have_sender_names : List Condition → Bool
+have_sender_names conditions = list_all has_sender_name conditions

@@ -6,6 +6,7 @@
 mod arg_key;
 mod condition;
 mod fault;
+mod fixed;
 mod holding;
 mod key;
 mod kind_name;
@@ -25,7 +26,7 @@ pub use condition::Condition;
 pub use fault::RuleError;
 pub use key::Key;
 pub use kind_name::KindName;
-pub use laws::{equal_as_sets, one_reading};
+pub use laws::{equal_as_sets, found_where_it_holds, one_reading};
 pub use rule::Rule;
 pub use sender::is_owned_name;
 pub use text::Text;

@@ -24,13 +24,13 @@ impl Model for Rule {
     ghost use Rattle.message_value.specs.Words.{AreBytes};
     ghost use Rattle.match_rule.specs.Condition.{value_of};
     ghost use Rattle.match_rule.specs.RuleTree.{RuleTree, weight_of};
-    ghost use Rattle.match_rule.specs.Parts.{has_one_sender, have_small_numbers};
+    ghost use Rattle.match_rule.specs.Parts.{has_one_sender, have_small_numbers, have_sender_names};
 
     ghost Value = { RuleTree };
 
     ghost view = { λ r. record { conditions = r.conditions.items; eavesdrops = r.eavesdrops } };
 
-    ghost invariant = { λ r. weight_of (record { conditions = r.conditions.items; eavesdrops = r.eavesdrops }) ≤ 41992 × (has_one_sender r.conditions.items ≡ true) × (have_small_numbers r.conditions.items ≡ true) × All (λ c. AreBytes (value_of c)) r.conditions.items };
+    ghost invariant = { λ r. weight_of (record { conditions = r.conditions.items; eavesdrops = r.eavesdrops }) ≤ 41992 × (has_one_sender r.conditions.items ≡ true) × (have_small_numbers r.conditions.items ≡ true) × All (λ c. AreBytes (value_of c)) r.conditions.items × (have_sender_names r.conditions.items ≡ true) };
 }
 
 impl Rule {
@@ -45,7 +45,7 @@ impl Rule {
     ghost use Rattle.match_rule.specs.Grammar.{ReadsAs};
     ghost use Rattle.match_rule.specs.Reading.{Gives, rule_at};
     ghost use Rattle.match_rule.specs.Condition.{value_of};
-    ghost use Rattle.match_rule.specs.Parts.{has_one_sender, have_small_numbers};
+    ghost use Rattle.match_rule.specs.Parts.{has_one_sender, have_small_numbers, have_sender_names};
 
     /// Reads a rule.
     pub fn read(alloc: Global, text: &str) -> Result<Rule, RuleError>
@@ -73,6 +73,8 @@ impl Rule {
         ensures numbers { have_small_numbers self.now.conditions ≡ true }
         // At most one asks for a sender.
         ensures one_sender { has_one_sender self.now.conditions ≡ true }
+        // A sender that one asks for is a bus name.
+        ensures sender_names { have_sender_names self.now.conditions ≡ true }
         // Each byte of a value is below 256.
         ensures bytes { All (λ c. AreBytes (value_of c)) self.now.conditions }
         // What a rule weighs at most.

@@ -5,7 +5,7 @@ use Rattle.match_rule.specs.Parts.{rule_of, tree_at}
 use Rattle.match_rule.proofs.Steps.{gives_err}
 use Rattle.match_rule.proofs.Spelled.{read_of, rule_at-tree}
 use Rattle.match_rule.proofs.Found.{rule_found}
-use Rattle.match_rule.proofs.ReadRules.{tree_weight, one_sender, small_numbers, value_bytes}
+use Rattle.match_rule.proofs.ReadRules.{tree_weight, one_sender, small_numbers, value_bytes, sender_names}
 use Rattle.match_rule.proofs.rule.Rule.read.Goals as goal
 
 pub returns-in_err-parts-clause-only : goal.returns-in_err-parts-clause-only
@@ -20,6 +20,7 @@ invariant_of-result c =
       one_sender c.args.text.now (rule_of c.in_ok-parts.parts) (omega arith) tree,
       small_numbers c.args.text.now (rule_of c.in_ok-parts.parts) (omega arith) tree,
       value_bytes c.args.text.now (rule_of c.in_ok-parts.parts) (omega arith) tree,
+      sender_names c.args.text.now (rule_of c.in_ok-parts.parts) (omega arith) tree,
     )
 
 pub returns-clause-found : goal.returns-clause-found

@@ -1,0 +1,10 @@
+-- A rule, its slot and its program.
+use Rattle.std.specs.Prelude.{ℕ, List, Option}
+use Rattle.bpf_code.specs.declared.instruction.Ins.{Ins}
+use Rattle.match_rule.specs.RuleTree.{RuleTree}
+
+-- a rule, the slot of its sender name, and the instructions of its program
+pub record CompiledRule : Type 0 where
+  pub rule : RuleTree
+  pub slot : Option ℕ
+  pub program : List Ins

@@ -1,0 +1,4 @@
+pub mod CompiledRule
+pub mod AttachedProgram
+pub mod Entries
+pub mod OfferedEntries

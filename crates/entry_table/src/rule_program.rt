@@ -1,0 +1,100 @@
+// Rules with their programs.
+
+use bpf_verify::Verified;
+use match_rule::Rule;
+use rule_compile::{CompileError, compile};
+use std::alloc::{AllocError, Global};
+use std::marker::Model;
+use std::sync::Arc;
+
+/// A rule, its slot and its program.
+#[derive(Drop)]
+struct Parts {
+    rule: Rule,
+    slot: Option<u16>,
+    program: Verified,
+}
+
+/// A rule with the program that it was compiled to, for images of edition 2. Shares are of one value.
+#[derive(Drop)]
+pub struct RuleProgram {
+    parts: Arc<Parts>,
+}
+
+impl Model for RuleProgram {
+    ghost use Rattle.rule_compile.specs.Compiled.{IsSlotOf, IsCompiled};
+    ghost use Rattle.entry_table.specs.CompiledRule.{CompiledRule};
+
+    ghost Value = { CompiledRule };
+
+    ghost view = { λ p. record { rule = p.parts.value.rule; slot = p.parts.value.slot; program = p.parts.value.program } };
+
+    ghost invariant = { λ p. IsSlotOf p.parts.value.slot p.parts.value.rule × IsCompiled p.parts.value.rule p.parts.value.slot p.parts.value.program };
+}
+
+impl RuleProgram {
+    ghost use Rattle.std.specs.Prelude.{◌≡◌, IfOk, IfErr};
+    ghost use Rattle.bpf_code.specs.Program.{WellFormed};
+    ghost use Rattle.rule_compile.specs.Compiled.{IsSlotOf, IsCompiled, IsRefusal};
+    ghost use Rattle.entry_table.specs.CompiledRule.{CompiledRule};
+
+    /// Compiles a rule. A slot is given exactly where the rule asks for an owned name as the sender.
+    ///
+    /// # Errors
+    ///
+    /// `TooLong` only where the rule weighs more than 4,096, and `NoMemory` where memory was refused.
+    pub fn compile(
+        alloc: Global,
+        rule: Rule,
+        slot: Option<u16>,
+    ) -> Result<RuleProgram, CompileError>
+        requires { IsSlotOf slot rule }
+        ensures rule { IfOk result (λ compiled. compiled.rule ≡ rule) }
+        ensures slot { IfOk result (λ compiled. compiled.slot ≡ slot) }
+        ensures refused { IfErr result (IsRefusal rule) }
+    {
+        let program = compile(alloc, &rule, slot)?;
+        let parts = Parts {
+            rule,
+            slot,
+            program,
+        };
+        Ok(RuleProgram {
+            parts: Arc::new(alloc, parts)?,
+        })
+    }
+
+    /// The same rule and program once more, without a copy.
+    pub fn share(&self) -> Result<RuleProgram, AllocError>
+        ensures { IfOk result (λ compiled. compiled ≡ self.now) }
+    {
+        Ok(RuleProgram {
+            parts: Arc::try_clone(&self.parts)?,
+        })
+    }
+
+    /// The rule.
+    pub fn rule(&self) -> &Rule
+        ensures { result.now ≡ self.now.rule }
+    {
+        &self.parts.rule
+    }
+
+    /// The slot of the owned name that the rule asks for as the sender.
+    pub fn slot(&self) -> Option<u16>
+        ensures value { result ≡ self.now.slot }
+        // There is one below 1,024 exactly where the rule asks for such a name.
+        ensures slot { IsSlotOf self.now.slot self.now.rule }
+    {
+        self.parts.slot
+    }
+
+    /// The program.
+    pub fn program(&self) -> &Verified
+        ensures value { result.now ≡ self.now.program }
+        // Its verdict on a message's image is nonzero exactly where the rule holds of the message.
+        ensures compiled { IsCompiled self.now.rule self.now.slot self.now.program }
+    {
+        &self.parts.program
+    }
+}

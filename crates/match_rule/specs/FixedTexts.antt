@@ -1,0 +1,76 @@
+-- The texts that a rule fixes by equality, which an index looks its entries up by.
+use Rattle.std.specs.Prelude.{◌≡◌, ℕ, List, [], ◌∷◌, Option, Some, None, IfSome, slice_get, ◌==◌, if◌then◌else◌}
+use Rattle.message_view.specs.Message.{Message, path_of, interface_of, member_of}
+use Rattle.message_view.specs.Spelling.{arguments_of}
+use Rattle.match_rule.specs.declared.condition.Condition.{Condition}
+use Rattle.match_rule.specs.declared.condition.Condition.TheVariants.{Interface, Member, Path, Arg}
+use Rattle.match_rule.specs.Arguments.{text_in}
+use Rattle.match_rule.specs.RuleTree.{RuleTree, or_else}
+
+-- a text, or none, for each of the four keys
+pub record FixedTexts : Type 0 where
+  pub member : Option (List ℕ)
+  pub interface : Option (List ℕ)
+  pub path : Option (List ℕ)
+  pub arg0 : Option (List ℕ)
+
+-- no key has a text
+abbrev pub no_texts : FixedTexts
+no_texts = record { member = None; interface = None; path = None; arg0 = None }
+
+abbrev pub member_in : Condition → Option (List ℕ)
+member_in (Member name) = Some name
+member_in _ = None
+
+abbrev pub interface_in : Condition → Option (List ℕ)
+interface_in (Interface name) = Some name
+interface_in _ = None
+
+abbrev pub path_in : Condition → Option (List ℕ)
+path_in (Path path) = Some path
+path_in _ = None
+
+abbrev pub arg0_in : Condition → Option (List ℕ)
+arg0_in (Arg n value) = if n == 0 then Some value else None
+arg0_in _ = None
+
+-- the text of the first condition that has one
+abbrev pub first_text : (Condition → Option (List ℕ)) → List Condition → Option (List ℕ)
+first_text text_of [] = None
+first_text text_of (c ∷ cs) = or_else (text_of c) (first_text text_of cs)
+
+abbrev pub member_asked : RuleTree → Option (List ℕ)
+member_asked rule = first_text member_in rule.conditions
+
+abbrev pub interface_asked : RuleTree → Option (List ℕ)
+interface_asked rule = first_text interface_in rule.conditions
+
+abbrev pub path_asked : RuleTree → Option (List ℕ)
+path_asked rule = first_text path_in rule.conditions
+
+abbrev pub arg0_asked : RuleTree → Option (List ℕ)
+arg0_asked rule = first_text arg0_in rule.conditions
+
+-- the texts that a rule fixes
+abbrev pub fixed_texts : RuleTree → FixedTexts
+fixed_texts rule = record { member = member_asked rule; interface = interface_asked rule; path = path_asked rule; arg0 = arg0_asked rule }
+
+-- a text of type `s`
+abbrev pub string_in : Option (ℕ × List ℕ) → Option (List ℕ)
+string_in None = None
+string_in (Some found) = if found.0 == 115 then Some found.1 else None
+
+-- the message's argument 0, where it has type `s`
+abbrev pub arg0_of : Message → Option (List ℕ)
+arg0_of m = string_in (text_in (slice_get (arguments_of m) 0))
+
+-- the texts that a message has of the four keys
+abbrev pub texts_of : Message → FixedTexts
+texts_of m = record { member = member_of m; interface = interface_of m; path = path_of m; arg0 = arg0_of m }
+
+-- each text that is asked for is found
+pub record AreFound (asked found : FixedTexts) : Type 0 where
+  pub member : IfSome asked.member (λ text. found.member ≡ Some text)
+  pub interface : IfSome asked.interface (λ text. found.interface ≡ Some text)
+  pub path : IfSome asked.path (λ text. found.path ≡ Some text)
+  pub arg0 : IfSome asked.arg0 (λ text. found.arg0 ≡ Some text)
