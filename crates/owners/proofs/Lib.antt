@@ -1,1 +1,3 @@
-mod Examples
+mod QueueOfOneName
+mod LeavesWhenReplaced
+mod TakeoverAndClose

@@ -1,3 +1,11 @@
 pub mod Connections
-pub mod Places
 pub mod ConnectionList
+pub mod Places
+pub mod SlotNames
+pub mod State
+pub mod Numbers
+pub mod Refusals
+pub mod Does
+pub mod History
+pub mod Recipients
+pub mod Candidates

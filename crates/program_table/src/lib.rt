@@ -2,9 +2,13 @@
 //! above use what `answer` and `apply` ensure, which is the table of commands.
 #![tactic(auto)]
 
+mod command;
 mod connection;
 mod connections;
 mod mailbox;
+mod refusal;
 
+pub use command::{Command, Reply};
 pub use connection::Connection;
 pub use mailbox::Mailbox;
+pub use refusal::Refusal;

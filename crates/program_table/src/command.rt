@@ -1,0 +1,51 @@
+// What is asked of the bus, and what it answers.
+
+use crate::refusal::Refusal;
+use entry_table::{Attachment, RuleProgram};
+use match_rule::Rule;
+use owners::{Change, Named, WellKnown};
+
+/// A change of the bus that is asked for. All but Connect are of a connection, by its number. A rule comes with its
+/// program, which decides exactly where the rule holds; it and an attached program are shared, so that the state copies
+/// neither.
+#[derive(Drop)]
+pub enum Command<M> {
+    /// A new connection, whose messages go to the mailbox.
+    Connect(M),
+    /// A new entry with a rule (AddMatch).
+    AddRule(u64, RuleProgram),
+    /// The oldest entry with an equal rule goes (RemoveMatch).
+    RemoveRule(u64, Rule),
+    /// A new entry with an attached program.
+    Attach(u64, Attachment),
+    /// The attached program of this id goes.
+    Detach(u64, u32),
+    /// A name is asked for, with these flags (RequestName).
+    Request(u64, WellKnown, u32),
+    /// A claim on a name is given up (ReleaseName).
+    Release(u64, WellKnown),
+    /// The claim on the least of the connection's names is given up.
+    DropOne(u64),
+    /// The connection goes, with its entries and claims.
+    Close(u64),
+}
+
+/// What a command is answered.
+#[derive(Debug, PartialEq, Eq, Drop)]
+pub enum Reply {
+    /// The number of the new connection.
+    Connected(u64),
+    /// The id of the new entry.
+    Entry(u32),
+    Done,
+    /// What RequestName or ReleaseName came to.
+    Name(Named),
+    /// There was no claim to give up.
+    Nothing,
+    /// A waiting claim was given up.
+    Waiting,
+    /// A name's owner gave it up.
+    Changed(Change),
+    /// The state is as it was.
+    Refused(Refusal),
+}
