@@ -22,21 +22,19 @@ pub struct RuleProgram {
 }
 
 impl Model for RuleProgram {
-    ghost use Rattle.rule_compile.specs.Compiled.{IsSlotOf, IsCompiled};
-    ghost use Rattle.entry_table.specs.CompiledRule.{CompiledRule};
+    ghost use Rattle.entry_table.specs.CompiledRule.{CompiledRule, IsFit};
 
     ghost Value = { CompiledRule };
 
     ghost view = { λ p. record { rule = p.parts.value.rule; slot = p.parts.value.slot; program = p.parts.value.program } };
 
-    ghost invariant = { λ p. IsSlotOf p.parts.value.slot p.parts.value.rule × IsCompiled p.parts.value.rule p.parts.value.slot p.parts.value.program };
+    ghost invariant = { λ p. IsFit (record { rule = p.parts.value.rule; slot = p.parts.value.slot; program = p.parts.value.program }) };
 }
 
 impl RuleProgram {
     ghost use Rattle.std.specs.Prelude.{◌≡◌, IfOk, IfErr};
-    ghost use Rattle.bpf_code.specs.Program.{WellFormed};
-    ghost use Rattle.rule_compile.specs.Compiled.{IsSlotOf, IsCompiled, IsRefusal};
-    ghost use Rattle.entry_table.specs.CompiledRule.{CompiledRule};
+    ghost use Rattle.rule_compile.specs.Compiled.{IsSlotOf, IsRefusal};
+    ghost use Rattle.entry_table.specs.CompiledRule.{IsFit};
 
     /// Compiles a rule. A slot is given exactly where the rule asks for an owned name as the sender.
     ///
@@ -84,7 +82,7 @@ impl RuleProgram {
     pub fn slot(&self) -> Option<u16>
         ensures value { result ≡ self.now.slot }
         // There is one below 1,024 exactly where the rule asks for such a name.
-        ensures slot { IsSlotOf self.now.slot self.now.rule }
+        ensures fit { IsFit self.now }
     {
         self.parts.slot
     }
@@ -93,7 +91,7 @@ impl RuleProgram {
     pub fn program(&self) -> &Verified
         ensures value { result.now ≡ self.now.program }
         // Its verdict on a message's image is nonzero exactly where the rule holds of the message.
-        ensures compiled { IsCompiled self.now.rule self.now.slot self.now.program }
+        ensures fit { IsFit self.now }
     {
         &self.parts.program
     }

@@ -6,5 +6,5 @@
 mod lists;
 mod walk;
 
-pub use lists::Lists;
+pub use lists::{END, Lists};
 pub use walk::Walk;

@@ -1,6 +1,7 @@
 use Rattle.std.proofs.Common.{subst, sym}
-use Rattle.rule_compile.specs.Compiled.{IsSlotOf, IsCompiled}
+use Rattle.entry_table.specs.declared.rule_program.Parts.{Parts}
+use Rattle.entry_table.specs.CompiledRule.{IsFit}
 use Rattle.entry_table.proofs.rule_program.RuleProgram.compile.Goals as goal
 
 pub invariant_of-result : goal.invariant_of-result
-invariant_of-result c = let e = c.in_ok-new.ensures.ok in let f = c.in_ok-program.ensures.compiled in ?
+invariant_of-result c = subst (λ (p : Parts). IsFit (record { rule = p.rule; slot = p.slot; program = p.program })) (sym c.in_ok-new.ensures.ok) (record { slot = c.requires; program = c.in_ok-program.ensures.compiled })
