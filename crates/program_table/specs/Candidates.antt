@@ -21,4 +21,4 @@ is_candidate m (Rule compiled) =
 is_candidate m (Attached program) = true
 
 abbrev pub candidates : {M : Type 0} → State M → Message → List Entry
-candidates s m = filter (λ (e : Entry). is_candidate m e.filter) s.entries
+candidates s m = filter (λ (e : Entry). is_candidate m e.filter) s.registrations.entries

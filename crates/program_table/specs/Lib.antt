@@ -1,11 +1,16 @@
+pub mod Numbers
 pub mod Connections
 pub mod ConnectionList
 pub mod Places
+pub mod Counts
 pub mod SlotNames
+pub mod Registrations
 pub mod State
-pub mod Numbers
 pub mod Refusals
+pub mod Answers
 pub mod Does
 pub mod History
+pub mod IsState
+pub mod Ties
 pub mod Recipients
 pub mod Candidates

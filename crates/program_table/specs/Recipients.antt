@@ -17,7 +17,7 @@ module _ {M : Type 0} where
   -- The name's primary owner is the sender. None is the bus, which owns none of them.
   abbrev pub is_owned : State M → Option ℕ → List ℕ → Bool
   is_owned s None name = false
-  is_owned s (Some sender) name = option_eq nat_eq (owner_of name s.claims) (Some sender)
+  is_owned s (Some sender) name = option_eq nat_eq (owner_of name s.registrations.claims) (Some sender)
 
   abbrev pub is_owned_at : State M → Option ℕ → Option (Option (List ℕ)) → Bool
   is_owned_at s sender (Some (Some name)) = is_owned s sender name
@@ -26,7 +26,7 @@ module _ {M : Type 0} where
   -- the words of the set of the slots of the sender's names
   pub record AreOwnedSlots (s : State M) (sender : Option ℕ) (words : List ℕ) : Type 0 where
     pub set : IsSet words
-    pub owned : (slot : ℕ) → has_slot words slot ≡ is_owned_at s sender (slice_get s.slots slot)
+    pub owned : (slot : ℕ) → has_slot words slot ≡ is_owned_at s sender (slice_get s.registrations.slots slot)
 
   -- an entry's rule holds of the message, or its program's verdict on the message's image isn't 0
   abbrev pub FilterMatches : State M → Option ℕ → Message → Filter → Type 0
@@ -39,7 +39,7 @@ module _ {M : Type 0} where
 
   -- the connection has an entry that matches; entries are of connections alone
   abbrev pub IsRecipient : State M → Option ℕ → Message → ℕ → Type 0
-  IsRecipient s sender m n = (e : Entry) × Contains s.entries e × (e.connection ≡ n) × FilterMatches s sender m e.filter
+  IsRecipient s sender m n = (e : Entry) × Contains s.registrations.entries e × (e.connection ≡ n) × FilterMatches s sender m e.filter
 
   -- exactly the recipients, by rising number
   pub record AreRecipients (s : State M) (sender : Option ℕ) (m : Message) (numbers : List ℕ) : Type 0 where

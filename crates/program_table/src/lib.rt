@@ -7,8 +7,11 @@ mod connection;
 mod connections;
 mod mailbox;
 mod refusal;
+mod registration_table;
+mod state;
 
 pub use command::{Command, Reply};
 pub use connection::Connection;
 pub use mailbox::Mailbox;
 pub use refusal::Refusal;
+pub use state::BusState;

@@ -1,0 +1,168 @@
+// Claims on names and entries, tied by the slots of names.
+
+use crate::command::Reply;
+use crate::refusal::Refusal;
+use entry_table::{Attachment, Entry, EntryTable, Filter, IndexKey, Offered, RuleProgram};
+use match_rule::Rule;
+use message_view::View;
+use owners::{ClaimError, Claims, Dropped, WellKnown};
+use std::alloc::{AllocError, Global};
+use std::marker::Model;
+use summary::Slots;
+
+/// What connections have registered. The rules that ask for a name as the sender are counted with the name's slot.
+#[derive(Drop)]
+pub(crate) struct RegistrationTable {
+    names: Claims,
+    entries: EntryTable,
+}
+
+impl Model for RegistrationTable {
+    ghost use Rattle.program_table.specs.Registrations.{Registrations};
+    ghost use Rattle.program_table.specs.Ties.{registrations_of, AreTied};
+
+    ghost Value = { Registrations };
+
+    ghost view = { λ t. registrations_of t.names t.entries };
+
+    ghost invariant = { λ t. AreTied t.names t.entries };
+}
+
+impl RegistrationTable {
+    ghost use Rattle.std.specs.Prelude.{◌≡◌, ℕ, true, Ok, IfOk, Some, option_map, is_ok};
+    ghost use Rattle.message_view.specs.Message.{Message};
+    ghost use Rattle.message_view.specs.Valid.{Valid};
+    ghost use Rattle.match_rule.specs.RuleTree.{sender_name_of};
+    ghost use Rattle.summary.specs.Sets.{has_slot, IsSet};
+    ghost use Rattle.owners.specs.Queues.{owner_of};
+    ghost use Rattle.owners.specs.Registry.{next_name, least_of};
+    ghost use Rattle.entry_table.specs.declared.entry.Filter.TheVariants.{Rule, Attached};
+    ghost use Rattle.entry_table.specs.OfferedEntries.{AreOffered};
+    ghost use Rattle.program_table.specs.SlotNames.{slot_next};
+    ghost use Rattle.program_table.specs.Registrations.{no_registrations, with_entry, with_sender, without_entry, with_request, without_claim, without_all_of};
+    ghost use Rattle.program_table.specs.Answers.{has_room, slot_fits, oldest_with, add_rule_answer, remove_rule_answer, attach_answer, detach_answer, request_answer, release_answer, drop_answer};
+
+    /// No claim and no entry.
+    pub(crate) fn new(alloc: Global, key: IndexKey) -> Result<RegistrationTable, AllocError>
+        ensures { IfOk result (λ table. table ≡ no_registrations) }
+    {
+        Ok(RegistrationTable {
+            names: Claims::new(alloc)?,
+            entries: EntryTable::new(alloc, key)?,
+        })
+    }
+
+    /// Whether there is room for an entry.
+    fn room(&self) -> Result<(), Refusal>
+        ensures { result ≡ has_room self.now }
+    {
+        if self.entries.is_full() {
+            Err(Refusal::EntriesFull)
+        } else {
+            Ok(())
+        }
+    }
+
+    /// Whether a rule was compiled for the slot that its sender name has or gets.
+    fn slot_fits(&self, program: &RuleProgram) -> Result<(), Refusal>
+        ensures { result ≡ slot_fits (sender_name_of program.now.rule) program.now.slot self.now.slots }
+    {
+        let Some(name) = program.rule().sender_name() else {
+            return Ok(());
+        };
+        let slot = self.slot_next(name);
+        if slot.is_none() {
+            Err(Refusal::NamesFull)
+        } else if program.slot() == slot {
+            Ok(())
+        } else {
+            Err(Refusal::Stale)
+        }
+    }
+
+    pub(crate) fn add_rule_answer(&self, program: &RuleProgram) -> Result<Reply, Refusal>
+        ensures { result ≡ add_rule_answer program.now self.now }
+    {
+        self.room()?;
+        self.slot_fits(program)?;
+        Ok(Reply::Entry(self.entries.last_id() + 1))
+    }
+
+    pub(crate) fn attach_answer(&self) -> Result<Reply, Refusal>
+        ensures { result ≡ attach_answer self.now }
+    {
+        self.room()?;
+        Ok(Reply::Entry(self.entries.last_id() + 1))
+    }
+
+    pub(crate) fn remove_rule_answer(&self, connection: u64, rule: &Rule) -> Result<Reply, Refusal>
+        ensures { result ≡ remove_rule_answer connection rule.now self.now }
+    {
+        match self.entries.find_rule(connection, rule) {
+            Some(_) => Ok(Reply::Done),
+            None => Err(Refusal::RuleNotFound),
+        }
+    }
+
+    pub(crate) fn detach_answer(&self, connection: u64, id: u32) -> Result<Reply, Refusal>
+        ensures { result ≡ detach_answer connection id self.now }
+    {
+        if self.entries.has_attachment(connection, id) {
+            Ok(Reply::Done)
+        } else {
+            Err(Refusal::NoAttachment)
+        }
+    }
+
+    pub(crate) fn request_answer(
+        &self,
+        name: &WellKnown,
+        connection: u64,
+        flags: u32,
+    ) -> Result<Reply, Refusal>
+        ensures { result ≡ request_answer name.now connection flags self.now }
+    {
+        match self.names.request_reply(name, connection, flags) {
+            Ok(named) => Ok(Reply::Name(named)),
+            Err(ClaimError::NamesFull) => Err(Refusal::NamesFull),
+            Err(_) => Err(Refusal::QueueFull),
+        }
+    }
+
+    pub(crate) fn release_answer(&self, name: &WellKnown, connection: u64) -> Reply
+        ensures { result ≡ release_answer name.now connection self.now }
+    {
+        Reply::Name(self.names.release_reply(name, connection))
+    }
+
+    pub(crate) fn drop_answer(&self, connection: u64) -> Reply
+        ensures { result ≡ drop_answer connection self.now }
+    {
+        match self.names.drop_one_reply(connection) {
+            Dropped::Nothing => Reply::Nothing,
+            Dropped::Waiting => Reply::Waiting,
+            Dropped::Changed(change) => Reply::Changed(change),
+        }
+    }
+
+    /// The primary owner of a name.
+    pub(crate) fn owner_of(&self, name: &str) -> Option<u64>
+        ensures { result ≡ owner_of name.now self.now.claims }
+    {
+        self.names.owner_of(name)
+    }
+
+    /// The least owned name after another in the order of bytes, or the least of all.
+    pub(crate) fn next_name(&self, after: Option<&WellKnown>) -> Option<&WellKnown>
+        ensures { option_map (λ name. name.now) result ≡ next_name (option_map (λ name. name.now) after.entry) self.now.claims }
+    {
+        self.names.next_name(after)
+    }
+
+    /// The slot that a name has, or gets when it needs one.
+    pub(crate) fn slot_next(&self, name: &str) -> Option<u16>
+        ensures { result ≡ slot_next name.now self.now.slots }
+    {
+        self.names.slot_next(name)
+    }
+}
