@@ -1,1 +1,3 @@
 mod Places
+mod Positions
+mod Holdings

@@ -1,15 +1,18 @@
 -- What follows where the place of a connection is known.
-use Rattle.std.proofs.Common.{◌≡◌, ◌≢◌, ℕ, zero, suc, ◌+◌, ◌-◌, ◌<◌, ◌≤◌, ◌==◌, Bool, true, false, not, cond, List, [], ◌∷◌, ◌++◌, length, get_or, set, map, filter, take, drop, Option, Some, None, refl, sym, ap, ◌∙◌, arith, length-append}
-use Rattle.std.specs.Prelude.{find, remove}
+use Rattle.std.proofs.Common.{◌≡◌, ◌≢◌, ℕ, zero, suc, ◌+◌, ◌-◌, ◌<◌, ◌≤◌, ◌==◌, Bool, true, false, not, cond, List, [], ◌∷◌, ◌++◌, length, get_or, set, map, filter, take, drop, Option, Some, None, refl, sym, ap, subst, ◌∙◌, arith, length-append, length-set}
+use Rattle.std.specs.Prelude.{find, remove, is_some, MatchOption, All}
 use Rattle.std.specs.List.Sorted.{IsStrictlyIncreasing}
 use Rattle.std.proofs.lemmas.Bool.{eqb-true, eq-eqb, ne_eqb}
 use Rattle.std.proofs.lemmas.List.{get_or-map, length-map}
-use Rattle.std.proofs.lemmas.List.Elements.{filter-append}
+use Rattle.std.proofs.lemmas.List.Elements.{filter-append, All-filter}
+use Rattle.std.proofs.lemmas.List.Sums.{length-filter, count_by-le-length}
+use Rattle.std.proofs.Math.Seq.{map-set_same}
+use Rattle.program_table.specs.ConnectionList.{ConnectionList, IsConnectionList}
 use Rattle.std.proofs.lemmas.List.Edits.{remove-append_right}
 use Rattle.std.proofs.lemmas.List.Kept.{AllPairs-from_increasing, IsStrictlyIncreasing-filter}
 use Rattle.std.proofs.Math.Seq.{get_or-append_seam, set-append_seam}
 use Rattle.program_table.specs.declared.connection.Connection.{Connection}
-use Rattle.program_table.specs.Connections.{numbers_of, has_number, connection_of, one_more_if, with_command, without_connection}
+use Rattle.program_table.specs.Connections.{numbers_of, has_number, connection_of, one_more_if, with_command, without_connection, is_connected, commands_of, mailbox_of}
 use Rattle.program_table.specs.Places.{HaveOtherNumbers, IsPlaceOf}
 
 apart : (xs : List ℕ) (i j : ℕ) → IsStrictlyIncreasing xs → i < length xs → j < length xs → j ≢ i → get_or xs j 0 ≢ get_or xs i 0
@@ -112,3 +115,47 @@ module _ {M : Type 0} where
   pub numbers-with_command : (n : ℕ) (cs : List (Connection M)) → numbers_of (with_command n cs) ≡ numbers_of cs
   numbers-with_command n [] = refl
   numbers-with_command n (c ∷ cs) = ap (λ (ms : List ℕ). c.number ∷ ms) (numbers-with_command n cs)
+
+  pub not_there : (n k : ℕ) (cs : List (Connection M)) (d : Connection M) → k < length cs → (get_or cs k d).number ≢ n → get_or (numbers_of cs) k 0 ≢ n
+  not_there n k cs d less ne e = ne (sym (number_at cs k d less) ∙ e)
+
+  -- what a place, or none, tells of a number
+  pub connected_at : (n : ℕ) (cs : List (Connection M)) (r : Option ℕ) → MatchOption r (HaveOtherNumbers n cs) (IsPlaceOf n cs) → is_some r ≡ is_connected n cs
+  connected_at n cs None h = sym (ap is_some (find-none n cs h))
+  connected_at n cs (Some k) p = sym (ap is_some (found_here n k cs p))
+
+  pub commands_none : (n : ℕ) (cs : List (Connection M)) → HaveOtherNumbers n cs → commands_of n cs ≡ 0
+  commands_none n cs h = rw (find-none n cs h) refl
+
+  pub commands_here : (n k : ℕ) (cs : List (Connection M)) (d : Connection M) → IsPlaceOf n cs k → (get_or cs k d).commands ≡ commands_of n cs
+  commands_here n k cs d p = rw (read_here n k cs p d, found_here n k cs p) refl
+
+  pub mailbox_none : (n : ℕ) (cs : List (Connection M)) → HaveOtherNumbers n cs → mailbox_of n cs ≡ None
+  mailbox_none n cs h = rw (find-none n cs h) refl
+
+  pub mailbox_here : (n k : ℕ) (cs : List (Connection M)) (d : Connection M) → IsPlaceOf n cs k → Some (get_or cs k d).mailbox ≡ mailbox_of n cs
+  mailbox_here n k cs d p = rw (read_here n k cs p d, found_here n k cs p) refl
+
+  pub not_connected : (n : ℕ) (cs : List (Connection M)) → HaveOtherNumbers n cs → is_connected n cs ≡ true → ⊥
+  not_connected n cs h e = let f = find-none n cs h in let g = ap is_some f in cc
+
+  kept_numbers : (cs ds : List (Connection M)) (last : ℕ) → numbers_of ds ≡ numbers_of cs → length ds ≡ length cs → IsConnectionList (record { connections = cs; last = last }) → IsConnectionList (record { connections = ds; last = last })
+  kept_numbers cs ds last e n h = record {
+    rising = subst IsStrictlyIncreasing (sym e) h.rising;
+    given = subst (λ (ns : List ℕ). All (λ m. m ≤ last) ns) (sym e) h.given;
+    few = omega (arith, h.few, n) }
+
+  -- the connection at a place has one more command
+  pub counted_list : (n k last : ℕ) (cs : List (Connection M)) (c : Connection M) → c ≡ get_or cs k c → IsConnectionList (record { connections = cs; last = last }) → IsConnectionList (record { connections = set cs k (one_more_if true c); last = last })
+  counted_list n k last cs c is h =
+      kept_numbers cs (set cs k (one_more_if true c)) last (map-set_same (λ (x : Connection M). x.number) cs k (one_more_if true c) c (ap (λ (x : Connection M). x.number) is)) (length-set cs k (one_more_if true c)) h
+
+  pub counted_at : (n k : ℕ) (cs : List (Connection M)) (c : Connection M) → IsPlaceOf n cs k → c ≡ get_or cs k c → set cs k (one_more_if true c) ≡ with_command n cs
+  counted_at n k cs c p is =
+      ap (λ (x : Connection M). set cs k (one_more_if true x)) (is ∙ read_here n k cs p c) ∙ sym (counted_here n k cs p)
+
+  pub without_list : (n last : ℕ) (cs : List (Connection M)) → IsConnectionList (record { connections = cs; last = last }) → IsConnectionList (record { connections = without_connection n cs; last = last })
+  without_list n last cs h = record {
+    rising = subst IsStrictlyIncreasing (sym (rising_without n cs)) (IsStrictlyIncreasing-filter (λ (m : ℕ). not (m == n)) (numbers_of cs) h.rising);
+    given = subst (λ (ns : List ℕ). All (λ m. m ≤ last) ns) (sym (rising_without n cs)) (All-filter (λ (m : ℕ). not (m == n)) (λ m. m ≤ last) (numbers_of cs) h.given);
+    few = omega (arith, h.few, length-filter (λ (c : Connection M). not (has_number n c)) cs, count_by-le-length (λ (c : Connection M). not (has_number n c)) cs) }

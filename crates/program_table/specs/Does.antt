@@ -30,11 +30,14 @@ module _ {M : Type 0} where
   abbrev pub connected : ℕ → State M → Result (Unit {0}) Refusal
   connected c s = refuse_if (not (is_connected c s.connections)) refusals.Closed
 
-  -- A row: what refuses the command, in this order, and what it is answered where nothing does.
-  abbrev pub row : State M → Command M → Result Reply Refusal
-  row s (Connect m) = do
+  abbrev pub connect_row : State M → Result Reply Refusal
+  connect_row s = do
     few ← refuse_if (nat_le max_connections (length s.connections)) refusals.ConnectionsFull
     Ok (replies.Connected (s.last_connection + 1))
+
+  -- A row: what refuses the command, in this order, and what it is answered where nothing does.
+  abbrev pub row : State M → Command M → Result Reply Refusal
+  row s (Connect m) = connect_row s
   row s (AddRule c compiled) = do
     there ← connected c s
     add_rule_answer compiled s.registrations

@@ -12,5 +12,6 @@ pub mod Does
 pub mod History
 pub mod IsState
 pub mod Ties
+pub mod Senders
 pub mod Recipients
 pub mod Candidates

@@ -110,8 +110,9 @@ impl<M> Connections<M> {
         requires fits { commands_of number self.old.connections < 18446744073709551615 }
         ensures { self.new ≡ record self.old { connections = with_command number self.old.connections } }
     {
-        if let Some(place) = place_of(self.list.as_slice(), number) {
-            self.list[place].commands += 1;
+        match place_of(self.list.as_slice(), number) {
+            Some(place) => self.list[place].commands += 1,
+            None => {}
         }
     }
 
@@ -119,8 +120,11 @@ impl<M> Connections<M> {
     pub(crate) fn remove(&mut self, number: u64) where M: Drop
         ensures { self.new ≡ record self.old { connections = without_connection number self.old.connections } }
     {
-        if let Some(place) = place_of(self.list.as_slice(), number) {
-            self.list.remove(place);
+        match place_of(self.list.as_slice(), number) {
+            Some(place) => {
+                self.list.remove(place);
+            }
+            None => {}
         }
     }
 }

@@ -1,8 +1,14 @@
 // Claims on names and entries, tied by the slots of names.
 
+ghost use Rattle.std.specs.Prelude.{◌≡◌, ◌<◌, IfSome};
+ghost use Rattle.match_rule.specs.RuleTree.{sender_name_of};
+ghost use Rattle.owners.specs.Registry.{rules_of};
+ghost use Rattle.program_table.specs.SlotNames.{sender_asked};
+ghost use Rattle.program_table.specs.Senders.{without_sender};
+
 use crate::command::Reply;
 use crate::refusal::Refusal;
-use entry_table::{Attachment, Entry, EntryTable, Filter, IndexKey, Offered, RuleProgram};
+use entry_table::{Attachment, EntryTable, Filter, IndexKey, Offered, RuleProgram};
 use match_rule::Rule;
 use message_view::View;
 use owners::{ClaimError, Claims, Dropped, WellKnown};
@@ -36,9 +42,11 @@ impl RegistrationTable {
     ghost use Rattle.summary.specs.Sets.{has_slot, IsSet};
     ghost use Rattle.owners.specs.Queues.{owner_of};
     ghost use Rattle.owners.specs.Registry.{next_name, least_of};
-    ghost use Rattle.entry_table.specs.declared.entry.Filter.TheVariants.{Rule, Attached};
+    ghost use Rattle.entry_table.specs.declared.entry.Filter.TheVariants as filters;
     ghost use Rattle.entry_table.specs.OfferedEntries.{AreOffered};
     ghost use Rattle.program_table.specs.SlotNames.{slot_next};
+    ghost use Rattle.program_table.specs.Recipients.{AreOwnedSlots};
+    ghost use Rattle.program_table.specs.IsState.{AreRegistrations};
     ghost use Rattle.program_table.specs.Registrations.{no_registrations, with_entry, with_sender, without_entry, with_request, without_claim, without_all_of};
     ghost use Rattle.program_table.specs.Answers.{has_room, slot_fits, oldest_with, add_rule_answer, remove_rule_answer, attach_answer, detach_answer, request_answer, release_answer, drop_answer};
 
@@ -145,6 +153,92 @@ impl RegistrationTable {
         }
     }
 
+    /// Adds an entry with a rule. The name that it asks for as the sender, if it does, gets a slot.
+    pub(crate) fn add_rule(&mut self, connection: u64, program: RuleProgram)
+        requires room { has_room self.old ≡ Ok tt }
+        requires fits { slot_fits (sender_name_of program.rule) program.slot self.old.slots ≡ Ok tt }
+        ensures { self.new ≡ with_sender (sender_name_of program.rule) (with_entry connection (filters.Rule program) self.old) }
+    {
+        if let Some(name) = sender_of(&program) {
+            let _ = self.names.slot_for(&name);
+        }
+        self.entries.add(connection, Filter::Rule(program));
+    }
+
+    /// Adds an entry with an attached program.
+    pub(crate) fn attach(&mut self, connection: u64, attachment: Attachment)
+        requires { has_room self.old ≡ Ok tt }
+        ensures { self.new ≡ with_entry connection (filters.Attached attachment) self.old }
+    {
+        self.entries.add(connection, Filter::Attached(attachment));
+    }
+
+    /// Takes out the connection's entry of this id, if it has one.
+    pub(crate) fn remove_entry(&mut self, connection: u64, id: u32)
+        ensures { self.new ≡ without_entry connection (Some id) self.old }
+    {
+        if let Some(entry) = self.entries.remove(connection, id) {
+            free_slot(&mut self.names, &entry.filter);
+        }
+    }
+
+    /// Takes out the connection's oldest entry with an equal rule.
+    pub(crate) fn remove_rule(&mut self, connection: u64, rule: &Rule)
+        ensures { self.new ≡ without_entry connection (oldest_with connection rule.now self.old.entries) self.old }
+    {
+        match self.entries.find_rule(connection, rule) {
+            Some(id) => self.remove_entry(connection, id),
+            None => {}
+        }
+    }
+
+    pub(crate) fn request(&mut self, name: &WellKnown, connection: u64, flags: u32)
+        requires { is_ok (request_answer name.now connection flags self.old) ≡ true }
+        ensures { self.new ≡ with_request name.now connection flags self.old }
+    {
+        let _ = self.names.request(name, connection, flags);
+    }
+
+    pub(crate) fn release(&mut self, name: &WellKnown, connection: u64)
+        ensures { self.new ≡ without_claim connection (Some name.now) self.old }
+    {
+        let _ = self.names.release(name, connection);
+    }
+
+    pub(crate) fn drop_one(&mut self, connection: u64)
+        ensures { self.new ≡ without_claim connection (least_of connection self.old.claims) self.old }
+    {
+        let _ = self.names.drop_one(connection);
+    }
+
+    /// Takes out all claims and entries of a connection.
+    pub(crate) fn close(&mut self, connection: u64)
+        ensures { self.new ≡ without_all_of connection self.old }
+    {
+        while let Some(entry) = self.entries.remove_newest(connection) {
+            free_slot(&mut self.names, &entry.filter);
+        }
+        self.names.drop_all(connection);
+    }
+
+    /// The slots of the names whose primary owner is the sender. None is the bus.
+    pub(crate) fn slots_of(&self, sender: Option<u64>) -> Slots
+        ensures { AreOwnedSlots self.now sender result }
+    {
+        match sender {
+            Some(connection) => self.names.slots_of(connection),
+            None => Slots::empty(),
+        }
+    }
+
+    /// The entries that a message is offered to.
+    pub(crate) fn offered<'a>(&'a self, view: &View<'a>) -> Offered<'a>
+        ensures offered { (m : Message) → Valid view.now m → AreOffered self.now.entries m result }
+        ensures sound { AreRegistrations self.now }
+    {
+        self.entries.offered(view)
+    }
+
     /// The primary owner of a name.
     pub(crate) fn owner_of(&self, name: &str) -> Option<u64>
         ensures { result ≡ owner_of name.now self.now.claims }
@@ -164,5 +258,29 @@ impl RegistrationTable {
         ensures { result ≡ slot_next name.now self.now.slots }
     {
         self.names.slot_next(name)
+    }
+}
+
+/// The owned name that a rule asks for as the sender.
+fn sender_of(program: &RuleProgram) -> Option<WellKnown>
+    ensures { result ≡ sender_name_of program.now.rule }
+{
+    let rule = program.rule();
+    let _ = rule.conditions();
+    match rule.sender_name() {
+        Some(name) => WellKnown::read(name).ok(),
+        None => None,
+    }
+}
+
+/// A filter is gone: a rule's sender name has one rule fewer.
+fn free_slot(names: &mut Claims, filter: &Filter)
+    requires { IfSome (sender_asked filter.now) (λ name. 0 < rules_of name names.old.slots) }
+    ensures { names.new ≡ without_sender (sender_asked filter.now) names.old }
+{
+    if let Filter::Rule(program) = filter {
+        if let Some(name) = sender_of(program) {
+            names.slot_free(&name);
+        }
     }
 }

@@ -4,6 +4,7 @@ use crate::command::{Command, Reply};
 use crate::connection::Connection;
 use crate::connections::Connections;
 use crate::mailbox::Mailbox;
+use crate::refusal::Refusal;
 use crate::registration_table::RegistrationTable;
 use entry_table::{IndexKey, Offered};
 use message_view::View;
@@ -32,17 +33,17 @@ impl<M: Mailbox> Model for BusState<M> {
 }
 
 impl<M: Mailbox> BusState<M> {
-    ghost use Rattle.std.specs.Prelude.{◌≡◌, ℕ, None, IfOk, MatchResult, option_map, option_copied};
+    ghost use Rattle.std.specs.Prelude.{◌≡◌, ◌<◌, ℕ, true, None, IfOk, MatchResult, option_map, option_copied};
     ghost use Rattle.message_view.specs.Message.{Message};
     ghost use Rattle.message_view.specs.Valid.{Valid};
     ghost use Rattle.summary.specs.Sets.{has_slot, IsSet};
     ghost use Rattle.owners.specs.Queues.{owner_of};
     ghost use Rattle.owners.specs.Registry.{next_name};
     ghost use Rattle.entry_table.specs.OfferedEntries.{AreOffered};
-    ghost use Rattle.program_table.specs.Connections.{mailbox_of, commands_of};
+    ghost use Rattle.program_table.specs.Connections.{mailbox_of, commands_of, is_connected};
     ghost use Rattle.program_table.specs.SlotNames.{slot_next};
     ghost use Rattle.program_table.specs.State.{State, opening};
-    ghost use Rattle.program_table.specs.Does.{Does, reply_to};
+    ghost use Rattle.program_table.specs.Does.{Does, reply_to, max_commands, answer_of, is_accepted, row, connect_row, connected, changed, effect};
     ghost use Rattle.program_table.specs.Recipients.{AreOwnedSlots};
     ghost use Rattle.program_table.specs.IsState.{IsState};
 
@@ -61,14 +62,165 @@ impl<M: Mailbox> BusState<M> {
     pub fn answer(&self, command: &Command<M>) -> Reply
         ensures { result ≡ reply_to self.now command.now }
     {
-        unreachable!()
+        match self.decide(command) {
+            Ok(reply) => reply,
+            Err(refusal) => Reply::Refused(refusal),
+        }
     }
 
     /// Does the command. Where a share of its mailbox, rule or program is refused for memory, the state is as it was.
     pub fn apply(&mut self, command: &Command<M>) -> Result<Reply, AllocError>
         ensures { MatchResult result (λ reply. Does self.old command.now reply self.new) (λ _. self.new ≡ self.old) }
     {
-        unreachable!()
+        match self.decide(command) {
+            Ok(reply) => {
+                self.perform(command)?;
+                Ok(reply)
+            }
+            Err(refusal) => Ok(Reply::Refused(refusal)),
+        }
+    }
+
+    /// The reply to a command that is accepted, or the first refusal.
+    fn decide(&self, command: &Command<M>) -> Result<Reply, Refusal>
+        ensures { result ≡ answer_of self.now command.now }
+    {
+        if self.commands == u64::MAX {
+            return Err(Refusal::Closed);
+        }
+        self.row(command)
+    }
+
+    /// The same, where one more command can be counted.
+    fn row(&self, command: &Command<M>) -> Result<Reply, Refusal>
+        requires { self.now.commands < max_commands }
+        ensures { result ≡ row self.now command.now }
+    {
+        match command {
+            Command::Connect(_) => self.connect_row(),
+            Command::AddRule(connection, program) => {
+                self.connected(*connection)?;
+                self.registrations.add_rule_answer(program)
+            }
+            Command::RemoveRule(connection, rule) => {
+                self.connected(*connection)?;
+                self.registrations.remove_rule_answer(*connection, rule)
+            }
+            Command::Attach(connection, _) => {
+                self.connected(*connection)?;
+                self.registrations.attach_answer()
+            }
+            Command::Detach(connection, id) => {
+                self.connected(*connection)?;
+                self.registrations.detach_answer(*connection, *id)
+            }
+            Command::Request(connection, name, flags) => {
+                self.connected(*connection)?;
+                self.registrations.request_answer(name, *connection, *flags)
+            }
+            Command::Release(connection, name) => {
+                self.connected(*connection)?;
+                Ok(self.registrations.release_answer(name, *connection))
+            }
+            Command::DropOne(connection) => {
+                self.connected(*connection)?;
+                Ok(self.registrations.drop_answer(*connection))
+            }
+            Command::Close(connection) => {
+                self.connected(*connection)?;
+                Ok(Reply::Done)
+            }
+        }
+    }
+
+    fn connect_row(&self) -> Result<Reply, Refusal>
+        requires { self.now.commands < max_commands }
+        ensures { result ≡ connect_row self.now }
+    {
+        if self.connections.is_full() {
+            Err(Refusal::ConnectionsFull)
+        } else {
+            Ok(Reply::Connected(self.connections.last() + 1))
+        }
+    }
+
+    /// Whether the connection is there.
+    fn connected(&self, connection: u64) -> Result<(), Refusal>
+        ensures { result ≡ connected connection self.now }
+    {
+        if self.connections.contains(connection) {
+            Ok(())
+        } else {
+            Err(Refusal::Closed)
+        }
+    }
+
+    /// Does a command that is accepted.
+    fn perform(&mut self, command: &Command<M>) -> Result<(), AllocError>
+        requires { is_accepted self.old command.now ≡ true }
+        ensures { MatchResult result (λ _. self.new ≡ effect self.old command.now) (λ _. self.new ≡ self.old) }
+    {
+        match command {
+            Command::Connect(mailbox) => {
+                let mailbox = mailbox.share()?;
+                self.connections.push(mailbox);
+                self.commands += 1;
+                Ok(())
+            }
+            Command::AddRule(connection, program) => {
+                let program = program.share()?;
+                self.registrations.add_rule(*connection, program);
+                self.count(*connection);
+                Ok(())
+            }
+            Command::RemoveRule(connection, rule) => {
+                self.registrations.remove_rule(*connection, rule);
+                self.count(*connection);
+                Ok(())
+            }
+            Command::Attach(connection, attachment) => {
+                let attachment = attachment.share()?;
+                self.registrations.attach(*connection, attachment);
+                self.count(*connection);
+                Ok(())
+            }
+            Command::Detach(connection, id) => {
+                self.registrations.remove_entry(*connection, *id);
+                self.count(*connection);
+                Ok(())
+            }
+            Command::Request(connection, name, flags) => {
+                self.registrations.request(name, *connection, *flags);
+                self.count(*connection);
+                Ok(())
+            }
+            Command::Release(connection, name) => {
+                self.registrations.release(name, *connection);
+                self.count(*connection);
+                Ok(())
+            }
+            Command::DropOne(connection) => {
+                self.registrations.drop_one(*connection);
+                self.count(*connection);
+                Ok(())
+            }
+            Command::Close(connection) => {
+                self.registrations.close(*connection);
+                self.connections.remove(*connection);
+                self.commands += 1;
+                Ok(())
+            }
+        }
+    }
+
+    /// One more command of a connection was accepted.
+    fn count(&mut self, connection: u64)
+        requires there { is_connected connection self.old.connections ≡ true }
+        requires fits { self.old.commands < max_commands }
+        ensures { self.new ≡ changed connection self.old self.old.registrations }
+    {
+        self.connections.count_command(connection);
+        self.commands += 1;
     }
 
     /// How many commands were accepted.
@@ -122,9 +274,9 @@ impl<M: Mailbox> BusState<M> {
 
     /// The slots of the names whose primary owner is the sender. None is the bus.
     pub fn slots_of(&self, sender: Option<u64>) -> Slots
-        ensures { AreOwnedSlots self.now sender result }
+        ensures { AreOwnedSlots self.now.registrations sender result }
     {
-        unreachable!()
+        self.registrations.slots_of(sender)
     }
 
     /// The entries that a message is offered to: attached programs, and the rules whose member, interface, path and
@@ -134,6 +286,6 @@ impl<M: Mailbox> BusState<M> {
         // Entries are of connections, rules have the slots of their senders, and no name has two slots.
         ensures state { IsState self.now }
     {
-        unreachable!()
+        self.registrations.offered(view)
     }
 }

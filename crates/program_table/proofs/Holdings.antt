@@ -1,0 +1,166 @@
+-- Names with their slots, and the rules that ask for them.
+use Rattle.std.proofs.Common.{◌≡◌, ◌≢◌, ℕ, zero, suc, ◌+◌, ◌-◌, ◌<◌, ◌≤◌, Bool, true, false, not, cond, ◌&&◌, ◌||◌, List, [], ◌∷◌, ◌++◌, length, map, set, filter, Option, Some, None, refl, sym, ap, subst, ◌∙◌, arith}
+use Rattle.std.specs.Prelude.{position, is_none, is_some, option_map, nat_lt, nat_eq, slice_get, count_by}
+use Rattle.std.specs.List.{list_any, list_all}
+use Rattle.std.specs.Option.{option_eq}
+use Rattle.std.specs.Str.{bytes_eq}
+use Rattle.std.proofs.lemmas.Slice.Eq.{bytes_eq-Decides}
+use Rattle.std.proofs.lemmas.List.{map-set}
+use Rattle.std.proofs.lemmas.List.Sums.{sum_by-cons, count_by-le-length}
+use Rattle.std.proofs.lemmas.Bool.Decides.{nat_tests}
+use Rattle.owners.specs.Queues.{Claim, is_on}
+use Rattle.owners.specs.Registry as registry
+use Rattle.owners.specs.declared.holding.Holding.{Holding}
+use Rattle.entry_table.specs.declared.entry.Entry.{Entry}
+use Rattle.program_table.specs.SlotNames.{is_name, slot_of, slot_next, with_slot_at, with_slot, sender_asked, asks_for, is_used, used_slot, used_slots}
+use Rattle.program_table.specs.IsState.{slot_in, is_own_slot, has_own_slot}
+use Rattle.program_table.specs.Ties.{slot_name, slot_names, rules_with, holding_of, holdings}
+use Rattle.program_table.proofs.Positions.{position-map, position-here, position-nowhere, position-set_same, position-set_first, set-agree, set-itself, slice_get-map}
+
+-- names and slots are the same in both views
+held_is : (entries : List Entry) (name : List ℕ) (x : Option (List ℕ)) → registry.is_held_by name (holding_of entries x) ≡ is_name name x
+held_is entries name None = refl
+held_is entries name (Some other) = refl
+
+free_is : (entries : List Entry) (x : Option (List ℕ)) → is_none (holding_of entries x) ≡ is_none x
+free_is entries None = refl
+free_is entries (Some other) = refl
+
+pub slot_of-holdings : (entries : List Entry) (name : List ℕ) (slots : List (Option (List ℕ))) → registry.slot_of name (holdings entries slots) ≡ slot_of name slots
+slot_of-holdings entries name slots = position-map (registry.is_held_by name) (is_name name) (holding_of entries) slots (held_is entries name)
+
+pub slot_next-holdings : (entries : List Entry) (name : List ℕ) (slots : List (Option (List ℕ))) → registry.slot_next name (holdings entries slots) ≡ slot_next name slots
+slot_next-holdings entries name slots =
+    rw (slot_of-holdings entries name slots, position-map is_none is_none (holding_of entries) slots (free_is entries)) refl
+
+-- what is kept of a name is what is shown
+name_of_holding : (entries : List Entry) (x : Option (List ℕ)) → slot_name (holding_of entries x) ≡ x
+name_of_holding entries None = refl
+name_of_holding entries (Some other) = refl
+
+pub slot_names-holdings : (entries : List Entry) (slots : List (Option (List ℕ))) → slot_names (holdings entries slots) ≡ slots
+slot_names-holdings entries [] = refl
+slot_names-holdings entries (x ∷ slots) = rw (name_of_holding entries x, slot_names-holdings entries slots) refl
+
+-- no name has two slots
+abbrev pub HaveOneSlot : List (Option (List ℕ)) → Type 0
+HaveOneSlot slots = (slot : ℕ) (name : List ℕ) → slice_get slots slot ≡ Some (Some name) → slot_of name slots ≡ Some slot
+
+same_name : (name other : List ℕ) → bytes_eq other name ≡ true → other ≡ name
+same_name name other e = (bytes_eq-Decides other name).0 e
+
+named : (name : List ℕ) (x : Option (List ℕ)) → is_name name x ≡ true → x ≡ Some name
+named name None e = cc
+named name (Some other) e = ap Some (same_name name other e)
+
+is_itself : (name : List ℕ) → bytes_eq name name ≡ true
+is_itself name = (bytes_eq-Decides name name).1 refl
+
+pub slot_is : (name : List ℕ) (slots : List (Option (List ℕ))) (n : ℕ) → slot_of name slots ≡ Some n → slice_get slots n ≡ Some (Some name)
+slot_is name slots n e = let h = position-here (is_name name) slots n e in h.1 ∙ ap Some (named name h.0 h.2)
+
+first_free : (x : Option (List ℕ)) → is_none x ≡ true → x ≡ None
+first_free None e = refl
+first_free (Some y) e = cc
+
+-- the next slot of a name is its own, or a free one where it has none
+pub data IsNextSlot (name : List ℕ) (slots : List (Option (List ℕ))) (n : ℕ) : Type 0 where
+  own : slot_of name slots ≡ Some n → slice_get slots n ≡ Some (Some name) → IsNextSlot name slots n
+  free : slot_of name slots ≡ None → slice_get slots n ≡ Some None → IsNextSlot name slots n
+
+pub next_is : (name : List ℕ) (slots : List (Option (List ℕ))) (n : ℕ) → slot_next name slots ≡ Some n → IsNextSlot name slots n
+next_is name slots n e = go (slot_of name slots) refl e
+  where
+    go : (o : Option ℕ) → slot_of name slots ≡ o → registry.or_else o (position is_none slots) ≡ Some n → IsNextSlot name slots n
+    go None is f = let h = position-here is_none slots n f in free is (h.1 ∙ ap Some (first_free h.0 h.2))
+    go (Some m) is f = let s : slot_of name slots ≡ Some n = cc in own s (slot_is name slots n s)
+
+next_slot_is : (name : List ℕ) (slots : List (Option (List ℕ))) (n k : ℕ) → slot_next name slots ≡ Some n → slot_of name slots ≡ Some k → k ≡ n
+next_slot_is name slots n k next has = let e : slot_next name slots ≡ Some k = rw has refl in cc
+
+-- A name gets a slot, or another number of rules; the other names have as many rules as before.
+pub put_holding : (name : List ℕ) (entries later : List Entry) (slots : List (Option (List ℕ))) (n : ℕ) → slot_next name slots ≡ Some n → HaveOneSlot slots
+    → ((other : List ℕ) → other ≢ name → rules_with other entries ≡ rules_with other later)
+    → registry.with_rules name (rules_with name later) (holdings entries slots) ≡ holdings later (with_slot name slots)
+put_holding name entries later slots n next one same =
+    rw (slot_next-holdings entries name slots, next) (
+    set-agree (holding_of entries) (holding_of later) slots n (Some (record { name = name; rules = rules_with name later })) agree
+    ∙ sym (map-set (holding_of later) slots n (Some name)))
+  where
+    agree : (k : ℕ) (x : Option (List ℕ)) → k ≢ n → slice_get slots k ≡ Some x → holding_of entries x ≡ holding_of later x
+    agree k None ne is = refl
+    agree k (Some other) ne is =
+        let apart : other ≢ name = λ e. ne (next_slot_is name slots n k next (one k name (subst (λ (w : List ℕ). slice_get slots k ≡ Some (Some w)) e is))) in
+        rw (same other apart) refl
+
+-- a name that has a slot keeps its place
+pub with_slot-own : (name : List ℕ) (slots : List (Option (List ℕ))) (n : ℕ) → slot_of name slots ≡ Some n → with_slot name slots ≡ slots
+with_slot-own name slots n e = rw e (set-itself slots n (Some name) (slot_is name slots n e))
+
+count-cons : {X : Type 0} (p : X → Bool) (x : X) (xs : List X) → count_by p (x ∷ xs) ≡ cond (p x) 1 0 + count_by p xs
+count-cons p x xs = sum_by-cons (λ y. cond (p y) 1 0) x xs
+
+some_counted : (n : ℕ) (b : Bool) → nat_lt 0 (cond b 1 0 + n) ≡ (b || nat_lt 0 n)
+some_counted n true = grind (arith, nat_tests)
+some_counted n false = grind (arith, nat_tests)
+
+-- some are counted where there are some
+pub counts_some : {X : Type 0} (p : X → Bool) (xs : List X) → nat_lt 0 (count_by p xs) ≡ list_any p xs
+counts_some p [] = grind (arith, nat_tests)
+counts_some p (x ∷ xs) = rw (count-cons p x xs, some_counted (count_by p xs) (p x), counts_some p xs) refl
+
+kept_or : (a b : Bool) (name : List ℕ) (h : Holding) (entries : List Entry) → holding_of entries (Some name) ≡ Some h → cond a (Some h) (cond b (Some h) None) ≡ holding_of entries (cond (b || a) (Some name) None)
+kept_or true true name h entries e = sym e
+kept_or true false name h entries e = sym e
+kept_or false true name h entries e = sym e
+kept_or false false name h entries e = refl
+
+kept_is : (claims : List Claim) (entries : List Entry) (x : Option (List ℕ)) → registry.kept claims (holding_of entries x) ≡ holding_of entries (used_slot claims entries x)
+kept_is claims entries None = refl
+kept_is claims entries (Some name) =
+    rw (counts_some (asks_for name) entries) (
+    kept_or (list_any (asks_for name) entries) (list_any (is_on name) claims) name (record { name = name; rules = rules_with name entries }) entries refl)
+
+-- the names that are kept are those that are used
+pub kept-holdings : (claims : List Claim) (entries : List Entry) (slots : List (Option (List ℕ))) → map (registry.kept claims) (holdings entries slots) ≡ holdings entries (used_slots claims entries slots)
+kept-holdings claims entries [] = refl
+kept-holdings claims entries (x ∷ slots) = rw (kept_is claims entries x, kept-holdings claims entries slots) refl
+
+-- how many rules have a name that has a slot as their sender
+rules_own : (entries : List Entry) (name : List ℕ) (slots : List (Option (List ℕ))) (n : ℕ) → slot_of name slots ≡ Some n → registry.rules_of name (holdings entries slots) ≡ rules_with name entries
+rules_own entries name slots n e =
+    rw (slot_of-holdings entries name slots, e, slice_get-map (holding_of entries) slots n, slot_is name slots n e) refl
+
+rules_none : (entries : List Entry) (name : List ℕ) (slots : List (Option (List ℕ))) → slot_of name slots ≡ None → registry.rules_of name (holdings entries slots) ≡ 0
+rules_none entries name slots e = rw (slot_of-holdings entries name slots, e) refl
+
+and_parts : (a b : Bool) → (a && b) ≡ true → (a ≡ true) × (b ≡ true)
+and_parts true b e = (refl, e)
+and_parts false b e = cc
+
+-- an entry that asks for a name has its slot
+asked_slot : (name : List ℕ) (slots : List (Option (List ℕ))) (asked : Option (List ℕ)) (slot : Option ℕ) → is_own_slot asked slot slots ≡ true → is_name name asked ≡ true → is_some (slot_of name slots) ≡ true
+asked_slot name slots None slot fits asks = cc
+asked_slot name slots (Some other) slot fits asks =
+    let same = same_name name other asks in
+    (and_parts (is_some (slot_of name slots)) (option_eq nat_eq slot (slot_of name slots)) (subst (λ (w : List ℕ). is_own_slot (Some w) slot slots ≡ true) same fits)).0
+
+no_rule : (name : List ℕ) (slots : List (Option (List ℕ))) (e : Entry) → has_own_slot slots e ≡ true → slot_of name slots ≡ None → (b : Bool) → asks_for name e ≡ b → cond b 1 0 + 0 ≡ 0
+no_rule name slots e fits none false is = refl
+no_rule name slots e fits none true is =
+    let s = asked_slot name slots (sender_asked e.filter) (slot_in e.filter) fits is in
+    let f = ap is_some none in cc
+
+no_rules : (name : List ℕ) (slots : List (Option (List ℕ))) (entries : List Entry) → list_all (has_own_slot slots) entries ≡ true → slot_of name slots ≡ None → rules_with name entries ≡ 0
+no_rules name slots [] fits none = refl
+no_rules name slots (e ∷ entries) fits none =
+    let parts = and_parts (has_own_slot slots e) (list_all (has_own_slot slots) entries) fits in
+    rw (count-cons (asks_for name) e entries, no_rules name slots entries parts.1 none) (no_rule name slots e parts.0 none (asks_for name e) refl)
+
+-- the rules that are counted are those of the entries
+pub rules-holdings : (entries : List Entry) (name : List ℕ) (slots : List (Option (List ℕ))) → list_all (has_own_slot slots) entries ≡ true → registry.rules_of name (holdings entries slots) ≡ rules_with name entries
+rules-holdings entries name slots fits = go (slot_of name slots) refl
+  where
+    go : (o : Option ℕ) → slot_of name slots ≡ o → registry.rules_of name (holdings entries slots) ≡ rules_with name entries
+    go None is = rules_none entries name slots is ∙ sym (no_rules name slots entries fits is)
+    go (Some n) is = rules_own entries name slots n is
