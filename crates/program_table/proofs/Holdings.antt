@@ -164,3 +164,66 @@ rules-holdings entries name slots fits = go (slot_of name slots) refl
     go : (o : Option ℕ) → slot_of name slots ≡ o → registry.rules_of name (holdings entries slots) ≡ rules_with name entries
     go None is = rules_none entries name slots is ∙ sym (no_rules name slots entries fits is)
     go (Some n) is = rules_own entries name slots n is
+
+-- another name gets a slot: an entry keeps its own
+own_other : (other name : List ℕ) (slots : List (Option (List ℕ))) (n : ℕ) → slot_of name slots ≡ None → slice_get slots n ≡ Some None → is_some (slot_of other slots) ≡ true → slot_of other (set slots n (Some name)) ≡ slot_of other slots
+own_other other name slots n none is has = position-set_same (is_name other) slots n None (Some name) is (differs (bytes_eq name other) refl)
+  where
+    differs : (b : Bool) → bytes_eq name other ≡ b → false ≡ b
+    differs false e = refl
+    differs true e =
+        let same : name ≡ other = same_name other name e in
+        let gone : slot_of other slots ≡ None = rw (← same) none in
+        let f = ap is_some gone in cc
+
+own_put : (name : List ℕ) (slots : List (Option (List ℕ))) (n : ℕ) (asked : Option (List ℕ)) (slot : Option ℕ) → slot_of name slots ≡ None → slice_get slots n ≡ Some None → is_own_slot asked slot slots ≡ true → is_own_slot asked slot (set slots n (Some name)) ≡ true
+own_put name slots n None slot none is fits = refl
+own_put name slots n (Some other) slot none is fits =
+    let has = (and_parts (is_some (slot_of other slots)) (option_eq nat_eq slot (slot_of other slots)) fits).0 in
+    rw (own_other other name slots n none is has) fits
+
+own_puts : (name : List ℕ) (slots : List (Option (List ℕ))) (n : ℕ) (entries : List Entry) → slot_of name slots ≡ None → slice_get slots n ≡ Some None → list_all (has_own_slot slots) entries ≡ true → list_all (has_own_slot (set slots n (Some name))) entries ≡ true
+own_puts name slots n [] none is fits = refl
+own_puts name slots n (e ∷ entries) none is fits =
+    let parts = and_parts (has_own_slot slots e) (list_all (has_own_slot slots) entries) fits in
+    rw (own_put name slots n (sender_asked e.filter) (slot_in e.filter) none is parts.0) (own_puts name slots n entries none is parts.1)
+
+-- entries keep their slots where a name gets one
+pub own-with_slot : (name : List ℕ) (slots : List (Option (List ℕ))) (n : ℕ) (entries : List Entry) → slot_next name slots ≡ Some n → list_all (has_own_slot slots) entries ≡ true → list_all (has_own_slot (with_slot name slots)) entries ≡ true
+own-with_slot name slots n entries next fits = elim (next_is name slots n next) [
+    own e is ↦ rw (with_slot-own name slots n e) fits
+  | free none is ↦ rw next (own_puts name slots n entries none is fits) ]
+
+-- a name that is used keeps its slot
+name_used : (claims : List Claim) (entries : List Entry) (other y : List ℕ) → is_used claims entries other ≡ true → (a b : Bool) → is_used claims entries y ≡ a → bytes_eq y other ≡ b → is_name other (cond a (Some y) None) ≡ b
+name_used claims entries other y used true b is e = e
+name_used claims entries other y used false false is e = refl
+name_used claims entries other y used false true is e =
+    let same : y ≡ other = same_name other y e in
+    let lost : is_used claims entries other ≡ false = rw (← same) is in cc
+
+same_used : (claims : List Claim) (entries : List Entry) (other : List ℕ) → is_used claims entries other ≡ true → (x : Option (List ℕ)) → is_name other (used_slot claims entries x) ≡ is_name other x
+same_used claims entries other used None = refl
+same_used claims entries other used (Some y) = name_used claims entries other y used (is_used claims entries y) (bytes_eq y other) refl refl
+
+or_right : (a b : Bool) → b ≡ true → (a || b) ≡ true
+or_right true b e = refl
+or_right false b e = e
+
+own_used : (claims : List Claim) (entries : List Entry) (slots : List (Option (List ℕ))) (asked : Option (List ℕ)) (slot : Option ℕ) → ((name : List ℕ) → is_name name asked ≡ true → list_any (asks_for name) entries ≡ true) → is_own_slot asked slot slots ≡ true → is_own_slot asked slot (used_slots claims entries slots) ≡ true
+own_used claims entries slots None slot asks fits = refl
+own_used claims entries slots (Some other) slot asks fits =
+    let used : is_used claims entries other ≡ true = or_right (list_any (is_on other) claims) (list_any (asks_for other) entries) (asks other (is_itself other)) in
+    let same : slot_of other (used_slots claims entries slots) ≡ slot_of other slots = position-map (is_name other) (is_name other) (used_slot claims entries) slots (same_used claims entries other used) in
+    rw same fits
+
+own_all_used : (claims : List Claim) (entries : List Entry) (slots : List (Option (List ℕ))) (some : List Entry) → ((name : List ℕ) → list_any (asks_for name) some ≡ true → list_any (asks_for name) entries ≡ true) → list_all (has_own_slot slots) some ≡ true → list_all (has_own_slot (used_slots claims entries slots)) some ≡ true
+own_all_used claims entries slots [] asks fits = refl
+own_all_used claims entries slots (e ∷ some) asks fits =
+    let parts = and_parts (has_own_slot slots e) (list_all (has_own_slot slots) some) fits in
+    rw (own_used claims entries slots (sender_asked e.filter) (slot_in e.filter) (λ name is. asks name (rw is refl)) parts.0)
+    (own_all_used claims entries slots some (λ name is. asks name (or_right (asks_for name e) (list_any (asks_for name) some) is)) parts.1)
+
+pub own-used_slots : (claims : List Claim) (entries : List Entry) (slots : List (Option (List ℕ))) → list_all (has_own_slot slots) entries ≡ true → list_all (has_own_slot (used_slots claims entries slots)) entries ≡ true
+own-used_slots claims entries slots fits = own_all_used claims entries slots entries (λ name is. is) fits
+

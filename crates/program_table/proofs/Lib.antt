@@ -1,3 +1,6 @@
 mod Places
 mod Positions
 mod Holdings
+mod SenderNames
+mod Counting
+mod Kept

@@ -1,5 +1,5 @@
 // The connections in a vector by rising number.
-ghost use Rattle.std.specs.Prelude.{◌≡◌, ℕ, ◌<◌, ◌≤◌, [], ◌↔◌, true, IfOk, IsTrue, MatchOption, length, slice_index};
+ghost use Rattle.std.specs.Prelude.{◌≡◌, ℕ, ◌<◌, ◌≤◌, [], true, nat_le, IfOk, MatchOption, length, slice_index};
 ghost use Rattle.std.specs.Option.{option_copied};
 ghost use Rattle.std.specs.List.Sorted.{IsStrictlyIncreasing};
 ghost use Rattle.program_table.specs.Connections.{numbers_of, is_connected, mailbox_of, commands_of, with_command, without_connection, max_connections};
@@ -45,9 +45,9 @@ impl<M> Connections<M> {
     }
 
     pub(crate) fn is_full(&self) -> bool
-        ensures { IsTrue result ↔ (length self.now.connections ≡ max_connections) }
+        ensures { result ≡ nat_le max_connections (length self.now.connections) }
     {
-        self.list.len() == MAX_CONNECTIONS
+        self.list.len() >= MAX_CONNECTIONS
     }
 
     /// The last number that was given, 0 before the first.

@@ -5,6 +5,7 @@ ghost use Rattle.match_rule.specs.RuleTree.{sender_name_of};
 ghost use Rattle.owners.specs.Registry.{rules_of};
 ghost use Rattle.program_table.specs.SlotNames.{sender_asked};
 ghost use Rattle.program_table.specs.Senders.{without_sender};
+ghost use Rattle.program_table.specs.Refusals.{claim_refusal};
 
 use crate::command::Reply;
 use crate::refusal::Refusal;
@@ -132,8 +133,7 @@ impl RegistrationTable {
     {
         match self.names.request_reply(name, connection, flags) {
             Ok(named) => Ok(Reply::Name(named)),
-            Err(ClaimError::NamesFull) => Err(Refusal::NamesFull),
-            Err(_) => Err(Refusal::QueueFull),
+            Err(error) => Err(claim_refusal(error)),
         }
     }
 
@@ -171,6 +171,7 @@ impl RegistrationTable {
         ensures { self.new ≡ with_entry connection (filters.Attached attachment) self.old }
     {
         self.entries.add(connection, Filter::Attached(attachment));
+        let _ = self.entries.last_id();
     }
 
     /// Takes out the connection's entry of this id, if it has one.
@@ -258,6 +259,16 @@ impl RegistrationTable {
         ensures { result ≡ slot_next name.now self.now.slots }
     {
         self.names.slot_next(name)
+    }
+}
+
+/// Why a claim is refused. A name that was read is neither bad nor reserved.
+fn claim_refusal(error: ClaimError) -> Refusal
+    ensures { result ≡ claim_refusal error }
+{
+    match error {
+        ClaimError::NamesFull => Refusal::NamesFull,
+        ClaimError::QueueFull | ClaimError::BadName | ClaimError::Reserved => Refusal::QueueFull,
     }
 }
 
