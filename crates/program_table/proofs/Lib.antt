@@ -4,3 +4,4 @@ mod Holdings
 mod SenderNames
 mod Counting
 mod Kept
+mod Tying
