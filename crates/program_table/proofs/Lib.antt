@@ -5,3 +5,4 @@ mod SenderNames
 mod Counting
 mod Kept
 mod Tying
+mod Adding

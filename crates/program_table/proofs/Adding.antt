@@ -1,0 +1,105 @@
+-- Requests and new entries keep names and entries tied.
+use Rattle.std.proofs.Common.{◌≡◌, ◌≢◌, ℕ, ◌+◌, Bool, true, false, cond, ◌&&◌, List, [], ◌∷◌, ◌++◌, map, Option, Some, None, refl, sym, ap, subst, ◌∙◌, arith}
+use Rattle.std.specs.Prelude.{Result, Ok, Err, is_ok, is_none, count_by}
+use Rattle.std.specs.List.{list_all}
+use Rattle.std.proofs.lemmas.List.Sums.{sum_by-cons}
+use Rattle.owners.specs.declared.answer.Named.{Named}
+use Rattle.owners.specs.declared.error.ClaimError.{ClaimError}
+use Rattle.owners.specs.Queues.{requested}
+use Rattle.owners.specs.Registry as registry
+use Rattle.entry_table.specs.declared.entry.Entry.{Entry}
+use Rattle.entry_table.specs.Entries.{Entries, AreEntries}
+use Rattle.program_table.specs.declared.command.Reply.{Reply}
+use Rattle.program_table.specs.declared.refusal.Refusal.{Refusal}
+use Rattle.program_table.specs.declared.refusal.Refusal.TheVariants.{NamesFull}
+use Rattle.program_table.specs.SlotNames.{slot_next, with_slot, sender_asked, asks_for, is_name}
+use Rattle.program_table.specs.Registrations.{Registrations, with_request}
+use Rattle.program_table.specs.Refusals.{◌>>=◌, refuse_if}
+use Rattle.program_table.specs.Answers.{request_answer}
+use Rattle.program_table.specs.IsState.{slot_in, is_own_slot, has_own_slot}
+use Rattle.program_table.specs.Ties.{slot_names, rules_with, holding_of, holdings, registrations_of, AreTied}
+use Rattle.program_table.proofs.Holdings.{own-with_slot}
+use Rattle.program_table.proofs.Kept.{replied, request_replied}
+use Rattle.program_table.proofs.Tying.{tied, seen, requested_slots}
+
+replied_ok : (r : Result Named ClaimError) → is_ok (replied r) ≡ is_ok r
+replied_ok (Ok named) = refl
+replied_ok (Err error) = refl
+
+has_next : (o : Option ℕ) (rest : Result Reply Refusal) → is_ok (refuse_if (is_none o) NamesFull >>= λ free. rest) ≡ true → (n : ℕ) × (o ≡ Some n)
+has_next None rest e = cc
+has_next (Some n) rest e = (n, refl)
+
+-- the names after a request that is accepted
+abbrev requested_names : List ℕ → ℕ → ℕ → registry.Registry → registry.Registry
+requested_names name c flags names = record {
+  claims = requested name c flags names.claims;
+  slots = registry.with_rules name (registry.rules_of name names.slots) names.slots }
+
+module _ (name : List ℕ) (c flags : ℕ) (names later : registry.Registry) (all : Entries) (tie : AreTied names all)
+    (accepted : is_ok (request_answer name c flags (registrations_of names all)) ≡ true) (e : later ≡ registry.after_request name c flags names) where
+  next : (n : ℕ) × (slot_next name (slot_names names.slots) ≡ Some n)
+  next = has_next (slot_next name (slot_names names.slots)) _ accepted
+
+  later_is : later ≡ requested_names name c flags names
+  later_is =
+      let ok : is_ok (registry.request_answer name c flags names) ≡ true =
+          sym (replied_ok (registry.request_answer name c flags names)) ∙ ap is_ok (request_replied name c flags names all tie) ∙ accepted in
+      e ∙ ap (λ (b : Bool). cond b (requested_names name c flags names) names) ok
+
+  slots_are : later.slots ≡ holdings all.entries (with_slot name (slot_names names.slots))
+  slots_are = ap (λ (n : registry.Registry). n.slots) later_is ∙ requested_slots name names all next.0 tie next.1
+
+  pub requested_tie : registry.IsRegistry later → AreTied later all
+  requested_tie is = tied later all (with_slot name (slot_names names.slots)) is tie.entries slots_are (own-with_slot name (slot_names names.slots) next.0 all.entries next.1 tie.own_slots)
+
+  pub requested_view : registrations_of later all ≡ with_request name c flags (registrations_of names all)
+  requested_view =
+      seen later all (with_slot name (slot_names names.slots)) slots_are
+      ∙ ap (λ (n : registry.Registry). let r : Registrations = record { claims = n.claims; slots = with_slot name (slot_names names.slots); entries = all.entries; last_entry = all.last } in r) later_is
+
+count-cons : {X : Type 0} (p : X → Bool) (x : X) (xs : List X) → count_by p (x ∷ xs) ≡ cond (p x) 1 0 + count_by p xs
+count-cons p x xs = sum_by-cons (λ y. cond (p y) 1 0) x xs
+
+pub count-push : {X : Type 0} (p : X → Bool) (xs : List X) (x : X) → count_by p (xs ++ x ∷ []) ≡ count_by p xs + cond (p x) 1 0
+count-push p [] x = refl
+count-push p (y ∷ xs) x =
+    let here = count-cons p y (xs ++ x ∷ []) in
+    let there = count-cons p y xs in
+    let rest = count-push p xs x in
+    omega (arith, here, there, rest)
+
+both_true : (a b : Bool) → (a && b) ≡ true → (a ≡ true) × (b ≡ true)
+both_true true b e = (refl, e)
+both_true false b e = cc
+
+and_true : (a b : Bool) → a ≡ true → b ≡ true → (a && b) ≡ true
+and_true true b p q = q
+and_true false b p q = cc
+
+pub all-push : {X : Type 0} (p : X → Bool) (xs : List X) (x : X) → list_all p xs ≡ true → p x ≡ true → list_all p (xs ++ x ∷ []) ≡ true
+all-push p [] x h e = rw e refl
+all-push p (y ∷ xs) x h e = let parts = both_true (p y) (list_all p xs) h in and_true (p y) (list_all p (xs ++ x ∷ [])) parts.0 (all-push p xs x parts.1 e)
+
+same_holdings : (entries later : List Entry) (slots : List (Option (List ℕ))) → ((name : List ℕ) → rules_with name entries ≡ rules_with name later) → holdings entries slots ≡ holdings later slots
+same_holdings entries later [] h = refl
+same_holdings entries later (None ∷ slots) h = ap (λ (s : List _). None ∷ s) (same_holdings entries later slots h)
+same_holdings entries later (Some name ∷ slots) h = rw (h name, same_holdings entries later slots h) refl
+
+no_rule_more : (name : List ℕ) (entries : List Entry) (e : Entry) → sender_asked e.filter ≡ None → rules_with name entries ≡ rules_with name (entries ++ e ∷ [])
+no_rule_more name entries e none =
+    let no : asks_for name e ≡ false = ap (is_name name) none in
+    let more = count-push (asks_for name) entries e in
+    let nothing : cond (asks_for name e) 1 0 ≡ 0 = ap (λ (b : Bool). cond b 1 0) no in
+    omega (arith, more, nothing)
+
+-- an entry that asks for no name is added
+pub added_tie : (names : registry.Registry) (all later : Entries) (e : Entry) → AreTied names all → AreEntries later → later.entries ≡ all.entries ++ e ∷ [] → sender_asked e.filter ≡ None → AreTied names later
+added_tie names all later e tie is same none =
+    let slots = slot_names names.slots in
+    let fits : has_own_slot slots e ≡ true = ap (λ (asked : Option (List ℕ)). is_own_slot asked (slot_in e.filter) slots) none in
+    record {
+      registry = tie.registry;
+      entries = is;
+      counted = rw same (sym (same_holdings all.entries (all.entries ++ e ∷ []) slots (λ name. no_rule_more name all.entries e none)) ∙ tie.counted);
+      own_slots = rw same (all-push (has_own_slot slots) all.entries e tie.own_slots fits) }
