@@ -86,11 +86,15 @@ same_holdings entries later [] h = refl
 same_holdings entries later (None ∷ slots) h = ap (λ (s : List _). None ∷ s) (same_holdings entries later slots h)
 same_holdings entries later (Some name ∷ slots) h = rw (h name, same_holdings entries later slots h) refl
 
+if_not : (b : Bool) → b ≡ false → cond {A = ℕ} b 1 0 ≡ 0
+if_not false e = refl
+if_not true e = cc
+
 no_rule_more : (name : List ℕ) (entries : List Entry) (e : Entry) → sender_asked e.filter ≡ None → rules_with name entries ≡ rules_with name (entries ++ e ∷ [])
 no_rule_more name entries e none =
     let no : asks_for name e ≡ false = ap (is_name name) none in
     let more = count-push (asks_for name) entries e in
-    let nothing : cond (asks_for name e) 1 0 ≡ 0 = ap (λ (b : Bool). cond b 1 0) no in
+    let nothing = if_not (asks_for name e) no in
     omega (arith, more, nothing)
 
 -- an entry that asks for no name is added

@@ -6,3 +6,4 @@ mod Counting
 mod Kept
 mod Tying
 mod Adding
+mod Beginning

@@ -55,10 +55,10 @@ impl RegistrationTable {
     pub(crate) fn new(alloc: Global, key: IndexKey) -> Result<RegistrationTable, AllocError>
         ensures { IfOk result (λ table. table ≡ no_registrations) }
     {
-        Ok(RegistrationTable {
-            names: Claims::new(alloc)?,
-            entries: EntryTable::new(alloc, key)?,
-        })
+        let names = Claims::new(alloc)?;
+        let entries = EntryTable::new(alloc, key)?;
+        let _ = entries.last_id();
+        Ok(RegistrationTable { names, entries })
     }
 
     /// Whether there is room for an entry.
