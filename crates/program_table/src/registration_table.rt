@@ -159,10 +159,17 @@ impl RegistrationTable {
         requires fits { slot_fits (sender_name_of program.rule) program.slot self.old.slots ≡ Ok tt }
         ensures { self.new ≡ with_sender (sender_name_of program.rule) (with_entry connection (filters.Rule program) self.old) }
     {
-        if let Some(name) = sender_of(&program) {
-            let _ = self.names.slot_for(&name);
+        match sender_of(&program) {
+            Some(name) => {
+                let _ = self.names.slot_for(&name);
+                self.entries.add(connection, Filter::Rule(program));
+                let _ = self.entries.last_id();
+            }
+            None => {
+                self.entries.add(connection, Filter::Rule(program));
+                let _ = self.entries.last_id();
+            }
         }
-        self.entries.add(connection, Filter::Rule(program));
     }
 
     /// Adds an entry with an attached program.
