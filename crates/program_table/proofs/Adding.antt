@@ -41,7 +41,8 @@ has_next (Some n) rest e = (n, refl)
 abbrev requested_names : List ℕ → ℕ → ℕ → registry.Registry → registry.Registry
 requested_names name c flags names = record {
   claims = requested name c flags names.claims;
-  slots = registry.with_rules name (registry.rules_of name names.slots) names.slots }
+  slots = registry.with_rules name (registry.rules_of name names.slots) names.slots;
+}
 
 module _ (name : List ℕ) (c flags : ℕ) (names later : registry.Registry) (all : Entries) (tie : AreTied names all)
     (accepted : is_ok (request_answer name c flags (registrations_of names all)) ≡ true) (e : later ≡ registry.after_request name c flags names) where
@@ -51,7 +52,7 @@ module _ (name : List ℕ) (c flags : ℕ) (names later : registry.Registry) (al
   later_is : later ≡ requested_names name c flags names
   later_is =
       let ok : is_ok (registry.request_answer name c flags names) ≡ true =
-          sym (replied_ok (registry.request_answer name c flags names)) ∙ ap is_ok (request_replied name c flags names all tie) ∙ accepted in
+      sym (replied_ok (registry.request_answer name c flags names)) ∙ ap is_ok (request_replied name c flags names all tie) ∙ accepted in
       e ∙ ap (λ (b : Bool). cond b (requested_names name c flags names) names) ok
 
   slots_are : later.slots ≡ holdings all.entries (with_slot name (slot_names names.slots))
@@ -113,7 +114,8 @@ added_tie names all later e tie is same none =
       registry = tie.registry;
       entries = is;
       counted = rw same (sym (same_holdings all.entries (all.entries ++ e ∷ []) slots (λ name. no_rule_more name all.entries e none)) ∙ tie.counted);
-      own_slots = rw same (all-push (has_own_slot slots) all.entries e tie.own_slots fits) }
+      own_slots = rw same (all-push (has_own_slot slots) all.entries e tie.own_slots fits);
+    }
 
 -- a rule that asks for a name as the sender is added, and was compiled for the slot that the name has or gets
 asked_now : (name other : List ℕ) (entries : List Entry) (e : Entry) → sender_asked e.filter ≡ Some name → other ≢ name → rules_with other entries ≡ rules_with other (entries ++ e ∷ [])
@@ -143,8 +145,9 @@ same_slot n = eq-eqb n n refl
 
 own_now : (name : List ℕ) (slots : List (Option (List ℕ))) (n : ℕ) → slot_next name slots ≡ Some n → slot_of name (with_slot name slots) ≡ Some n
 own_now name slots n next = elim (next_is name slots n next) [
-    own e is ↦ rw (with_slot-own name slots n e) e
-  | free none is ↦ rw next (position-set_first (is_name name) slots n None (Some name) is none ((bytes_eq-Decides name name).1 refl)) ]
+  | own e is ↦ rw (with_slot-own name slots n e) e
+  | free none is ↦ rw next (position-set_first (is_name name) slots n None (Some name) is none ((bytes_eq-Decides name name).1 refl))
+]
 
 module _ (name : List ℕ) (names later : registry.Registry) (all after : Entries) (e : Entry) (n : ℕ) (tie : AreTied names all)
     (names_is : later ≡ registry.after_slot_for name names) (same : after.entries ≡ all.entries ++ e ∷ [])

@@ -191,8 +191,9 @@ own_puts name slots n (e ∷ entries) none is fits =
 -- entries keep their slots where a name gets one
 pub own-with_slot : (name : List ℕ) (slots : List (Option (List ℕ))) (n : ℕ) (entries : List Entry) → slot_next name slots ≡ Some n → list_all (has_own_slot slots) entries ≡ true → list_all (has_own_slot (with_slot name slots)) entries ≡ true
 own-with_slot name slots n entries next fits = elim (next_is name slots n next) [
-    own e is ↦ rw (with_slot-own name slots n e) fits
-  | free none is ↦ rw next (own_puts name slots n entries none is fits) ]
+  | own e is ↦ rw (with_slot-own name slots n e) fits
+  | free none is ↦ rw next (own_puts name slots n entries none is fits)
+]
 
 -- a name that is used keeps its slot
 name_used : (claims : List Claim) (entries : List Entry) (other y : List ℕ) → is_used claims entries other ≡ true → (a b : Bool) → is_used claims entries y ≡ a → bytes_eq y other ≡ b → is_name other (cond a (Some y) None) ≡ b
@@ -226,4 +227,3 @@ own_all_used claims entries slots (e ∷ some) asks fits =
 
 pub own-used_slots : (claims : List Claim) (entries : List Entry) (slots : List (Option (List ℕ))) → list_all (has_own_slot slots) entries ≡ true → list_all (has_own_slot (used_slots claims entries slots)) entries ≡ true
 own-used_slots claims entries slots fits = own_all_used claims entries slots entries (λ name is. is) fits
-

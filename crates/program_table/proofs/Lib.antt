@@ -7,3 +7,4 @@ mod Kept
 mod Tying
 mod Adding
 mod Beginning
+mod Sound

@@ -18,7 +18,6 @@ use Rattle.program_table.specs.Places.{HaveOtherNumbers, IsPlaceOf}
 apart : (xs : List ℕ) (i j : ℕ) → IsStrictlyIncreasing xs → i < length xs → j < length xs → j ≢ i → get_or xs j 0 ≢ get_or xs i 0
 apart xs i j h less within ne e = grind (arith, AllPairs-from_increasing xs h i j 0, AllPairs-from_increasing xs h j i 0)
 
-
 -- no number before a place is this one, none from there on is below it, and the one there isn't it
 none_there : (xs : List ℕ) (n k : ℕ) → IsStrictlyIncreasing xs → ((j : ℕ) → j < k → get_or xs j 0 < n) → (k < length xs → n ≤ get_or xs k 0) → (k < length xs → get_or xs k 0 ≢ n) → (j : ℕ) → j < length xs → get_or xs j 0 ≢ n
 none_there xs n k h below above here j less = grind (arith, below j, above, here, AllPairs-from_increasing xs h k j 0)
@@ -84,16 +83,27 @@ module _ {M : Type 0} where
   place_in : (n k : ℕ) (cs : List (Connection M)) (d : Connection M) → k < length cs → (get_or cs k d).number ≡ n → ((j : ℕ) → j < length cs → j ≢ k → get_or (numbers_of cs) j 0 ≢ n) → IsPlaceOf n cs k
   place_in n k [] d less e h = absurd (omega arith)
   place_in n zero (c ∷ cs) d less e h = record {
-    front = []; here = c; back = cs; parts = refl; place_is = refl; number_is = e; front_differs = tt;
-    back_differs = have_other n cs (λ j l. h (suc j) (omega arith) (omega arith)) }
+    front = [];
+    here = c;
+    back = cs;
+    parts = refl;
+    place_is = refl;
+    number_is = e;
+    front_differs = tt;
+    back_differs = have_other n cs (λ j l. h (suc j) (omega arith) (omega arith));
+  }
   place_in n (suc k) (c ∷ cs) d less e h =
       let p = place_in n k cs d (omega arith) e (λ j l ne. h (suc j) (omega arith) (omega arith)) in
       record {
-        front = c ∷ p.front; here = p.here; back = p.back;
+        front = c ∷ p.front;
+        here = p.here;
+        back = p.back;
         parts = ap (λ (ds : List (Connection M)). c ∷ ds) p.parts;
-        place_is = ap suc p.place_is; number_is = p.number_is;
+        place_is = ap suc p.place_is;
+        number_is = p.number_is;
         front_differs = (h 0 (omega arith) (omega arith), p.front_differs);
-        back_differs = p.back_differs }
+        back_differs = p.back_differs;
+      }
 
   -- the connection of this number stands here
   pub place_found : (n k : ℕ) (cs : List (Connection M)) (d : Connection M) → IsStrictlyIncreasing (numbers_of cs) → k < length cs → (get_or cs k d).number ≡ n → IsPlaceOf n cs k
@@ -143,7 +153,8 @@ module _ {M : Type 0} where
   kept_numbers cs ds last e n h = record {
     rising = subst IsStrictlyIncreasing (sym e) h.rising;
     given = subst (λ (ns : List ℕ). All (λ m. m ≤ last) ns) (sym e) h.given;
-    few = omega (arith, h.few, n) }
+    few = omega (arith, h.few, n);
+  }
 
   -- the connection at a place has one more command
   pub counted_list : (n k last : ℕ) (cs : List (Connection M)) (c : Connection M) → c ≡ get_or cs k c → IsConnectionList (record { connections = cs; last = last }) → IsConnectionList (record { connections = set cs k (one_more_if true c); last = last })
@@ -158,4 +169,5 @@ module _ {M : Type 0} where
   without_list n last cs h = record {
     rising = subst IsStrictlyIncreasing (sym (rising_without n cs)) (IsStrictlyIncreasing-filter (λ (m : ℕ). not (m == n)) (numbers_of cs) h.rising);
     given = subst (λ (ns : List ℕ). All (λ m. m ≤ last) ns) (sym (rising_without n cs)) (All-filter (λ (m : ℕ). not (m == n)) (λ m. m ≤ last) (numbers_of cs) h.given);
-    few = omega (arith, h.few, length-filter (λ (c : Connection M). not (has_number n c)) cs, count_by-le-length (λ (c : Connection M). not (has_number n c)) cs) }
+    few = omega (arith, h.few, length-filter (λ (c : Connection M). not (has_number n c)) cs, count_by-le-length (λ (c : Connection M). not (has_number n c)) cs);
+  }

@@ -18,7 +18,7 @@ use Rattle.program_table.specs.Ties.{slot_name, slot_names, rules_with, holding_
 use Rattle.program_table.proofs.Holdings.{HaveOneSlot, slot_of-holdings, slot_names-holdings, put_holding, kept-holdings, rules-holdings, own-with_slot, own-used_slots}
 use Rattle.program_table.proofs.Kept.{replied, request_replied}
 
-slot_of_kept : (name : List ℕ) (names : registry.Registry) (all : Entries) → AreTied names all → registry.slot_of name names.slots ≡ slot_of name (slot_names names.slots)
+pub slot_of_kept : (name : List ℕ) (names : registry.Registry) (all : Entries) → AreTied names all → registry.slot_of name names.slots ≡ slot_of name (slot_names names.slots)
 slot_of_kept name names all tie = ap (registry.slot_of name) (sym tie.counted) ∙ slot_of-holdings all.entries name (slot_names names.slots)
 
 -- no name that is registered has two slots
@@ -29,6 +29,7 @@ one_slot names all tie slot name e = go (slice_get names.slots slot) refl (sym (
     slot_get [] k = refl
     slot_get (x ∷ slots) zero = refl
     slot_get (x ∷ slots) (suc k) = slot_get slots k
+
     go : (o : Option (Option Holding)) → slice_get names.slots slot ≡ o → option_map slot_name o ≡ Some (Some name) → slot_of name (slot_names names.slots) ≡ Some slot
     go None is f = cc
     go (Some None) is f = cc
@@ -44,7 +45,8 @@ tied names all slots is entries e fits =
       registry = is;
       entries = entries;
       counted = ap (holdings all.entries) shown ∙ sym e;
-      own_slots = rw shown fits }
+      own_slots = rw shown fits;
+    }
 
 pub seen : (names : registry.Registry) (all : Entries) (slots : List (Option (List ℕ))) → names.slots ≡ holdings all.entries slots → registrations_of names all ≡ record { claims = names.claims; slots = slots; entries = all.entries; last_entry = all.last }
 seen names all slots e =

@@ -117,7 +117,9 @@ impl<M> Connections<M> {
     }
 
     /// Takes a connection out, if it is there.
-    pub(crate) fn remove(&mut self, number: u64) where M: Drop
+    pub(crate) fn remove(&mut self, number: u64)
+    where
+        M: Drop,
         ensures { self.new ≡ record self.old { connections = without_connection number self.old.connections } }
     {
         match place_of(self.list.as_slice(), number) {

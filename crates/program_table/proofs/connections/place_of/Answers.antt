@@ -9,5 +9,6 @@ returns-then-list-place g c =
 
 pub returns-else-place-list : goal.returns-else-place-list
 returns-else-place-list g c = elim c.else-place-list.branch [
-    else-place-list-via-then-place-list+else-list-place w ↦ none_found c.args.number c.lower_bound-place.result c.args.list.now c.lower_bound-place.ensures.below c.lower_bound-place.ensures.above c.requires (λ less. not_there c.args.number c.lower_bound-place.result c.args.list.now w.index-list-place.result less w.if-list-place.false)
-  | else-place-list-via-else-place-list w ↦ none_found c.args.number c.lower_bound-place.result c.args.list.now c.lower_bound-place.ensures.below c.lower_bound-place.ensures.above c.requires (λ less. absurd (omega (arith, less, w.if-place-list.false))) ]
+  | else-place-list-via-then-place-list+else-list-place w ↦ none_found c.args.number c.lower_bound-place.result c.args.list.now c.lower_bound-place.ensures.below c.lower_bound-place.ensures.above c.requires (λ less. not_there c.args.number c.lower_bound-place.result c.args.list.now w.index-list-place.result less w.if-list-place.false)
+  | else-place-list-via-else-place-list w ↦ none_found c.args.number c.lower_bound-place.result c.args.list.now c.lower_bound-place.ensures.below c.lower_bound-place.ensures.above c.requires (λ less. absurd (omega (arith, less, w.if-place-list.false)))
+]

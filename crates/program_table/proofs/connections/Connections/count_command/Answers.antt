@@ -10,9 +10,9 @@ pub overflow_add-index_mut : goal.overflow_add-index_mut
 overflow_add-index_mut g c =
     let there : IsPlaceOf c.args.number c.self.inside.list.items c.in-Some.place = rw (← c.as_slice.ensures.value) c.in-Some.ensures in
     let here : c.index_mut.result.now.commands ≡ commands_of c.args.number c.self.inside.list.items =
-        ap (λ (x : Connection _). x.commands) c.index_mut.ensures.value ∙ commands_here c.args.number c.in-Some.place c.self.inside.list.items _ there in
+    ap (λ (x : Connection _). x.commands) c.index_mut.ensures.value ∙ commands_here c.args.number c.in-Some.place c.self.inside.list.items _ there in
     let same : commands_of c.args.number c.self.inside.list.items ≡ commands_of c.args.number c.args.self.now.connections =
-        ap (λ (r : ConnectionList _). commands_of c.args.number r.connections) c.self.view_is in
+    ap (λ (r : ConnectionList _). commands_of c.args.number r.connections) c.self.view_is in
     omega (arith, here, same, c.requires.fits)
 
 pub invariant_of-self : goal.invariant_of-self

@@ -9,12 +9,12 @@ use Rattle.program_table.proofs.registration_table.RegistrationTable.request.Goa
 pub invariant_of-self : goal.invariant_of-self
 invariant_of-self c =
     let accepted : is_ok (request_answer c.args.name.now c.args.connection c.args.flags (registrations_of c.self.inside.names c.self.inside.entries)) ≡ true =
-        ap (λ (r : Registrations). is_ok (request_answer c.args.name.now c.args.connection c.args.flags r)) c.self.view_is ∙ c.requires in
+    ap (λ (r : Registrations). is_ok (request_answer c.args.name.now c.args.connection c.args.flags r)) c.self.view_is ∙ c.requires in
     requested_tie c.args.name.now c.args.connection c.args.flags c.self.inside.names c.request.new.self c.self.inside.entries c.self.invariant accepted c.request.ensures.after c.request.ensures.registry
 
 pub returns : goal.returns
 returns c =
     let accepted : is_ok (request_answer c.args.name.now c.args.connection c.args.flags (registrations_of c.self.inside.names c.self.inside.entries)) ≡ true =
-        ap (λ (r : Registrations). is_ok (request_answer c.args.name.now c.args.connection c.args.flags r)) c.self.view_is ∙ c.requires in
+    ap (λ (r : Registrations). is_ok (request_answer c.args.name.now c.args.connection c.args.flags r)) c.self.view_is ∙ c.requires in
     requested_view c.args.name.now c.args.connection c.args.flags c.self.inside.names c.request.new.self c.self.inside.entries c.self.invariant accepted c.request.ensures.after
     ∙ ap (with_request c.args.name.now c.args.connection c.args.flags) c.self.view_is
