@@ -1,6 +1,6 @@
 -- Names with their slots, and the rules that ask for them.
 use Rattle.std.proofs.Common.{◌≡◌, ◌≢◌, ℕ, zero, suc, ◌+◌, ◌-◌, ◌<◌, ◌≤◌, Bool, true, false, not, cond, ◌&&◌, ◌||◌, List, [], ◌∷◌, ◌++◌, length, map, set, filter, Option, Some, None, refl, sym, ap, subst, ◌∙◌, arith}
-use Rattle.std.specs.Prelude.{position, is_none, is_some, option_map, nat_lt, nat_eq, slice_get, count_by}
+use Rattle.std.specs.Prelude.{◌==◌, position, is_none, is_some, option_map, nat_lt, nat_eq, slice_get, count_by}
 use Rattle.std.specs.List.{list_any, list_all}
 use Rattle.std.specs.Option.{option_eq}
 use Rattle.std.specs.Str.{bytes_eq}
@@ -15,7 +15,7 @@ use Rattle.entry_table.specs.declared.entry.Entry.{Entry}
 use Rattle.program_table.specs.SlotNames.{is_name, slot_of, slot_next, with_slot_at, with_slot, sender_asked, asks_for, is_used, used_slot, used_slots}
 use Rattle.program_table.specs.IsState.{slot_in, is_own_slot, has_own_slot}
 use Rattle.program_table.specs.Ties.{slot_name, slot_names, rules_with, holding_of, holdings}
-use Rattle.program_table.proofs.Positions.{position-map, position-here, position-nowhere, position-set_same, position-set_first, set-agree, set-itself, slice_get-map}
+use Rattle.program_table.proofs.Positions.{position_from-first, position-map, position-here, position-nowhere, position-set_same, position-set_first, set-agree, set-itself, slice_get-map}
 
 -- names and slots are the same in both views
 held_is : (entries : List Entry) (name : List ℕ) (x : Option (List ℕ)) → registry.is_held_by name (holding_of entries x) ≡ is_name name x
@@ -27,11 +27,12 @@ free_is entries None = refl
 free_is entries (Some other) = refl
 
 pub slot_of-holdings : (entries : List Entry) (name : List ℕ) (slots : List (Option (List ℕ))) → registry.slot_of name (holdings entries slots) ≡ slot_of name slots
-slot_of-holdings entries name slots = position-map (registry.is_held_by name) (is_name name) (holding_of entries) slots (held_is entries name)
+slot_of-holdings entries name slots =
+    position_from-first (registry.is_held_by name) (holdings entries slots) ∙ position-map (registry.is_held_by name) (is_name name) (holding_of entries) slots (held_is entries name)
 
 pub slot_next-holdings : (entries : List Entry) (name : List ℕ) (slots : List (Option (List ℕ))) → registry.slot_next name (holdings entries slots) ≡ slot_next name slots
 slot_next-holdings entries name slots =
-    rw (slot_of-holdings entries name slots, position-map is_none is_none (holding_of entries) slots (free_is entries)) refl
+    rw (slot_of-holdings entries name slots, position_from-first is_none (holdings entries slots), position-map is_none is_none (holding_of entries) slots (free_is entries)) refl
 
 -- what is kept of a name is what is shown
 name_of_holding : (entries : List Entry) (x : Option (List ℕ)) → slot_name (holding_of entries x) ≡ x
@@ -109,17 +110,24 @@ pub counts_some : {X : Type 0} (p : X → Bool) (xs : List X) → nat_lt 0 (coun
 counts_some p [] = grind (arith, nat_tests)
 counts_some p (x ∷ xs) = rw (count-cons p x xs, some_counted (count_by p xs) (p x), counts_some p xs) refl
 
-kept_or : (a b : Bool) (name : List ℕ) (h : Holding) (entries : List Entry) → holding_of entries (Some name) ≡ Some h → cond a (Some h) (cond b (Some h) None) ≡ holding_of entries (cond (b || a) (Some name) None)
-kept_or true true name h entries e = sym e
-kept_or true false name h entries e = sym e
-kept_or false true name h entries e = sym e
-kept_or false false name h entries e = refl
+none_is : (n : ℕ) → n == 0 ≡ not (nat_lt 0 n)
+none_is zero = refl
+none_is (suc n) =
+    let some : nat_lt 0 (suc n) ≡ true = grind (arith, nat_tests) in
+    let other : (suc n == 0) ≡ false = grind (arith, nat_tests) in
+    rw (some, other) refl
+
+kept_or : (a b : Bool) (name : List ℕ) (entries : List Entry) → cond (not a && not b) None (holding_of entries (Some name)) ≡ holding_of entries (cond (b || a) (Some name) None)
+kept_or true true name entries = refl
+kept_or true false name entries = refl
+kept_or false true name entries = refl
+kept_or false false name entries = refl
 
 kept_is : (claims : List Claim) (entries : List Entry) (x : Option (List ℕ)) → registry.kept claims (holding_of entries x) ≡ holding_of entries (used_slot claims entries x)
 kept_is claims entries None = refl
 kept_is claims entries (Some name) =
-    rw (counts_some (asks_for name) entries) (
-    kept_or (list_any (asks_for name) entries) (list_any (is_on name) claims) name (record { name = name; rules = rules_with name entries }) entries refl)
+    rw (none_is (rules_with name entries), counts_some (asks_for name) entries)
+    (kept_or (list_any (asks_for name) entries) (list_any (is_on name) claims) name entries)
 
 -- the names that are kept are those that are used
 pub kept-holdings : (claims : List Claim) (entries : List Entry) (slots : List (Option (List ℕ))) → map (registry.kept claims) (holdings entries slots) ≡ holdings entries (used_slots claims entries slots)

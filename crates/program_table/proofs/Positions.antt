@@ -1,7 +1,7 @@
 -- First positions in mapped and changed lists.
 use Rattle.std.proofs.Common.{◌≡◌, ◌≢◌, ℕ, zero, suc, ◌+◌, ◌<◌, ◌≤◌, Bool, true, false, not, cond, List, [], ◌∷◌, length, map, set, Option, Some, None, refl, sym, ap, ◌∙◌, arith}
 use Rattle.std.specs.Prelude.{position, is_some, option_map, nat_lt, slice_get}
-use Rattle.std.specs.List.{prefix_len}
+use Rattle.std.specs.List.{prefix_len, position_from}
 use Rattle.std.proofs.lemmas.Bool.Decides.{nat_tests}
 
 in_longer : (n l : ℕ) → cond (nat_lt (1 + n) (suc l)) (Some (1 + n)) None ≡ option_map suc (cond (nat_lt n l) (Some n) None)
@@ -98,3 +98,23 @@ pub slice_get-map : {X Y : Type 0} (f : X → Y) (xs : List X) (k : ℕ) → sli
 slice_get-map f [] k = refl
 slice_get-map f (x ∷ xs) zero = refl
 slice_get-map f (x ∷ xs) (suc k) = slice_get-map f xs k
+
+later_by : (n : ℕ) (o : Option ℕ) → option_map (λ k. n + 1 + k) o ≡ option_map (λ k. n + k) (option_map suc o)
+later_by n None = refl
+later_by n (Some k) = let e : n + 1 + k ≡ n + suc k = omega arith in ap Some e
+
+-- the first position from the list's first index
+position_from-is : {X : Type 0} (p : X → Bool) (n : ℕ) (xs : List X) → position_from p n xs ≡ option_map (λ k. n + k) (position p xs)
+position_from-is p n [] = refl
+position_from-is p n (x ∷ xs) = go (p x) refl (position_from-is p (n + 1) xs)
+  where
+    go : (b : Bool) → p x ≡ b → position_from p (n + 1) xs ≡ option_map (λ k. n + 1 + k) (position p xs) → position_from p n (x ∷ xs) ≡ option_map (λ k. n + k) (position p (x ∷ xs))
+    go true e rest = let z : n ≡ n + 0 = omega arith in rw (position-cons p x xs, e) (ap Some z)
+    go false e rest = rw (position-cons p x xs, e) (rest ∙ later_by n (position p xs))
+
+by_none : (o : Option ℕ) → option_map (λ k. 0 + k) o ≡ o
+by_none None = refl
+by_none (Some k) = let e : 0 + k ≡ k = omega arith in ap Some e
+
+pub position_from-first : {X : Type 0} (p : X → Bool) (xs : List X) → position_from p 0 xs ≡ position p xs
+position_from-first p xs = position_from-is p 0 xs ∙ by_none (position p xs)

@@ -9,7 +9,7 @@ ghost use Rattle.program_table.specs.Refusals.{claim_refusal};
 
 use crate::command::Reply;
 use crate::refusal::Refusal;
-use entry_table::{Attachment, EntryTable, Filter, IndexKey, Offered, RuleProgram};
+use entry_table::{Attachment, EntryTable, Filter, Offered, RuleProgram};
 use match_rule::Rule;
 use message_view::View;
 use owners::{ClaimError, Claims, Dropped, WellKnown};
@@ -52,11 +52,11 @@ impl RegistrationTable {
     ghost use Rattle.program_table.specs.Answers.{has_room, slot_fits, oldest_with, add_rule_answer, remove_rule_answer, attach_answer, detach_answer, request_answer, release_answer, drop_answer};
 
     /// No claim and no entry.
-    pub(crate) fn new(alloc: Global, key: IndexKey) -> Result<RegistrationTable, AllocError>
+    pub(crate) fn new(alloc: Global) -> Result<RegistrationTable, AllocError>
         ensures { IfOk result (λ table. table ≡ no_registrations) }
     {
         let names = Claims::new(alloc)?;
-        let entries = EntryTable::new(alloc, key)?;
+        let entries = EntryTable::new(alloc)?;
         let _ = entries.last_id();
         Ok(RegistrationTable { names, entries })
     }
@@ -223,7 +223,7 @@ impl RegistrationTable {
     pub(crate) fn close(&mut self, connection: u64)
         ensures { self.new ≡ without_all_of connection self.old }
     {
-        while let Some(entry) = self.entries.remove_newest(connection) {
+        while let Some(entry) = self.entries.remove_oldest(connection) {
             free_slot(&mut self.names, &entry.filter);
         }
         self.names.drop_all(connection);
@@ -255,8 +255,8 @@ impl RegistrationTable {
     }
 
     /// The least owned name after another in the order of bytes, or the least of all.
-    pub(crate) fn next_name(&self, after: Option<&WellKnown>) -> Option<&WellKnown>
-        ensures { option_map (λ name. name.now) result ≡ next_name (option_map (λ name. name.now) after.entry) self.now.claims }
+    pub(crate) fn next_name(&self, after: Option<&WellKnown>) -> Option<WellKnown>
+        ensures { result ≡ next_name (option_map (λ name. name.now) after.entry) self.now.claims }
     {
         self.names.next_name(after)
     }

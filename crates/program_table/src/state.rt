@@ -6,7 +6,7 @@ use crate::connections::Connections;
 use crate::mailbox::Mailbox;
 use crate::refusal::Refusal;
 use crate::registration_table::RegistrationTable;
-use entry_table::{IndexKey, Offered};
+use entry_table::Offered;
 use message_view::View;
 use owners::WellKnown;
 use std::alloc::{AllocError, Global};
@@ -47,14 +47,14 @@ impl<M: Mailbox> BusState<M> {
     ghost use Rattle.program_table.specs.Recipients.{AreOwnedSlots};
     ghost use Rattle.program_table.specs.IsState.{IsState};
 
-    /// Nobody is connected. The key is the secret of the index of the entries.
-    pub fn new(alloc: Global, key: IndexKey) -> Result<BusState<M>, AllocError>
+    /// Nobody is connected.
+    pub fn new(alloc: Global) -> Result<BusState<M>, AllocError>
         ensures { IfOk result (λ state. state ≡ opening) }
     {
         Ok(BusState {
             commands: 0,
             connections: Connections::new(alloc)?,
-            registrations: RegistrationTable::new(alloc, key)?,
+            registrations: RegistrationTable::new(alloc)?,
         })
     }
 
@@ -259,8 +259,8 @@ impl<M: Mailbox> BusState<M> {
     }
 
     /// The least owned name after another in the order of bytes, or the least of all.
-    pub fn next_name(&self, after: Option<&WellKnown>) -> Option<&WellKnown>
-        ensures { option_map (λ name. name.now) result ≡ next_name (option_map (λ name. name.now) after.entry) self.now.registrations.claims }
+    pub fn next_name(&self, after: Option<&WellKnown>) -> Option<WellKnown>
+        ensures { result ≡ next_name (option_map (λ name. name.now) after.entry) self.now.registrations.claims }
     {
         self.registrations.next_name(after)
     }
