@@ -1,2 +1,3 @@
 pub mod Performs
 pub mod Rows
+pub mod Chains

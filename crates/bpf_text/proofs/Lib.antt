@@ -17,3 +17,4 @@ pub mod Prints
 pub mod Programs
 pub mod Statements
 pub mod Widths
+pub mod LabelMap

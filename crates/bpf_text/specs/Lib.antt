@@ -7,3 +7,4 @@ pub mod Rows
 pub mod Source
 pub mod Used
 pub mod Views
+pub mod LabelPlaces

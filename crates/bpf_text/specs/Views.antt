@@ -7,10 +7,9 @@ use Rattle.bpf_text.specs.declared.operands.Targets.TheVariants as lent_targets
 use Rattle.bpf_text.specs.declared.row.Jumps.{Jumps as LentJumps}
 use Rattle.bpf_text.specs.declared.row.Jumps.TheVariants as lent_jumps
 use Rattle.bpf_text.specs.declared.row.Row.{Row as LentRow}
-use Rattle.bpf_text.specs.declared.draft.Label.{Label as LentLabel}
 use Rattle.bpf_text.specs.declared.draft.Noted.{Noted as LentNoted}
 use Rattle.std.specs.Option.{option_map}
-use Rattle.bpf_text.specs.Source.{Label, Noted, Sketch}
+use Rattle.bpf_text.specs.Source.{Noted, Sketch}
 use Rattle.bpf_text.specs.declared.draft.Draft.{Draft as LentDraft}
 use Rattle.bpf_text.specs.Rows.{Row, Jumps, Stays, Goes, Parts}
 use Rattle.bpf_text.specs.Operands.{Operands, Absent, Number, Length, Place, Indexed, Scratch, Header, Name, NumberTo, NameTo, Targets, One, Both}
@@ -39,11 +38,8 @@ jumps_view (lent_jumps.Parts targets) = Parts (targets_view targets)
 abbrev pub row_view : LentRow → Row
 row_view row = record { op = row.op; k = row.k; jumps = jumps_view row.jumps }
 
-abbrev pub label_view : LentLabel → Label
-label_view label = record { name = label.name.now; place = label.place }
-
 abbrev pub noted_view : LentNoted → Noted
 noted_view noted = record { again = noted.again; row = option_map row_view noted.row }
 
 abbrev pub sketch_view : LentDraft → Sketch
-sketch_view draft = record { labels = map label_view draft.labels.items; lines = map noted_view draft.lines.items; count = draft.count }
+sketch_view draft = record { labels = draft.labels; lines = map noted_view draft.lines.items; count = draft.count }

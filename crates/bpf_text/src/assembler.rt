@@ -5,6 +5,7 @@ ghost use Rattle.bpf_text.specs.Source.{lines_of, SourceText, IsTextFault};
 
 use crate::draft::Draft;
 use crate::line::add_line;
+use crate::named_labels::Labels;
 use crate::resolve::program;
 use bpf_code::{CodeError, Ins};
 use memchr::memchr;
@@ -42,7 +43,7 @@ pub fn assemble_bytes(alloc: Global, text: &[u8]) -> Result<Vec<Ins>, CodeError>
     ensures fault { IfErr result (IsTextFault text.now) }
 {
     let mut draft = Draft {
-        labels: Vec::new(alloc),
+        labels: Labels::new(alloc),
         lines: Vec::new(alloc),
         count: 0,
     };

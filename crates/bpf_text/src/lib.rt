@@ -8,6 +8,7 @@ mod draft;
 mod lexis;
 mod line;
 mod mnemonic;
+mod named_labels;
 mod operands;
 mod printer;
 mod resolve;

@@ -1,11 +1,12 @@
-ghost use Rattle.std.specs.Prelude.{◌≡◌, ◌⊎◌, ◌<◌, length, map, IfOk, IfErr, IfSome, OnOk};
+ghost use Rattle.std.specs.Prelude.{◌≡◌, ◌⊎◌, ◌<◌, length, IfOk, IfErr, IfSome, OnOk};
 ghost use Rattle.std.specs.Option.{option_map};
 ghost use Rattle.bpf_code.specs.declared.error.CodeError.TheVariants.{NoMemory};
-ghost use Rattle.bpf_text.specs.Source.{label_at, has_name, IsLine, Line, TakesLabels, with_line};
-ghost use Rattle.bpf_text.specs.Views.{label_view, sketch_view};
+ghost use Rattle.bpf_text.specs.Source.{label_at, IsLine, Line, TakesLabels, with_line};
+ghost use Rattle.bpf_text.specs.Views.{sketch_view};
 
-use crate::draft::{Draft, Label, Noted};
+use crate::draft::{Draft, Noted};
 use crate::lexis::{sign, word};
+use crate::named_labels::Labels;
 use crate::row::statement;
 use bpf_code::CodeError;
 
@@ -20,32 +21,20 @@ fn read_label(bytes: &[u8]) -> Option<(&[u8], &[u8])>
     Some((name, rest))
 }
 
-/// Whether one of the labels has the name.
-fn is_defined(labels: &[Label], name: &[u8]) -> bool
-    ensures { result ≡ has_name (map label_view labels.now) name.now }
-{
-    for label in labels {
-        if label.name == name {
-            return true;
-        }
-    }
-    false
-}
-
 /// Takes the labels that bytes begin with. Answers whether one was defined before it, and the bytes behind.
 fn take_labels<'a>(
-    labels: &mut Vec<Label<'a>>,
+    labels: &mut Labels<'a>,
     place: usize,
     bytes: &'a [u8],
 ) -> Result<(bool, &'a [u8]), CodeError>
-    ensures found { IfOk result (λ x. TakesLabels bytes.now x.1.now place (map label_view labels.old.items) (map label_view labels.new.items) x.0) }
+    ensures found { IfOk result (λ x. TakesLabels bytes.now x.1.now place labels.old labels.new x.0) }
     ensures only { IfErr result (λ e. e ≡ NoMemory) }
 {
     let mut again = false;
     let mut rest = bytes;
     while let Some((name, behind)) = read_label(rest) {
-        again = again || is_defined(labels, name);
-        labels.push(Label { name, place })?;
+        again = again || labels.has(name);
+        labels.push(name, place)?;
         rest = behind;
     }
     Ok((again, rest))

@@ -1,33 +1,21 @@
-ghost use Rattle.std.specs.Prelude.{◌≡◌, ◌⊎◌, map, Ok, Err, IfOk, IfErr};
+ghost use Rattle.std.specs.Prelude.{◌≡◌, ◌⊎◌, Ok, Err, IfOk, IfErr};
 ghost use Rattle.bpf_code.specs.declared.error.CodeError.TheVariants.{NoMemory};
-ghost use Rattle.bpf_text.specs.Source.{defined, distance, goes_by, parts_by, resolve, program_in};
-ghost use Rattle.bpf_text.specs.Views.{label_view, row_view, sketch_view};
+ghost use Rattle.bpf_text.specs.Source.{distance, goes_by, parts_by, resolve, program_in};
+ghost use Rattle.bpf_text.specs.Views.{row_view, sketch_view};
 
-use crate::draft::{Draft, Label};
+use crate::draft::Draft;
+use crate::named_labels::Labels;
 use crate::operands::Targets;
 use crate::row::{Jumps, Row};
 use bpf_code::{CodeError, Ins, Op};
 use std::alloc::Global;
 
-/// The place that a label names, by its first definition.
-#[tactic(auto, unfolding(crate::specs::Source::defined))]
-fn defined_at(labels: &[Label], name: &[u8]) -> Option<usize>
-    ensures { result ≡ defined (map label_view labels.now) name.now }
-{
-    for label in labels {
-        if label.name == name {
-            return Some(label.place);
-        }
-    }
-    None
-}
-
 /// How many instructions a jump at a place passes over, where its label names an instruction ahead.
 #[tactic(auto, unfolding(crate::specs::Source::distance))]
-fn distance_to(labels: &[Label], count: usize, place: usize, name: &[u8]) -> Option<usize>
-    ensures { result ≡ distance (map label_view labels.now) count place name.now }
+fn distance_to(labels: &Labels<'_>, count: usize, place: usize, name: &[u8]) -> Option<usize>
+    ensures { result ≡ distance labels.now count place name.now }
 {
-    let to = defined_at(labels, name)?;
+    let to = labels.place_of(name)?;
     if place < to && to < count {
         Some(to - place - 1)
     } else {
@@ -85,13 +73,13 @@ fn either(
 /// The instruction of a row at a place and on a line.
 #[tactic(auto, unfolding(crate::specs::Source::resolve))]
 fn resolve_row(
-    labels: &[Label],
+    labels: &Labels<'_>,
     count: usize,
     place: usize,
     line: usize,
     row: &Row,
 ) -> Result<Ins, CodeError>
-    ensures { result ≡ resolve (map label_view labels.now) count place line (row_view row.now) }
+    ensures { result ≡ resolve labels.now count place line (row_view row.now) }
 {
     match row.jumps {
         Jumps::Stays => Ok(Ins {

@@ -1,19 +1,21 @@
 //! The program dbusfan: what the system gives to `tool` of the library below.
 #![tactic(auto)]
 
+mod streams;
 mod system;
 
 pub use dbusfan_tool::tool;
-use dbusfan_tool::{Fault, Output};
+use dbusfan_tool::{Fault, Output, Writer};
 use std::alloc::Global;
-use std::io::{Lock, Write};
+use std::io::Lock;
 use std::process::ExitCode;
 use std::rt::Runtime;
 use std::{env, io};
+use streams::Stream;
 use system::System;
 
 fn main(rt: HostRuntime) -> ExitCode {
-    let mut err = Output::new(rt.stderr().lock());
+    let mut err = Output::new(Stream::new(rt.stderr().lock()));
     let status = match run(&rt, &mut err) {
         Ok(status) => status,
         Err(error) => {
@@ -26,12 +28,13 @@ fn main(rt: HostRuntime) -> ExitCode {
 }
 
 /// Gives the words behind the program's name to `tool`. An `Err` says that there are none to give.
-fn run<R: Runtime<A = Global>, E: Write>(rt: &R, err: &mut Output<E>) -> io::Result<u8> {
+fn run<R: Runtime<A = Global>, E: Writer>(rt: &R, err: &mut Output<E>) -> io::Result<u8> {
     let alloc = rt.alloc();
     let args: Vec<String> = env::args(rt)?.collect(alloc)?;
     let words: Vec<&str> = args.iter().skip(1).map(|arg| arg.as_str()).collect(alloc)?;
-    let mut out = Output::new(io::writer(rt));
-    Ok(tool(alloc, words.as_slice(), &System::new(rt), &mut out, err))
+    let mut out = Output::new(Stream::new(io::writer(rt)));
+    let mut files = System::new(rt);
+    Ok(tool(alloc, words.as_slice(), &mut files, &mut out, err))
 }
 
 /// Words that aren't UTF-8 are no row of the command line; else memory was short.

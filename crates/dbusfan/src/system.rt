@@ -31,9 +31,9 @@ impl<'a, R: Runtime<A = Global>> System<'a, R> {
 
 impl<'a, R: Runtime<A = Global>> Files for System<'a, R> {
     // Nothing is known of what the system gives.
-    ghost may_give = { λ _ _ _. ⊤ };
+    ghost gives = { λ _ _ _ _. ⊤ };
 
-    fn read(&self, alloc: Global, name: &str) -> Result<Vec<u8>, FileError> {
+    fn read(&mut self, alloc: Global, name: &str) -> Result<Vec<u8>, FileError> {
         let read = if name == "-" {
             read_all(alloc, self.rt.reader(), 0)
         } else {

@@ -1,5 +1,5 @@
 -- What `match` finds, from what its steps answer.
-use Rattle.std.proofs.Common.{◌≡◌, ◌⊎◌, ◌↔◌, ℕ, ◌<◌, Bool, true, false, not, eqb, IsTrue, List, Option, Some, None, Result, Ok, Err, refl, sym, ap, subst, inl, inr, arith}
+use Rattle.std.proofs.Common.{◌≡◌, ◌⊎◌, ◌↔◌, ℕ, ◌<◌, Bool, true, false, not, eqb, IsTrue, List, [], Some, None, Result, Ok, Err, refl, sym, ap, subst, inl, inr, arith}
 use Rattle.std.specs.Result.{IsErrAnd}
 use Rattle.std.proofs.lemmas.Bool.{cases_eq, eq-eqb, ne_eqb}
 use Rattle.std.specs.Global.{Vec}
@@ -29,7 +29,7 @@ use Rattle.dbusfan_tool.specs.declared.files.FileError.TheVariants as of_file
 use Rattle.dbusfan_tool.specs.declared.hex_text.HexError.{HexError}
 use Rattle.dbusfan_tool.specs.declared.hex_text.HexError.TheVariants as of_hex
 use Rattle.dbusfan_tool.specs.Fault.{fault_of_rule, fault_of_compile, fault_of_file, fault_of_hex}
-use Rattle.dbusfan_tool.specs.Files.{ReadsFile}
+use Rattle.dbusfan_tool.specs.Files.{FileRead, ReadsFile, one_read}
 use Rattle.dbusfan_tool.specs.HexText.{bytes_of_hex}
 use Rattle.dbusfan_tool.specs.Tool.{Judges, no_rule, too_long, no_file, no_hex, no_message, judged}
 
@@ -48,42 +48,42 @@ err_of : (found : Result Bool Fault) (fault : Fault) → IsErrAnd found (λ f. f
 err_of (Ok matches) fault is = absurd is
 err_of (Err f) fault is = ap Err (sym is)
 
-module _ (rule : List ℕ) (may_give : Option (List ℕ) → Type 0) (owns : Bool) where
+module _ (made : List FileRead → Type 0) (rule file : List ℕ) (owns : Bool) where
   abbrev Finds : Result Bool Fault → Type 0
-  Finds found = Judges rule may_give owns found ⊎ (found ≡ Err Memory)
+  Finds found = Judges made rule file owns found ⊎ (found ≡ Err Memory)
 
   -- the fault of a step
   fails : (found : Result Bool Fault) (fault : Fault) → IsErrAnd found (λ f. f ≡ fault) → Finds (Err fault) → Finds found
   fails found fault is finds = subst (λ (f : Result Bool Fault). Finds f) (err_of found fault is) finds
 
-  pub of_rule_fault : (found : Result Bool Fault) (error : RuleError) → IsErrAnd found (λ f. f ≡ fault_of_rule error) → ((error ≡ NoMemory) ⊎ (rule_at rule ≡ Err error)) → Finds found
-  of_rule_fault found error is (inl short) = fails found Memory (rw short at is) (inr refl)
-  of_rule_fault found NoMemory is (inr reads) = fails found _ is (inr refl)
-  of_rule_fault found TooLong is (inr reads) = fails found _ is (inl (no_rule reads))
-  of_rule_fault found UnknownKey is (inr reads) = fails found _ is (inl (no_rule reads))
-  of_rule_fault found KeyTwice is (inr reads) = fails found _ is (inl (no_rule reads))
-  of_rule_fault found BadValue is (inr reads) = fails found _ is (inl (no_rule reads))
-  of_rule_fault found Unquoted is (inr reads) = fails found _ is (inl (no_rule reads))
-  of_rule_fault found PathTwice is (inr reads) = fails found _ is (inl (no_rule reads))
-  of_rule_fault found ArgNumber is (inr reads) = fails found _ is (inl (no_rule reads))
+  pub of_rule_fault : (found : Result Bool Fault) (error : RuleError) → IsErrAnd found (λ f. f ≡ fault_of_rule error) → ((error ≡ NoMemory) ⊎ (rule_at rule ≡ Err error)) → made [] → Finds found
+  of_rule_fault found error is (inl short) unread = fails found Memory (rw short at is) (inr refl)
+  of_rule_fault found NoMemory is (inr reads) unread = fails found _ is (inr refl)
+  of_rule_fault found TooLong is (inr reads) unread = fails found _ is (inl (no_rule reads unread))
+  of_rule_fault found UnknownKey is (inr reads) unread = fails found _ is (inl (no_rule reads unread))
+  of_rule_fault found KeyTwice is (inr reads) unread = fails found _ is (inl (no_rule reads unread))
+  of_rule_fault found BadValue is (inr reads) unread = fails found _ is (inl (no_rule reads unread))
+  of_rule_fault found Unquoted is (inr reads) unread = fails found _ is (inl (no_rule reads unread))
+  of_rule_fault found PathTwice is (inr reads) unread = fails found _ is (inl (no_rule reads unread))
+  of_rule_fault found ArgNumber is (inr reads) unread = fails found _ is (inl (no_rule reads unread))
 
   module _ (tree : RuleTree) (reads : ReadsAs rule tree) where
-    pub of_refusal : (found : Result Bool Fault) (error : CompileError) → IsErrAnd found (λ f. f ≡ fault_of_compile error) → IsRefusal tree error → Finds found
-    of_refusal found of_compile.TooLong is long = fails found _ is (inl (too_long reads long))
-    of_refusal found of_compile.NoMemory is long = fails found _ is (inr refl)
+    pub of_refusal : (found : Result Bool Fault) (error : CompileError) → IsErrAnd found (λ f. f ≡ fault_of_compile error) → IsRefusal tree error → made [] → Finds found
+    of_refusal found of_compile.TooLong is long unread = fails found _ is (inl (too_long reads long unread))
+    of_refusal found of_compile.NoMemory is long unread = fails found _ is (inr refl)
 
-    pub of_file_fault : (found : Result Bool Fault) (error : FileError) → IsErrAnd found (λ f. f ≡ fault_of_file error) → ReadsFile may_give (Err error) → Finds found
+    pub of_file_fault : (found : Result Bool Fault) (error : FileError) → IsErrAnd found (λ f. f ≡ fault_of_file error) → ReadsFile (λ given. made (one_read file given)) (Err error) → Finds found
     of_file_fault found of_file.File is gives = fails found _ is (inl (no_file reads gives))
     of_file_fault found of_file.Memory is gives = fails found _ is (inr refl)
 
-    pub of_hex_fault : (found : Result Bool Fault) (error : HexError) (text : List ℕ) → IsErrAnd found (λ f. f ≡ fault_of_hex error) → may_give (Some text) → (◌≡◌ {A = Result (Vec ℕ) HexError} (Err error) (Err of_hex.Hex) → bytes_of_hex text ≡ None) → Finds found
+    pub of_hex_fault : (found : Result Bool Fault) (error : HexError) (text : List ℕ) → IsErrAnd found (λ f. f ≡ fault_of_hex error) → made (one_read file (Some text)) → (◌≡◌ {A = Result (Vec ℕ) HexError} (Err error) (Err of_hex.Hex) → bytes_of_hex text ≡ None) → Finds found
     of_hex_fault found of_hex.Hex text is gives none = fails found _ is (inl (no_hex reads gives (none refl)))
     of_hex_fault found of_hex.Memory text is gives none = fails found _ is (inr refl)
 
-    pub of_message_fault : (found : Result Bool Fault) (error : MsgError) (text bytes : List ℕ) → IsErrAnd found (λ f. f ≡ BadMessage error) → may_give (Some text) → bytes_of_hex text ≡ Some bytes → message_at bytes ≡ Err error → Finds found
+    pub of_message_fault : (found : Result Bool Fault) (error : MsgError) (text bytes : List ℕ) → IsErrAnd found (λ f. f ≡ BadMessage error) → made (one_read file (Some text)) → bytes_of_hex text ≡ Some bytes → message_at bytes ≡ Err error → Finds found
     of_message_fault found error text bytes is gives spells fault = fails found _ is (inl (no_message reads gives spells fault))
 
-    pub of_verdict : (program : List Ins) (text bytes : List ℕ) (m : Message) (slots image : List ℕ) (v n : ℕ) → IsCompiled tree (slot_for tree) program → may_give (Some text) → bytes_of_hex text ≡ Some bytes → Valid bytes m → IsSet slots → has_slot slots 0 ≡ owns → image ≡ image_bytes Two m slots → Ends program image v n → Finds (Ok (not (eqb v 0)))
+    pub of_verdict : (program : List Ins) (text bytes : List ℕ) (m : Message) (slots image : List ℕ) (v n : ℕ) → IsCompiled tree (slot_for tree) program → made (one_read file (Some text)) → bytes_of_hex text ≡ Some bytes → Valid bytes m → IsSet slots → has_slot slots 0 ≡ owns → image ≡ image_bytes Two m slots → Ends program image v n → Finds (Ok (not (eqb v 0)))
     of_verdict program text bytes m slots image v n compiled gives spells valid set has is ends =
         let ends : Ends program (image_bytes Two m slots) v n = subst (λ (bytes : List ℕ). Ends program bytes v n) is ends in
         let holds = compiled bytes m slots (λ name. owns) v n valid set (agree tree (sender_name_of tree) owns slots refl has) ends in

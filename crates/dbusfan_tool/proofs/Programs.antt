@@ -12,19 +12,23 @@ use Rattle.dbusfan_tool.specs.declared.files.FileError.{FileError}
 use Rattle.dbusfan_tool.specs.declared.files.FileError.TheVariants as of_file
 use Rattle.dbusfan_tool.specs.Fault.{fault_of_code, fault_of_file}
 use Rattle.dbusfan_tool.specs.Files.{ReadsFile}
-use Rattle.dbusfan_tool.specs.Program.{Assembles, no_file, no_code, Checks, no_program, accepted}
+use Rattle.dbusfan_tool.specs.Program.{Assembles, no_file, no_code, assembled, Checks, no_program, accepted}
 
-module _ (may_give : Option (List ℕ) → Type 0) where
+-- what is assembled from what a file gave, told of the file otherwise
+pub assembled_as : {gave gives : Option (List ℕ) → Type 0} {program : List Ins} → ((given : Option (List ℕ)) → gave given → gives given) → Assembles gave (Ok program) → Assembles gives (Ok program)
+assembled_as as_well (assembled {text} given source) = assembled (as_well (Some text) given) source
+
+module _ (gave : Option (List ℕ) → Type 0) where
   abbrev Fails : Fault → Type 0
-  Fails fault = Assembles may_give (Err fault) ⊎ (fault ≡ Memory)
+  Fails fault = Assembles gave (Err fault) ⊎ (fault ≡ Memory)
 
   -- the fault of a file
-  pub of_file_fault : (error : FileError) → ReadsFile may_give (Err error) → Fails (fault_of_file error)
+  pub of_file_fault : (error : FileError) → ReadsFile gave (Err error) → Fails (fault_of_file error)
   of_file_fault of_file.File gives = inl (no_file gives)
   of_file_fault of_file.Memory gives = inr refl
 
   -- the fault of a text
-  pub of_text_fault : (text : List ℕ) (error : CodeError) → may_give (Some text) → IsTextFault text error → Fails (fault_of_code error)
+  pub of_text_fault : (text : List ℕ) (error : CodeError) → gave (Some text) → IsTextFault text error → Fails (fault_of_code error)
   of_text_fault text Length gives is = absurd is
   of_text_fault text (NoRow place) gives is = absurd is
   of_text_fault text (Line line) gives is = inl (no_code gives (λ e. cc) is)
@@ -38,23 +42,23 @@ module _ (may_give : Option (List ℕ) → Type 0) where
   fails (Err f) fault is none = subst Fails (sym is) none
 
   abbrev Refuses : Fault → Type 0
-  Refuses fault = Checks may_give (Err fault) ⊎ (fault ≡ Memory)
+  Refuses fault = Checks gave (Err fault) ⊎ (fault ≡ Memory)
 
   -- a program that isn't assembled isn't accepted
   pub check_fails : {A : Type 0} (found : Result A Fault) (fault : Fault) → IsErrAnd found (λ f. f ≡ fault) → Fails fault → IfErr found Refuses
   check_fails (Ok a) fault is none = absurd is
-  check_fails (Err f) fault is (inl none) = inl (no_program (subst (λ (f : Fault). Assembles may_give (Err f)) (sym is) none))
+  check_fails (Err f) fault is (inl none) = inl (no_program (subst (λ (f : Fault). Assembles gave (Err f)) (sym is) none))
   check_fails (Err f) fault is (inr short) = inr (is ∙ short)
 
-  pub count_fails : (found : Result ℕ Fault) (fault : Fault) → IsErrAnd found (λ f. f ≡ fault) → Refuses fault → Checks may_give found ⊎ (found ≡ Err Memory)
+  pub count_fails : (found : Result ℕ Fault) (fault : Fault) → IsErrAnd found (λ f. f ≡ fault) → Refuses fault → Checks gave found ⊎ (found ≡ Err Memory)
   count_fails (Ok count) fault is none = absurd is
-  count_fails (Err f) fault is (inl none) = inl (subst (λ (f : Fault). Checks may_give (Err f)) (sym is) none)
+  count_fails (Err f) fault is (inl none) = inl (subst (λ (f : Fault). Checks gave (Err f)) (sym is) none)
   count_fails (Err f) fault is (inr short) = inr (ap Err (is ∙ short))
 
   -- what was accepted is the program
-  pub check_accepts : (verified program : List Ins) → Assembles may_give (Ok program) → WellFormed program → verified ≡ program → Assembles may_give (Ok verified) × WellFormed verified
+  pub check_accepts : (verified program : List Ins) → Assembles gave (Ok program) → WellFormed program → verified ≡ program → Assembles gave (Ok verified) × WellFormed verified
   check_accepts verified program reads fine same =
-      (subst (λ (code : List Ins). Assembles may_give (Ok code)) (sym same) reads, subst WellFormed (sym same) fine)
+      (subst (λ (code : List Ins). Assembles gave (Ok code)) (sym same) reads, subst WellFormed (sym same) fine)
 
-  pub counts : (code verified : List Ins) → code ≡ verified → Assembles may_give (Ok verified) → WellFormed verified → Checks may_give (Ok (length code))
-  counts code verified lent reads fine = subst (λ (code : List Ins). Checks may_give (Ok (length code))) (sym lent) (accepted reads fine)
+  pub counts : (code verified : List Ins) → code ≡ verified → Assembles gave (Ok verified) → WellFormed verified → Checks gave (Ok (length code))
+  counts code verified lent reads fine = subst (λ (code : List Ins). Checks gave (Ok (length code))) (sym lent) (accepted reads fine)

@@ -1,6 +1,5 @@
 -- What a command has to say, and how it is said.
-use Rattle.std.specs.Prelude.{◌≡◌, ℕ, Bool, true, false, List, [], ◌++◌, codes, decimal, Option, Result, Ok, Err, string_bytes, if◌then◌else◌, ◌==◌}
-use Rattle.std.specs.Io.KnownBytes.{Appends}
+use Rattle.std.specs.Prelude.{◌≡◌, ℕ, Bool, true, false, List, [], ◌++◌, codes, decimal, Result, Ok, Err, string_bytes, if◌then◌else◌, ◌==◌}
 use Rattle.bpf_code.specs.declared.instruction.Ins.{Ins}
 use Rattle.bpf_machine.specs.declared.machine.Outcome.{Outcome}
 use Rattle.dbusfan_tool.specs.declared.fault.Fault.{Fault}
@@ -53,10 +52,10 @@ said_by (Text text) = saying (string_bytes text)
 said_by (Ran text matches) = record { output = string_bytes text; error = []; status = if matches then 0 else 1 }
 said_by (Fails fault) = failing fault
 
--- What is said has been written, where `out` and `err` did not fail; where `out` failed, that is the fault.
-pub record Tells (said : Said) (out_failed err_failed : Bool) (out_before out_after err_before err_after : Option (List ℕ)) (status : ℕ) : Type 0 where
-  pub output : out_failed ≡ false → Appends out_before out_after said.output
-  pub error : out_failed ≡ false → err_failed ≡ false → Appends err_before err_after said.error
+-- What is said was written on `out`, and on `err` where `out` did not fail; where it did, that is the fault.
+pub record Tells (said : Said) (out err : List ℕ → Type 0) (out_failed : Bool) (status : ℕ) : Type 0 where
+  pub output : out said.output
+  pub error : out_failed ≡ false → err said.error
   pub answered : out_failed ≡ false → status ≡ said.status
   pub refused : out_failed ≡ true → status ≡ 4
-  pub named : out_failed ≡ true → err_failed ≡ false → Appends err_before err_after (fault_line File)
+  pub named : out_failed ≡ true → err (fault_line File)

@@ -1,11 +1,29 @@
--- What a read of a file answers.
-use Rattle.std.specs.Prelude.{List, ℕ, ⊤, Option, Some, None, Result, Ok, Err}
+-- Reads of files.
+use Rattle.std.specs.Prelude.{◌≡◌, List, [], ◌∷◌, ℕ, ⊤, Option, Some, None, Result, Ok, Err}
 use Rattle.std.specs.Global.{Vec}
 use Rattle.dbusfan_tool.specs.declared.files.FileError.{FileError}
 use Rattle.dbusfan_tool.specs.declared.files.FileError.TheVariants.{File, Memory}
 
--- A read gives the bytes that the file may give, or nothing where it may not be readable; it says nothing where memory is short.
+-- A read answers the bytes that the file gave, or that it gave none; it says nothing where memory is short.
 abbrev pub ReadsFile : (Option (List ℕ) → Type 0) → Result (Vec ℕ) FileError → Type 0
-ReadsFile may_give (Ok bytes) = may_give (Some bytes.items)
-ReadsFile may_give (Err File) = may_give None
-ReadsFile may_give (Err Memory) = ⊤
+ReadsFile gave (Ok bytes) = gave (Some bytes.items)
+ReadsFile gave (Err File) = gave None
+ReadsFile gave (Err Memory) = ⊤
+
+-- a read: the name of the file, and the bytes that it gave, or nothing where it can't be read
+pub record FileRead : Type 0 where
+  pub name : List ℕ
+  pub given : Option (List ℕ)
+
+abbrev pub one_read : List ℕ → Option (List ℕ) → List FileRead
+one_read name given = record { name = name; given = given } ∷ []
+
+abbrev pub two_reads : List ℕ → Option (List ℕ) → List ℕ → Option (List ℕ) → List FileRead
+two_reads name given next_name next_given = record { name = name; given = given } ∷ one_read next_name next_given
+
+-- Between these states of the files these reads were made, in this order, and no others. A single read leads from
+-- one state to the next as `gives` says.
+abbrev pub MadeReads : {F : Type 0} → (F → List ℕ → Option (List ℕ) → F → Type 0) → F → F → List FileRead → Type 0
+MadeReads gives before after [] = after ≡ before
+MadeReads gives before after (read ∷ []) = gives before read.name read.given after
+MadeReads {F} gives before after (read ∷ next ∷ reads) = (between : F) × gives before read.name read.given between × MadeReads gives between after (next ∷ reads)

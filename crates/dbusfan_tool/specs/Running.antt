@@ -1,5 +1,5 @@
 -- What running a program over a message comes to.
-use Rattle.std.specs.Prelude.{◌≡◌, ℕ, List, replicate, Option, Some, None, Result, Ok, Err}
+use Rattle.std.specs.Prelude.{◌≡◌, ℕ, List, replicate, Some, None, Result, Ok, Err}
 use Rattle.bpf_code.specs.declared.instruction.Ins.{Ins}
 use Rattle.bpf_code.specs.Program.{WellFormed}
 use Rattle.bpf_code.specs.Steps.{Ends}
@@ -14,6 +14,7 @@ use Rattle.summary.specs.declared.edition.Edition.{Edition}
 use Rattle.summary.specs.ImageBytes.{image_bytes}
 use Rattle.dbusfan_tool.specs.declared.fault.Fault.{Fault}
 use Rattle.dbusfan_tool.specs.declared.fault.Fault.TheVariants.{Message as BadMessage, Hex, Program, File}
+use Rattle.dbusfan_tool.specs.Files.{FileRead, one_read, two_reads}
 use Rattle.dbusfan_tool.specs.HexText.{bytes_of_hex}
 use Rattle.dbusfan_tool.specs.Program.{Assembles}
 
@@ -21,13 +22,13 @@ use Rattle.dbusfan_tool.specs.Program.{Assembles}
 abbrev pub no_slots : List ℕ
 no_slots = replicate 32 0
 
--- What `run` finds for what the file of its program and the file of its message may give. All faults of the
--- program come before those of the message: that a file can't be read, then its text's, then that of what the
--- text says.
-pub data Runs (program_may_give message_may_give : Option (List ℕ) → Type 0) (edition : Edition) : Result Outcome Fault → Type 0 where
-  no_program : {fault : Fault} → Assembles program_may_give (Err fault) → Runs program_may_give message_may_give edition (Err fault)
-  refused : {program : List Ins} {fault : VerifyError} → Assembles program_may_give (Ok program) → IsFault program fault → Runs program_may_give message_may_give edition (Err (Program fault))
-  no_file : {program : List Ins} → Assembles program_may_give (Ok program) → WellFormed program → message_may_give None → Runs program_may_give message_may_give edition (Err File)
-  no_hex : {program : List Ins} {text : List ℕ} → Assembles program_may_give (Ok program) → WellFormed program → message_may_give (Some text) → bytes_of_hex text ≡ None → Runs program_may_give message_may_give edition (Err Hex)
-  no_message : {program : List Ins} {text bytes : List ℕ} {fault : MsgError} → Assembles program_may_give (Ok program) → WellFormed program → message_may_give (Some text) → bytes_of_hex text ≡ Some bytes → message_at bytes ≡ Err fault → Runs program_may_give message_may_give edition (Err (BadMessage fault))
-  ran : {program : List Ins} {text bytes : List ℕ} {m : Message} {outcome : Outcome} → Assembles program_may_give (Ok program) → WellFormed program → message_may_give (Some text) → bytes_of_hex text ≡ Some bytes → Valid bytes m → Ends program (image_bytes edition m no_slots) outcome.verdict outcome.steps → Runs program_may_give message_may_give edition (Ok outcome)
+-- What `run` finds for what was read. All faults of the program come before those of the message: that a file can't be
+-- read, then its text's, then that of what the text says. The program's file is read first and once, and the
+-- message's file once, only after a program that is accepted.
+pub data Runs (reads : List FileRead → Type 0) (program file : List ℕ) (edition : Edition) : Result Outcome Fault → Type 0 where
+  no_program : {fault : Fault} → Assembles (λ given. reads (one_read program given)) (Err fault) → Runs reads program file edition (Err fault)
+  refused : {code : List Ins} {fault : VerifyError} → Assembles (λ given. reads (one_read program given)) (Ok code) → IsFault code fault → Runs reads program file edition (Err (Program fault))
+  no_file : {code : List Ins} → Assembles (λ given. reads (two_reads program given file None)) (Ok code) → WellFormed code → Runs reads program file edition (Err File)
+  no_hex : {code : List Ins} {text : List ℕ} → Assembles (λ given. reads (two_reads program given file (Some text))) (Ok code) → WellFormed code → bytes_of_hex text ≡ None → Runs reads program file edition (Err Hex)
+  no_message : {code : List Ins} {text bytes : List ℕ} {fault : MsgError} → Assembles (λ given. reads (two_reads program given file (Some text))) (Ok code) → WellFormed code → bytes_of_hex text ≡ Some bytes → message_at bytes ≡ Err fault → Runs reads program file edition (Err (BadMessage fault))
+  ran : {code : List Ins} {text bytes : List ℕ} {m : Message} {outcome : Outcome} → Assembles (λ given. reads (two_reads program given file (Some text))) (Ok code) → WellFormed code → bytes_of_hex text ≡ Some bytes → Valid bytes m → Ends code (image_bytes edition m no_slots) outcome.verdict outcome.steps → Runs reads program file edition (Ok outcome)

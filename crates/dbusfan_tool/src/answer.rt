@@ -2,10 +2,11 @@
 
 ghost use Rattle.std.specs.Prelude.{◌≡◌};
 ghost use Rattle.dbusfan_tool.specs.Answer.{said_by, Tells};
+ghost use Rattle.dbusfan_tool.specs.Output.{Puts};
 
 use crate::fault::Fault;
 use crate::output::Output;
-use std::io::Write;
+use crate::writer::Writer;
 
 /// What a command has to say.
 #[derive(Drop)]
@@ -42,10 +43,9 @@ impl Answer {
     }
 
     /// Says it. Where `out` fails that is a fault of its own.
-    pub(crate) fn tell<O: Write, E: Write>(&self, out: &mut Output<O>, err: &mut Output<E>) -> u8
-        ensures { Tells (said_by self.now) out.new.has_failed err.new.has_failed
-            (O.contents out.old.writer) (O.contents out.new.writer)
-            (E.contents err.old.writer) (E.contents err.new.writer) result }
+    pub(crate) fn tell<O: Writer, E: Writer>(&self, out: &mut Output<O>, err: &mut Output<E>) -> u8
+        ensures { Tells (said_by self.now) (Puts O.takes O.flushes O.may_fail out.old out.new)
+            (Puts E.takes E.flushes E.may_fail err.old err.new) out.new.has_failed result }
     {
         out.put(self.output());
         if out.has_failed {

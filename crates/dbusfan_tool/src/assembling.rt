@@ -5,6 +5,7 @@ ghost use Rattle.dbusfan_tool.specs.Listing.{listing_line, listing_of};
 ghost use Rattle.dbusfan_tool.specs.Program.{Assembles};
 ghost use Rattle.dbusfan_tool.specs.Tool.{Tool};
 ghost use Rattle.dbusfan_tool.specs.Row.{to_asm};
+ghost use Rattle.dbusfan_tool.specs.Files.{MadeReads};
 ghost use Rattle.dbusfan_tool.specs.Answer.{said_by, failing};
 
 use crate::answer::Answer;
@@ -15,8 +16,8 @@ use bpf_code::{Ins, bytes_of};
 use std::alloc::{AllocError, Global};
 
 /// The byte form of the program in the file, or the first fault.
-pub(crate) fn answer<F: Files>(alloc: Global, file: &str, files: &F) -> Answer
-    ensures { Tool (F.may_give files.now) (to_asm file.now) (said_by result)
+pub(crate) fn answer<F: Files>(alloc: Global, file: &str, files: &mut F) -> Answer
+    ensures { Tool (MadeReads F.gives files.old files.new) (to_asm file.now) (said_by result)
         ⊎ (said_by result ≡ failing Fault.Memory) }
 {
     match assembled(alloc, file, files) {
@@ -25,9 +26,9 @@ pub(crate) fn answer<F: Files>(alloc: Global, file: &str, files: &F) -> Answer
     }
 }
 
-fn assembled<F: Files>(alloc: Global, file: &str, files: &F) -> Result<String, Fault>
-    ensures found { IfOk result (λ text. (program : List Ins) × Assembles (F.may_give files.now file.now) (Ok program) × (string_bytes text ≡ listing_of program)) }
-    ensures fault { IfErr result (λ fault. Assembles (F.may_give files.now file.now) (Err fault) ⊎ (fault ≡ Fault.Memory)) }
+fn assembled<F: Files>(alloc: Global, file: &str, files: &mut F) -> Result<String, Fault>
+    ensures found { IfOk result (λ text. (program : List Ins) × Assembles (λ given. F.gives files.old file.now given files.new) (Ok program) × (string_bytes text ≡ listing_of program)) }
+    ensures fault { IfErr result (λ fault. Assembles (λ given. F.gives files.old file.now given files.new) (Err fault) ⊎ (fault ≡ Fault.Memory)) }
 {
     let program = program::read(alloc, file, files)?;
     let text = listing(alloc, &program)?;

@@ -4,6 +4,7 @@ ghost use Rattle.std.specs.Prelude.{◌≡◌, ◌⊎◌, Err};
 ghost use Rattle.dbusfan_tool.specs.Program.{Checks};
 ghost use Rattle.dbusfan_tool.specs.Tool.{Tool};
 ghost use Rattle.dbusfan_tool.specs.Row.{to_check};
+ghost use Rattle.dbusfan_tool.specs.Files.{MadeReads};
 ghost use Rattle.dbusfan_tool.specs.Answer.{said_by, failing};
 
 use crate::answer::Answer;
@@ -13,8 +14,8 @@ use crate::program;
 use std::alloc::Global;
 
 /// How many instructions the program in the file has, if it is accepted, or the first fault.
-pub(crate) fn answer<F: Files>(alloc: Global, file: &str, files: &F) -> Answer
-    ensures { Tool (F.may_give files.now) (to_check file.now) (said_by result)
+pub(crate) fn answer<F: Files>(alloc: Global, file: &str, files: &mut F) -> Answer
+    ensures { Tool (MadeReads F.gives files.old files.new) (to_check file.now) (said_by result)
         ⊎ (said_by result ≡ failing Fault.Memory) }
 {
     let count = match counted(alloc, file, files) {
@@ -27,8 +28,8 @@ pub(crate) fn answer<F: Files>(alloc: Global, file: &str, files: &F) -> Answer
     }
 }
 
-fn counted<F: Files>(alloc: Global, file: &str, files: &F) -> Result<usize, Fault>
-    ensures { Checks (F.may_give files.now file.now) result ⊎ (result ≡ Err Fault.Memory) }
+fn counted<F: Files>(alloc: Global, file: &str, files: &mut F) -> Result<usize, Fault>
+    ensures { Checks (λ given. F.gives files.old file.now given files.new) result ⊎ (result ≡ Err Fault.Memory) }
 {
     let verified = program::accepted(alloc, file, files)?;
     Ok(verified.code().len())

@@ -1,48 +1,53 @@
 // The command line.
 
-ghost use Rattle.std.specs.Prelude.{◌≡◌, ◌⊎◌};
+ghost use Rattle.std.specs.Prelude.{◌≡◌, ◌⊎◌, []};
 ghost use Rattle.dbusfan_tool.specs.Row.{Asked, IsRow, texts};
 ghost use Rattle.dbusfan_tool.specs.Answer.{Tells, said_by, failing};
 ghost use Rattle.dbusfan_tool.specs.Tool.{Tool, Says};
 ghost use Rattle.dbusfan_tool.specs.Usage.{SaysUsage};
+ghost use Rattle.dbusfan_tool.specs.Files.{MadeReads};
+ghost use Rattle.dbusfan_tool.specs.Output.{Puts};
 
 use crate::answer::Answer;
 use crate::command_line::Row;
 use crate::fault::Fault;
 use crate::files::Files;
 use crate::output::Output;
+use crate::writer::Writer;
 use crate::{assembling, checking, compiling, matching, running, usage};
 use std::alloc::Global;
-use std::io::Write;
 
-/// Does what the words behind the program's name ask for, and answers the status that the program ends
+/// Does what the words after the program's name ask for, and answers the status that the program ends
 /// with: 0 or 1 for what was found, 2 for a text that is wrong, 3 for words that are no row of the
 /// command line, 4 where a file can't be read or `out` can't be written, 5 for want of memory. The whole
-/// output is formed before any of it is written.
-pub fn tool<'a, F: Files, O: Write, E: Write>(
+/// output is formed before any of it is written, and flushed after. Each file is read once: standard
+/// input would give other bytes the second time.
+pub fn tool<'a, F: Files, O: Writer, E: Writer>(
     alloc: Global,
     words: &'a [&'a str],
-    files: &F,
+    files: &mut F,
     out: &mut Output<O>,
     err: &mut Output<E>,
 ) -> u8
     ensures row { (asked : Asked) → IsRow asked (texts words.entry.now)
-        → Says (Tool (F.may_give files.now) asked) (λ said. Tells said out.new.has_failed err.new.has_failed
-        (O.contents out.old.writer) (O.contents out.new.writer)
-        (E.contents err.old.writer) (E.contents err.new.writer) result) }
+        → Says (Tool (MadeReads F.gives files.old files.new) asked)
+        (λ said. Tells said (Puts O.takes O.flushes O.may_fail out.old out.new)
+        (Puts E.takes E.flushes E.may_fail err.old err.new) out.new.has_failed result) }
     ensures no_row { ((asked : Asked) → ¬ IsRow asked (texts words.entry.now))
-        → Says (SaysUsage words.entry.now) (λ said. Tells said out.new.has_failed err.new.has_failed
-        (O.contents out.old.writer) (O.contents out.new.writer)
-        (E.contents err.old.writer) (E.contents err.new.writer) result) }
+        → Says (SaysUsage words.entry.now)
+        (λ said. Tells said (Puts O.takes O.flushes O.may_fail out.old out.new)
+        (Puts E.takes E.flushes E.may_fail err.old err.new) out.new.has_failed result) }
+    ensures unread { ((asked : Asked) → ¬ IsRow asked (texts words.entry.now)) → MadeReads F.gives files.old files.new [] }
 {
     answer(alloc, words, files).tell(out, err)
 }
 
-fn answer<'a, F: Files>(alloc: Global, words: &'a [&'a str], files: &F) -> Answer
+fn answer<'a, F: Files>(alloc: Global, words: &'a [&'a str], files: &mut F) -> Answer
     ensures row { (asked : Asked) → IsRow asked (texts words.entry.now)
-        → Tool (F.may_give files.now) asked (said_by result) ⊎ (said_by result ≡ failing Fault.Memory) }
+        → Tool (MadeReads F.gives files.old files.new) asked (said_by result) ⊎ (said_by result ≡ failing Fault.Memory) }
     ensures no_row { ((asked : Asked) → ¬ IsRow asked (texts words.entry.now))
         → SaysUsage words.entry.now (said_by result) ⊎ (said_by result ≡ failing Fault.Memory) }
+    ensures unread { ((asked : Asked) → ¬ IsRow asked (texts words.entry.now)) → files.new ≡ files.old }
 {
     match Row::read(words) {
         Some(Row::Match { rule, file, owns }) => matching::answer(alloc, rule, file, owns, files),

@@ -1,18 +1,24 @@
 // What a command line is refused for.
 
-ghost use Rattle.std.specs.Prelude.{◌≡◌, Some};
-ghost use Rattle.dbusfan_tool.specs.Fault.{fault_text, fault_status, fault_of_rule, fault_of_compile, fault_of_code, fault_of_file, fault_of_hex};
+ghost use Rattle.std.specs.Prelude.{◌≡◌, ◌+◌, ◌≤◌, ◌++◌, length, Some};
+ghost use Rattle.bpf_code.specs.Numbers.{text_at};
+ghost use Rattle.dbusfan_tool.specs.Fault.{fault_line, fault_text, fault_status, fault_of_rule, fault_of_compile, fault_of_code, fault_of_file, fault_of_hex};
 ghost use Rattle.dbusfan_tool.specs.declared.fault.Fault.TheVariants.{Memory, Message};
 
 use crate::files::FileError;
 use crate::hex_text::HexError;
+use arrayvec::ArrayString;
 use bpf_code::CodeError;
 use bpf_verify::VerifyError;
+use itoa::Buffer;
 use match_rule::RuleError;
 use message_view::MsgError;
 use rule_compile::CompileError;
 use std::alloc::AllocError;
 use std::fmt;
+
+/// Room for the longest line of a fault, in bytes.
+const LINE_ROOM: usize = 96;
 
 /// What a command line is refused for.
 #[derive(Clone, Copy, Debug, PartialEq, Eq)]
@@ -45,6 +51,40 @@ impl Fault {
             Fault::Usage => 3,
             Fault::File => 4,
             Fault::Memory => 5,
+        }
+    }
+
+    /// The fault as a line of standard error. It takes no memory, since the fault may be that there is none.
+    pub fn line(self) -> ArrayString<LINE_ROOM>
+        ensures { result.bytes ≡ fault_line self }
+    {
+        let (word, name, place) = self.parts();
+        let mut line = ArrayString::new();
+        line.push_str("dbusfan: ");
+        line.push_str(word);
+        line.push_str(name);
+        if let Some(place) = place {
+            line.push_str(" at ");
+            line.push_str(Buffer::new().format(place));
+        }
+        line.push_str("\n");
+        line
+    }
+
+    /// The word that is at fault, the name of what is wrong with it, and its line or place.
+    fn parts(self) -> (&'static str, &'static str, Option<usize>)
+        ensures text { text_at (result.0.now ++ result.1.now) result.2 ≡ fault_text self }
+        ensures short { length result.0.now + length result.1.now ≤ 32 }
+    {
+        match self {
+            Fault::Rule(fault) => ("rule ", fault.name(), None),
+            Fault::Message(fault) => ("message ", fault.name(), None),
+            Fault::Hex => ("hex", "", None),
+            Fault::Code(fault) => ("code ", fault.name(), fault.place()),
+            Fault::Program(fault) => ("program ", fault.name(), fault.place()),
+            Fault::Usage => ("usage", "", None),
+            Fault::File => ("file", "", None),
+            Fault::Memory => ("memory", "", None),
         }
     }
 }

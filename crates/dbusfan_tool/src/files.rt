@@ -15,10 +15,11 @@ pub enum FileError {
 
 /// Files by their names. `-` is standard input.
 pub trait Files {
-    // What a read of the file of a name may give: its bytes, or nothing where it can't be read.
-    ghost may_give: { Self → List ℕ → Option (List ℕ) → Type 0 };
+    // The files before a read, the name of the file, what it gives (its bytes, or nothing where it can't be read),
+    // and the files after.
+    ghost gives: { Self → List ℕ → Option (List ℕ) → Self → Type 0 };
 
-    /// The bytes of a file.
-    fn read(&self, alloc: Global, name: &str) -> Result<Vec<u8>, FileError>
-        ensures { ReadsFile (may_give self.now name.now) result };
+    /// The bytes of a file. A second read may give others, as of standard input.
+    fn read(&mut self, alloc: Global, name: &str) -> Result<Vec<u8>, FileError>
+        ensures { ReadsFile (λ given. gives self.old name.now given self.new) result };
 }

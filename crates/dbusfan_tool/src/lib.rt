@@ -17,8 +17,10 @@ mod output;
 mod program;
 mod running;
 mod usage;
+mod writer;
 
 pub use entry::tool;
 pub use fault::Fault;
 pub use files::{FileError, Files};
 pub use output::Output;
+pub use writer::Writer;

@@ -4,6 +4,7 @@ ghost use Rattle.std.specs.Prelude.{◌≡◌, ◌⊎◌, Err};
 ghost use Rattle.summary.specs.Sets.{has_slot, IsSet};
 ghost use Rattle.dbusfan_tool.specs.Tool.{Judges, Tool};
 ghost use Rattle.dbusfan_tool.specs.Row.{to_match};
+ghost use Rattle.dbusfan_tool.specs.Files.{MadeReads};
 ghost use Rattle.dbusfan_tool.specs.Answer.{said_by, failing};
 
 use crate::answer::Answer;
@@ -23,9 +24,9 @@ pub(crate) fn answer<F: Files>(
     rule: &str,
     file: &str,
     owns: bool,
-    files: &F,
+    files: &mut F,
 ) -> Answer
-    ensures { Tool (F.may_give files.now) (to_match rule.now file.now owns) (said_by result)
+    ensures { Tool (MadeReads F.gives files.old files.new) (to_match rule.now file.now owns) (said_by result)
         ⊎ (said_by result ≡ failing Fault.Memory) }
 {
     match verdict(alloc, rule, file, owns, files) {
@@ -39,9 +40,9 @@ fn verdict<F: Files>(
     rule: &str,
     file: &str,
     owns: bool,
-    files: &F,
+    files: &mut F,
 ) -> Result<bool, Fault>
-    ensures { Judges rule.now (F.may_give files.now file.now) owns result ⊎ (result ≡ Err Fault.Memory) }
+    ensures { Judges (MadeReads F.gives files.old files.new) rule.now file.now owns result ⊎ (result ≡ Err Fault.Memory) }
 {
     let rule = Rule::read(alloc, rule)?;
     let program = program_of(alloc, &rule)?;

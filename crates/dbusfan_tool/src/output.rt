@@ -1,21 +1,22 @@
 // Where output goes.
 
 ghost use Rattle.std.specs.Prelude.{◌≡◌, false};
-ghost use Rattle.dbusfan_tool.specs.Output.{Puts};
-ghost use Rattle.dbusfan_tool.specs.Fault.{fault_line};
 
 use crate::fault::Fault;
-use std::io::Write;
+use crate::writer::Writer;
 
-/// A writer, and whether a write to it has failed.
+/// A writer, and whether a call of it has failed.
 #[derive(Drop)]
-pub struct Output<W: Write> {
+pub struct Output<W> {
     pub writer: W,
     pub has_failed: bool,
 }
 
-impl<W: Write> Output<W> {
-    /// Output to a writer to which no write has failed.
+impl<W: Writer> Output<W> {
+    ghost use Rattle.dbusfan_tool.specs.Output.{Puts};
+    ghost use Rattle.dbusfan_tool.specs.Fault.{fault_line};
+
+    /// Output to a writer of which no call has failed.
     pub fn new(writer: W) -> Output<W>
         ensures writer { result.writer ≡ writer }
         ensures fine { result.has_failed ≡ false }
@@ -26,24 +27,23 @@ impl<W: Write> Output<W> {
         }
     }
 
-    /// Writes a text. Nothing is asked of the writer where there is none.
+    /// Writes a text and flushes it. Nothing is asked of the writer where there is none.
     pub fn put(&mut self, text: &[u8])
-        ensures { Puts self.old.has_failed self.new.has_failed (W.contents self.old.writer) (W.contents self.new.writer) text.now }
+        ensures { Puts W.takes W.flushes W.may_fail self.old self.new text.now }
     {
         if text.is_empty() {
             return;
         }
-        if self.writer.write_all(text).is_err() || self.writer.flush().is_err() {
+        if self.writer.take_all(text).is_err() || self.writer.flush_all().is_err() {
             self.has_failed = true;
         }
     }
 
-    /// Writes the line of a fault.
+    /// Writes the line of a fault and flushes it. The line is written as a whole, so that no other program's text comes
+    /// into it.
     pub fn put_fault(&mut self, fault: Fault)
-        ensures { Puts self.old.has_failed self.new.has_failed (W.contents self.old.writer) (W.contents self.new.writer) (fault_line fault) }
+        ensures { Puts W.takes W.flushes W.may_fail self.old self.new (fault_line fault) }
     {
-        if writeln!(self.writer, "dbusfan: {fault}").is_err() || self.writer.flush().is_err() {
-            self.has_failed = true;
-        }
+        self.put(fault.line().as_str().as_bytes());
     }
 }

@@ -12,9 +12,9 @@ use bpf_verify::{Verified, verify};
 use std::alloc::Global;
 
 /// The program that a file's text names, or the first fault.
-pub(crate) fn read<F: Files>(alloc: Global, file: &str, files: &F) -> Result<Vec<Ins>, Fault>
-    ensures found { IfOk result (λ program. Assembles (F.may_give files.now file.now) (Ok program.items)) }
-    ensures fault { IfErr result (λ fault. Assembles (F.may_give files.now file.now) (Err fault) ⊎ (fault ≡ Fault.Memory)) }
+pub(crate) fn read<F: Files>(alloc: Global, file: &str, files: &mut F) -> Result<Vec<Ins>, Fault>
+    ensures found { IfOk result (λ program. Assembles (λ given. F.gives files.old file.now given files.new) (Ok program.items)) }
+    ensures fault { IfErr result (λ fault. Assembles (λ given. F.gives files.old file.now given files.new) (Err fault) ⊎ (fault ≡ Fault.Memory)) }
 {
     let text = files.read(alloc, file)?;
     let program = assemble_bytes(alloc, &text)?;
@@ -22,9 +22,13 @@ pub(crate) fn read<F: Files>(alloc: Global, file: &str, files: &F) -> Result<Vec
 }
 
 /// The program in a file, if it is accepted, or the first fault.
-pub(crate) fn accepted<F: Files>(alloc: Global, file: &str, files: &F) -> Result<Verified, Fault>
-    ensures found { IfOk result (λ program. Assembles (F.may_give files.now file.now) (Ok program) × WellFormed program) }
-    ensures fault { IfErr result (λ fault. Checks (F.may_give files.now file.now) (Err fault) ⊎ (fault ≡ Fault.Memory)) }
+pub(crate) fn accepted<F: Files>(
+    alloc: Global,
+    file: &str,
+    files: &mut F,
+) -> Result<Verified, Fault>
+    ensures found { IfOk result (λ program. Assembles (λ given. F.gives files.old file.now given files.new) (Ok program) × WellFormed program) }
+    ensures fault { IfErr result (λ fault. Checks (λ given. F.gives files.old file.now given files.new) (Err fault) ⊎ (fault ≡ Fault.Memory)) }
 {
     let program = read(alloc, file, files)?;
     match verify(program) {

@@ -4,6 +4,7 @@ ghost use Rattle.std.specs.Prelude.{◌≡◌, ◌⊎◌, Err};
 ghost use Rattle.dbusfan_tool.specs.Running.{Runs};
 ghost use Rattle.dbusfan_tool.specs.Tool.{Tool};
 ghost use Rattle.dbusfan_tool.specs.Row.{to_run};
+ghost use Rattle.dbusfan_tool.specs.Files.{MadeReads};
 ghost use Rattle.dbusfan_tool.specs.Answer.{said_by, said_of_run, failing};
 
 use crate::answer::Answer;
@@ -22,9 +23,9 @@ pub(crate) fn answer<F: Files>(
     program: &str,
     file: &str,
     edition: Edition,
-    files: &F,
+    files: &mut F,
 ) -> Answer
-    ensures { Tool (F.may_give files.now) (to_run program.now file.now edition) (said_by result)
+    ensures { Tool (MadeReads F.gives files.old files.new) (to_run program.now file.now edition) (said_by result)
         ⊎ (said_by result ≡ failing Fault.Memory) }
 {
     match outcome(alloc, program, file, edition, files) {
@@ -51,9 +52,9 @@ fn outcome<F: Files>(
     program: &str,
     file: &str,
     edition: Edition,
-    files: &F,
+    files: &mut F,
 ) -> Result<Outcome, Fault>
-    ensures { Runs (F.may_give files.now program.now) (F.may_give files.now file.now) edition result ⊎ (result ≡ Err Fault.Memory) }
+    ensures { Runs (MadeReads F.gives files.old files.new) program.now file.now edition result ⊎ (result ≡ Err Fault.Memory) }
 {
     let program = program::accepted(alloc, program, files)?;
     let text = files.read(alloc, file)?;

@@ -1,5 +1,5 @@
 -- The entries of the bus.
-use Rattle.std.specs.Prelude.{◌≡◌, ℕ, ◌≤◌, Bool, true, false, not, ◌&&◌, ◌||◌, List, [], filter, find, length, reverse, Option, option_map, ◌==◌, nat_le, All, AllPairs, ◌<◌}
+use Rattle.std.specs.Prelude.{ℕ, ◌≤◌, Bool, true, false, not, ◌&&◌, ◌||◌, List, [], filter, length, ◌==◌, nat_le, All, AllPairs, ◌<◌}
 use Rattle.match_rule.specs.RuleTree.{RuleTree, rule_eq}
 use Rattle.entry_table.specs.declared.entry.Entry.{Entry}
 use Rattle.entry_table.specs.declared.entry.Filter.{Filter}
@@ -51,7 +51,7 @@ has_rule connection rule e = is_of connection e && is_rule rule e.filter
 
 -- it is the connection's attachment of this id
 abbrev pub is_attachment : ℕ → ℕ → Entry → Bool
-is_attachment connection id e = is_entry connection id e && is_attached e.filter
+is_attachment connection id e = is_of connection e && (e.id == id && is_attached e.filter)
 
 -- the entries that fail the test
 abbrev pub entries_but : (Entry → Bool) → Entries → Entries

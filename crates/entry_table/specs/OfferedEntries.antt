@@ -1,5 +1,5 @@
 -- The entries that a message is offered to.
-use Rattle.std.specs.Prelude.{◌≡◌, ◌≢◌, ◌↔◌, ℕ, List, map, Contains, AllPairs}
+use Rattle.std.specs.Prelude.{◌≢◌, ◌↔◌, List, Contains, AllPairs}
 use Rattle.message_view.specs.Message.{Message}
 use Rattle.match_rule.specs.FixedTexts.{FixedTexts, no_texts, fixed_texts, texts_of, AreFound}
 use Rattle.entry_table.specs.declared.entry.Entry.{Entry}

@@ -35,10 +35,7 @@ impl Attachment {
         ensures back { IfErr result (λ refused. refused.value ≡ program) }
     {
         match Arc::new(alloc, program) {
-            Ok(program) => Ok(Attachment {
-                edition,
-                program,
-            }),
+            Ok(program) => Ok(Attachment { edition, program }),
             Err(refused) => Err(refused),
         }
     }

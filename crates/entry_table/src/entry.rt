@@ -1,9 +1,8 @@
 // The entries of the bus.
 
-ghost use Rattle.std.specs.Prelude.{◌≡◌, IfOk};
-
 use crate::attachment::Attachment;
 use crate::rule_program::RuleProgram;
+use match_rule::Rule;
 use std::alloc::AllocError;
 
 /// What decides whether an entry's connection gets a message.
@@ -14,6 +13,9 @@ pub enum Filter {
 }
 
 impl Filter {
+    ghost use Rattle.std.specs.Prelude.{◌≡◌, IfOk};
+    ghost use Rattle.entry_table.specs.Entries.{is_rule, is_attached};
+
     /// The same filter once more, without a copy.
     pub fn share(&self) -> Result<Filter, AllocError>
         ensures { IfOk result (λ filter. filter ≡ self.now) }
@@ -21,6 +23,26 @@ impl Filter {
         match self {
             Filter::Rule(program) => Ok(Filter::Rule(program.share()?)),
             Filter::Attached(program) => Ok(Filter::Attached(program.share()?)),
+        }
+    }
+
+    /// Whether it is a rule that equals this one.
+    pub(crate) fn is_rule(&self, rule: &Rule) -> bool
+        ensures { result ≡ is_rule rule.now self.now }
+    {
+        match self {
+            Filter::Rule(compiled) => *compiled.rule() == *rule,
+            Filter::Attached(_) => false,
+        }
+    }
+
+    /// Whether it is an attached program.
+    pub(crate) fn is_attached(&self) -> bool
+        ensures { result ≡ is_attached self.now }
+    {
+        match self {
+            Filter::Rule(_) => false,
+            Filter::Attached(_) => true,
         }
     }
 }

@@ -1,21 +1,18 @@
 -- Fields that hold what they may are fields of a valid message, and the other way round.
-use Rattle.std.proofs.Common.{◌≡◌, ℕ, ◌+◌, ◌<◌, ◌≤◌, ◌^◌, Bool, true, false, cond, eqb, lit<, List, [], ◌∷◌, ◌++◌, length, Option, Some, None, refl, arith}
-use Rattle.std.specs.Prelude.{◌&&◌, not}
+use Rattle.std.proofs.Common.{◌≡◌, ℕ, ◌+◌, ◌<◌, ◌≤◌, ◌^◌, Bool, true, false, ltb, lit<, List, [], ◌∷◌, length, Option, Some, None, refl, arith}
+use Rattle.std.specs.Prelude.{◌&&◌, not, is_some}
 use Rattle.std.specs.List.{list_all}
 use Rattle.std.specs.Str.{bytes_eq}
-use Rattle.std.proofs.lemmas.Bool.{and_parts}
-use Rattle.std.proofs.lemmas.List.{length-append}
-use Rattle.signature.specs.DataType.{basic}
-use Rattle.signature.specs.Alignment.{alignment_of}
+use Rattle.std.proofs.lemmas.Bool.{and_parts, ltb-true, lt-ltb}
+use Rattle.signature.specs.DataType.{DataTypes, basic}
+use Rattle.signature.specs.Trees.{types_of}
+use Rattle.signature.proofs.TreesOfTexts.{trees_spelled}
 use Rattle.signature.specs.Name.{is_path, is_interface}
 use Rattle.message_value.specs.declared.order.Order.TheVariants.{Little}
-use Rattle.message_value.specs.Value.{text}
-use Rattle.message_value.specs.Order.{word_bytes}
-use Rattle.message_value.specs.Spelling.{padding, zeros, text_bytes}
 use Rattle.message_value.specs.Fits.{IsOneType}
 use Rattle.message_view.specs.Header.{code_of, local_path, local_interface}
 use Rattle.message_view.specs.Message.{Field}
-use Rattle.message_view.specs.Spelling.{field_front, field_value_place, field_bytes, fields_bytes}
+use Rattle.message_view.specs.Spelling.{field_bytes}
 use Rattle.message_view.specs.Valid.{IsField, IsOnce, AreFields}
 use Rattle.message_build.specs.declared.field.HeaderField.{HeaderField}
 use Rattle.message_build.specs.declared.field.HeaderField.TheVariants.{Path, Interface, Member, ErrorName, ReplySerial, Destination, Sender, Signature}
@@ -24,24 +21,13 @@ use Rattle.message_build.proofs.PlainNames.{interface_string, member_string, bus
 
 -- ---- lengths
 
-within : (a b c : List ℕ) (n : ℕ) → n ≤ length c → n ≤ length (a ++ (b ++ c))
-within a b c n le = omega (arith, length-append a (b ++ c), length-append b c)
-
-text_within : (code : ℕ) (bytes : List ℕ) → length bytes ≤ length (text_bytes Little code bytes)
-text_within code bytes = go (eqb code 103)
+-- a signature is short
+signature_short : (bytes : List ℕ) → is_some (types_of bytes) ≡ true → length bytes < 2 ^ 32
+signature_short bytes e = go (types_of bytes) refl e
   where
-    go : (g : Bool) → length bytes ≤ length (cond g (length bytes ∷ (bytes ++ 0 ∷ [])) (word_bytes Little (length bytes) ++ (bytes ++ 0 ∷ [])))
-    go true = omega (arith, length-append bytes (0 ∷ []))
-    go false = omega (arith, length-append (word_bytes Little (length bytes)) (bytes ++ 0 ∷ []), length-append bytes (0 ∷ []))
-
--- a text is no longer than its field
-field_within : (place code type : ℕ) (bytes : List ℕ) → length bytes ≤ length (field_bytes Little place (record { code = code; type = basic type; value = text bytes }))
-field_within place code type bytes =
-    let f : Field = record { code = code; type = basic type; value = text bytes } in
-    let at = field_value_place place f in
-    let pad = zeros (padding (alignment_of (basic type)) at) in
-    let value : length bytes ≤ length (pad ++ text_bytes Little type bytes) = omega (arith, length-append pad (text_bytes Little type bytes), text_within type bytes) in
-    within (zeros (padding 8 place)) (field_front f) (pad ++ text_bytes Little type bytes) (length bytes) value
+    go : (found : Option DataTypes) → types_of bytes ≡ found → is_some found ≡ true → length bytes < 2 ^ 32
+    go (Some types) is e = let s = trees_spelled types bytes is in let short : length bytes ≤ 255 = s.short in omega arith
+    go None is e = absurd cc
 
 -- ---- one field
 
@@ -68,33 +54,37 @@ one_number = (record { spelled = refl; fits = refl }, omega arith)
 one_signature : IsOneType (basic 103)
 one_signature = (record { spelled = refl; fits = refl }, omega arith)
 
-field_is : (place : ℕ) (f : HeaderField) → Holds f → is_allowed f ≡ true → length (field_bytes Little place (field_of f)) < 2 ^ 32 → IsField Little place (field_of f)
-field_is place (Path t) holds e short =
-    let parts = and_parts (is_path t.now) (not (bytes_eq t.now local_path)) e in
-    record { code_above = lit< tt; code_fits = lit< tt; typed = one_path; shaped = (parts.0, omega (arith, field_within place 1 111 t.now)); allowed = (refl, (refl, not_true (bytes_eq t.now local_path) parts.1)) }
-field_is place (Interface t) holds e short =
+field_is : (place : ℕ) (f : HeaderField) → Holds f → is_allowed f ≡ true → IsField Little place (field_of f)
+field_is place (Path t) holds e =
+    let long = and_parts (is_path t.now && not (bytes_eq t.now local_path)) (ltb (length t.now) (2 ^ 32)) e in
+    let parts = and_parts (is_path t.now) (not (bytes_eq t.now local_path)) long.0 in
+    record { code_above = lit< tt; code_fits = lit< tt; typed = one_path; shaped = (parts.0, ltb-true (length t.now) (2 ^ 32) long.1); allowed = (refl, (refl, not_true (bytes_eq t.now local_path) parts.1)) }
+field_is place (Interface t) holds e =
     let parts = and_parts (is_interface t.now) (not (bytes_eq t.now local_interface)) e in
     let string = interface_string t.now parts.0 in
     record { code_above = lit< tt; code_fits = lit< tt; typed = one_string; shaped = (string.plain, omega (arith, string.short)); allowed = (refl, (parts.0, not_true (bytes_eq t.now local_interface) parts.1)) }
-field_is place (Member t) holds e short =
+field_is place (Member t) holds e =
     let string = member_string t.now e in
     record { code_above = lit< tt; code_fits = lit< tt; typed = one_string; shaped = (string.plain, omega (arith, string.short)); allowed = (refl, (e, refl)) }
-field_is place (ErrorName t) holds e short =
+field_is place (ErrorName t) holds e =
     let string = interface_string t.now e in
     record { code_above = lit< tt; code_fits = lit< tt; typed = one_string; shaped = (string.plain, omega (arith, string.short)); allowed = (refl, (e, refl)) }
-field_is place (ReplySerial n) holds e short =
+field_is place (ReplySerial n) holds e =
     record { code_above = lit< tt; code_fits = lit< tt; typed = one_number; shaped = (refl, holds); allowed = (refl, e) }
-field_is place (Destination t) holds e short =
+field_is place (Destination t) holds e =
     let string = bus_name_string t.now e in
     record { code_above = lit< tt; code_fits = lit< tt; typed = one_string; shaped = (string.plain, omega (arith, string.short)); allowed = (refl, (e, refl)) }
-field_is place (Sender t) holds e short =
+field_is place (Sender t) holds e =
     let string = bus_name_string t.now e in
     record { code_above = lit< tt; code_fits = lit< tt; typed = one_string; shaped = (string.plain, omega (arith, string.short)); allowed = (refl, (e, refl)) }
-field_is place (Signature t) holds e short =
-    record { code_above = lit< tt; code_fits = lit< tt; typed = one_signature; shaped = (e, omega (arith, field_within place 8 103 t.now)); allowed = (refl, (refl, refl)) }
+field_is place (Signature t) holds e =
+    record { code_above = lit< tt; code_fits = lit< tt; typed = one_signature; shaped = (e, signature_short t.now e); allowed = (refl, (refl, refl)) }
 
 field_was : (place : ℕ) (f : HeaderField) → IsField Little place (field_of f) → is_allowed f ≡ true
-field_was place (Path t) is = both_true (is_path t.now) (not (bytes_eq t.now local_path)) is.shaped.0 (not_false (bytes_eq t.now local_path) is.allowed.1.1)
+field_was place (Path t) is =
+    both_true (is_path t.now && not (bytes_eq t.now local_path)) (ltb (length t.now) (2 ^ 32))
+    (both_true (is_path t.now) (not (bytes_eq t.now local_path)) is.shaped.0 (not_false (bytes_eq t.now local_path) is.allowed.1.1))
+    (lt-ltb (length t.now) (2 ^ 32) is.shaped.1)
 field_was place (Interface t) is = both_true (is_interface t.now) (not (bytes_eq t.now local_interface)) is.allowed.1.0 (not_false (bytes_eq t.now local_interface) is.allowed.1.1)
 field_was place (Member t) is = is.allowed.1.0
 field_was place (ErrorName t) is = is.allowed.1.0
@@ -110,17 +100,12 @@ abbrev pub AreOnce : List Field → Type 0
 AreOnce [] = Unit {0}
 AreOnce (f ∷ fs) = IsOnce (code_of f.code) f.code fs × AreOnce fs
 
-pub fields_are : (place : ℕ) (xs : List (Option HeaderField)) → HoldEach xs → list_all may_be xs ≡ true → AreOnce (fields_of xs) → length (fields_bytes Little place (fields_of xs)) < 2 ^ 32 → AreFields Little place (fields_of xs)
-fields_are place [] hold e once short = tt
-fields_are place (None ∷ more) hold e once short = fields_are place more hold e once short
-fields_are place (Some f ∷ more) hold e once short =
+pub fields_are : (place : ℕ) (xs : List (Option HeaderField)) → HoldEach xs → list_all may_be xs ≡ true → AreOnce (fields_of xs) → AreFields Little place (fields_of xs)
+fields_are place [] hold e once = tt
+fields_are place (None ∷ more) hold e once = fields_are place more hold e once
+fields_are place (Some f ∷ more) hold e once =
     let parts = and_parts (is_allowed f) (list_all may_be more) e in
-    let first = field_bytes Little place (field_of f) in
-    let others = fields_bytes Little (place + length first) (fields_of more) in
-    let sum = length-append first others in
-    let few : length first < 2 ^ 32 = omega arith in
-    let fewer : length others < 2 ^ 32 = omega arith in
-    (field_is place f hold.0 parts.0 few, once.0, fields_are (place + length first) more hold.1 parts.1 once.1 fewer)
+    (field_is place f hold.0 parts.0, once.0, fields_are (place + length (field_bytes Little place (field_of f))) more hold.1 parts.1 once.1)
 
 pub fields_were : (place : ℕ) (xs : List (Option HeaderField)) → AreFields Little place (fields_of xs) → list_all may_be xs ≡ true
 fields_were place [] are = refl

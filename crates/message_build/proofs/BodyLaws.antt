@@ -1,5 +1,5 @@
 -- A body is read exactly where it is the values of its types.
-use Rattle.std.proofs.Common.{◌≡◌, ℕ, ◌+◌, List, [], ◌∷◌, ◌++◌, length, Ok, Err, refl, sym, ap, subst, ◌∙◌, arith}
+use Rattle.std.proofs.Common.{◌≡◌, ℕ, ◌+◌, ◌^◌, ◌<◌, List, [], ◌∷◌, ◌++◌, length, Ok, Err, refl, sym, ap, subst, ◌∙◌, arith}
 use Rattle.signature.specs.DataType.{DataTypes, SigText}
 use Rattle.signature.proofs.Signatures.{SigText-unique}
 use Rattle.message_value.specs.declared.order.Order.TheVariants.{Little}
@@ -23,13 +23,13 @@ no_bytes [] e = refl
 no_bytes (x ∷ xs) e = absurd (omega arith)
 
 -- what was read to its end is a body
-pub read_body : (types : DataTypes) (s body : List ℕ) (outside : MsgError) (values : Values) (behind : At) → SigText types s → IsBytes body
+pub read_body : (types : DataTypes) (s body : List ℕ) (outside : MsgError) (values : Values) (behind : At) → SigText types s → IsBytes body → length body < 2 ^ 32
     → members_at (value_at max_levels Little) types (at 0 body outside) ≡ Ok (values, behind) → length behind.rest ≡ 0 → IsBody s body
-read_body types s body outside values behind typed bytes e end =
+read_body types s body outside values behind typed bytes few e end =
     let t = members_takes max_levels Little types (at 0 body outside) (values, behind) bytes e in
     let whole = members_bytes Little 0 types values in
     let is : body ≡ whole = t.0.parts ∙ ap (λ (l : List ℕ). whole ++ l) (no_bytes behind.rest end) ∙ append_nothing whole in
-    (types, values, record { typed = typed; fit = t.1; spelled = is })
+    (types, values, record { typed = typed; fit = t.1; spelled = is; counted = few })
 
 -- a body is read to its end
 pub body_read : (types : DataTypes) (s body : List ℕ) (outside : MsgError) → SigText types s → (b : IsBody s body)

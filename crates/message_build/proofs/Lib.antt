@@ -4,6 +4,7 @@ pub mod PlainNames
 pub mod AllowedFields
 pub mod SetFields
 pub mod MessageLaws
+pub mod OneAnswer
 pub mod BodyLaws
 pub mod FourBytes
 pub mod MovedFields

@@ -1,6 +1,6 @@
 -- What was asked for is no valid message, is above the limits, or is the message of the bytes.
-use Rattle.std.proofs.Common.{◌≡◌, ℕ, ◌+◌, ◌-◌, ◌<◌, ◌≤◌, ◌^◌, Bool, true, false, cond, eqb, ltb, List, [], ◌∷◌, ◌++◌, length, Option, Some, None, Ok, refl, sym, ap, subst, ◌∙◌, append_assoc, inr, arith}
-use Rattle.std.specs.Prelude.{◌&&◌, not}
+use Rattle.std.proofs.Common.{◌≡◌, ℕ, ◌+◌, ◌-◌, ◌<◌, ◌≤◌, ◌^◌, Bool, true, false, cond, eqb, ltb, List, [], ◌∷◌, ◌++◌, length, Option, Some, None, refl, sym, ap, subst, ◌∙◌, append_assoc, inl, inr, arith}
+use Rattle.std.specs.Prelude.{◌&&◌, not, Vec, Result, Ok, Err, IsErrAnd}
 use Rattle.std.proofs.lemmas.Bool.{and_parts}
 use Rattle.std.proofs.lemmas.Bool.Decides.{nat_tests}
 use Rattle.std.proofs.lemmas.List.{length-append}
@@ -17,14 +17,16 @@ use Rattle.message_view.specs.declared.kind.Kind.{Kind}
 use Rattle.message_view.specs.declared.kind.Kind.TheVariants as kinds
 use Rattle.message_view.specs.Header.{kind_byte, kind_of}
 use Rattle.message_view.specs.Message.{Field, Message}
-use Rattle.message_view.specs.Spelling.{fixed_len, fields_bytes, body_place, message_bytes}
+use Rattle.message_view.specs.Spelling.{fixed_len, fields_bytes, header_bytes, body_bytes, body_place, message_bytes}
 use Rattle.message_view.specs.Valid.{AreFields, Valid, max_message_len}
-use Rattle.message_build.specs.Asked.{Asks, is_spoiled}
-use Rattle.message_build.specs.Building.{Finishes, IsTooLarge}
+use Rattle.message_build.specs.Asked.{Asked, Asks, is_spoiled}
+use Rattle.message_build.specs.Building.{IsValidButForSize, AreAsked, AsksTooMuch, AsksNone, Finishes}
+use Rattle.message_build.specs.declared.error.BuildError.{BuildError}
+use Rattle.message_build.specs.declared.error.BuildError.TheVariants.{NoMemory}
 use Rattle.message_build.specs.declared.field.HeaderField.{HeaderField}
 use Rattle.message_build.specs.declared.given.Given.{Given}
 use Rattle.message_build.specs.declared.header.Header.{Header}
-use Rattle.message_build.specs.Words.{HoldEach, InRange, asked, fields_of, fields_set, are_allowed, is_sound_header, kind_is_own, has_needed, IsBody, fixed_bytes, spelled}
+use Rattle.message_build.specs.Words.{HoldEach, InRange, asked, fields_of, fields_set, are_allowed, is_sound_header, kind_is_own, has_needed, IsBody, fixed_bytes, spelled, listed}
 use Rattle.message_build.proofs.AllowedFields.{AreOnce, fields_are, fields_were}
 use Rattle.message_build.proofs.SetFields.{set_once, required_set, signature_set}
 
@@ -36,7 +38,7 @@ the h s types arguments = record { order = Little; kind = h.kind; flags = h.flag
 abbrev made : Order → Kind → ℕ → ℕ → List Field → DataTypes → Values → Message
 made order kind flags serial fields types arguments = record { order = order; kind = kind; flags = flags; serial = serial; fields = fields; types = types; arguments = arguments }
 
-same_message : (o p : Order) (k l : Kind) (f g s t : ℕ) (x y : List Field) (types : DataTypes) (arguments : Values) → o ≡ p → k ≡ l → f ≡ g → s ≡ t → x ≡ y → made o k f s x types arguments ≡ made p l g t y types arguments
+pub same_message : (o p : Order) (k l : Kind) (f g s t : ℕ) (x y : List Field) (types : DataTypes) (arguments : Values) → o ≡ p → k ≡ l → f ≡ g → s ≡ t → x ≡ y → made o k f s x types arguments ≡ made p l g t y types arguments
 same_message o p k l f g s t x y types arguments order kind flags serial fields =
     ap (λ (v : Order). made v k f s x types arguments) order
     ∙ ap (λ (v : Kind). made p v f s x types arguments) kind
@@ -48,15 +50,20 @@ is_the : (h : Header) (s body : List ℕ) (given : Given) (m : Message) → Asks
 is_the h s body given m asks =
     same_message m.order Little m.kind h.kind m.flags h.flags m.serial h.serial m.fields (fields_set h s) m.types m.arguments asks.order asks.kind asks.flags asks.serial asks.fields
 
-body_alike : (n : ℕ) → Alike (body_place n) 0
+pub body_alike : (n : ℕ) → Alike (body_place n) 0
 body_alike n = record { is = omega arith }
+
+-- the bytes of its body
+body_is : (h : Header) (s body : List ℕ) (types : DataTypes) (arguments : Values) → body ≡ members_bytes Little 0 types arguments → body_bytes (the h s types arguments) ≡ body
+body_is h s body types arguments is =
+    let n = length (fields_bytes Little fixed_len (fields_set h s)) in
+    members_moved Little (body_place n) 0 (body_alike n) types arguments ∙ sym is
 
 -- the bytes of the message that was asked for
 bytes_are : (h : Header) (s body : List ℕ) (types : DataTypes) (arguments : Values) → body ≡ members_bytes Little 0 types arguments → message_bytes (the h s types arguments) ≡ spelled h (fields_set h s) body
 bytes_are h s body types arguments is =
     let all = fields_bytes Little fixed_len (fields_set h s) in
-    let place = body_place (length all) in
-    let same : members_bytes Little place types arguments ≡ body = members_moved Little place 0 (body_alike (length all)) types arguments ∙ sym is in
+    let same = body_is h s body types arguments is in
     ap (λ (b : List ℕ). (108 ∷ kind_byte h.kind ∷ h.flags ∷ 1 ∷ []) ++ (word_bytes Little (length b) ++ (word_bytes Little h.serial ++ (word_bytes Little (length all) ++ (all ++ (zeros (padding 8 (length all)) ++ b)))))) same
 
 -- ---- kinds
@@ -93,20 +100,20 @@ kind_is (kinds.Other byte) e =
 -- ---- what is not valid
 
 abbrev Refuses : Header → List ℕ → List ℕ → Given → Type 0
-Refuses h s body given = (m : Message) (bytes : List ℕ) → Asks (asked h s body given) m → Valid bytes m → ⊥
+Refuses h s body given = AsksNone (asked h s body given)
 
-the_valid : (h : Header) (s body : List ℕ) (given : Given) (m : Message) (bytes : List ℕ) → Asks (asked h s body given) m → Valid bytes m → Valid bytes (the h s m.types m.arguments)
-the_valid h s body given m bytes asks valid = subst (λ (x : Message). Valid bytes x) (is_the h s body given m asks) valid
+the_valid : (h : Header) (s body : List ℕ) (given : Given) (m : Message) → Asks (asked h s body given) m → IsValidButForSize m → IsValidButForSize (the h s m.types m.arguments)
+the_valid h s body given m asks valid = subst IsValidButForSize (is_the h s body given m asks) valid
 
 pub spoiled_refused : (h : Header) (s body : List ℕ) (given : Given) → is_spoiled given ≡ true → Refuses h s body given
-spoiled_refused h s body given e m bytes asks valid = let whole : is_spoiled given ≡ false = asks.whole in absurd cc
+spoiled_refused h s body given e m asks valid = let whole : is_spoiled given ≡ false = asks.whole in absurd cc
 
 not_zero : (n : ℕ) → 0 < n → not (eqb n 0) ≡ true
 not_zero n lt = let e : eqb n 0 ≡ false = grind (arith, nat_tests) in rw e refl
 
 pub header_refused : (h : Header) (s body : List ℕ) (given : Given) → is_sound_header h ≡ false → Refuses h s body given
-header_refused h s body given e m bytes asks valid =
-    let v = the_valid h s body given m bytes asks valid in
+header_refused h s body given e m asks valid =
+    let v = the_valid h s body given m asks valid in
     let kind : kind_is_own h.kind ≡ true = kind_was h.kind v.kind in
     let serial : not (eqb h.serial 0) ≡ true = not_zero h.serial v.serial in
     let needed : has_needed h ≡ true = sym (required_set h.kind h s) ∙ v.required in
@@ -114,14 +121,14 @@ header_refused h s body given e m bytes asks valid =
     absurd cc
 
 pub fields_refused : (h : Header) (s body : List ℕ) (given : Given) (xs : List (Option HeaderField)) → fields_of xs ≡ fields_set h s → are_allowed xs ≡ false → Refuses h s body given
-fields_refused h s body given xs is e m bytes asks valid =
-    let v = the_valid h s body given m bytes asks valid in
+fields_refused h s body given xs is e m asks valid =
+    let v = the_valid h s body given m asks valid in
     let allowed : are_allowed xs ≡ true = fields_were fixed_len xs (subst (λ (fs : List Field). AreFields Little fixed_len fs) (sym is) v.fields) in
     absurd cc
 
 pub body_refused : (h : Header) (s body : List ℕ) (given : Given) → (IsBody s body → ⊥) → Refuses h s body given
-body_refused h s body given refute m bytes asks valid =
-    let v = the_valid h s body given m bytes asks valid in
+body_refused h s body given refute m asks valid =
+    let v = the_valid h s body given m asks valid in
     let len = length (fields_bytes Little fixed_len (fields_set h s)) in
     refute (
       m.types,
@@ -130,6 +137,7 @@ body_refused h s body given refute m bytes asks valid =
         typed = subst (λ (t : List ℕ). SigText m.types t) (signature_set h s) v.types;
         fit = members_fit_moved Little max_levels (body_place len) 0 (body_alike len) m.types m.arguments v.arguments;
         spelled = asks.arguments;
+        counted = subst (λ (n : ℕ). n < 2 ^ 32) (ap (λ (l : List ℕ). length l) (body_is h s body m.types m.arguments asks.arguments)) v.counted;
       },
     )
 
@@ -147,53 +155,105 @@ length-spelled h fs body =
 asked_bytes : (h : Header) (s body : List ℕ) (given : Given) (m : Message) → Asks (asked h s body given) m → message_bytes m ≡ spelled h (fields_set h s) body
 asked_bytes h s body given m asks = ap (λ (x : Message). message_bytes x) (is_the h s body given m asks) ∙ bytes_are h s body m.types m.arguments asks.arguments
 
-pub message_too_large : (h : Header) (s body : List ℕ) (given : Given) (end : ℕ) → end ≡ fixed_len + length (fields_bytes Little fixed_len (fields_set h s)) → max_message_len - (end + padding 8 end) < length body
-    → (m : Message) → Asks (asked h s body given) m → IsTooLarge m
-message_too_large h s body given end is above m asks =
-    let n = length (fields_bytes Little fixed_len (fields_set h s)) in
-    let same : padding 8 end ≡ padding 8 n = ap (λ (k : ℕ). padding 8 k) is ∙ same_padding n in
-    let len : length (message_bytes m) ≡ fixed_len + n + padding 8 n + length body = ap (λ (l : List ℕ). length l) (asked_bytes h s body given m asks) ∙ length-spelled h (fields_set h s) body in
-    let large : max_message_len < length (message_bytes m) = omega (arith, same, len) in
-    inr large
+-- ---- what is asked for
 
--- ---- what is valid
+-- the message that was asked for, which is valid but for its size
+pub record Sound (h : Header) (s body : List ℕ) (given : Given) : Type 0 where
+  pub types : DataTypes
+  pub arguments : Values
+  pub asks : Asks (asked h s body given) (the h s types arguments)
+  pub valid : IsValidButForSize (the h s types arguments)
 
 above_zero : (n : ℕ) → not (eqb n 0) ≡ true → 0 < n
 above_zero n e = grind (arith, nat_tests)
 
-pub built_valid : (h : Header) (s body : List ℕ) (given : Given) (xs : List (Option HeaderField)) (end : ℕ) (bytes : List ℕ)
-    → fields_of xs ≡ fields_set h s → InRange h → HoldEach xs → is_spoiled given ≡ false → is_sound_header h ≡ true → are_allowed xs ≡ true
-    → end ≡ fixed_len + length (fields_bytes Little fixed_len (fields_of xs)) → end ≤ fixed_len + max_array_len → length body ≤ max_message_len - (end + padding 8 end)
-    → IsBody s body → bytes ≡ spelled h (fields_of xs) body → Finishes (asked h s body given) (Ok bytes)
-built_valid h s body given xs end bytes is range hold whole sound allowed end_is short fits b spelt =
+pub asked_sound : (h : Header) (s body : List ℕ) (given : Given) (xs : List (Option HeaderField))
+    → fields_of xs ≡ fields_set h s → InRange h → HoldEach xs → is_spoiled given ≡ false → is_sound_header h ≡ true → are_allowed xs ≡ true → IsBody s body → Sound h s body given
+asked_sound h s body given xs is range hold whole sound allowed b =
     let types = b.0 in
     let values = b.1 in
     let n = length (fields_bytes Little fixed_len (fields_set h s)) in
-    let same : length (fields_bytes Little fixed_len (fields_of xs)) ≡ n = ap (λ (fs : List Field). length (fields_bytes Little fixed_len fs)) is in
-    let few : length (fields_bytes Little fixed_len (fields_of xs)) < 2 ^ 32 = omega (arith, same) in
     let parts = and_parts (kind_is_own h.kind && not (eqb h.serial 0)) (has_needed h) sound in
     let two = and_parts (kind_is_own h.kind) (not (eqb h.serial 0)) parts.0 in
     let once : AreOnce (fields_of xs) = subst (λ (fs : List Field). AreOnce fs) (sym is) (set_once h s) in
-    let now : bytes ≡ spelled h (fields_set h s) body = spelt ∙ ap (λ (fs : List Field). spelled h fs body) is in
-    let pad : padding 8 end ≡ padding 8 n = ap (λ (k : ℕ). padding 8 k) (end_is ∙ ap (λ (k : ℕ). fixed_len + k) same) ∙ same_padding n in
-    let len : length bytes ≡ fixed_len + n + padding 8 n + length body = ap (λ (l : List ℕ). length l) now ∙ length-spelled h (fields_set h s) body in (
-      the h s types values,
-      record { order = refl; kind = refl; flags = refl; serial = refl; fields = refl; types = b.2.typed.spelled; arguments = b.2.spelled; whole = whole },
-      record {
+    record {
+      types = types;
+      arguments = values;
+      asks = record { order = refl; kind = refl; flags = refl; serial = refl; fields = refl; types = b.2.typed.spelled; arguments = b.2.spelled; whole = whole };
+      valid = record {
         kind = kind_is h.kind two.0;
         kind_fits = range.kind;
         flags = range.flags;
         serial = above_zero h.serial two.1;
         serial_fits = range.serial;
-        fields = subst (λ (fs : List Field). AreFields Little fixed_len fs) is (fields_are fixed_len xs hold allowed once few);
+        fields = subst (λ (fs : List Field). AreFields Little fixed_len fs) is (fields_are fixed_len xs hold allowed once);
         required = required_set h.kind h s ∙ parts.1;
         types = subst (λ (t : List ℕ). SigText types t) (sym (signature_set h s)) b.2.typed;
         arguments = members_fit_moved Little max_levels 0 (body_place n) (Alike-back (body_place n) 0 (body_alike n)) types values b.2.fit;
-        fields_fit = omega (arith, same);
-        fits = omega (arith, len, pad, same);
-        spelled = now ∙ sym (bytes_are h s body types values b.2.spelled);
-      },
-    )
+        counted = subst (λ (k : ℕ). k < 2 ^ 32) (sym (ap (λ (l : List ℕ). length l) (body_is h s body types values b.2.spelled))) b.2.counted;
+      };
+    }
+
+-- ---- what is too large
+
+-- where fields end, of which another list is the same
+pub fields_end_is : {xs fs : List Field} {end : ℕ} → xs ≡ fs → end ≡ fixed_len + length (fields_bytes Little fixed_len xs) → end ≡ fixed_len + length (fields_bytes Little fixed_len fs)
+fields_end_is is end = end ∙ ap (λ (x : List Field). fixed_len + length (fields_bytes Little fixed_len x)) is
+
+pub fields_above : {xs fs : List Field} → xs ≡ fs → fixed_len + max_array_len < fixed_len + length (fields_bytes Little fixed_len xs) → max_array_len < length (fields_bytes Little fixed_len fs)
+fields_above is above = let same = ap (λ (x : List Field). length (fields_bytes Little fixed_len x)) is in omega arith
+
+pub fields_too_large : (h : Header) (s body : List ℕ) (given : Given) → Sound h s body given → max_array_len < length (fields_bytes Little fixed_len (fields_set h s)) → AsksTooMuch (asked h s body given)
+fields_too_large h s body given m long = (the h s m.types m.arguments, m.asks, m.valid, inl long)
+
+-- how long the message is
+asked_len : (h : Header) (s body : List ℕ) (given : Given) (m : Message) (end : ℕ) → Asks (asked h s body given) m → end ≡ fixed_len + length (fields_bytes Little fixed_len (fields_set h s)) → length (message_bytes m) ≡ end + padding 8 end + length body
+asked_len h s body given m end asks is =
+    let n = length (fields_bytes Little fixed_len (fields_set h s)) in
+    let same : padding 8 end ≡ padding 8 n = ap (λ (k : ℕ). padding 8 k) is ∙ same_padding n in
+    let len : length (message_bytes m) ≡ fixed_len + n + padding 8 n + length body = ap (λ (l : List ℕ). length l) (asked_bytes h s body given m asks) ∙ length-spelled h (fields_set h s) body in
+    omega arith
+
+pub message_too_large : (h : Header) (s body : List ℕ) (given : Given) (end : ℕ) → Sound h s body given → end ≡ fixed_len + length (fields_bytes Little fixed_len (fields_set h s)) → max_message_len - (end + padding 8 end) < length body
+    → AsksTooMuch (asked h s body given)
+message_too_large h s body given end m is above =
+    let message = the h s m.types m.arguments in
+    let len = asked_len h s body given message end m.asks is in
+    let large : max_message_len < length (message_bytes message) = omega arith in
+    (message, m.asks, m.valid, inr large)
+
+-- ---- what is valid
+
+-- a message that is valid but for its size, and not too large
+pub sized : (m : Message) → IsValidButForSize m → length (header_bytes m) ≤ max_array_len → length (message_bytes m) ≤ max_message_len → Valid (message_bytes m) m
+sized m v short fits = record {
+  kind = v.kind;
+  kind_fits = v.kind_fits;
+  flags = v.flags;
+  serial = v.serial;
+  serial_fits = v.serial_fits;
+  fields = v.fields;
+  required = v.required;
+  types = v.types;
+  arguments = v.arguments;
+  fields_fit = short;
+  fits = fits;
+  spelled = refl;
+}
+
+pub built_valid : (h : Header) (s body : List ℕ) (given : Given) (end : ℕ) (bytes : List ℕ) → Sound h s body given
+    → end ≡ fixed_len + length (fields_bytes Little fixed_len (fields_set h s)) → end ≤ fixed_len + max_array_len → length body ≤ max_message_len - (end + padding 8 end)
+    → bytes ≡ spelled h (fields_set h s) body → AreAsked (asked h s body given) bytes
+built_valid h s body given end bytes m is short fits spelt =
+    let message = the h s m.types m.arguments in
+    let len = asked_len h s body given message end m.asks is in
+    let now : bytes ≡ message_bytes message = spelt ∙ sym (asked_bytes h s body given message m.asks) in
+    (message, m.asks, subst (λ (b : List ℕ). Valid b message) (sym now) (sized message m.valid (omega arith) (omega arith)))
+
+-- memory is only wanted for a valid message
+pub no_memory : {A : Type 0} (a : Asked) (r : Result (Vec ℕ A) BuildError) → IsErrAnd r (λ e. e ≡ NoMemory) → (bytes : List ℕ) × AreAsked a bytes → Finishes a (listed r)
+no_memory a (Ok v) is asked = absurd is
+no_memory a (Err e) is asked = subst (λ (x : BuildError). Finishes a (Err x)) (sym is) asked
 
 -- ---- what is written
 

@@ -64,9 +64,9 @@ fields_of (Some field ∷ more) = field_of field ∷ fields_of more
 abbrev pub is_open_interface : List ℕ → Bool
 is_open_interface bytes = is_interface bytes && not (bytes_eq bytes local_interface)
 
--- the same of a path
+-- the same of a path, whose length has four bytes
 abbrev pub is_open_path : List ℕ → Bool
-is_open_path bytes = is_path bytes && not (bytes_eq bytes local_path)
+is_open_path bytes = is_path bytes && not (bytes_eq bytes local_path) && nat_lt (length bytes) (2 ^ 32)
 
 -- what a field may hold
 abbrev pub is_allowed : HeaderField → Bool
@@ -170,11 +170,12 @@ bare_header kind flags serial = record { kind = kind; flags = flags; serial = se
 
 -- ---- bodies
 
--- bytes that are values of a signature's types, at a place that is a multiple of 8
+-- bytes that are values of a signature's types, at a place that is a multiple of 8, and whose number has four bytes
 pub record BodyOf (types : DataTypes) (values : Values) (signature body : List ℕ) : Type 0 where
   pub typed : SigText types signature
   pub fit : MembersFit Little max_levels 0 types values
   pub spelled : body ≡ members_bytes Little 0 types values
+  pub counted : length body < 2 ^ 32
 
 abbrev pub IsBody : List ℕ → List ℕ → Type 0
 IsBody signature body = (types : DataTypes) × (values : Values) × BodyOf types values signature body

@@ -1,6 +1,6 @@
 // Whether bytes are a body.
 
-ghost use Rattle.std.specs.Prelude.{◌≡◌, ◌≤◌, true, false, length};
+ghost use Rattle.std.specs.Prelude.{◌≡◌, true, false};
 ghost use Rattle.message_build.specs.Words.{IsBody};
 
 use message_value::{Cursor, MsgError, Order, check_members};
@@ -9,12 +9,17 @@ use signature::Signature;
 /// The deepest nesting of values.
 const MAX_LEVELS: usize = 64;
 
-/// Whether the bytes are values of the signature's types, and no more.
+/// The longest body whose length a header can hold, in bytes.
+const MAX_BODY_LEN: usize = u32::MAX as usize;
+
+/// Whether the bytes are values of the signature's types, and no more. They may be more than a message may have.
 pub(crate) fn is_body(signature: &[u8], body: &[u8]) -> bool
-    requires { length body.now ≤ 134217728 }
     ensures yes { result ≡ true → IsBody signature.now body.now }
     ensures no { result ≡ false → IsBody signature.now body.now → ⊥ }
 {
+    if body.len() > MAX_BODY_LEN {
+        return false;
+    }
     let Ok(read) = Signature::read(signature) else {
         return false;
     };

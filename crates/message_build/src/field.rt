@@ -7,7 +7,7 @@ ghost use Rattle.message_value.specs.Spelling.{value_bytes};
 ghost use Rattle.message_value.specs.Value.{text};
 ghost use Rattle.signature.specs.DataType.{basic};
 ghost use Rattle.message_view.specs.Spelling.{field_bytes};
-ghost use Rattle.message_build.specs.Words.{Appends, Ends, field_of, is_allowed, may_be, are_allowed};
+ghost use Rattle.message_build.specs.Words.{Appends, Ends, field_of, is_open_path, is_allowed, may_be, are_allowed};
 
 use crate::appending::{align, push_number, push_signature, push_string};
 use message_value::{Order, padding};
@@ -20,6 +20,16 @@ const LOCAL_INTERFACE: &str = "org.freedesktop.DBus.Local";
 
 /// The longest array.
 pub(crate) const MAX_ARRAY_LEN: usize = 67108864;
+
+/// The longest text, whose length has four bytes.
+const MAX_TEXT_LEN: usize = u32::MAX as usize;
+
+/// Whether a message may go to the object of this path.
+fn is_open_path(path: &str) -> bool
+    ensures { result ≡ is_open_path path.now }
+{
+    check_path(path) && path != LOCAL_PATH && path.len() <= MAX_TEXT_LEN
+}
 
 /// Where a text ends with its zero byte, or None where it is longer than an array may be.
 fn text_end(place: usize, text: &[u8]) -> Option<usize>
@@ -52,7 +62,7 @@ impl HeaderField<'_> {
         ensures { result ≡ is_allowed self.entry }
     {
         match self {
-            HeaderField::Path(text) => check_path(text) && text != LOCAL_PATH,
+            HeaderField::Path(text) => is_open_path(text),
             HeaderField::Interface(text) => check_interface(text) && text != LOCAL_INTERFACE,
             HeaderField::Member(text) => check_member(text),
             HeaderField::ErrorName(text) => check_interface(text),

@@ -9,6 +9,7 @@ mod builder;
 mod error;
 mod field;
 mod fields;
+mod finishing;
 mod given;
 mod header;
 mod kept_fields;
@@ -18,4 +19,5 @@ mod strings;
 
 pub use builder::Builder;
 pub use error::BuildError;
+pub use finishing::{one_answer, valid_at_its_size};
 pub use stamping::{StampError, stamp};

@@ -76,7 +76,8 @@ fn message(
     Ok(bytes)
 }
 
-/// The message that was asked for, or why there is none.
+/// The message that was asked for, or why there is none. What a message may hold is looked at before its size,
+/// so that only a message that is valid otherwise is too large.
 pub(crate) fn built(
     alloc: Global,
     header: &Header<'_>,
@@ -96,14 +97,14 @@ pub(crate) fn built(
     if !are_allowed(&fields) {
         return Err(BuildError::Invalid);
     }
+    if !is_body(signature, body) {
+        return Err(BuildError::Invalid);
+    }
     let Some(end) = fields_end(&fields) else {
         return Err(BuildError::TooLarge);
     };
     if body.len() > MAX_MESSAGE_LEN - (end + padding(8, end)) {
         return Err(BuildError::TooLarge);
-    }
-    if !is_body(signature, body) {
-        return Err(BuildError::Invalid);
     }
     Ok(message(alloc, header, &fields, end, body)?)
 }

@@ -6,6 +6,7 @@ pub mod ReadArrays
 pub mod EachTurns
 pub mod ValueSizes
 pub mod ReadValues
+pub mod SpelledValues
 pub mod PlainTexts
 pub mod SignatureTexts
 pub mod SignatureRead

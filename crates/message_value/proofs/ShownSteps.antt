@@ -1,5 +1,5 @@
 -- An argument as it is read and as it lies in the message.
-use Rattle.std.proofs.Common.{◌≡◌, ℕ, ◌-◌, ◌%◌, List, length, None, Ok, refl, sym, ap, ◌∙◌, arith}
+use Rattle.std.proofs.Common.{◌≡◌, ℕ, ◌≤◌, ◌-◌, ◌%◌, List, length, None, Ok, refl, sym, ap, ◌∙◌, arith}
 use Rattle.std.specs.Prelude.{◌==◌, ◌&&◌, nat_lt, slice_index}
 use Rattle.signature.specs.BasicType.{basic_alignment}
 use Rattle.signature.specs.DataType.{DataType, basic, variant, array, dict, struct, spelling, TypeText}
@@ -7,11 +7,12 @@ use Rattle.signature.specs.Alignment.{alignment_of}
 use Rattle.message_value.specs.declared.order.Order.{Order}
 use Rattle.message_value.specs.declared.fault.MsgError.TheVariants as faults
 use Rattle.message_value.specs.declared.text.TextType.{TextType}
+use Rattle.message_value.specs.declared.text.TextType.TheVariants as texts
 use Rattle.message_value.specs.Order.{number_of}
-use Rattle.message_value.specs.Value.{Value, number}
+use Rattle.message_value.specs.Value.{Value, number, text}
 use Rattle.message_value.specs.Spelling.{aligned, number_len, width_of, bare_bytes, value_bytes}
-use Rattle.message_value.specs.Reading.{At, item_at, aligned_at, text_value_at, counted, number_value_at, value_at}
-use Rattle.message_value.specs.Arguments.{Argument, argument_of}
+use Rattle.message_value.specs.Reading.{At, item_at, aligned_at, long_text_at, short_text_at, text_value_at, counted, number_value_at, value_at}
+use Rattle.message_value.specs.Arguments.{Argument, text_start, argument_of}
 use Rattle.message_value.specs.Words.{IsNoText, text_code}
 use Rattle.message_value.proofs.OkSteps.{bind_ok, ok_is, not_refused}
 use Rattle.message_value.proofs.WordBytes.{IsBytes}
@@ -19,6 +20,7 @@ use Rattle.message_value.proofs.ReadItems.{Takes-leaves, aligned_takes, length-p
 use Rattle.message_value.proofs.ReadValues.{value_takes}
 use Rattle.message_value.proofs.ValueSteps.{begun, alignment_some}
 use Rattle.message_value.proofs.NumberArrays.{padding_none, aligned_here, aligned_place}
+use Rattle.message_value.proofs.SkipTexts.{long_fits, short_fits}
 use Rattle.message_value.proofs.SkipValues.{basic_same, basic_text, basic_number}
 
 -- ---- where it begins
@@ -39,6 +41,13 @@ pub text_of_value : (levels : ℕ) (order : Order) (type : DataType) (kind : Tex
 text_of_value levels order type kind at start found is gone e =
     let here : aligned_at (basic_alignment (text_code kind)) at ≡ Ok start = ap (λ (t : DataType). aligned_at (alignment_of t) at) (sym is) ∙ gone in
     basic_text order (text_code kind) kind at start found here refl (sym (basic_same levels order type (text_code kind) at is) ∙ e)
+
+-- the length of a text stands before it
+pub start_within : (order : Order) (kind : TextType) (at : At) (found : Value × At) → text_value_at order (text_code kind) at ≡ Ok found → text_start (text_code kind) ≤ length at.rest
+unfolding text_value_at
+start_within order texts.String at found e = let s = bind_ok (long_text_at order 115 at) (λ read. Ok (text read.0, read.1)) found e in long_fits order 115 at s.0 s.1
+start_within order texts.ObjectPath at found e = let s = bind_ok (long_text_at order 111 at) (λ read. Ok (text read.0, read.1)) found e in long_fits order 111 at s.0 s.1
+start_within order texts.Signature at found e = let s = bind_ok (short_text_at at) (λ read. Ok (text read.0, read.1)) found e in short_fits at s.0 s.1
 
 -- ---- what is no text
 

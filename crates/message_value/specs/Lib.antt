@@ -1,6 +1,7 @@
 pub mod Order
 pub mod Value
 pub mod Spelling
+pub mod Spelled
 pub mod Fits
 pub mod FaultName
 pub mod Reading

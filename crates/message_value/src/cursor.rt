@@ -1,6 +1,6 @@
 // Reading from left to right within an array or the body.
 
-ghost use Rattle.std.specs.Prelude.{◌≡◌, ◌+◌, ◌<◌, ◌≤◌, ◌==◌, length, IfOk, Ok};
+ghost use Rattle.std.specs.Prelude.{◌≡◌, ◌+◌, ◌^◌, ◌<◌, ◌≤◌, ◌==◌, length, IfOk, Ok};
 ghost use Rattle.std.specs.List.{list_all};
 ghost use Rattle.message_value.specs.Reading.{At, item_at, aligned_at, byte_at, word_at, signature_at, extent_at};
 ghost use Rattle.message_value.specs.Spelling.{padding};
@@ -24,7 +24,7 @@ pub struct Cursor<'a> {
 }
 
 impl<'a> Model for Cursor<'a> {
-    ghost use Rattle.std.specs.Prelude.{◌+◌, ◌≤◌, length};
+    ghost use Rattle.std.specs.Prelude.{◌+◌, ◌<◌, ◌^◌, length};
     ghost use Rattle.message_value.specs.Reading.{At};
     ghost use Rattle.message_value.specs.Words.{AreBytes};
 
@@ -32,7 +32,7 @@ impl<'a> Model for Cursor<'a> {
 
     ghost view = { λ c. record { place = c.place; rest = c.rest.now; outside = c.outside } };
 
-    ghost invariant = { λ c. (c.place + length c.rest.now ≤ 134217728) × AreBytes c.rest.now };
+    ghost invariant = { λ c. (c.place + length c.rest.now < 2 ^ 32) × AreBytes c.rest.now };
 }
 
 /// How many bytes lie before the next multiple.
@@ -53,7 +53,7 @@ pub fn are_zeros(bytes: &[u8]) -> bool
 impl<'a> Cursor<'a> {
     /// At a place of the message, before these bytes; an item that lies beyond them is the fault outside.
     pub fn new(place: usize, rest: &'a [u8], outside: MsgError) -> Self
-        requires { place + length rest.now ≤ 134217728 }
+        requires { place + length rest.now < 2 ^ 32 }
         ensures { result ≡ record { place = place; rest = rest.entry.now; outside = outside } }
     {
         Cursor {
@@ -80,7 +80,7 @@ impl<'a> Cursor<'a> {
     /// Where it stands, in four bytes.
     pub fn place_word(&self) -> u32
         ensures place { result ≡ self.now.place }
-        ensures bound { result ≤ 134217728 }
+        ensures within { result + length self.now.rest < 2 ^ 32 }
     {
         self.place as u32
     }
@@ -88,7 +88,7 @@ impl<'a> Cursor<'a> {
     /// The bytes that are left.
     pub(crate) fn rest(&self) -> &'a [u8]
         ensures rest { result.now ≡ self.now.rest }
-        ensures bound { length result.now ≤ 134217728 }
+        ensures bound { length result.now < 2 ^ 32 }
         ensures bytes { AreBytes result.now }
     {
         self.rest

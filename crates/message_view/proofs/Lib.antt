@@ -15,3 +15,7 @@ pub mod Loop
 pub mod Framed
 pub mod Views
 pub mod Examples
+pub mod TextBytes
+pub mod TextStands
+pub mod FieldTexts
+pub mod ArgumentPlaces

@@ -9,10 +9,12 @@ mod fields;
 mod fixed;
 mod frame;
 mod kind;
+mod texts;
 mod view;
 
 pub use extent::{Extent, TextField};
 pub use frame::frame_len;
 pub use kind::Kind;
 pub use message_value::{Arg, Args, MsgError, Order};
+pub use texts::{texts_of_arguments, texts_of_fields};
 pub use view::{View, one_message};

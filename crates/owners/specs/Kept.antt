@@ -1,14 +1,16 @@
 -- Inner: the claims as they are kept, each with the slot of its name.
-use Rattle.std.specs.Prelude.{◌≡◌, ◌≤◌, ◌+◌, ℕ, Bool, true, false, not, List, [], ◌∷◌, ◌++◌, Option, Some, None, map, filter, find, length, option_map, is_some, is_none, slice_get, nat_lt, nat_eq, ◌&&◌, ◌==◌, if◌then◌else◌}
+use Rattle.std.specs.Prelude.{◌≡◌, ◌≤◌, ℕ, Bool, true, false, not, List, [], ◌∷◌, ◌++◌, Option, Some, None, map, filter, find, length, option_map, is_some, is_none, slice_get, nat_lt, nat_le, ◌&&◌, ◌==◌, if◌then◌else◌}
 use Rattle.std.specs.List.{list_any, list_all}
-use Rattle.std.specs.Option.{option_eq}
 use Rattle.owners.specs.declared.holding.Holding.{Holding}
 use Rattle.owners.specs.declared.claim.SlotClaim.{SlotClaim}
-use Rattle.owners.specs.declared.claim.Step.{Step}
-use Rattle.owners.specs.declared.claim.Step.TheVariants as steps
+use Rattle.owners.specs.declared.step.Step.{Step}
+use Rattle.owners.specs.declared.step.Step.TheVariants as steps
 use Rattle.owners.specs.declared.answer.Change.{Change}
+use Rattle.owners.specs.declared.answer.Named.{Named}
+use Rattle.owners.specs.declared.answer.NameReply.{NameReply}
+use Rattle.owners.specs.declared.answer.NameReply.TheVariants.{PrimaryOwner, InQueue, Exists, AlreadyOwner, Released, NonExistent, NotOwner}
 use Rattle.owners.specs.Queues.{Claim, has_flag, allow_replacement, replace_existing, do_not_queue}
-use Rattle.owners.specs.Registry.{Registry, IsRegistry}
+use Rattle.owners.specs.Registry.{Registry, max_names, max_claims, is_unused, is_after, change_of}
 
 abbrev pub name_at : Option (Option Holding) → List ℕ
 name_at (Some (Some holding)) = holding.name
@@ -41,20 +43,17 @@ abbrev pub slot_with_flags : ℕ → ℕ → ℕ → List SlotClaim → List Slo
 slot_with_flags slot connection flags claims =
     map (λ (c : SlotClaim). if is_slot_claim slot connection c then record c { flags = flags } else c) claims
 
-abbrev pub claim_of : ℕ → ℕ → ℕ → SlotClaim
-claim_of slot connection flags = record { connection = connection; flags = flags; slot = slot }
-
 -- the owner's claim stays, or leaves
 abbrev pub without_owner : Option ℕ → ℕ → List SlotClaim → List SlotClaim
 without_owner None slot claims = claims
 without_owner (Some owner) slot claims = slot_without slot owner claims
 
-abbrev pub step_done : Step → ℕ → ℕ → ℕ → List SlotClaim → List SlotClaim
-step_done steps.PutLast slot connection flags claims = claims ++ claim_of slot connection flags ∷ []
-step_done steps.SetFlags slot connection flags claims = slot_with_flags slot connection flags claims
-step_done steps.Remove slot connection flags claims = slot_without slot connection claims
-step_done (steps.Replace leaving) slot connection flags claims =
-    claim_of slot connection flags ∷ slot_without slot connection (without_owner leaving slot claims)
+abbrev pub step_done : Step → SlotClaim → List SlotClaim → List SlotClaim
+step_done steps.PutLast claim claims = claims ++ claim ∷ []
+step_done steps.SetFlags claim claims = slot_with_flags claim.slot claim.connection claim.flags claims
+step_done steps.Remove claim claims = slot_without claim.slot claim.connection claims
+step_done (steps.Replace leaving) claim claims =
+    claim ∷ slot_without claim.slot claim.connection (without_owner leaving claim.slot claims)
 
 abbrev pub leaving_owner : SlotClaim → Option ℕ
 leaving_owner owner = if has_flag owner.flags do_not_queue then Some owner.connection else None
@@ -69,16 +68,85 @@ step_of (Some owner) waits connection flags =
     else if waits then steps.SetFlags
     else steps.PutLast
 
+-- what a request is answered, by the first claim on the name
+abbrev pub reply_of : Option SlotClaim → ℕ → ℕ → NameReply
+reply_of None connection flags = PrimaryOwner
+reply_of (Some owner) connection flags =
+    if owner.connection == connection then AlreadyOwner
+    else if has_flag owner.flags allow_replacement && has_flag flags replace_existing then PrimaryOwner
+    else if has_flag flags do_not_queue then Exists
+    else InQueue
+
+-- the step makes a claim more, where there are as many as there may be
+abbrev pub adds : Step → Bool → Bool
+adds steps.PutLast waits = true
+adds (steps.Replace leaving) waits = not waits && is_none leaving
+adds _ waits = false
+
+abbrev pub is_over : Step → Bool → ℕ → Bool
+is_over step waits len = adds step waits && nat_le max_claims len
+
 -- the owner of the name that has the slot
 abbrev pub slot_owner : ℕ → List SlotClaim → Option ℕ
 slot_owner slot claims = option_map (λ (c : SlotClaim). c.connection) (find (is_on_slot slot) claims)
 
--- what becomes of a slot, on whose name there is a claim or not
+-- what becomes of a slot whose name is claimed or not
 abbrev pub kept_if : Bool → Option Holding → Option Holding
-kept_if claimed None = None
-kept_if claimed (Some holding) =
-    if nat_lt 0 holding.rules then Some holding else if claimed then Some holding else None
+kept_if claimed slot = if is_unused claimed slot then None else slot
+
+abbrev pub kept_at : Bool → Option (Option Holding) → Option (Option Holding)
+kept_at claimed place = option_map (kept_if claimed) place
 
 -- each claim's slot is that of a name
 abbrev pub are_held : List SlotClaim → List (Option Holding) → Bool
 are_held claims slots = list_all (λ (c : SlotClaim). is_name (slice_get slots c.slot)) claims
+
+-- Claims and slots where no name has two slots and each claim's slot is that of a name.
+pub record IsPlaced (claims : List SlotClaim) (slots : List (Option Holding)) : Type 0 where
+  pub count : length slots ≡ max_names
+  pub fits : length claims ≤ max_claims
+  pub unique : (i j : ℕ) (h k : Holding) → slice_get slots i ≡ Some (Some h) → slice_get slots j ≡ Some (Some k) → h.name ≡ k.name → i ≡ j
+  pub held : are_held claims slots ≡ true
+
+-- each name that has a slot has a claim or a rule
+abbrev pub AreUsed : List SlotClaim → List (Option Holding) → Type 0
+AreUsed claims slots =
+    (slot : ℕ) (holding : Holding) → slice_get slots slot ≡ Some (Some holding) → is_unused (list_any (is_on_slot slot) claims) (Some holding) ≡ false
+
+-- What holds of the kept claims and slots at all times.
+pub record IsKept (claims : List SlotClaim) (slots : List (Option Holding)) : Type 0 where
+  pub placed : IsPlaced claims slots
+  pub used : AreUsed claims slots
+
+-- the change that a request brings about, by its reply
+abbrev pub change_for : List ℕ → NameReply → Option ℕ → ℕ → Option Change
+change_for name PrimaryOwner old connection = Some (record { name = name; old = old; new = Some connection })
+change_for name _ old connection = None
+
+-- each claim's slot is below the number of slots
+abbrev pub are_slots : List SlotClaim → Bool
+are_slots claims = list_all (λ (c : SlotClaim). nat_lt c.slot max_names) claims
+
+-- what a release is answered
+abbrev pub slot_release_reply : ℕ → ℕ → List SlotClaim → NameReply
+slot_release_reply slot connection claims =
+    if list_any (is_slot_claim slot connection) claims then Released
+    else if is_some (find (is_on_slot slot) claims) then NotOwner
+    else NonExistent
+
+abbrev pub slot_release_answer : ℕ → List ℕ → ℕ → List SlotClaim → Named
+slot_release_answer slot name connection claims = record {
+  answer = slot_release_reply slot connection claims;
+  change = change_of name (slot_owner slot claims) (slot_owner slot (slot_without slot connection claims));
+}
+
+-- the name that a claim is on
+abbrev pub claim_name : List (Option Holding) → SlotClaim → List ℕ
+claim_name slots claim = name_at (slice_get slots claim.slot)
+
+abbrev pub is_named_after : Option (List ℕ) → List (Option Holding) → SlotClaim → Bool
+is_named_after other slots claim = is_after other (claim_name slots claim)
+
+-- the connections with a claim on the name that has the slot
+abbrev pub slot_queue : ℕ → List SlotClaim → List ℕ
+slot_queue slot claims = map (λ (c : SlotClaim). c.connection) (filter (is_on_slot slot) claims)

@@ -3,3 +3,4 @@ pub mod WellKnown
 pub mod Queues
 pub mod Registry
 pub mod Kept
+pub mod Plan

@@ -1,6 +1,6 @@
 -- The claims of connections on names (D-Bus Specification, "Message Bus Names", and RequestName and ReleaseName of
 -- "Message Bus Messages"). The queue of a name is the claims on it, in the order of the list.
-use Rattle.std.specs.Prelude.{ℕ, Bool, not, List, [], ◌∷◌, ◌++◌, Option, Some, None, map, filter, find, option_map, is_some, bit_and, ◌==◌, ◌&&◌, ◌||◌, if◌then◌else◌}
+use Rattle.std.specs.Prelude.{ℕ, Bool, not, List, [], ◌∷◌, ◌++◌, Option, Some, None, map, filter, find, option_map, is_some, bit_and, ◌==◌, ◌&&◌, if◌then◌else◌}
 use Rattle.std.specs.List.{list_any}
 use Rattle.std.specs.Str.{bytes_eq}
 use Rattle.owners.specs.declared.answer.NameReply.{NameReply}

@@ -1,6 +1,6 @@
 -- The names with their claims and slots, and each step on them (D-Bus Specification, "Message Bus Names").
-use Rattle.std.specs.Prelude.{◌≡◌, ◌≤◌, ◌+◌, ◌-◌, ℕ, Bool, true, false, List, [], ◌∷◌, Option, Some, None, Result, Ok, Err, map, filter, length, replicate, position, is_none, is_some, is_ok, slice_get, slice_set, option_map, nat_lt, nat_eq, ◌&&◌, ◌==◌, if◌then◌else◌}
-use Rattle.std.specs.List.{list_any, list_all}
+use Rattle.std.specs.Prelude.{◌≡◌, ◌≤◌, ◌+◌, ◌-◌, ℕ, Bool, true, false, not, List, [], ◌∷◌, Option, Some, None, Result, Ok, Err, map, filter, length, replicate, is_none, is_some, is_ok, slice_get, slice_set, nat_lt, nat_eq, ◌&&◌, ◌==◌, if◌then◌else◌}
+use Rattle.std.specs.List.{list_any, list_all, position_from}
 use Rattle.std.specs.Option.{option_eq, ok_or}
 use Rattle.std.specs.Str.{bytes_eq}
 use Rattle.std.specs.Ordering.{nat_cmp, is_lt}
@@ -12,7 +12,7 @@ use Rattle.owners.specs.declared.answer.Change.{Change}
 use Rattle.owners.specs.declared.answer.Named.{Named}
 use Rattle.owners.specs.declared.answer.Dropped.{Dropped}
 use Rattle.owners.specs.declared.answer.Dropped.TheVariants.{Nothing, Waiting, Changed}
-use Rattle.owners.specs.Queues.{Claim, is_on, is_of, owner_of, first_claim, has_claim, without, without_all, requested, request_reply, release_reply}
+use Rattle.owners.specs.Queues.{Claim, is_on, is_of, owner_of, first_claim, without, without_all, requested, request_reply, release_reply}
 
 -- how many names can have a slot
 abbrev pub max_names : ℕ
@@ -38,7 +38,10 @@ is_held_by name (Some holding) = bytes_eq holding.name name
 
 -- the slot that a name has
 abbrev pub slot_of : List ℕ → List (Option Holding) → Option ℕ
-slot_of name slots = position (is_held_by name) slots
+slot_of name slots = position_from (is_held_by name) 0 slots
+
+abbrev pub first_free : List (Option Holding) → Option ℕ
+first_free slots = position_from is_none 0 slots
 
 abbrev pub or_else : Option ℕ → Option ℕ → Option ℕ
 or_else (Some n) other = Some n
@@ -46,7 +49,7 @@ or_else None other = other
 
 -- the slot that a name has, or gets when it needs one: the lowest free one
 abbrev pub slot_next : List ℕ → List (Option Holding) → Option ℕ
-slot_next name slots = or_else (slot_of name slots) (position is_none slots)
+slot_next name slots = or_else (slot_of name slots) (first_free slots)
 
 abbrev pub rules_at : Option (Option Holding) → ℕ
 rules_at (Some (Some holding)) = holding.rules
@@ -69,12 +72,16 @@ abbrev pub with_rules : List ℕ → ℕ → List (Option Holding) → List (Opt
 with_rules name rules slots = put_at (slot_next name slots) name rules slots
 
 -- a name keeps its slot while a claim on it or a rule with it as sender is there
+abbrev pub is_unused : Bool → Option Holding → Bool
+is_unused claimed None = false
+is_unused claimed (Some holding) = holding.rules == 0 && not claimed
+
+abbrev pub is_claimed : List Claim → Option Holding → Bool
+is_claimed claims None = false
+is_claimed claims (Some holding) = list_any (is_on holding.name) claims
+
 abbrev pub kept : List Claim → Option Holding → Option Holding
-kept claims None = None
-kept claims (Some holding) =
-    if nat_lt 0 holding.rules then Some holding
-    else if list_any (is_on holding.name) claims then Some holding
-    else None
+kept claims slot = if is_unused (is_claimed claims slot) slot then None else slot
 
 -- the names with these claims left, where some are gone
 abbrev pub settled : List Claim → List (Option Holding) → Registry

@@ -1,14 +1,21 @@
 // The names with their claims and slots.
 
+ghost use Rattle.std.specs.Prelude.{◌≡◌, None, replicate, IfOk};
+
+use crate::answer::{Dropped, Named};
+use crate::claim::{SlotClaim, connection_of, first_on, remove, remove_all};
+use crate::error::ClaimError;
+use crate::holding::{Holding, hold, known_slot, let_go, rules_at, slot_next, slot_of};
+use crate::least::{copy_of, least_after, least_of};
+use crate::marks::{claimed_slots, owned_slots};
+use crate::plan::plan_of;
+use crate::queue::Queue;
+use crate::release::{dropped_by, release_answer};
+use crate::step::do_step;
+use crate::well_known::WellKnown;
 use std::alloc::{AllocError, Global};
 use std::marker::Model;
 use summary::Slots;
-
-use crate::answer::{Change, Dropped, NameReply, Named};
-use crate::claim::SlotClaim;
-use crate::error::ClaimError;
-use crate::holding::Holding;
-use crate::well_known::WellKnown;
 
 /// How many names can have a slot.
 pub const MAX_NAMES: usize = 1024;
@@ -27,40 +34,63 @@ pub struct Claims {
 }
 
 impl Model for Claims {
-    ghost use Rattle.std.specs.Prelude.{◌≡◌, ◌≤◌, true, vec_capacity};
-    ghost use Rattle.owners.specs.Registry.{Registry, IsRegistry};
+    ghost use Rattle.std.specs.Prelude.{◌≤◌, vec_capacity};
+    ghost use Rattle.owners.specs.Registry.{Registry};
 
     ghost Value = { Registry };
 
-    ghost use Rattle.owners.specs.Kept.{registry, are_held};
+    ghost use Rattle.owners.specs.Kept.{registry, IsKept};
 
     ghost view = { λ c. registry c.claims.items c.slots.items };
 
-    ghost invariant = { λ c. IsRegistry (registry c.claims.items c.slots.items)
-        × (are_held c.claims.items c.slots.items ≡ true)
-        × (4096 ≤ vec_capacity c.claims) };
+    ghost invariant = { λ c. IsKept c.claims.items c.slots.items × (4096 ≤ vec_capacity c.claims) };
+}
+
+/// As many free slots as there can be names.
+fn free_slots(alloc: Global) -> Result<Vec<Option<Holding>>, AllocError>
+    ensures { IfOk result (λ slots. slots.items ≡ replicate 1024 None) }
+{
+    let mut slots = Vec::with_capacity(alloc, MAX_NAMES)?;
+    for _place in 0..MAX_NAMES {
+        slots.push(None)?;
+    }
+    Ok(slots)
 }
 
 impl Claims {
     ghost use Rattle.std.specs.Prelude.{◌≡◌, ◌<◌, ◌+◌, ℕ, List, Some, option_map, IfOk};
     ghost use Rattle.summary.specs.Sets.{has_slot, IsSet};
     ghost use Rattle.owners.specs.Queues.{owner_of, queue_of};
-    ghost use Rattle.owners.specs.Registry.{IsRegistry, opening, slot_of, slot_next, rules_of, request_answer, after_request, release_answer, after_release, drop_one_answer, after_drop_one, after_drop_all, after_slot_for, after_slot_free, slot_for_answer, is_owned_slot, next_name};
+    ghost use Rattle.owners.specs.Registry.{IsRegistry, opening, slot_of, slot_next, rules_of, request_answer, after_request, release_answer, after_release, least_of, drop_one_answer, after_drop_one, after_drop_all, after_slot_for, after_slot_free, slot_for_answer, is_owned_slot, next_name};
 
     /// No claims and no names.
     pub fn new(alloc: Global) -> Result<Claims, AllocError>
         ensures opening { IfOk result (λ names. names ≡ opening) }
         ensures registry { IfOk result (λ names. IsRegistry names) }
     {
-        unreachable!()
+        let claims = Vec::with_capacity(alloc, MAX_CLAIMS)?;
+        let slots = free_slots(alloc)?;
+        Ok(Claims { claims, slots })
     }
 
     /// What `request` would answer.
-    pub fn request_reply(&self, name: &WellKnown, connection: u64, flags: u32) -> Result<Named, ClaimError>
+    pub fn request_reply(
+        &self,
+        name: &WellKnown,
+        connection: u64,
+        flags: u32,
+    ) -> Result<Named, ClaimError>
         ensures answer { result ≡ request_answer name.now connection flags self.now }
         ensures registry { IsRegistry self.now }
     {
-        unreachable!()
+        let plan = plan_of(
+            self.claims.as_slice(),
+            self.slots.as_slice(),
+            name,
+            connection,
+            flags,
+        )?;
+        Ok(plan.named)
     }
 
     /// A connection asks for a name (RequestName). After an error nothing has changed.
@@ -69,12 +99,32 @@ impl Claims {
     ///
     /// NamesFull where the name has no slot and none is free, then QueueFull where there would be more than
     /// 4,096 claims.
-    pub fn request(&mut self, name: &WellKnown, connection: u64, flags: u32) -> Result<Named, ClaimError>
+    pub fn request(
+        &mut self,
+        name: &WellKnown,
+        connection: u64,
+        flags: u32,
+    ) -> Result<Named, ClaimError>
         ensures answer { result ≡ request_answer name.now connection flags self.old }
         ensures after { self.new ≡ after_request name.now connection flags self.old }
         ensures registry { IsRegistry self.new }
     {
-        unreachable!()
+        let plan = plan_of(
+            self.claims.as_slice(),
+            self.slots.as_slice(),
+            name,
+            connection,
+            flags,
+        )?;
+        let claim = SlotClaim {
+            connection,
+            flags,
+            slot: plan.slot,
+        };
+        let rules = rules_at(self.slots.as_slice(), plan.slot);
+        do_step(&mut self.claims, plan.step, claim);
+        hold(&mut self.slots, plan.slot, name, rules);
+        Ok(plan.named)
     }
 
     /// What `release` would answer.
@@ -82,7 +132,8 @@ impl Claims {
         ensures answer { result ≡ release_answer name.now connection self.now }
         ensures registry { IsRegistry self.now }
     {
-        unreachable!()
+        let slot = known_slot(self.slots.as_slice(), name.as_str());
+        release_answer(self.claims.as_slice(), slot, name, connection)
     }
 
     /// A connection gives up its claim on a name, whether it owns it or waits for it (ReleaseName).
@@ -91,7 +142,20 @@ impl Claims {
         ensures after { self.new ≡ after_release name.now connection self.old }
         ensures registry { IsRegistry self.new }
     {
-        unreachable!()
+        let slot = known_slot(self.slots.as_slice(), name.as_str());
+        let named = release_answer(self.claims.as_slice(), slot, name, connection);
+        remove(&mut self.claims, slot, connection);
+        let claimed = claimed_slots(self.claims.as_slice());
+        let_go(&mut self.slots, &claimed);
+        named
+    }
+
+    /// The least of the names that a connection has a claim on.
+    fn least_of(&self, connection: u64) -> Option<WellKnown>
+        ensures name { result ≡ least_of connection self.now.claims }
+        ensures registry { IsRegistry self.now }
+    {
+        least_of(self.claims.as_slice(), self.slots.as_slice(), connection)
     }
 
     /// What `drop_one` would answer.
@@ -99,7 +163,10 @@ impl Claims {
         ensures answer { result ≡ drop_one_answer connection self.now }
         ensures registry { IsRegistry self.now }
     {
-        unreachable!()
+        match self.least_of(connection) {
+            Some(name) => dropped_by(self.release_reply(&name, connection)),
+            None => Dropped::Nothing,
+        }
     }
 
     /// A connection gives up its claim on the least of its names, in the order of bytes.
@@ -108,7 +175,10 @@ impl Claims {
         ensures after { self.new ≡ after_drop_one connection self.old }
         ensures registry { IsRegistry self.new }
     {
-        unreachable!()
+        let Some(name) = self.least_of(connection) else {
+            return Dropped::Nothing;
+        };
+        dropped_by(self.release(&name, connection))
     }
 
     /// A connection gives up all its claims.
@@ -116,7 +186,9 @@ impl Claims {
         ensures after { self.new ≡ after_drop_all connection self.old }
         ensures registry { IsRegistry self.new }
     {
-        unreachable!()
+        remove_all(&mut self.claims, connection);
+        let claimed = claimed_slots(self.claims.as_slice());
+        let_go(&mut self.slots, &claimed);
     }
 
     /// The primary owner of a name, if it has one.
@@ -124,15 +196,26 @@ impl Claims {
         ensures owner { result ≡ owner_of name.now self.now.claims }
         ensures registry { IsRegistry self.now }
     {
-        unreachable!()
+        let slot = known_slot(self.slots.as_slice(), name);
+        connection_of(first_on(self.claims.as_slice(), slot))
+    }
+
+    /// The connections that own a name or wait for it, in order, the primary owner first.
+    pub fn queue_of(&self, name: &str) -> Queue<'_>
+        ensures queue { result ≡ queue_of name.now self.now.claims }
+        ensures registry { IsRegistry self.now }
+    {
+        let slot = known_slot(self.slots.as_slice(), name);
+        Queue::new(self.claims.as_slice(), slot)
     }
 
     /// The least owned name after another in the order of bytes, or the least of all.
-    pub fn next_name(&self, after: Option<&WellKnown>) -> Option<&WellKnown>
-        ensures name { option_map (λ name. name.now) result ≡ next_name (option_map (λ name. name.now) after.entry) self.now.claims }
+    pub fn next_name(&self, after: Option<&WellKnown>) -> Option<WellKnown>
+        ensures name { result ≡ next_name (option_map (λ name. name.now) after.entry) self.now.claims }
         ensures registry { IsRegistry self.now }
     {
-        unreachable!()
+        let other = copy_of(after);
+        least_after(self.claims.as_slice(), self.slots.as_slice(), &other)
     }
 
     /// The slots of the names that a connection is the primary owner of.
@@ -141,7 +224,7 @@ impl Claims {
         ensures set { IsSet result }
         ensures registry { IsRegistry self.now }
     {
-        unreachable!()
+        owned_slots(self.claims.as_slice(), connection)
     }
 
     /// The slot that a name has.
@@ -149,7 +232,7 @@ impl Claims {
         ensures slot { result ≡ slot_of name.now self.now.slots }
         ensures registry { IsRegistry self.now }
     {
-        unreachable!()
+        slot_of(self.slots.as_slice(), name)
     }
 
     /// The slot that a name has, else the lowest free one; None where all are used.
@@ -157,7 +240,16 @@ impl Claims {
         ensures slot { result ≡ slot_next name.now self.now.slots }
         ensures registry { IsRegistry self.now }
     {
-        unreachable!()
+        slot_next(self.slots.as_slice(), name)
+    }
+
+    /// How many rules have a name as their sender.
+    pub fn rules_of(&self, name: &str) -> u32
+        ensures rules { result ≡ rules_of name.now self.now.slots }
+        ensures registry { IsRegistry self.now }
+    {
+        let slot = known_slot(self.slots.as_slice(), name);
+        rules_at(self.slots.as_slice(), slot)
     }
 
     /// A rule with the name as its sender is added; the name's slot. After an error nothing has changed.
@@ -171,7 +263,12 @@ impl Claims {
         ensures after { self.new ≡ after_slot_for name.now self.old }
         ensures registry { IsRegistry self.new }
     {
-        unreachable!()
+        let Some(slot) = slot_next(self.slots.as_slice(), name.as_str()) else {
+            return Err(ClaimError::NamesFull);
+        };
+        let rules = rules_at(self.slots.as_slice(), slot);
+        hold(&mut self.slots, slot, name, rules + 1);
+        Ok(slot)
     }
 
     /// A rule with the name as its sender is removed.
@@ -180,6 +277,10 @@ impl Claims {
         ensures after { self.new ≡ after_slot_free name.now self.old }
         ensures registry { IsRegistry self.new }
     {
-        unreachable!()
+        let slot = known_slot(self.slots.as_slice(), name.as_str());
+        let rules = rules_at(self.slots.as_slice(), slot);
+        hold(&mut self.slots, slot, name, rules - 1);
+        let claimed = claimed_slots(self.claims.as_slice());
+        let_go(&mut self.slots, &claimed);
     }
 }

@@ -1,10 +1,133 @@
-// The names that have slots.
+// The slots of names.
+
+ghost use Rattle.std.specs.Prelude.{◌≡◌, ◌+◌, ◌≤◌, ◌<◌, ℕ, Some, option_map, length, slice_get, slice_set, unwrap_or, true};
+ghost use Rattle.summary.specs.Sets.{has_slot};
+ghost use Rattle.owners.specs.Registry.{is_unused, is_held_by, slot_of, slot_next, first_free, rules_at};
+ghost use Rattle.owners.specs.Kept.{kept_at, is_name, name_at};
 
 use crate::well_known::WellKnown;
+use summary::Slots;
+
+/// A number that is no slot's.
+const NO_SLOT: u16 = u16::MAX;
 
 /// A name that has a slot, with the number of rules whose sender it is.
 #[derive(Drop)]
 pub struct Holding {
     pub name: WellKnown,
     pub rules: u32,
+}
+
+fn is_held_by(slot: &Option<Holding>, name: &str) -> bool
+    ensures { result ≡ is_held_by name.now slot.now }
+{
+    match slot {
+        Some(holding) => holding.name.as_str() == name,
+        None => false,
+    }
+}
+
+/// The slot that a name has.
+pub(crate) fn slot_of(slots: &[Option<Holding>], name: &str) -> Option<u16>
+    requires { length slots.now ≤ 1024 }
+    ensures { result ≡ slot_of name.now slots.now }
+{
+    let mut place = 0;
+    for slot in slots {
+        if is_held_by(slot, name) {
+            return Some(place);
+        }
+        place += 1;
+    }
+    None
+}
+
+/// The lowest free slot.
+fn first_free(slots: &[Option<Holding>]) -> Option<u16>
+    requires { length slots.now ≤ 1024 }
+    ensures { result ≡ first_free slots.now }
+{
+    let mut place = 0;
+    for slot in slots {
+        if slot.is_none() {
+            return Some(place);
+        }
+        place += 1;
+    }
+    None
+}
+
+/// The slot that a name has, else the lowest free one.
+pub(crate) fn slot_next(slots: &[Option<Holding>], name: &str) -> Option<u16>
+    requires { length slots.now ≤ 1024 }
+    ensures { result ≡ slot_next name.now slots.now }
+{
+    match slot_of(slots, name) {
+        Some(slot) => Some(slot),
+        None => first_free(slots),
+    }
+}
+
+/// The slot that a name has, or a number that is no slot's.
+pub(crate) fn known_slot(slots: &[Option<Holding>], name: &str) -> u16
+    requires { length slots.now ≤ 1024 }
+    ensures { result ≡ unwrap_or (slot_of name.now slots.now) NO_SLOT }
+{
+    slot_of(slots, name).unwrap_or(NO_SLOT)
+}
+
+/// The name that has a slot.
+pub(crate) fn name_at(slots: &[Option<Holding>], slot: u16) -> &WellKnown
+    requires { is_name (slice_get slots.now slot) ≡ true }
+    ensures { result.now ≡ name_at (slice_get slots.now slot) }
+{
+    match slots.get(slot as usize) {
+        Some(Some(holding)) => &holding.name,
+        _ => unreachable!(),
+    }
+}
+
+/// How many rules have the name of a slot as their sender.
+pub(crate) fn rules_at(slots: &[Option<Holding>], slot: u16) -> u32
+    ensures { result ≡ rules_at (slice_get slots.now slot) }
+{
+    match slots.get(slot as usize) {
+        Some(Some(holding)) => holding.rules,
+        _ => 0,
+    }
+}
+
+/// Gives a slot to a name that has this number of rules.
+pub(crate) fn hold(slots: &mut Vec<Option<Holding>>, slot: u16, name: &WellKnown, rules: u32)
+    requires { slot < length slots.old.items }
+    ensures slots { slots.new.items ≡ slice_set slots.old.items slot (Some (record { name = name.now; rules = rules })) }
+    ensures size { length slots.new.items ≡ length slots.old.items }
+{
+    slots[slot as usize] = Some(Holding {
+        name: name.copy(),
+        rules,
+    });
+}
+
+/// Whether a slot is let go where its name is claimed or not.
+fn is_unused(slot: &Option<Holding>, claimed: bool) -> bool
+    ensures { result ≡ is_unused claimed slot.now }
+{
+    match slot {
+        Some(holding) => holding.rules == 0 && !claimed,
+        None => false,
+    }
+}
+
+/// Lets go each slot whose name has neither a claim nor a rule.
+pub(crate) fn let_go(slots: &mut Vec<Option<Holding>>, claimed: &Slots)
+    requires { length slots.old.items ≤ 1024 }
+    ensures size { length slots.new.items ≡ length slots.old.items }
+    ensures kept { (slot : ℕ) → slice_get slots.new.items slot ≡ kept_at (has_slot claimed.now slot) (slice_get slots.old.items slot) }
+{
+    for i in 0..slots.len() {
+        if is_unused(&slots[i], claimed.contains(i as u16)) {
+            slots[i] = None;
+        }
+    }
 }

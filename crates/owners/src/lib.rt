@@ -8,9 +8,16 @@ mod claim;
 mod claims;
 mod error;
 mod holding;
+mod least;
+mod marks;
+mod plan;
+mod queue;
+mod release;
+mod step;
 mod well_known;
 
 pub use answer::{Change, Dropped, NameReply, Named};
 pub use claims::{Claims, MAX_CLAIMS, MAX_NAMES, MAX_RULES};
 pub use error::ClaimError;
+pub use queue::Queue;
 pub use well_known::WellKnown;

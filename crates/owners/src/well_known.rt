@@ -7,13 +7,12 @@ ghost use Rattle.std.specs.Cmp.{partial_equiv_from_equiv};
 ghost use Rattle.std.specs.Prelude.{nat_eq};
 ghost use Rattle.owners.specs.WellKnown.{name_in, is_unique};
 
+use crate::error::ClaimError;
 use arrayvec::ArrayString;
 use signature::check_bus_name;
 use std::cmp::Ordering;
 use std::fmt;
 use std::marker::Model;
-
-use crate::error::ClaimError;
 
 /// The longest bus name, in bytes.
 const MAX_NAME_LEN: usize = 255;

@@ -1,8 +1,8 @@
 -- How writes to links change one list.
-use Rattle.std.proofs.Common.{◌≡◌, ◌≢◌, ℕ, zero, suc, ◌<◌, ◌≤◌, Bool, true, false, not, cond, List, [], ◌∷◌, length, get_or, refl, sym, ap, ◌∙◌, subst, eqb, ltb, ◌⊎◌, inl, inr, arith, get_or-set_same, get_or-set_other}
+use Rattle.std.proofs.Common.{◌≡◌, ◌≢◌, ℕ, zero, suc, ◌<◌, ◌≤◌, true, false, cond, List, [], ◌∷◌, length, get_or, refl, sym, ap, ◌∙◌, subst, eqb, ltb, ◌⊎◌, inl, inr, arith, get_or-set_same, get_or-set_other}
 use Rattle.std.proofs.Math.ListN.{set}
 use Rattle.std.proofs.lemmas.List.{length-set}
-use Rattle.std.proofs.lemmas.Bool.{eqb-true, eqb-false, ne_eqb, eq-eqb, lt-ltb, le-ltb, or_cases, cond-true, cond-false, cases_eq, false≢true}
+use Rattle.std.proofs.lemmas.Bool.{eqb-true, ne_eqb, eq-eqb, lt-ltb, le-ltb, or_cases, cond-true, cond-false, cases_eq, false≢true}
 use Rattle.place_lists.specs.PlaceLists.{has_place, without, AreOnce}
 use Rattle.place_lists.specs.Links.{end_link, walk, IsLinked}
 use Rattle.place_lists.proofs.Places.{Out, Out-from_test, Out-differs, has_place-here, has_place-later, without-cons, without-here}
@@ -22,8 +22,8 @@ pub linked-below : (next prev : List ℕ) (before here : ℕ) (xs : List ℕ) �
 linked-below next prev before here [] h place stands = absurd (false≢true stands)
 linked-below next prev before here (x ∷ xs) h place stands =
     elim (or_cases (eqb place x) (has_place place xs) stands) [
-      inl first ↦ omega (arith, h.1, eqb-true place x first)
-    | inr later ↦ linked-below next prev x (get_or next x end_link) xs h.3 place later
+      | inl first ↦ omega (arith, h.1, eqb-true place x first)
+      | inr later ↦ linked-below next prev x (get_or next x end_link) xs h.3 place later
     ]
 
 -- what is no place stands in no list
@@ -39,9 +39,9 @@ linked-set_next next prev before here q v (x ∷ xs) out h = (
   omega (arith, length-set next q v, h.1),
   h.2,
   subst
-  (λ (y : ℕ). IsLinked (set next q v) prev x y xs)
-  (sym (get_or-set_other next q x v end_link (λ e. out.0 (sym e))))
-  (linked-set_next next prev x (get_or next x end_link) q v xs out.1 h.3),
+      (λ (y : ℕ). IsLinked (set next q v) prev x y xs)
+      (sym (get_or-set_other next q x v end_link (λ e. out.0 (sym e))))
+      (linked-set_next next prev x (get_or next x end_link) q v xs out.1 h.3),
 )
 
 pub linked-set_prev : (next prev : List ℕ) (before here q v : ℕ) (xs : List ℕ) → Out q xs → IsLinked next prev before here xs → IsLinked next (set prev q v) before here xs
@@ -75,9 +75,9 @@ linked-push next prev here place xs same low once out h = (
   omega (arith, length-set next place here),
   get_or-set_other (set prev place end_link) here place place end_link (differs_from_first next prev end_link here place xs low out h) ∙ get_or-set_same prev place end_link end_link (omega arith),
   subst
-  (λ (k : ℕ). IsLinked (set next place here) (set (set prev place end_link) here place) place k xs)
-  (sym (get_or-set_same next place here end_link low))
-  (relinked (set next place here) (set prev place end_link) end_link here place xs (length-set prev place end_link ∙ same ∙ sym (length-set next place here)) once (linked-set_prev (set next place here) prev end_link here place end_link xs out (linked-set_next next prev end_link here place here xs out h))),
+      (λ (k : ℕ). IsLinked (set next place here) (set (set prev place end_link) here place) place k xs)
+      (sym (get_or-set_same next place here end_link low))
+      (relinked (set next place here) (set prev place end_link) end_link here place xs (length-set prev place end_link ∙ same ∙ sym (length-set next place here)) once (linked-set_prev (set next place here) prev end_link here place end_link xs out (linked-set_next next prev end_link here place here xs out h))),
 )
 
 first_prev : (next prev : List ℕ) (before here place : ℕ) (xs : List ℕ) → IsLinked next prev before here xs → has_place place xs ≡ true → here ≡ place → get_or prev place end_link ≡ before
@@ -88,10 +88,10 @@ later_prev : (next prev : List ℕ) (before here place : ℕ) (xs : List ℕ) �
 later_prev next prev before here place [] h stands ne = absurd (false≢true stands)
 later_prev next prev before here place (x ∷ xs) h stands ne =
     elim (or_cases (eqb place x) (has_place place xs) stands) [
-      inl first ↦ absurd (ne (h.0 ∙ sym (eqb-true place x first)))
-    | inr later ↦ (elim (cases_eq (get_or next x end_link) place) [
-        inl e ↦ has_place-here (get_or prev place end_link) x xs (first_prev next prev x (get_or next x end_link) place xs h.3 later e)
-      | inr other ↦ has_place-later (get_or prev place end_link) x xs (later_prev next prev x (get_or next x end_link) place xs h.3 later other)
+      | inl first ↦ absurd (ne (h.0 ∙ sym (eqb-true place x first)))
+      | inr later ↦ (elim (cases_eq (get_or next x end_link) place) [
+        | inl e ↦ has_place-here (get_or prev place end_link) x xs (first_prev next prev x (get_or next x end_link) place xs h.3 later e)
+        | inr other ↦ has_place-later (get_or prev place end_link) x xs (later_prev next prev x (get_or next x end_link) place xs h.3 later other)
       ])
     ]
 
@@ -100,10 +100,10 @@ next_within : (next prev : List ℕ) (before here place : ℕ) (xs : List ℕ) �
 next_within next prev before here place [] h stands = absurd (false≢true stands)
 next_within next prev before here place (x ∷ xs) h stands =
     elim (or_cases (eqb place x) (has_place place xs) stands) [
-      inl first ↦ subst (λ (k : ℕ). (has_place (get_or next k end_link) (x ∷ xs) ≡ true) ⊎ (length next ≤ get_or next k end_link)) (sym (eqb-true place x first)) (head_within xs h.3)
-    | inr later ↦ (elim (next_within next prev x (get_or next x end_link) place xs h.3 later) [
-        inl found ↦ inl (has_place-later (get_or next place end_link) x xs found)
-      | inr none ↦ inr none
+      | inl first ↦ subst (λ (k : ℕ). (has_place (get_or next k end_link) (x ∷ xs) ≡ true) ⊎ (length next ≤ get_or next k end_link)) (sym (eqb-true place x first)) (head_within xs h.3)
+      | inr later ↦ (elim (next_within next prev x (get_or next x end_link) place xs h.3 later) [
+        | inl found ↦ inl (has_place-later (get_or next place end_link) x xs found)
+        | inr none ↦ inr none
       ])
     ]
   where
@@ -131,10 +131,10 @@ removed_later next prev before here place x xs h out ne later rest =
     let a : ℕ = get_or next x end_link in
     let apart : x ≢ q = elim (next_within next prev x a place xs h.3 later) [ inl found ↦ Out-differs x q xs out found | inr none ↦ (λ e. omega (arith, h.1)) ] in
     let after : get_or (set next p q) x end_link ≡ cond (eqb a place) q a =
-        elim (cases_eq a place) [
-          inl e ↦ ap (λ (k : ℕ). get_or (set next k q) x end_link) (first_prev next prev x a place xs h.3 later e) ∙ get_or-set_same next x q end_link h.1 ∙ sym (cond-true (eqb a place) q a (eq-eqb a place e))
-        | inr other ↦ get_or-set_other next p x q end_link (Out-differs x p xs out (later_prev next prev x a place xs h.3 later other)) ∙ sym (cond-false (eqb a place) q a (ne_eqb a place other))
-        ] in
+    elim (cases_eq a place) [
+      | inl e ↦ ap (λ (k : ℕ). get_or (set next k q) x end_link) (first_prev next prev x a place xs h.3 later e) ∙ get_or-set_same next x q end_link h.1 ∙ sym (cond-true (eqb a place) q a (eq-eqb a place e))
+      | inr other ↦ get_or-set_other next p x q end_link (Out-differs x p xs out (later_prev next prev x a place xs h.3 later other)) ∙ sym (cond-false (eqb a place) q a (ne_eqb a place other))
+    ] in
     let linked : IsLinked (set next p q) (set prev q p) before here (x ∷ without place xs) = (
       h.0,
       omega (arith, length-set next p q, h.1),
@@ -150,13 +150,13 @@ pub linked-remove : (next prev : List ℕ) (before here place : ℕ) (xs : List 
 linked-remove next prev before here place [] same h once out stands = absurd (false≢true stands)
 linked-remove next prev before here place (x ∷ xs) same h once out stands =
     elim (cases_eq place x) [
-      inl e ↦ subst
-      (λ (k : ℕ). IsLinked (set next (get_or prev k end_link) (get_or next k end_link)) (set prev (get_or next k end_link) (get_or prev k end_link)) before (cond (eqb here k) (get_or next k end_link) here) (without k (x ∷ xs)))
-      (sym e)
-      (removed_first next prev before here x xs same h once out)
-    | inr ne ↦ (elim (or_cases (eqb place x) (has_place place xs) stands) [
-        inl first ↦ absurd (ne (eqb-true place x first))
-      | inr later ↦ removed_later next prev before here place x xs h (Out-from_test x xs once.0) ne later (linked-remove next prev x (get_or next x end_link) place xs same h.3 once.1 (Out-from_test x xs once.0) later)
+      | inl e ↦ subst
+          (λ (k : ℕ). IsLinked (set next (get_or prev k end_link) (get_or next k end_link)) (set prev (get_or next k end_link) (get_or prev k end_link)) before (cond (eqb here k) (get_or next k end_link) here) (without k (x ∷ xs)))
+          (sym e)
+          (removed_first next prev before here x xs same h once out)
+      | inr ne ↦ (elim (or_cases (eqb place x) (has_place place xs) stands) [
+        | inl first ↦ absurd (ne (eqb-true place x first))
+        | inr later ↦ removed_later next prev before here place x xs h (Out-from_test x xs once.0) ne later (linked-remove next prev x (get_or next x end_link) place xs same h.3 once.1 (Out-from_test x xs once.0) later)
       ])
     ]
 
@@ -164,13 +164,13 @@ linked-remove next prev before here place (x ∷ xs) same h once out stands =
 pub prev_apart : (next prev : List ℕ) (here place : ℕ) (xs ys : List ℕ) → length next < end_link → IsLinked next prev end_link here xs → has_place place xs ≡ true → (before : ℕ) (there : ℕ) → IsLinked next prev before there ys → ((k : ℕ) → has_place k xs ≡ true → has_place k ys ≡ false) → Out (get_or prev place end_link) ys
 prev_apart next prev here place xs ys few h stands before there other apart =
     elim (cases_eq here place) [
-      inl e ↦ Out-above next prev before there (get_or prev place end_link) ys other (omega (arith, first_prev next prev end_link here place xs h stands e))
-    | inr ne ↦ Out-from_test (get_or prev place end_link) ys (apart (get_or prev place end_link) (later_prev next prev end_link here place xs h stands ne))
+      | inl e ↦ Out-above next prev before there (get_or prev place end_link) ys other (omega (arith, first_prev next prev end_link here place xs h stands e))
+      | inr ne ↦ Out-from_test (get_or prev place end_link) ys (apart (get_or prev place end_link) (later_prev next prev end_link here place xs h stands ne))
     ]
 
 pub next_apart : (next prev : List ℕ) (here place : ℕ) (xs ys : List ℕ) → IsLinked next prev end_link here xs → has_place place xs ≡ true → (before : ℕ) (there : ℕ) → IsLinked next prev before there ys → ((k : ℕ) → has_place k xs ≡ true → has_place k ys ≡ false) → Out (get_or next place end_link) ys
 next_apart next prev here place xs ys h stands before there other apart =
     elim (next_within next prev end_link here place xs h stands) [
-      inl found ↦ Out-from_test (get_or next place end_link) ys (apart (get_or next place end_link) found)
-    | inr none ↦ Out-above next prev before there (get_or next place end_link) ys other none
+      | inl found ↦ Out-from_test (get_or next place end_link) ys (apart (get_or next place end_link) found)
+      | inr none ↦ Out-above next prev before there (get_or next place end_link) ys other none
     ]

@@ -1,7 +1,7 @@
 -- How writes to links change the lists.
-use Rattle.std.proofs.Common.{◌≡◌, ◌≢◌, ℕ, zero, suc, ◌<◌, ◌≤◌, Bool, true, false, cond, List, [], ◌∷◌, map, length, get_or, refl, sym, ap, ◌∙◌, subst, eqb, ltb, ◌⊎◌, inl, inr, arith, get_or-set_same, get_or-set_other}
+use Rattle.std.proofs.Common.{◌≡◌, ◌≢◌, ℕ, zero, suc, ◌<◌, ◌≤◌, Bool, true, false, cond, List, [], ◌∷◌, map, length, get_or, refl, sym, ap, ◌∙◌, subst, eqb, ltb, inl, inr, arith, get_or-set_same, get_or-set_other}
 use Rattle.std.proofs.Math.ListN.{set}
-use Rattle.std.proofs.lemmas.List.{length-set, length-map, get_or-map, same_lists, get_or_default, length-replicate, get_or-replicate}
+use Rattle.std.proofs.lemmas.List.{length-set, length-map, get_or-map, same_lists, length-replicate, get_or-replicate}
 use Rattle.std.proofs.lemmas.Bool.{eqb-true, ne_eqb, eq-eqb, or_cases, cond-true, cond-false, cases_eq, false≢true, cases_Bool, cases_lt, lt-ltb, le-ltb, both_ways}
 use Rattle.std.proofs.lemmas.Map.Steps.{length-le_from_distinct_below}
 use Rattle.std.specs.Prelude.{replicate}
@@ -59,32 +59,32 @@ module _ (heads next prev : List ℕ) (places_of : ℕ → List ℕ) (h : AreLin
   linked_at : (i : ℕ) → i < length heads → IsLinked next' prev' end_link (get_or (set heads list head) i end_link) (changed_at list xs places_of i)
   linked_at i low =
       elim (cases_eq list i) [
-        inl e ↦ subst (λ (ys : List ℕ). IsLinked next' prev' end_link (get_or (set heads list head) i end_link) ys) (sym (at_list i e)) (subst (λ (k : ℕ). IsLinked next' prev' end_link k xs) (sym (ap (λ (k : ℕ). get_or (set heads list head) k end_link) (sym e) ∙ get_or-set_same heads list head end_link c.within)) c.changed)
-      | inr ne ↦ subst (λ (ys : List ℕ). IsLinked next' prev' end_link (get_or (set heads list head) i end_link) ys) (sym (at_other i ne)) (subst (λ (k : ℕ). IsLinked next' prev' end_link k (places_of i)) (sym (get_or-set_other heads list i head end_link (λ e. ne (sym e)))) (c.others i low ne))
+        | inl e ↦ subst (λ (ys : List ℕ). IsLinked next' prev' end_link (get_or (set heads list head) i end_link) ys) (sym (at_list i e)) (subst (λ (k : ℕ). IsLinked next' prev' end_link k xs) (sym (ap (λ (k : ℕ). get_or (set heads list head) k end_link) (sym e) ∙ get_or-set_same heads list head end_link c.within)) c.changed)
+        | inr ne ↦ subst (λ (ys : List ℕ). IsLinked next' prev' end_link (get_or (set heads list head) i end_link) ys) (sym (at_other i ne)) (subst (λ (k : ℕ). IsLinked next' prev' end_link k (places_of i)) (sym (get_or-set_other heads list i head end_link (λ e. ne (sym e)))) (c.others i low ne))
       ]
 
   once_at : (i : ℕ) → i < length heads → AreOnce (changed_at list xs places_of i)
   once_at i low =
       elim (cases_eq list i) [
-        inl e ↦ subst (λ (ys : List ℕ). AreOnce ys) (sym (at_list i e)) c.once
-      | inr ne ↦ subst (λ (ys : List ℕ). AreOnce ys) (sym (at_other i ne)) (h.once i low)
+        | inl e ↦ subst (λ (ys : List ℕ). AreOnce ys) (sym (at_list i e)) c.once
+        | inr ne ↦ subst (λ (ys : List ℕ). AreOnce ys) (sym (at_other i ne)) (h.once i low)
       ]
 
   -- a place of another list isn't among those of the changed one
   apart_back : (i place : ℕ) → i < length heads → list ≢ i → has_place place (places_of i) ≡ true → has_place place xs ≡ false
   apart_back i place low ne stands =
       elim (cases_Bool (has_place place xs)) [
-        inl both ↦ absurd (both_ways (has_place place (places_of i)) (c.apart i place low ne both) stands)
-      | inr out ↦ out
+        | inl both ↦ absurd (both_ways (has_place place (places_of i)) (c.apart i place low ne both) stands)
+        | inr out ↦ out
       ]
 
   apart_at : (i j place : ℕ) → i < length heads → j < length heads → i ≢ j → has_place place (changed_at list xs places_of i) ≡ true → has_place place (changed_at list xs places_of j) ≡ false
   apart_at i j place low under ne stands =
       elim (cases_eq list i) [
-        inl e ↦ (let other : list ≢ j = λ f. ne (sym e ∙ f) in ap (has_place place) (at_other j other) ∙ c.apart j place under other (sym (ap (has_place place) (at_list i e)) ∙ stands))
-      | inr off ↦ (let here = sym (ap (has_place place) (at_other i off)) ∙ stands in elim (cases_eq list j) [
-          inl e ↦ ap (has_place place) (at_list j e) ∙ apart_back i place low off here
-        | inr far ↦ ap (has_place place) (at_other j far) ∙ h.apart i j place low under ne here
+        | inl e ↦ (let other : list ≢ j = λ f. ne (sym e ∙ f) in ap (has_place place) (at_other j other) ∙ c.apart j place under other (sym (ap (has_place place) (at_list i e)) ∙ stands))
+        | inr off ↦ (let here = sym (ap (has_place place) (at_other i off)) ∙ stands in elim (cases_eq list j) [
+          | inl e ↦ ap (has_place place) (at_list j e) ∙ apart_back i place low off here
+          | inr far ↦ ap (has_place place) (at_other j far) ∙ h.apart i j place low under ne here
         ])
       ]
 
@@ -98,9 +98,9 @@ module _ (heads next prev : List ℕ) (places_of : ℕ → List ℕ) (h : AreLin
   }
 
 -- what is known after a change, of the lists that the walks give
-pub record Changed (heads next list : List ℕ) (at : ℕ) (heads' next' prev' : List ℕ) : Type 0 where
+pub record Changed (heads next ys : List ℕ) (at : ℕ) (heads' next' prev' : List ℕ) : Type 0 where
   pub linked : AreLinked heads' next' prev' (list_of heads' next')
-  pub view : map (list_from next') heads' ≡ set (map (list_from next) heads) at list
+  pub view : map (list_from next') heads' ≡ set (map (list_from next) heads) at ys
   pub as_many : length next' ≡ length next
 
 changed_lists : (heads next prev : List ℕ) (h : AreLinked heads next prev (list_of heads next)) (list head : ℕ) (xs next' prev' : List ℕ) → Changes heads next prev (list_of heads next) list head xs next' prev' → Changed heads next xs list (set heads list head) next' prev'
@@ -111,18 +111,18 @@ changed_lists heads next prev h list head xs next' prev' c =
     record {
       linked = AreLinked-walks heads' next' prev' (changed_at list xs (list_of heads next)) after;
       view = same_lists
-      (map (list_from next') heads')
-      (set (map (list_from next) heads) list xs)
-      (length-map heads' (list_from next') ∙ long ∙ sym (length-set (map (list_from next) heads) list xs ∙ length-map heads (list_from next)))
-      (λ i d low.
-      let under : i < length heads = omega (arith, length-map heads' (list_from next'), long, low) in
-      let under' : i < length heads' = omega (arith, long, under) in
-      get_or-map (list_from next') heads' i end_link d under'
-      ∙ list_of-linked heads' next' prev' (changed_at list xs (list_of heads next)) after i under'
-      ∙ elim (cases_eq list i) [
-          inl e ↦ cond-true (eqb list i) xs (list_of heads next i) (eq-eqb list i e) ∙ sym (ap (λ (k : ℕ). get_or (set (map (list_from next) heads) list xs) k d) (sym e) ∙ get_or-set_same (map (list_from next) heads) list xs d (omega (arith, length-map heads (list_from next), c.within)))
-        | inr ne ↦ cond-false (eqb list i) xs (list_of heads next i) (ne_eqb list i ne) ∙ sym (get_or-set_other (map (list_from next) heads) list i xs d (λ e. ne (sym e)) ∙ get_or-map (list_from next) heads i end_link d under)
-        ]);
+          (map (list_from next') heads')
+          (set (map (list_from next) heads) list xs)
+          (length-map heads' (list_from next') ∙ long ∙ sym (length-set (map (list_from next) heads) list xs ∙ length-map heads (list_from next)))
+          (λ i d low.
+          let under : i < length heads = omega (arith, length-map heads' (list_from next'), long, low) in
+          let under' : i < length heads' = omega (arith, long, under) in
+          get_or-map (list_from next') heads' i end_link d under'
+          ∙ list_of-linked heads' next' prev' (changed_at list xs (list_of heads next)) after i under'
+          ∙ elim (cases_eq list i) [
+            | inl e ↦ cond-true (eqb list i) xs (list_of heads next i) (eq-eqb list i e) ∙ sym (ap (λ (k : ℕ). get_or (set (map (list_from next) heads) list xs) k d) (sym e) ∙ get_or-set_same (map (list_from next) heads) list xs d (omega (arith, length-map heads (list_from next), c.within)))
+            | inr ne ↦ cond-false (eqb list i) xs (list_of heads next i) (ne_eqb list i ne) ∙ sym (get_or-set_other (map (list_from next) heads) list i xs d (λ e. ne (sym e)) ∙ get_or-map (list_from next) heads i end_link d under)
+          ]);
       as_many = c.as_long;
     }
 
@@ -150,8 +150,8 @@ pushed heads next prev list place h within low free =
       once = (out list within, h.once list within);
       others = λ i under ne. other_linked i under ne;
       apart = λ i k under ne stands. elim (or_cases (eqb k place) (has_place k xs) stands) [
-        inl e ↦ ap (λ (x : ℕ). has_place x (list_of heads next i)) (eqb-true k place e) ∙ out i under
-      | inr later ↦ h.apart list i k within under ne later
+        | inl e ↦ ap (λ (x : ℕ). has_place x (list_of heads next i)) (eqb-true k place e) ∙ out i under
+        | inr later ↦ h.apart list i k within under ne later
       ];
     } in
     subst (λ (ys : List ℕ). Changed heads next (place ∷ ys) list (set heads list place) next' prev') (sym (places_in-seen heads next list within)) (changed_lists heads next prev h list place (place ∷ xs) next' prev' c)
@@ -192,11 +192,11 @@ removed heads next prev list place h within had =
       changed = linked-remove next prev end_link head place xs h.same (h.linked list within) (h.once list within) (Out-above next prev end_link head end_link xs (h.linked list within) (omega (arith, h.few))) stands;
       once = AreOnce-without place xs (h.once list within);
       others = λ i under ne.
-      let ys : List ℕ = list_of heads next i in
-      let there : ℕ = get_or heads i end_link in
-      let apart = λ (k : ℕ) (s : has_place k xs ≡ true). h.apart list i k within under ne s in
-      linked-set_prev (set next p q) prev end_link there q p ys (next_apart next prev head place xs ys (h.linked list within) stands end_link there (h.linked i under) apart)
-      (linked-set_next next prev end_link there p q ys (prev_apart next prev head place xs ys h.few (h.linked list within) stands end_link there (h.linked i under) apart) (h.linked i under));
+          let ys : List ℕ = list_of heads next i in
+          let there : ℕ = get_or heads i end_link in
+          let apart = λ (k : ℕ) (s : has_place k xs ≡ true). h.apart list i k within under ne s in
+          linked-set_prev (set next p q) prev end_link there q p ys (next_apart next prev head place xs ys (h.linked list within) stands end_link there (h.linked i under) apart)
+          (linked-set_next next prev end_link there p q ys (prev_apart next prev head place xs ys h.few (h.linked list within) stands end_link there (h.linked i under) apart) (h.linked i under));
       apart = λ i k under ne remains. h.apart list i k within under ne (elim (cases_Bool (has_place k xs)) [ inl was ↦ was | inr no_more ↦ absurd (both_ways (has_place k (without place xs)) (has_place-without k place xs no_more) remains) ]);
     } in
     subst (λ (ys : List ℕ). Changed heads next (without place ys) list (set heads list (cond (eqb head place) q head)) (set next p q) (set prev q p)) (sym (places_in-seen heads next list within)) (changed_lists heads next prev h list (cond (eqb head place) q head) (without place xs) (set next p q) (set prev q p) c)
@@ -215,8 +215,8 @@ AreApart-seen heads next prev h = record {
     one_list : (list other place : ℕ) → list < length heads → other < length heads → has_place place (list_of heads next list) ≡ true → has_place place (list_of heads next other) ≡ true → list ≡ other
     one_list list other place low near stands also =
         elim (cases_eq list other) [
-          inl e ↦ e
-        | inr ne ↦ absurd (both_ways (has_place place (list_of heads next other)) (h.apart list other place low near ne stands) also)
+          | inl e ↦ e
+          | inr ne ↦ absurd (both_ways (has_place place (list_of heads next other)) (h.apart list other place low near ne stands) also)
         ]
 
 tails : (x : ℕ) (xs ys : List ℕ) → x ∷ xs ≡ x ∷ ys → xs ≡ ys
@@ -241,15 +241,15 @@ AreLinked-empty count places few =
 pub seen-empty : (count places : ℕ) → places < end_link → seen (replicate count end_link) (replicate places end_link) ≡ empty_lists count places
 seen-empty count places few =
     let none : map (list_from (replicate places end_link)) (replicate count end_link) ≡ replicate count [] =
-        same_lists
-        (map (list_from (replicate places end_link)) (replicate count end_link))
-        (replicate count [])
-        (length-map (replicate count end_link) (list_from (replicate places end_link)) ∙ length-replicate count end_link ∙ sym (length-replicate count []))
-        (λ i d low.
-        let under : i < count = omega (arith, length-map (replicate count end_link) (list_from (replicate places end_link)), length-replicate count end_link, low) in
-        get_or-map (list_from (replicate places end_link)) (replicate count end_link) i end_link d (omega (arith, length-replicate count end_link, under))
-        ∙ walk-beyond (length (replicate places end_link)) (replicate places end_link) (get_or (replicate count end_link) i end_link) (omega (arith, length-replicate places end_link, few, get_or-replicate count i end_link end_link under))
-        ∙ sym (get_or-replicate count i [] d under)) in
+    same_lists
+    (map (list_from (replicate places end_link)) (replicate count end_link))
+    (replicate count [])
+    (length-map (replicate count end_link) (list_from (replicate places end_link)) ∙ length-replicate count end_link ∙ sym (length-replicate count []))
+    (λ i d low.
+    let under : i < count = omega (arith, length-map (replicate count end_link) (list_from (replicate places end_link)), length-replicate count end_link, low) in
+    get_or-map (list_from (replicate places end_link)) (replicate count end_link) i end_link d (omega (arith, length-replicate count end_link, under))
+    ∙ walk-beyond (length (replicate places end_link)) (replicate places end_link) (get_or (replicate count end_link) i end_link) (omega (arith, length-replicate places end_link, few, get_or-replicate count i end_link end_link under))
+    ∙ sym (get_or-replicate count i [] d under)) in
     ap (λ (ls : List (List ℕ)). record { lists = ls; places = length (replicate places end_link) }) none ∙ ap (λ (n : ℕ). record { lists = replicate count []; places = n }) (length-replicate places end_link)
 
 walk-step : (turns : ℕ) (next : List ℕ) (here : ℕ) → here < length next → walk (suc turns) next here ≡ here ∷ walk turns next (get_or next here end_link)
@@ -259,17 +259,17 @@ walk-step turns next here low = cond-true (ltb here (length next)) (here ∷ wal
 walk-stays : (turns : ℕ) (next : List ℕ) (here : ℕ) → walk (suc turns) next here ≡ walk turns next here → walk (suc (suc turns)) next here ≡ walk (suc turns) next here
 walk-stays zero next here e =
     elim (cases_lt here (length next)) [
-      inl low ↦ (let f = walk-step zero next here low in let g : here ∷ walk zero next (get_or next here end_link) ≡ [] = sym f ∙ e in absurd cc)
-    | inr above ↦ walk-beyond (suc (suc zero)) next here above ∙ sym (walk-beyond (suc zero) next here above)
+      | inl low ↦ (let f = walk-step zero next here low in let g : here ∷ walk zero next (get_or next here end_link) ≡ [] = sym f ∙ e in absurd cc)
+      | inr above ↦ walk-beyond (suc (suc zero)) next here above ∙ sym (walk-beyond (suc zero) next here above)
     ]
 walk-stays (suc turns) next here e =
     elim (cases_lt here (length next)) [
-      inl low ↦ (
-        let after : ℕ = get_or next here end_link in
-        let both : here ∷ walk (suc turns) next after ≡ here ∷ walk turns next after = sym (walk-step (suc turns) next here low) ∙ e ∙ walk-step turns next here low in
-        let rest : walk (suc turns) next after ≡ walk turns next after = tails here (walk (suc turns) next after) (walk turns next after) both in
-        walk-step (suc (suc turns)) next here low ∙ ap (λ (ys : List ℕ). here ∷ ys) (walk-stays turns next after rest) ∙ sym (walk-step (suc turns) next here low))
-    | inr above ↦ walk-beyond (suc (suc (suc turns))) next here above ∙ sym (walk-beyond (suc (suc turns)) next here above)
+      | inl low ↦ (
+          let after : ℕ = get_or next here end_link in
+          let both : here ∷ walk (suc turns) next after ≡ here ∷ walk turns next after = sym (walk-step (suc turns) next here low) ∙ e ∙ walk-step turns next here low in
+          let rest : walk (suc turns) next after ≡ walk turns next after = tails here (walk (suc turns) next after) (walk turns next after) both in
+          walk-step (suc (suc turns)) next here low ∙ ap (λ (ys : List ℕ). here ∷ ys) (walk-stays turns next after rest) ∙ sym (walk-step (suc turns) next here low))
+      | inr above ↦ walk-beyond (suc (suc (suc turns))) next here above ∙ sym (walk-beyond (suc (suc turns)) next here above)
     ]
 
 ended_after : (turns : ℕ) (next : List ℕ) (here : ℕ) → here < length next → 0 < turns → walk (suc turns) next here ≡ walk turns next here → walk (suc turns) next (get_or next here end_link) ≡ walk turns next (get_or next here end_link)
@@ -287,3 +287,51 @@ list_from-next next here low e = sym e ∙ walk-step (length next) next here low
 
 pub list_from-end : (next : List ℕ) (here : ℕ) → length next ≤ here → list_from next here ≡ []
 list_from-end next here above = walk-beyond (length next) next here above
+
+-- a list that contracts see has a head
+pub within-seen : (heads next : List ℕ) (s : PlaceLists) (list : ℕ) → seen heads next ≡ s → list < length s.lists → list < length heads
+within-seen heads next s list e low = omega (arith, ap (λ (t : PlaceLists). length t.lists) e, length-map heads (list_from next))
+
+-- the writes of a push, one after the other
+pub pushed-by : (heads next prev : List ℕ) (list place head : ℕ) (next' between prev' : List ℕ) → AreLinked heads next prev (list_of heads next) → list < length heads → place < length next → IsFree (seen heads next) place
+    → head ≡ get_or heads list end_link → next' ≡ set next place head → between ≡ set prev place end_link → prev' ≡ set between head place
+    → Changed heads next (place ∷ places_in (seen heads next) list) list (set heads list place) next' prev'
+pushed-by heads next prev list place head next' between prev' h within low free is_head is_next is_between is_prev =
+    let ys : List ℕ = place ∷ places_in (seen heads next) list in
+    let old : ℕ = get_or heads list end_link in
+    subst
+    (λ (n : List ℕ). Changed heads next ys list (set heads list place) n prev')
+    (sym (is_next ∙ ap (λ (k : ℕ). set next place k) is_head))
+    (subst
+    (λ (p : List ℕ). Changed heads next ys list (set heads list place) (set next place old) p)
+    (sym (is_prev ∙ ap (λ (l : List ℕ). set l head place) is_between ∙ ap (λ (k : ℕ). set (set prev place end_link) k place) is_head))
+    (pushed heads next prev list place h within low free))
+
+-- the writes of a removal
+pub removed-by : (heads next prev : List ℕ) (list place head before after new_head : ℕ) (next' prev' : List ℕ) → AreLinked heads next prev (list_of heads next) → list < length heads → has_place place (places_in (seen heads next) list) ≡ true
+    → head ≡ get_or heads list end_link → before ≡ get_or prev place end_link → after ≡ get_or next place end_link
+    → new_head ≡ cond (eqb head place) after head → next' ≡ set next before after → prev' ≡ set prev after before
+    → Changed heads next (without place (places_in (seen heads next) list)) list (set heads list new_head) next' prev'
+removed-by heads next prev list place head before after new_head next' prev' h within stands is_head is_before is_after is_new is_next is_prev =
+    let ys : List ℕ = without place (places_in (seen heads next) list) in
+    let old : ℕ = get_or heads list end_link in
+    let p : ℕ = get_or prev place end_link in
+    let q : ℕ = get_or next place end_link in
+    let headed : new_head ≡ cond (eqb old place) q old = is_new ∙ ap (λ (k : ℕ). cond (eqb k place) after k) is_head ∙ ap (λ (k : ℕ). cond (eqb old place) k old) is_after in
+    let forth : next' ≡ set next p q = is_next ∙ ap (λ (k : ℕ). set next k after) is_before ∙ ap (λ (k : ℕ). set next p k) is_after in
+    let back : prev' ≡ set prev q p = is_prev ∙ ap (λ (k : ℕ). set prev k before) is_after ∙ ap (λ (k : ℕ). set prev q k) is_before in
+    subst
+    (λ (k : ℕ). Changed heads next ys list (set heads list k) next' prev')
+    (sym headed)
+    (subst
+    (λ (n : List ℕ). Changed heads next ys list (set heads list (cond (eqb old place) q old)) n prev')
+    (sym forth)
+    (subst
+    (λ (l : List ℕ). Changed heads next ys list (set heads list (cond (eqb old place) q old)) (set next p q) l)
+    (sym back)
+    (removed heads next prev list place h within stands)))
+
+-- what contracts see after a change
+pub seen-changed : (heads next : List ℕ) (list : ℕ) (ys heads' next' prev' : List ℕ) → Changed heads next ys list heads' next' prev' → seen heads' next' ≡ record { lists = set (map (list_from next) heads) list ys; places = length next }
+seen-changed heads next list ys heads' next' prev' c =
+    ap (λ (ls : List (List ℕ)). record { lists = ls; places = length next' }) c.view ∙ ap (λ (n : ℕ). record { lists = set (map (list_from next) heads) list ys; places = n }) c.as_many

@@ -1,5 +1,5 @@
 -- Which places a list has.
-use Rattle.std.proofs.Common.{◌≡◌, ◌≢◌, ℕ, Bool, true, false, not, cond, List, [], ◌∷◌, refl, sym, ap, ◌∙◌, eqb, ◌⊎◌, inl, inr, arith}
+use Rattle.std.proofs.Common.{◌≡◌, ◌≢◌, ℕ, true, false, not, List, [], ◌∷◌, refl, ap, ◌∙◌, eqb, inl, inr, arith}
 use Rattle.std.proofs.lemmas.Bool.{eqb-true, eqb-false, ne_eqb, eq-eqb, or_parts, or_from, or_cases, or_left, or_right, cond-true, cond-false, not_from_true, not_from_false, cases_Bool, false≢true}
 use Rattle.std.proofs.lemmas.Map.Keys.{IsDistinct-cons, IsDistinct-from_apart}
 use Rattle.std.specs.List.{IsDistinct, AllByRecursion}
@@ -48,16 +48,16 @@ has_place-without q place [] h = refl
 has_place-without q place (x ∷ xs) h =
     let parts = or_parts (eqb q x) (has_place q xs) h in
     elim (cases_Bool (not (eqb place x))) [
-      inl keeps ↦ ap (has_place q) (cond-true (not (eqb place x)) (x ∷ without place xs) (without place xs) keeps) ∙ or_from (eqb q x) (has_place q (without place xs)) parts.0 (has_place-without q place xs parts.1)
-    | inr drops ↦ ap (has_place q) (cond-false (not (eqb place x)) (x ∷ without place xs) (without place xs) drops) ∙ has_place-without q place xs parts.1
+      | inl keeps ↦ ap (has_place q) (cond-true (not (eqb place x)) (x ∷ without place xs) (without place xs) keeps) ∙ or_from (eqb q x) (has_place q (without place xs)) parts.0 (has_place-without q place xs parts.1)
+      | inr drops ↦ ap (has_place q) (cond-false (not (eqb place x)) (x ∷ without place xs) (without place xs) drops) ∙ has_place-without q place xs parts.1
     ]
 
 pub AreOnce-without : (place : ℕ) (xs : List ℕ) → AreOnce xs → AreOnce (without place xs)
 AreOnce-without place [] h = tt
 AreOnce-without place (x ∷ xs) h =
     elim (cases_Bool (not (eqb place x))) [
-      inl keeps ↦ rw (cond-true (not (eqb place x)) (x ∷ without place xs) (without place xs) keeps) (has_place-without x place xs h.0, AreOnce-without place xs h.1)
-    | inr drops ↦ rw (cond-false (not (eqb place x)) (x ∷ without place xs) (without place xs) drops) (AreOnce-without place xs h.1)
+      | inl keeps ↦ rw (cond-true (not (eqb place x)) (x ∷ without place xs) (without place xs) keeps) (has_place-without x place xs h.0, AreOnce-without place xs h.1)
+      | inr drops ↦ rw (cond-false (not (eqb place x)) (x ∷ without place xs) (without place xs) drops) (AreOnce-without place xs h.1)
     ]
 
 pub IsDistinct-once : (xs : List ℕ) → AreOnce xs → IsDistinct eqb xs

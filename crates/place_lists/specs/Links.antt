@@ -1,5 +1,5 @@
 -- Inner: how links from place to place make lists.
-use Rattle.std.specs.Prelude.{◌≡◌, ◌≢◌, ℕ, zero, suc, ◌<◌, ◌≤◌, Bool, true, false, List, [], ◌∷◌, length, nat_lt, if◌then◌else◌, slice_index_or}
+use Rattle.std.specs.Prelude.{◌≡◌, ◌≢◌, ℕ, zero, suc, ◌<◌, ◌≤◌, true, false, List, [], ◌∷◌, length, nat_lt, if◌then◌else◌, slice_index_or}
 use Rattle.place_lists.specs.PlaceLists.{has_place, AreOnce}
 
 -- the link that ends a list

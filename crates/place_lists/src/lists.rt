@@ -60,7 +60,9 @@ impl Lists {
         requires list { list < length self.old.lists }
         requires place { place < self.old.places }
         requires free { IsFree self.old place }
-        ensures { self.new ≡ record self.old { lists = slice_set self.old.lists list (place ∷ places_in self.old list) } }
+        ensures pushed { self.new ≡ record self.old { lists = slice_set self.old.lists list (place ∷ places_in self.old list) } }
+        // No place stood twice.
+        ensures apart { AreApart self.old }
     {
         let head = self.heads[list];
         set_link(&mut self.next, place, head);
@@ -73,7 +75,9 @@ impl Lists {
     pub fn remove(&mut self, list: usize, place: u16)
         requires list { list < length self.old.lists }
         requires stands { has_place place (places_in self.old list) ≡ true }
-        ensures { self.new ≡ record self.old { lists = slice_set self.old.lists list (without place (places_in self.old list)) } }
+        ensures removed { self.new ≡ record self.old { lists = slice_set self.old.lists list (without place (places_in self.old list)) } }
+        // No place stood twice.
+        ensures apart { AreApart self.old }
     {
         let before = self.prev[usize::from(place)];
         let after = self.next[usize::from(place)];

@@ -7,9 +7,11 @@ mod condition;
 mod drafting;
 mod error;
 mod folders;
+mod headline;
 mod piece;
 mod ranking;
 mod text;
 
 pub use compiling::compile;
 pub use error::CompileError;
+pub use headline::outcome_on;

@@ -3,27 +3,23 @@ use Rattle.std.proofs.Common.{◌≡◌, ℕ, zero, suc, ◌+◌, ◌*◌, ◌/�
 use Rattle.std.specs.Prelude.{slice_get}
 use Rattle.std.proofs.lemmas.List.{length-append, length-take-le, get_or-take, get_or_append_left}
 use Rattle.bpf_code.specs.Loads.{load_word}
-use Rattle.message_value.specs.Order.{order_byte, word_bytes}
-use Rattle.message_value.specs.Spelling.{padding, zeros}
 use Rattle.message_value.specs.Arguments.{Argument}
-use Rattle.message_value.proofs.WordBytes.{length-word_bytes}
-use Rattle.message_value.proofs.ReadItems.{length-zeros}
 use Rattle.message_view.specs.declared.extent.Extent.{Extent}
 use Rattle.message_view.specs.declared.extent.TextField.TheVariants.{Path, Interface, Member, ErrorName, Destination, Sender}
 use Rattle.message_view.specs.Header.{kind_byte}
 use Rattle.message_view.specs.Message.{Message}
-use Rattle.message_view.specs.Places.{extent_of}
-use Rattle.message_view.specs.Spelling.{body_place, header_bytes, body_bytes, arguments_of, message_bytes}
+use Rattle.message_view.specs.Places.{extent_of, text_of}
+use Rattle.message_view.specs.Spelling.{arguments_of, message_bytes}
 use Rattle.message_view.specs.Valid.{Valid}
+use Rattle.message_view.proofs.TextStands.{Stands, stands_behind, stands_moved, stands_within}
+use Rattle.message_view.proofs.FieldTexts.{Said, texts_said}
+use Rattle.message_view.proofs.ArgumentPlaces.{TextStands, HavePlaces, message_places}
 use Rattle.summary.specs.declared.edition.Edition.{Edition}
 use Rattle.summary.specs.declared.edition.Edition.TheVariants.{One, Two}
 use Rattle.summary.specs.Layout.{size_of}
 use Rattle.summary.specs.ImageBytes.{extent_words, text_words, argument_words, arguments_words, owned_words, serial_words, head_words, texts_words, summary_words, summary_bytes, image_bytes}
-use Rattle.summary.specs.Shown.{Tells, ShowsText, ShowsArgument, slots_of, Shows}
+use Rattle.summary.specs.Shown.{Lies, Tells, ShowsText, ShowsArgument, slots_of, Shows}
 use Rattle.summary.proofs.SummaryWords.{Follow, length-words_bytes, all_follow, next_follow, one_follows}
-use Rattle.summary.proofs.TextStands.{Stands, stands_behind, stands_moved, stands_within, stands_lies}
-use Rattle.summary.proofs.TextPlaces.{Said, text_of, texts_said}
-use Rattle.summary.proofs.ArgumentPlaces.{TextStands, HavePlaces, places_behind, arguments_have}
 
 -- ---- a summary and a message
 
@@ -41,6 +37,10 @@ size_above Two = omega arith
 size_below : (edition : Edition) → size_of edition ≤ 976
 size_below One = omega arith
 size_below Two = omega arith
+
+-- where a text stands, it lies
+stands_lies : (image text : List ℕ) (place : ℕ) → Stands image 0 place text → Lies image place text
+stands_lies image text place s = (s.front, s.behind, s.parts, omega (arith, s.here))
 
 -- a text of the message stands further back in the image
 image_stands : (image : List ℕ) (edition : Edition) (message text : List ℕ) (place : ℕ) → IsImage image edition message → Stands message 0 place text → Stands image 0 (size_of edition + place) text
@@ -125,27 +125,6 @@ slot_shown image edition slots words more slot all small below follow =
     let inside = owned_inside edition slots slot all below in
     one_follows image 840 (slot / 32) (get_or slots (slot / 32) 0) (840 + 4 * (slot / 32)) (owned_words edition slots ++ words) more follow (omega (arith, inside, length-append (owned_words edition slots) words))
     (get_or_append_left (owned_words edition slots) words 0 (slot / 32) inside ∙ owned_word edition slots slot below) small refl
-
--- ---- messages
-
--- the places of a message's arguments
-message_places : (bytes : List ℕ) (m : Message) → Valid bytes m → HavePlaces (message_bytes m) 0 (arguments_of m)
-message_places bytes m valid =
-    let header : List ℕ = header_bytes m in
-    let body : List ℕ = body_bytes m in
-    let pad : List ℕ = zeros (padding 8 (length header)) in
-    let w0 : List ℕ = word_bytes m.order (length body) in
-    let w1 : List ℕ = word_bytes m.order m.serial in
-    let w2 : List ℕ = word_bytes m.order (length header) in
-    let r3 : List ℕ = header ++ (pad ++ body) in
-    let all : List Argument = arguments_of m in
-    places_behind (order_byte m.order ∷ kind_byte m.kind ∷ m.flags ∷ 1 ∷ []) (w0 ++ (w1 ++ (w2 ++ r3))) 4 0 all refl
-    (places_behind w0 (w1 ++ (w2 ++ r3)) 4 4 all (length-word_bytes m.order (length body))
-    (places_behind w1 (w2 ++ r3) 4 8 all (length-word_bytes m.order m.serial)
-    (places_behind w2 r3 4 12 all (length-word_bytes m.order (length header))
-    (places_behind header (pad ++ body) (length header) 16 all refl
-    (places_behind pad body (padding 8 (length header)) (16 + length header) all (length-zeros (padding 8 (length header)))
-    (arguments_have m.order (body_place (length header)) m.types m.arguments valid.types.fits valid.arguments))))))
 
 -- ---- the words of a summary
 

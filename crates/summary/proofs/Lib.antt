@@ -5,8 +5,4 @@ pub mod BodyPlaces
 pub mod Assembled
 mod Examples
 pub mod SummaryWords
-pub mod TextStands
-pub mod TextPlaces
-pub mod ArgumentPlaces
-pub mod TextBytes
 pub mod ImageShows

@@ -1,8 +1,8 @@
-//! Tests of built messages. Each is named after its worked example, or after what it shows.
+//! Tests of messages that are built or stamped: what no line of a case can say. The cases are in `cases_building`.
 #![tactic(auto)]
 
 #[cfg(test)]
-mod arguments;
+mod limits;
 #[cfg(test)]
 mod refusals;
 #[cfg(test)]

@@ -1,15 +1,5 @@
-//! Tests of summaries and images. Each is named after its worked example, or after what it shows.
+//! Tests of summaries and images: what no line of a case can say. The cases are in `cases_images`.
 #![tactic(auto)]
 
 #[cfg(test)]
-mod expected;
-#[cfg(test)]
-mod loads;
-#[cfg(test)]
-mod messages;
-#[cfg(test)]
-mod serials;
-#[cfg(test)]
-mod slots;
-#[cfg(test)]
-mod texts;
+mod signals;

@@ -1,8 +1,11 @@
-//! Tests of instructions, their byte form and the verifier. Each is named after its worked example.
+//! Calls of the crates of programs, and what they do without memory. What a line of text can say of a program stands
+//! in the files of `cases_programs`.
 #![tactic(auto)]
 
 #[cfg(test)]
 mod byte_forms;
+#[cfg(test)]
+mod many_labels;
 #[cfg(test)]
 mod refusals;
 #[cfg(test)]

@@ -1,31 +1,13 @@
-// Files and writers in memory, and what the command line says over them.
+// Files in memory.
 
-ghost use Rattle.std.specs.Prelude.{◌≡◌, Some, None, codes, if◌then◌else◌};
-ghost use Rattle.std.specs.Str.{bytes_eq};
+ghost use Rattle.std.specs.Prelude.{⊤};
 
-use dbusfan_tool::{FileError, Files, Output, tool};
-use std::alloc::{AllocError, Global};
-use std::io;
-use std::io::Write;
-use std::process::Abort;
+use dbusfan_tool::{FileError, Files};
+use std::alloc::Global;
 
-/// One file.
-#[derive(Drop)]
-pub struct OneFile<'a> {
-    pub name: &'a str,
-    pub bytes: &'a [u8],
-}
-
-impl<'a> Files for OneFile<'a> {
-    ghost may_give = { λ f name given. given ≡ (if bytes_eq name f.name.now then Some f.bytes.now else None) };
-
-    fn read(&self, alloc: Global, name: &str) -> Result<Vec<u8>, FileError> {
-        if name != self.name {
-            return Err(FileError::File);
-        }
-        Vec::from_slice(alloc, self.bytes).map_err(|_| FileError::Memory)
-    }
-}
+/// A signal with path `/a`, interface `a.b` and member `c`, without its line's end.
+pub const S1: &str =
+    "6c04000100000000010000002a00000001016f00020000002f610000000000000201730003000000612e62000000000003017300010000006300000000000000";
 
 /// A program's file `P` and a message's file `F`.
 #[derive(Drop)]
@@ -35,9 +17,10 @@ pub struct TwoFiles<'a> {
 }
 
 impl<'a> Files for TwoFiles<'a> {
-    ghost may_give = { λ f name given. given ≡ (if bytes_eq name (codes "P") then Some f.program.now else if bytes_eq name (codes "F") then Some f.message.now else None) };
+    // The tests ask nothing of what they give.
+    ghost gives = { λ _ _ _ _. ⊤ };
 
-    fn read(&self, alloc: Global, name: &str) -> Result<Vec<u8>, FileError> {
+    fn read(&mut self, alloc: Global, name: &str) -> Result<Vec<u8>, FileError> {
         let bytes = match name {
             "P" => self.program,
             "F" => self.message,
@@ -45,80 +28,4 @@ impl<'a> Files for TwoFiles<'a> {
         };
         Vec::from_slice(alloc, bytes).map_err(|_| FileError::Memory)
     }
-}
-
-/// A writer that takes nothing.
-#[derive(Drop)]
-pub struct Full;
-
-impl Write for Full {
-    fn write(&mut self, _buf: &[u8]) -> io::Result<usize> {
-        Err(io::Error::from(io::ErrorKind::StorageFull))
-    }
-
-    fn flush(&mut self) -> io::Result<()> {
-        Ok(())
-    }
-}
-
-/// Asserts what the command line says to the words of a line, which `|` divides, where `F` is the only file.
-pub fn assert_says(
-    rt: &impl Abort,
-    alloc: Global,
-    line: &str,
-    text: &[u8],
-    output: &str,
-    error: &str,
-    status: u8,
-) -> Result<(), AllocError> {
-    let files = OneFile {
-        name: "F",
-        bytes: text,
-    };
-    assert_says_over(rt, alloc, line, &files, output, error, status)
-}
-
-/// Asserts what the command line says to the words of a line, which `|` divides.
-pub fn assert_says_over<F: Files>(
-    rt: &impl Abort,
-    alloc: Global,
-    line: &str,
-    files: &F,
-    output: &str,
-    error: &str,
-    status: u8,
-) -> Result<(), AllocError> {
-    let words: Vec<&str> = line.split('|').collect(alloc)?;
-    let mut out = Output::new(Vec::new(alloc));
-    let mut err = Output::new(Vec::new(alloc));
-    let answered = tool(alloc, words.as_slice(), files, &mut out, &mut err);
-    assert_eq!(rt;
-        out.writer.as_slice(),
-        output.as_bytes(),
-        "on standard output at {line}"
-    );
-    assert_eq!(rt;
-        err.writer.as_slice(),
-        error.as_bytes(),
-        "on standard error at {line}"
-    );
-    assert_eq!(rt; answered, status, "at {line}");
-    Ok(())
-}
-
-/// Asserts that the command line gives help to the words of a line.
-pub fn assert_helps(rt: &impl Abort, alloc: Global, line: &str) -> Result<(), AllocError> {
-    let words: Vec<&str> = line.split('|').collect(alloc)?;
-    let files = OneFile {
-        name: "F",
-        bytes: b"",
-    };
-    let mut out = Output::new(Vec::new(alloc));
-    let mut err = Output::new(Vec::new(alloc));
-    let answered = tool(alloc, words.as_slice(), &files, &mut out, &mut err);
-    let text = String::from_utf8_lossy(alloc, out.writer.as_slice())?;
-    assert!(rt; text.as_str().contains("Usage: dbusfan"), "at {line}");
-    assert!(rt; err.writer.is_empty(), "at {line}");
-    assert_eq!(rt; answered, 0, "at {line}");
-    Ok(())
 }

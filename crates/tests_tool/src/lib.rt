@@ -1,4 +1,5 @@
-//! Tests of the command line: its rows, its faults and its output, over files and writers in memory.
+//! What no line of text can say of the command line: its help, rules as programs, and writers that fail. Its words,
+//! faults and output stand in the files of `cases_tool`.
 #![tactic(auto)]
 
 #[cfg(test)]
@@ -6,14 +7,8 @@ mod compiling;
 #[cfg(test)]
 mod given;
 #[cfg(test)]
-mod messages;
-#[cfg(test)]
-mod programs;
-#[cfg(test)]
-mod rows;
+mod help;
 #[cfg(test)]
 mod running;
-#[cfg(test)]
-mod texts;
 #[cfg(test)]
 mod writers;

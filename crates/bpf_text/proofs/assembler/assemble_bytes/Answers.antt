@@ -7,7 +7,7 @@ use Rattle.bpf_text.proofs.Faults.{text_fault}
 use Rattle.bpf_text.proofs.assembler.assemble_bytes.Goals as goal
 
 pub lines-init : goal.lines-init
-lines-init c = rw (c.new.ensures.items, c.new-2.ensures.items) (read_none c.args.text.now)
+lines-init c = rw (c.new.ensures, c.new-2.ensures.items) (read_none c.args.text.now)
 
 pub returns-in_default-clause-found : goal.returns-in_default-clause-found
 returns-in_default-clause-found c =

@@ -1,6 +1,5 @@
-use Rattle.std.proofs.Common.{◌≡◌, ◌++◌, List, ℕ, Bool, length, map}
+use Rattle.std.proofs.Common.{◌≡◌, ◌++◌, List, ℕ, Bool, length}
 use Rattle.bpf_text.specs.Source.{Begins, Label, labels_at, repeats}
-use Rattle.bpf_text.specs.Views.{label_view}
 use Rattle.bpf_text.proofs.line.take_labels.Given as goal
 
 -- the labels so far
@@ -11,7 +10,7 @@ pub record Taken (bytes rest : List ℕ) (place : ℕ) (old new : List Label) (a
   pub repeated : again ≡ repeats old place names
 
 abbrev pub invariant-loop-name : goal.invariant-loop-name
-invariant-loop-name l = Taken l.fn.bytes l.rest l.place (map label_view l.fn.labels.items) (map label_view l.labels.items) l.again
+invariant-loop-name l = Taken l.fn.bytes l.rest l.place l.fn.labels l.labels l.again
 
 abbrev pub decreases-loop-name : goal.decreases-loop-name
 decreases-loop-name l = length l.rest

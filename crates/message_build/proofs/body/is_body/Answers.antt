@@ -16,7 +16,7 @@ returns-in-Ok-check_members-clause-yes c = λ end.
     let read = c.in-Ok-check_members.ensures types lent found.1.1.fits in
     let here = subst (λ (a : At). members_at (value_at max_levels Little) types a ≡ Ok (read.0, behind)) c.new-cursor.ensures read.1 in
     let empty : eqb (length behind.rest) 0 ≡ true = sym c.is_empty.ensures ∙ end in
-    read_body types c.args.signature.now c.args.body.now faults.Short read.0 behind found.1.1 (λ i. omega (arith, c.type_inv.body i)) here (eqb-true (length behind.rest) 0 empty)
+    read_body types c.args.signature.now c.args.body.now faults.Short read.0 behind found.1.1 (λ i. omega (arith, c.type_inv.body i)) (omega arith) here (eqb-true (length behind.rest) 0 empty)
 
 pub returns-in-Ok-check_members-clause-no : goal.returns-in-Ok-check_members-clause-no
 returns-in-Ok-check_members-clause-no c = λ end body.

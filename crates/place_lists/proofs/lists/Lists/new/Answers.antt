@@ -1,10 +1,18 @@
-use Rattle.std.proofs.Common.{subst, sym, ◌∙◌, arith, ℕ, List}
-use Rattle.place_lists.specs.Links.{AreLinked, list_of}
-use Rattle.place_lists.proofs.Changes.{AreLinked-empty, seen-empty}
+use Rattle.std.proofs.Common.{◌≡◌, ap, ◌∙◌, ℕ, List}
+use Rattle.std.specs.Prelude.{replicate}
+use Rattle.place_lists.specs.Links.{end_link}
+use Rattle.place_lists.proofs.Changes.{AreLinked-empty, seen-empty, seen}
 use Rattle.place_lists.proofs.lists.Lists.new.Goals as goal
 
 pub invariant_of-result : goal.invariant_of-result
-invariant_of-result c = let e = c.in_ok-vec.ensures in let f = c.in_ok-vec-2.ensures in let g = c.in_ok-vec-3.ensures in let z = AreLinked-empty c.args.lists c.args.places c.requires in ?
+invariant_of-result c =
+    let heads : c.in_ok-vec.field-0.items ≡ replicate c.args.lists end_link = c.in_ok-vec.ensures.items_if_clones_equal (λ y e. e) in
+    let next : c.in_ok-vec-2.field-0.items ≡ replicate c.args.places end_link = c.in_ok-vec-2.ensures.items_if_clones_equal (λ y e. e) ∙ ap (λ (n : ℕ). replicate n end_link) c.from.ensures in
+    let prev : c.in_ok-vec-3.field-0.items ≡ replicate c.args.places end_link = c.in_ok-vec-3.ensures.items_if_clones_equal (λ y e. e) ∙ ap (λ (n : ℕ). replicate n end_link) c.from-2.ensures in
+    rw (heads, next, prev) (AreLinked-empty c.args.lists c.args.places c.requires)
 
 pub returns : goal.returns
-returns c = ?
+returns c =
+    let heads : c.in_ok-vec.field-0.items ≡ replicate c.args.lists end_link = c.in_ok-vec.ensures.items_if_clones_equal (λ y e. e) in
+    let next : c.in_ok-vec-2.field-0.items ≡ replicate c.args.places end_link = c.in_ok-vec-2.ensures.items_if_clones_equal (λ y e. e) ∙ ap (λ (n : ℕ). replicate n end_link) c.from.ensures in
+    ap (λ (hs : List ℕ). seen hs c.in_ok-vec-2.field-0.items) heads ∙ ap (λ (ns : List ℕ). seen (replicate c.args.lists end_link) ns) next ∙ seen-empty c.args.lists c.args.places c.requires

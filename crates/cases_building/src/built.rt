@@ -1,0 +1,76 @@
+// Messages that are built.
+
+use crate::spelling::words_of;
+use case_files::{Fields, Judge, LineError, digits};
+use message_build::{BuildError, Builder};
+use message_view::Kind;
+use std::alloc::Global;
+
+/// A kind, a serial, and calls of a builder divided by bars: the message, or why it can't be built.
+pub(crate) struct Built;
+
+impl Judge for Built {
+    const INPUTS: usize = 3;
+
+    fn came(&self, alloc: Global, inputs: &Fields) -> Result<String, LineError> {
+        let kind = kind_of(inputs.text(0)?)?;
+        let serial = inputs.text(1)?.parse::<u32>()?;
+        let mut builder = Builder::new(alloc, kind, 0, serial);
+        for call in inputs.text(2)?.split('|') {
+            // No calls at all are one empty piece.
+            if call.is_empty() {
+                continue;
+            }
+            let (word, given) = call.trim().split_once(' ').ok_or(LineError::Unreadable)?;
+            ask(alloc, &mut builder, word, given)?;
+        }
+        match builder.finish(alloc) {
+            Ok(bytes) => words_of(alloc, bytes.as_slice()),
+            Err(BuildError::NoMemory) => Err(LineError::NoMemory),
+            Err(fault) => Ok(String::from_str(alloc, fault.name())?),
+        }
+    }
+}
+
+/// One call of the builder.
+fn ask<'a>(
+    alloc: Global,
+    builder: &mut Builder<'a>,
+    word: &str,
+    given: &'a str,
+) -> Result<(), LineError> {
+    match word {
+        "path" => builder.path(given),
+        "interface" => builder.interface(given),
+        "member" => builder.member(given),
+        _ => return add(alloc, builder, word, given),
+    }
+    Ok(())
+}
+
+/// A call that adds to the body. It fails only where memory runs out.
+fn add(alloc: Global, builder: &mut Builder<'_>, word: &str, given: &str) -> Result<(), LineError> {
+    let added = match word {
+        "string" => builder.arg_str(given),
+        "strings" => builder.arg_strs(&[given]),
+        "number" => builder.arg_u32(given.parse::<u32>()?),
+        "boolean" => builder.arg_bool(given == "true"),
+        "body" => {
+            let (signature, words) = given.split_once(' ').ok_or(LineError::Unreadable)?;
+            let body = digits(alloc, words)?;
+            builder.raw_body(signature.as_bytes(), body.as_slice())
+        }
+        _ => return Err(LineError::Unreadable),
+    };
+    added.map_err(|_| LineError::NoMemory)
+}
+
+fn kind_of(word: &str) -> Result<Kind, LineError> {
+    match word {
+        "method_call" => Ok(Kind::MethodCall),
+        "method_return" => Ok(Kind::MethodReturn),
+        "error" => Ok(Kind::Error),
+        "signal" => Ok(Kind::Signal),
+        _ => Err(LineError::Unreadable),
+    }
+}

@@ -1,0 +1,86 @@
+// Of which messages rules hold: by the plain test and by the rule's program.
+
+use crate::verdict::Verdict;
+use bpf_machine::run;
+use bpf_verify::Verified;
+use case_files::{Fields, Judge, LineError, digits};
+use match_rule::{Rule, RuleError};
+use message_view::View;
+use rule_compile::{CompileError, compile};
+use std::alloc::Global;
+use summary::{Edition, Image, Slots};
+
+/// The slot of the well-known name that a rule asks for as the sender.
+const SLOT: u16 = 33;
+
+/// The text of a rule, a message, or several divided by bars, and whether the sender owns the name that the rule asks for:
+/// `yes`, `no`, or `either` where it doesn't matter. `match`, `no match` or why the text is no rule.
+pub(crate) struct Matches;
+
+impl Judge for Matches {
+    const INPUTS: usize = 3;
+
+    fn came(&self, alloc: Global, inputs: &Fields) -> Result<String, LineError> {
+        let rule = match Rule::read(alloc, inputs.text(0)?) {
+            Ok(rule) => rule,
+            Err(RuleError::NoMemory) => return Err(LineError::NoMemory),
+            Err(fault) => return Ok(String::from_str(alloc, fault.name())?),
+        };
+        let owner = inputs.text(2)?;
+        let mut said = None;
+        for message in inputs.text(1)?.split('|') {
+            let bytes = digits(alloc, message)?;
+            let verdict = verdict(alloc, &rule, bytes.as_slice(), owner)?;
+            said = match said {
+                None => Some(verdict),
+                Some(before) => Some(verdict.and(before)),
+            };
+        }
+        let words = said.map_or("no message", Verdict::words);
+        Ok(String::from_str(alloc, words)?)
+    }
+}
+
+fn verdict(alloc: Global, rule: &Rule, bytes: &[u8], owner: &str) -> Result<Verdict, LineError> {
+    let Ok(view) = View::read(bytes) else {
+        return Err(LineError::Unreadable);
+    };
+    match owner {
+        "yes" => verdict_of(alloc, rule, &view, true),
+        "no" => verdict_of(alloc, rule, &view, false),
+        "either" => {
+            let of_owner = verdict_of(alloc, rule, &view, true)?;
+            Ok(of_owner.and(verdict_of(alloc, rule, &view, false)?))
+        }
+        _ => Err(LineError::Unreadable),
+    }
+}
+
+fn verdict_of(
+    alloc: Global,
+    rule: &Rule,
+    view: &View<'_>,
+    owns: bool,
+) -> Result<Verdict, LineError> {
+    let program = match program_of(alloc, rule) {
+        Ok(program) => program,
+        Err(CompileError::TooLong) => return Ok(Verdict::NoProgram),
+        Err(CompileError::NoMemory) => return Err(LineError::NoMemory),
+    };
+    let mut owned = Slots::empty();
+    if owns {
+        owned.insert(SLOT);
+    }
+    let image = Image::new(view, &owned, Edition::Two);
+    let matches = run(&program, &image).verdict != 0;
+    Ok(Verdict::of(rule.holds(view, owns), matches))
+}
+
+/// The program of a rule.
+pub(crate) fn program_of(alloc: Global, rule: &Rule) -> Result<Verified, CompileError> {
+    let slot = match rule.sender_name() {
+        Some(_) => Some(SLOT),
+        None => None,
+    };
+    compile(alloc, rule, slot)
+}

@@ -1,0 +1,46 @@
+// Which texts are rules, and which of them are the same one.
+
+use case_files::{Fields, Judge, LineError};
+use match_rule::{Rule, RuleError};
+use std::alloc::Global;
+
+/// A text: `ok`, or why it is no rule.
+pub(crate) struct Texts;
+
+impl Judge for Texts {
+    const INPUTS: usize = 1;
+
+    fn came(&self, alloc: Global, inputs: &Fields) -> Result<String, LineError> {
+        let fault = Rule::read(alloc, inputs.text(0)?).err();
+        Ok(String::from_str(alloc, fault.map_or("ok", RuleError::name))?)
+    }
+}
+
+/// Two texts of rules: `equal` or `different`, whichever comes first.
+pub(crate) struct Pairs;
+
+impl Judge for Pairs {
+    const INPUTS: usize = 2;
+
+    fn came(&self, alloc: Global, inputs: &Fields) -> Result<String, LineError> {
+        let rule = read(alloc, inputs.text(0)?)?;
+        let other = read(alloc, inputs.text(1)?)?;
+        let forth = rule == other;
+        let back = other == rule;
+        let word = match (forth, back) {
+            (true, true) => "equal",
+            (false, false) => "different",
+            _ => "equal in one order",
+        };
+        Ok(String::from_str(alloc, word)?)
+    }
+}
+
+/// The rule of a text that a case takes for one.
+pub(crate) fn read(alloc: Global, text: &str) -> Result<Rule, LineError> {
+    match Rule::read(alloc, text) {
+        Ok(rule) => Ok(rule),
+        Err(RuleError::NoMemory) => Err(LineError::NoMemory),
+        Err(_) => Err(LineError::Unreadable),
+    }
+}

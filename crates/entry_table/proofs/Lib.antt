@@ -1,0 +1,4 @@
+pub mod Placing
+pub mod Shelving
+pub mod Finding
+pub mod Offering

@@ -1,0 +1,66 @@
+// The search for an entry of a connection.
+
+ghost use Rattle.std.specs.Prelude.{◌≡◌};
+ghost use Rattle.entry_table.specs.PlacedEntries.{entry_at};
+ghost use Rattle.entry_table.specs.Searching.{suits, is_wanted, is_wanted_in, last_place};
+
+use crate::entry::{Entry, Filter};
+use crate::shelf::Shelf;
+use match_rule::Rule;
+use place_lists::Walk;
+
+/// Which entry of a connection is looked for.
+#[derive(Clone, Copy)]
+pub(crate) enum Wanted<'a> {
+    Any,
+    Id(u32),
+    EqualRule(&'a Rule),
+    Attachment(u32),
+}
+
+/// Whether an entry is what is wanted, whoever has it.
+fn suits(wanted: Wanted<'_>, entry: &Entry) -> bool
+    ensures { result ≡ suits wanted.entry entry.now }
+{
+    match wanted {
+        Wanted::Any => true,
+        Wanted::Id(id) => entry.id == id,
+        Wanted::EqualRule(rule) => entry.filter.is_rule(rule),
+        Wanted::Attachment(id) => entry.id == id && entry.filter.is_attached(),
+    }
+}
+
+/// Whether an entry is the connection's, and what is wanted.
+fn is_wanted(wanted: Wanted<'_>, connection: u64, entry: &Entry) -> bool
+    ensures { result ≡ is_wanted wanted.entry connection entry.now }
+{
+    entry.connection == connection && suits(wanted, entry)
+}
+
+/// Whether the entry at a place is wanted.
+fn is_wanted_at(shelf: &Shelf, place: u16, wanted: Wanted<'_>, connection: u64) -> bool
+    ensures { result ≡ is_wanted_in wanted.entry connection (entry_at place shelf.now) }
+{
+    match shelf.get(place) {
+        Some(entry) => is_wanted(wanted, connection, entry),
+        None => false,
+    }
+}
+
+/// The last of the places whose entry is wanted.
+pub(crate) fn last_place(
+    shelf: &Shelf,
+    mut places: Walk<'_>,
+    wanted: Wanted<'_>,
+    connection: u64,
+) -> Option<u16>
+    ensures { result ≡ last_place (λ place. is_wanted_in wanted.entry connection (entry_at place shelf.now)) places.entry }
+{
+    let mut last = None;
+    while let Some(place) = places.next() {
+        if is_wanted_at(shelf, place, wanted, connection) {
+            last = Some(place);
+        }
+    }
+    last
+}

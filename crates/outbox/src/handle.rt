@@ -1,0 +1,118 @@
+// Outboxes, as threads share them.
+
+ghost use Rattle.std.specs.Prelude.{◌≡◌, ◌⊎◌, ◌++◌, ◌∷◌, [], ℕ, true, IsTrue, IfOk, IsErr, MatchOption, MatchResult};
+ghost use Rattle.outbox.specs.Counts.{InOrder};
+ghost use Rattle.outbox.specs.Views.{blank, Follows, after_put};
+ghost use Rattle.outbox.specs.Seated.{Seated};
+
+use crate::rule::{Item, Look, Ordering, Puts, SeatView, Shut, Shutting, Takes};
+use crate::seats::Seat;
+use atomic_table::Table;
+use crossbeam_queue::RuledArrayQueue;
+use std::alloc::{AllocError, Global};
+use std::marker::Model;
+use std::sync::{Arc, Wait};
+
+/// How many messages an outbox holds.
+pub const ROOM: usize = 1024;
+
+// The queue, and the word that is 1 once the outbox is shut.
+#[derive(Drop)]
+pub(crate) struct Inner {
+    line: RuledArrayQueue<Item, SeatView, Ordering>,
+    word: Table<(), bool, (), Shutting, Global>,
+    ghost words: { word.shared.table_id.words ≡ 1 },
+}
+
+/// A handle on an outbox. Each share of it is the same outbox.
+#[derive(Drop)]
+pub struct Outbox {
+    inner: Arc<Inner, Global>,
+}
+
+impl Model for Outbox {
+    ghost use Rattle.std.specs.Prelude.{◌≡◌};
+    ghost use Rattle.std.specs.Arc.{arc_value};
+    ghost use Rattle.outbox.specs.Seated.{OutboxId};
+
+    ghost Value = { OutboxId };
+
+    ghost view = { λ o. record { queue = (arc_value o.inner).line.table.shared.table_id; word = (arc_value o.inner).word.shared.table_id } };
+}
+
+impl Outbox {
+    /// An open outbox with nothing in it.
+    pub fn new(alloc: Global) -> Result<Outbox, AllocError> {
+        let line = RuledArrayQueue::ruled(alloc, ROOM)?.0;
+        let word = Table::of_words(alloc, &[0], &())?.0;
+        let inner = Arc::new(alloc, Inner { line, word })?;
+        Ok(Outbox { inner })
+    }
+
+    /// Another handle on the same outbox.
+    pub fn share(&self) -> Result<Outbox, AllocError>
+        ensures { IfOk result (λ o. o ≡ self.now) }
+    {
+        let inner = Arc::try_clone(&self.inner)?;
+        Ok(Outbox { inner })
+    }
+
+    /// A new seat: it has put nothing, so it may name any origin, and has taken nothing. It takes no memory.
+    pub fn seat(&self) -> Seat
+        ensures { (result.outbox ≡ self.now) × (result.view ≡ blank) }
+    {
+        let inner: &Inner = &self.inner;
+        let pass = inner.line.pass();
+        let (_, word) = inner.word.shared.load_new_seat::<Look>(0);
+        Seat { pass, word }
+    }
+
+    /// Puts an item after the others. A put into a full outbox is refused and shuts it, and a put into a shut one is
+    /// refused; the item comes back. A broadcast is of the origin that the seat names, or the seat's first, and its count
+    /// is above the seat's last. A put that began before another seat's shut may still land after it.
+    pub fn put<R: Wait>(&self, rt: &R, seat: &mut Seat, item: Item) -> Result<(), Item>
+        requires place { seat.old.outbox ≡ self.now }
+        requires follows { Follows seat.old.view item.mark }
+        ensures seat { (seat.new.outbox ≡ seat.old.outbox) × (seat.new.number ≡ seat.old.number) }
+        ensures put { MatchResult result
+            (λ _. seat.new.view ≡ after_put seat.old.view item.mark)
+            (λ back. (back ≡ item) × (seat.new.view ≡ seat.old.view) × (seat.new.knows_shut ≡ true)) }
+        ensures shut { seat.old.knows_shut ≡ true → IsErr result × (seat.new.knows_shut ≡ true) }
+    {
+        let inner: &Inner = &self.inner;
+        if inner.word.shared.load::<Look>(&mut seat.word, 0) == 1 {
+            return Err(item);
+        }
+        match inner.line.push_as::<Puts, R>(rt, &mut seat.pass, item) {
+            Ok(()) => Ok(()),
+            Err(back) => {
+                inner.word.shared.store::<Shut>(&mut seat.word, 0, 1);
+                Err(back)
+            }
+        }
+    }
+
+    /// Takes the oldest item, if one is there. The list that the seat has taken stays in each putting seat's order.
+    pub fn take<R: Wait>(&self, rt: &R, seat: &mut Seat) -> Option<Item>
+        requires { seat.old.outbox ≡ self.now }
+        ensures seat { (seat.new.outbox ≡ seat.old.outbox) × (seat.new.number ≡ seat.old.number) × (seat.new.knows_shut ≡ seat.old.knows_shut) }
+        ensures taken { MatchOption result
+            (seat.new.view ≡ seat.old.view)
+            (λ item. (by : ℕ) × (seat.new.view ≡ record seat.old.view { taken = seat.old.view.taken ++ (by, item) ∷ [] })) }
+        ensures order { InOrder seat.new.view.taken }
+    {
+        let inner: &Inner = &self.inner;
+        inner.line.pop_as::<Takes, R>(rt, &mut seat.pass)
+    }
+
+    /// Whether the outbox is shut. Once shut it stays so.
+    pub fn is_shut(&self, seat: &mut Seat) -> bool
+        requires { seat.old.outbox ≡ self.now }
+        ensures seat { (seat.new.outbox ≡ seat.old.outbox) × (seat.new.number ≡ seat.old.number) × (seat.new.view ≡ seat.old.view) }
+        ensures shut { result ≡ seat.new.knows_shut }
+        ensures stays { seat.old.knows_shut ≡ true → IsTrue result }
+    {
+        let inner: &Inner = &self.inner;
+        inner.word.shared.load::<Look>(&mut seat.word, 0) == 1
+    }
+}

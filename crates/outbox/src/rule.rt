@@ -1,0 +1,87 @@
+// What an outbox holds, and the rule over it and over what each seat knows.
+
+ghost use Rattle.std.specs.Prelude.{false};
+
+use atomic_table::{Play, TableRule};
+use bytes::Bytes;
+use crossbeam_queue::protocol::{Lesson, Outcome, Protocol};
+use std::collections::LinkedList;
+
+/// A message that waits. A broadcast has a mark: its origin, which is the connection that sent it, and its count among
+/// the origin's broadcasts, from 1 on. A unicast message has none.
+#[derive(Drop)]
+pub struct Item {
+    pub bytes: Bytes,
+    pub mark: Option<(u64, u64)>,
+}
+
+/// What a seat knows: the origin whose broadcasts it puts with the count of the last one, and the items that it took, each
+/// with the number of the seat that put it. Contracts alone speak of it; no value of it is made.
+pub struct SeatView {
+    pub origin: Option<u64>,
+    pub last: u64,
+    pub taken: LinkedList<(u64, Item)>,
+}
+
+pub struct Ordering;
+
+impl Protocol<Item, SeatView> for Ordering {
+    ghost use Rattle.outbox.specs.Views.{blank, Ordered};
+
+    ghost holds = { Ordered };
+
+    ghost first = { blank };
+}
+
+pub struct Puts;
+
+impl Outcome<Item, SeatView> for Puts {
+    ghost use Rattle.std.specs.Prelude.{◌≡◌};
+    ghost use Rattle.outbox.specs.Views.{after_put};
+
+    ghost then = { λ v x w. w ≡ after_put v x.mark };
+}
+
+impl Lesson<Item, SeatView> for Puts {
+    ghost fact = { λ v items. Unit {0} };
+}
+
+pub struct Takes;
+
+impl Outcome<Item, SeatView> for Takes {
+    ghost use Rattle.outbox.specs.Views.{TakesNext};
+
+    ghost then = { TakesNext };
+}
+
+impl Lesson<Item, SeatView> for Takes {
+    ghost fact = { λ v items. Unit {0} };
+}
+
+/// The rule of the word that says whether the outbox is shut.
+pub struct Shutting;
+
+impl TableRule<(), bool, ()> for Shutting {
+    ghost use Rattle.std.specs.Prelude.{false};
+    ghost use Rattle.outbox.specs.Shut.{ShutIs};
+
+    ghost holds = { λ _. ShutIs };
+
+    ghost first = { λ _. false };
+}
+
+pub struct Look;
+
+impl Play<(), bool> for Look {
+    ghost use Rattle.outbox.specs.Shut.{Read};
+
+    ghost then = { λ s. Read };
+}
+
+pub struct Shut;
+
+impl Play<(), bool> for Shut {
+    ghost use Rattle.outbox.specs.Shut.{Written};
+
+    ghost then = { λ s me n. Written me };
+}

@@ -1,0 +1,175 @@
+-- What a request does to kept claims is what it does to claims on names.
+use Rattle.std.specs.Prelude.{◌≡◌, ◌≤◌, ◌+◌, ℕ, suc, Bool, true, false, not, List, [], ◌∷◌, ◌++◌, Option, Some, None, map, find, length, option_map, slice_get, nat_lt, nat_le, ◌&&◌, ◌==◌, if◌then◌else◌}
+use Rattle.std.specs.List.{list_any}
+use Rattle.std.proofs.Common.{refl, sym, ap, ◌∙◌, arith, length-append}
+use Rattle.std.proofs.lemmas.List.{map-append}
+use Rattle.std.proofs.lemmas.Bool.{eq-eqb, leb-true, le-leb}
+use Rattle.std.proofs.lemmas.Bool.Decides.{same_from_decides, Decides-ltb}
+use Rattle.owners.specs.declared.holding.Holding.{Holding}
+use Rattle.owners.specs.declared.claim.SlotClaim.{SlotClaim}
+use Rattle.owners.specs.declared.step.Step.{Step}
+use Rattle.owners.specs.declared.step.Step.TheVariants as steps
+use Rattle.owners.specs.Queues.{Claim, is_on, is_claim, has_flag, may_replace, do_not_queue, with_flags, with_last, without, requested, requested_by}
+use Rattle.owners.specs.Registry.{max_claims}
+use Rattle.owners.specs.Kept.{shown, name_at, is_on_slot, is_slot_claim, slot_without, slot_with_flags, without_owner, step_of, step_done, is_over}
+use Rattle.owners.proofs.Lists.{Each, Each-weaker, Each-filter, or_right, filter-map, find-map, any-map, map-map_same, length-filter-le, length-without, without_none, length-map}
+use Rattle.owners.proofs.Placed.{Tells, HeldAt, on_agrees, claim_agrees}
+
+-- ---- each change, before and after the names are shown
+
+pub without_shown : (slots : List (Option Holding)) (slot connection : ℕ) (name : List ℕ) → Tells slots slot name → (claims : List SlotClaim) → Each (HeldAt slots) claims → map (shown slots) (slot_without slot connection claims) ≡ without name connection (map (shown slots) claims)
+without_shown slots slot connection name t claims e =
+    sym (filter-map (λ (c : Claim). not (is_claim name connection c)) (λ (c : SlotClaim). not (is_slot_claim slot connection c)) (shown slots) claims
+    (Each-weaker (λ (c : SlotClaim). is_claim name connection (shown slots c) ≡ is_slot_claim slot connection c) (λ (c : SlotClaim). not (is_claim name connection (shown slots c)) ≡ not (is_slot_claim slot connection c)) (λ c h. ap not h) claims (claim_agrees slots slot connection name t claims e)))
+
+flagged_shown : (slots : List (Option Holding)) (flags : ℕ) (c : SlotClaim) (b : Bool) → shown slots (if b then record c { flags = flags } else c) ≡ (if b then record (shown slots c) { flags = flags } else shown slots c)
+flagged_shown slots flags c true = refl
+flagged_shown slots flags c false = refl
+
+flags_shown : (slots : List (Option Holding)) (slot connection flags : ℕ) (name : List ℕ) → Tells slots slot name → (claims : List SlotClaim) → Each (HeldAt slots) claims → map (shown slots) (slot_with_flags slot connection flags claims) ≡ with_flags name connection flags (map (shown slots) claims)
+flags_shown slots slot connection flags name t claims e =
+    map-map_same (shown slots) (λ (c : SlotClaim). if is_slot_claim slot connection c then record c { flags = flags } else c) (λ (c : Claim). if is_claim name connection c then record c { flags = flags } else c) claims
+    (Each-weaker (λ (c : SlotClaim). is_claim name connection (shown slots c) ≡ is_slot_claim slot connection c) (λ (c : SlotClaim). shown slots (if is_slot_claim slot connection c then record c { flags = flags } else c) ≡ (if is_claim name connection (shown slots c) then record (shown slots c) { flags = flags } else shown slots c)) (λ c h. flagged_shown slots flags c (is_slot_claim slot connection c) ∙ ap (λ b. if b then record (shown slots c) { flags = flags } else shown slots c) (sym h)) claims (claim_agrees slots slot connection name t claims e))
+
+leaving_shown : (slots : List (Option Holding)) (slot owner : ℕ) (name : List ℕ) → Tells slots slot name → (claims : List SlotClaim) → Each (HeldAt slots) claims → (b : Bool) → map (shown slots) (without_owner (if b then Some owner else None) slot claims) ≡ (if b then without name owner (map (shown slots) claims) else map (shown slots) claims)
+leaving_shown slots slot owner name t claims e true = without_shown slots slot owner name t claims e
+leaving_shown slots slot owner name t claims e false = refl
+
+leaving_held : (slots : List (Option Holding)) (slot owner : ℕ) (claims : List SlotClaim) → Each (HeldAt slots) claims → (b : Bool) → Each (HeldAt slots) (without_owner (if b then Some owner else None) slot claims)
+leaving_held slots slot owner claims e true = Each-filter (HeldAt slots) (λ (c : SlotClaim). not (is_slot_claim slot owner c)) claims e
+leaving_held slots slot owner claims e false = e
+
+-- a claim on the slot is shown as one on the name
+abbrev IsShownAs : List (Option Holding) → SlotClaim → List ℕ → Type 0
+IsShownAs slots claim name = name_at (slice_get slots claim.slot) ≡ name
+
+abbrev named : List ℕ → SlotClaim → Claim
+named name claim = record { name = name; connection = claim.connection; flags = claim.flags }
+
+claim_shown : (slots : List (Option Holding)) (claim : SlotClaim) (name : List ℕ) → IsShownAs slots claim name → shown slots claim ≡ named name claim
+claim_shown slots claim name s = ap (λ (n : List ℕ). named n claim) s
+
+last_shown : (slots : List (Option Holding)) (claim : SlotClaim) (name : List ℕ) → IsShownAs slots claim name → (claims : List SlotClaim) → map (shown slots) (claims ++ claim ∷ []) ≡ map (shown slots) claims ++ named name claim ∷ []
+last_shown slots claim name s claims =
+    map-append (shown slots) claims (claim ∷ []) ∙ ap (λ (c : Claim). map (shown slots) claims ++ c ∷ []) (claim_shown slots claim name s)
+
+by_tests : (slots : List (Option Holding)) (claim : SlotClaim) (name : List ℕ) → Tells slots claim.slot name → IsShownAs slots claim name → (claims : List SlotClaim) → Each (HeldAt slots) claims → (owner : ℕ) → (same replaces leaves quits waits : Bool) →
+    map (shown slots) (step_done (if same then steps.SetFlags else if replaces then steps.Replace (if quits then Some owner else None) else if leaves then steps.Remove else if waits then steps.SetFlags else steps.PutLast) claim claims)
+    ≡ (if same then with_flags name claim.connection claim.flags (map (shown slots) claims)
+    else if replaces then named name claim ∷ without name claim.connection (if quits then without name owner (map (shown slots) claims) else map (shown slots) claims)
+    else if leaves then without name claim.connection (map (shown slots) claims)
+    else if waits then with_flags name claim.connection claim.flags (map (shown slots) claims)
+    else with_last name claim.connection claim.flags (map (shown slots) claims))
+by_tests slots claim name t s claims e owner true replaces leaves quits waits = flags_shown slots claim.slot claim.connection claim.flags name t claims e
+by_tests slots claim name t s claims e owner false true leaves quits waits =
+    let left = without_owner (if quits then Some owner else None) claim.slot claims in
+    ap (λ (c : Claim). c ∷ map (shown slots) (slot_without claim.slot claim.connection left)) (claim_shown slots claim name s)
+    ∙ ap (λ (l : List Claim). named name claim ∷ l) (without_shown slots claim.slot claim.connection name t left (leaving_held slots claim.slot owner claims e quits) ∙ ap (without name claim.connection) (leaving_shown slots claim.slot owner name t claims e quits))
+by_tests slots claim name t s claims e owner false false true quits waits = without_shown slots claim.slot claim.connection name t claims e
+by_tests slots claim name t s claims e owner false false false quits true = flags_shown slots claim.slot claim.connection claim.flags name t claims e
+by_tests slots claim name t s claims e owner false false false quits false = last_shown slots claim name s claims
+
+by_first : (slots : List (Option Holding)) (claim : SlotClaim) (name : List ℕ) → Tells slots claim.slot name → IsShownAs slots claim name → (claims : List SlotClaim) → Each (HeldAt slots) claims → (o : Option SlotClaim) →
+    map (shown slots) (step_done (step_of o (list_any (is_slot_claim claim.slot claim.connection) claims) claim.connection claim.flags) claim claims) ≡ requested_by (option_map (shown slots) o) name claim.connection claim.flags (map (shown slots) claims)
+by_first slots claim name t s claims e None = last_shown slots claim name s claims
+by_first slots claim name t s claims e (Some owner) =
+    rw (any-map (is_claim name claim.connection) (is_slot_claim claim.slot claim.connection) (shown slots) claims (claim_agrees slots claim.slot claim.connection name t claims e))
+    (by_tests slots claim name t s claims e owner.connection (owner.connection == claim.connection) (may_replace (shown slots owner) claim.flags) (has_flag claim.flags do_not_queue) (has_flag owner.flags do_not_queue) (list_any (is_slot_claim claim.slot claim.connection) claims))
+
+-- the step that is done for a claim on the slot
+abbrev pub step_for : SlotClaim → List SlotClaim → Step
+step_for claim claims =
+    step_of (find (is_on_slot claim.slot) claims) (list_any (is_slot_claim claim.slot claim.connection) claims) claim.connection claim.flags
+
+pub step_shown : (slots : List (Option Holding)) (claim : SlotClaim) (name : List ℕ) → Tells slots claim.slot name → IsShownAs slots claim name → (claims : List SlotClaim) → Each (HeldAt slots) claims → map (shown slots) (step_done (step_for claim claims) claim claims) ≡ requested name claim.connection claim.flags (map (shown slots) claims)
+step_shown slots claim name t s claims e =
+    by_first slots claim name t s claims e (find (is_on_slot claim.slot) claims)
+    ∙ ap (λ o. requested_by o name claim.connection claim.flags (map (shown slots) claims)) (sym (find-map (is_on name) (is_on_slot claim.slot) (shown slots) claims (on_agrees slots claim.slot name t claims e)))
+
+-- ---- how many claims there are after it
+
+above_is_over : (n : ℕ) → nat_lt max_claims (n + 1) ≡ nat_le max_claims n
+above_is_over n = same_from_decides (nat_lt max_claims (n + 1)) (nat_le max_claims n) (
+  λ h. let k = (Decides-ltb max_claims (n + 1)).0 h in omega arith,
+  λ (h : max_claims ≤ n). (Decides-ltb max_claims (n + 1)).1 (omega arith),
+) (leb-true max_claims n, le-leb max_claims n)
+
+pub not_above : (n : ℕ) → n ≤ max_claims → nat_lt max_claims n ≡ false
+not_above n h = by (nat_lt max_claims n) refl
+  where
+    by : (b : Bool) → nat_lt max_claims n ≡ b → b ≡ false
+    by true e = let k = (Decides-ltb max_claims n).0 e in absurd (omega arith)
+    by false e = refl
+
+flags_keep : (slot connection flags : ℕ) (claims : List SlotClaim) → length (slot_with_flags slot connection flags claims) ≡ length claims
+flags_keep slot connection flags claims = length-map (λ (c : SlotClaim). if is_slot_claim slot connection c then record c { flags = flags } else c) claims
+
+replace_none : (slot connection : ℕ) (claims : List SlotClaim) → length claims ≤ max_claims → (b : Bool) → list_any (is_slot_claim slot connection) claims ≡ b → nat_lt max_claims (suc (length (slot_without slot connection claims))) ≡ (not b && true && nat_le max_claims (length claims))
+replace_none slot connection claims h true e =
+    let fewer = length-without (is_slot_claim slot connection) claims e in
+    not_above (suc (length (slot_without slot connection claims))) (omega arith)
+replace_none slot connection claims h false e =
+    let n = length claims in
+    let same : length (slot_without slot connection claims) ≡ n = ap length (without_none (is_slot_claim slot connection) claims e) in
+    let more : suc (length (slot_without slot connection claims)) ≡ n + 1 = omega (arith, same) in
+    ap (nat_lt max_claims) more ∙ above_is_over n
+
+not_added : (b c : Bool) → (not b && false && c) ≡ false
+not_added true c = refl
+not_added false c = refl
+
+replace_some : (slot connection owner : ℕ) (claims : List SlotClaim) → length claims ≤ max_claims → list_any (is_slot_claim slot owner) claims ≡ true → (b : Bool) → nat_lt max_claims (suc (length (slot_without slot connection (slot_without slot owner claims)))) ≡ (not b && false && nat_le max_claims (length claims))
+replace_some slot connection owner claims h e b =
+    let fewer = length-without (is_slot_claim slot owner) claims e in
+    let no_more = length-filter-le (λ (c : SlotClaim). not (is_slot_claim slot connection c)) (slot_without slot owner claims) in
+    not_above (suc (length (slot_without slot connection (slot_without slot owner claims)))) (omega arith) ∙ sym (not_added b (nat_le max_claims (length claims)))
+
+put_last_fits : (claim : SlotClaim) (claims : List SlotClaim) → nat_lt max_claims (length (claims ++ claim ∷ [])) ≡ nat_le max_claims (length claims)
+put_last_fits claim claims =
+    let n = length claims in
+    let more : length (claims ++ claim ∷ []) ≡ n + 1 = omega (arith, length-append claims (claim ∷ [])) in
+    ap (nat_lt max_claims) more ∙ above_is_over n
+
+set_flags_fits : (claim : SlotClaim) (claims : List SlotClaim) → length claims ≤ max_claims → nat_lt max_claims (length (slot_with_flags claim.slot claim.connection claim.flags claims)) ≡ false
+set_flags_fits claim claims h =
+    ap (nat_lt max_claims) (flags_keep claim.slot claim.connection claim.flags claims) ∙ not_above (length claims) h
+
+remove_fits : (claim : SlotClaim) (claims : List SlotClaim) → length claims ≤ max_claims → nat_lt max_claims (length (slot_without claim.slot claim.connection claims)) ≡ false
+remove_fits claim claims h =
+    let fewer = length-filter-le (λ (c : SlotClaim). not (is_slot_claim claim.slot claim.connection c)) claims in
+    not_above (length (slot_without claim.slot claim.connection claims)) (omega arith)
+
+fits_by_tests : (claim : SlotClaim) (claims : List SlotClaim) → length claims ≤ max_claims → (owner : ℕ) → list_any (is_slot_claim claim.slot owner) claims ≡ true → (waits : Bool) → list_any (is_slot_claim claim.slot claim.connection) claims ≡ waits → (same replaces leaves quits : Bool) →
+    nat_lt max_claims (length (step_done (if same then steps.SetFlags else if replaces then steps.Replace (if quits then Some owner else None) else if leaves then steps.Remove else if waits then steps.SetFlags else steps.PutLast) claim claims))
+    ≡ is_over (if same then steps.SetFlags else if replaces then steps.Replace (if quits then Some owner else None) else if leaves then steps.Remove else if waits then steps.SetFlags else steps.PutLast) waits (length claims)
+fits_by_tests claim claims h owner o waits w true replaces leaves quits = set_flags_fits claim claims h
+fits_by_tests claim claims h owner o waits w false true leaves true = replace_some claim.slot claim.connection owner claims h o waits
+fits_by_tests claim claims h owner o waits w false true leaves false = replace_none claim.slot claim.connection claims h waits w
+fits_by_tests claim claims h owner o waits w false false true quits = remove_fits claim claims h
+fits_by_tests claim claims h owner o true w false false false quits = set_flags_fits claim claims h
+fits_by_tests claim claims h owner o false w false false false quits = put_last_fits claim claims
+
+-- the owner has a claim
+owner_claims : (slot : ℕ) (claims : List SlotClaim) (owner : SlotClaim) → find (is_on_slot slot) claims ≡ Some owner → list_any (is_slot_claim slot owner.connection) claims ≡ true
+owner_claims slot claims owner e = first_claims claims e
+  where
+    at_first : (b : Bool) (x : SlotClaim) (xs : List SlotClaim) (r : Option SlotClaim) → is_on_slot slot x ≡ b → (r ≡ Some owner → list_any (is_slot_claim slot owner.connection) xs ≡ true) → (if b then Some x else r) ≡ Some owner → list_any (is_slot_claim slot owner.connection) (x ∷ xs) ≡ true
+    at_first true x xs r q ih f =
+        let s : x ≡ owner = cc in
+        let c : (x.connection == owner.connection) ≡ true = eq-eqb x.connection owner.connection (ap (λ (y : SlotClaim). y.connection) s) in
+        rw (q, c) refl
+    at_first false x xs r q ih f = or_right (is_slot_claim slot owner.connection x) (list_any (is_slot_claim slot owner.connection) xs) (ih f)
+
+    first_claims : (xs : List SlotClaim) → find (is_on_slot slot) xs ≡ Some owner → list_any (is_slot_claim slot owner.connection) xs ≡ true
+    first_claims [] f = absurd cc
+    first_claims (x ∷ xs) f = at_first (is_on_slot slot x) x xs (find (is_on_slot slot) xs) refl (first_claims xs) f
+
+fits_by_first : (claim : SlotClaim) (claims : List SlotClaim) → length claims ≤ max_claims → (o : Option SlotClaim) → find (is_on_slot claim.slot) claims ≡ o →
+    nat_lt max_claims (length (step_done (step_of o (list_any (is_slot_claim claim.slot claim.connection) claims) claim.connection claim.flags) claim claims)) ≡ is_over (step_of o (list_any (is_slot_claim claim.slot claim.connection) claims) claim.connection claim.flags) (list_any (is_slot_claim claim.slot claim.connection) claims) (length claims)
+fits_by_first claim claims h None e = put_last_fits claim claims
+fits_by_first claim claims h (Some owner) e =
+    fits_by_tests claim claims h owner.connection (owner_claims claim.slot claims owner e) (list_any (is_slot_claim claim.slot claim.connection) claims) refl (owner.connection == claim.connection) (has_flag owner.flags 1 && has_flag claim.flags 2) (has_flag claim.flags do_not_queue) (has_flag owner.flags do_not_queue)
+
+-- the test of the room is exact
+pub step_fits : (claim : SlotClaim) (claims : List SlotClaim) → length claims ≤ max_claims → nat_lt max_claims (length (step_done (step_for claim claims) claim claims)) ≡ is_over (step_for claim claims) (list_any (is_slot_claim claim.slot claim.connection) claims) (length claims)
+step_fits claim claims h = fits_by_first claim claims h (find (is_on_slot claim.slot) claims) refl

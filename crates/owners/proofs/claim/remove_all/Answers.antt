@@ -1,0 +1,10 @@
+use Rattle.std.specs.Prelude.{not}
+use Rattle.std.proofs.Common.{rules}
+use Rattle.std.proofs.lemmas.Fn.{filter_same}
+use Rattle.owners.specs.declared.claim.SlotClaim.{SlotClaim}
+use Rattle.owners.specs.Kept.{is_by}
+use Rattle.owners.proofs.claim.remove_all.Goals as goal
+
+pub returns-clause-claims : goal.returns-clause-claims
+returns-clause-claims c =
+    filter_same _ (λ (x : SlotClaim). not (is_by c.args.connection x)) _ (λ x b f k. search rules) _ _ c.retain.ensures.filtered

@@ -1,0 +1,24 @@
+use Rattle.std.proofs.Common.{◌≡◌, sym, ap, subst, ◌∙◌}
+use Rattle.std.specs.Prelude.{unwrap_or}
+use Rattle.owners.specs.Registry.{IsRegistry, slot_of, release_answer}
+use Rattle.owners.specs.Kept.{slot_release_answer}
+use Rattle.owners.proofs.Placed.{Tells, known_tells, no_slot_number}
+use Rattle.owners.proofs.Settled.{kept_is_registry}
+use Rattle.owners.proofs.Steps.{release_shown}
+use Rattle.owners.proofs.claims.Claims.release_reply.Goals as goal
+
+pub returns-clause-answer : goal.returns-clause-answer
+returns-clause-answer c =
+    let cs = c.self.inside.claims.items in
+    let ss = c.self.inside.slots.items in
+    let name = c.args.name.now in
+    let kept = c.self.invariant.0 in
+    let slot = c.known_slot-slot.result in
+    let slot_is : slot ≡ unwrap_or (slot_of name ss) no_slot_number = c.known_slot-slot.ensures ∙ ap (λ t. unwrap_or (slot_of t c.as_slice.result.now) no_slot_number) c.as_str.ensures ∙ ap (λ l. unwrap_or (slot_of name l) no_slot_number) c.as_slice.ensures.value in
+    let told : Tells ss slot name = subst (λ n. Tells ss n name) (sym slot_is) (known_tells cs ss kept.placed name) in
+    c.release_answer.ensures ∙ ap (slot_release_answer slot name c.args.connection) c.as_slice-2.ensures.value
+    ∙ release_shown cs ss kept slot c.args.connection name told
+    ∙ ap (release_answer name c.args.connection) c.self.view_is
+
+pub returns-clause-registry : goal.returns-clause-registry
+returns-clause-registry c = subst IsRegistry c.self.view_is (kept_is_registry c.self.inside.claims.items c.self.inside.slots.items c.self.invariant.0)

@@ -1,0 +1,52 @@
+// Sets of slots that claims tell.
+
+ghost use Rattle.std.specs.Prelude.{◌≡◌, ◌<◌, ◌&&◌, ◌||◌, ◌==◌, ℕ, true, Some, nat_eq};
+ghost use Rattle.std.specs.List.{list_any};
+ghost use Rattle.std.specs.Option.{option_eq};
+ghost use Rattle.summary.specs.Sets.{has_slot, IsSet};
+ghost use Rattle.owners.specs.Kept.{is_on_slot, slot_owner, are_slots};
+
+use crate::claim::SlotClaim;
+use summary::Slots;
+
+/// The set, and the slot if its first claim is met and is the connection's own.
+fn with_owned(mut slots: Slots, slot: u16, is_first: bool, is_own: bool) -> Slots
+    requires inside { slot < 1024 }
+    requires set { IsSet slots }
+    ensures slots { (other : ℕ) → has_slot result other ≡ (((is_first && is_own) && (other == slot)) || has_slot slots other) }
+    ensures set { IsSet result }
+{
+    if is_first && is_own {
+        slots.insert(slot);
+    }
+    slots
+}
+
+/// The slots of the names that there is a claim on.
+pub(crate) fn claimed_slots(claims: &[SlotClaim]) -> Slots
+    requires { are_slots claims.now ≡ true }
+    ensures { (slot : ℕ) → has_slot result slot ≡ list_any (is_on_slot slot) claims.now }
+{
+    let mut claimed = Slots::empty();
+    for claim in claims {
+        claimed.insert(claim.slot);
+    }
+    claimed
+}
+
+/// The slots of the names whose first claim is the connection's.
+pub(crate) fn owned_slots(claims: &[SlotClaim], connection: u64) -> Slots
+    requires { are_slots claims.now ≡ true }
+    ensures owned { (slot : ℕ) → has_slot result slot ≡ option_eq nat_eq (slot_owner slot claims.now) (Some connection) }
+    ensures set { IsSet result }
+{
+    let mut seen = Slots::empty();
+    let mut owned = Slots::empty();
+    for claim in claims {
+        let is_first = !seen.contains(claim.slot);
+        let is_own = claim.connection == connection;
+        owned = with_owned(owned, claim.slot, is_first, is_own);
+        seen.insert(claim.slot);
+    }
+    owned
+}

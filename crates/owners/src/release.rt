@@ -1,0 +1,49 @@
+// What a release comes to.
+
+ghost use Rattle.std.specs.Prelude.{◌≡◌};
+ghost use Rattle.owners.specs.Registry.{dropped_by};
+ghost use Rattle.owners.specs.Kept.{slot_release_reply, slot_release_answer};
+
+use crate::answer::{Dropped, NameReply, Named};
+use crate::claim::{SlotClaim, connection_of, first_on, first_other, has_claim};
+use crate::plan::change_of;
+use crate::well_known::WellKnown;
+
+/// The reply to a release of the name that has the slot.
+fn release_reply(claims: &[SlotClaim], slot: u16, connection: u64) -> NameReply
+    ensures { result ≡ slot_release_reply slot connection claims.now }
+{
+    if has_claim(claims, slot, connection) {
+        return NameReply::Released;
+    }
+    match first_on(claims, slot) {
+        Some(_) => NameReply::NotOwner,
+        None => NameReply::NonExistent,
+    }
+}
+
+/// The answer to a release of the name, which has the slot.
+pub(crate) fn release_answer(
+    claims: &[SlotClaim],
+    slot: u16,
+    name: &WellKnown,
+    connection: u64,
+) -> Named
+    ensures { result ≡ slot_release_answer slot name.now connection claims.now }
+{
+    let answer = release_reply(claims, slot, connection);
+    let old = connection_of(first_on(claims, slot));
+    let new = connection_of(first_other(claims, slot, connection));
+    let change = change_of(name, old, new);
+    Named { answer, change }
+}
+
+/// What it comes to that a claim is given up.
+pub(crate) fn dropped_by(named: Named) -> Dropped
+    ensures { result ≡ dropped_by named.change }
+{
+    match named.change {
+        Some(change) => Dropped::Changed(change),
+        None => Dropped::Waiting,
+    }
+}

@@ -1,0 +1,9 @@
+-- How what a function of this crate answers stands to what a text is.
+use Rattle.std.specs.Prelude.{◌≡◌, ◌≢◌, Option, Some, None, Result, Ok, Err}
+use Rattle.world_text.specs.declared.error.LineError.{LineError}
+use Rattle.world_text.specs.declared.error.LineError.TheVariants.{NoMemory}
+
+-- What a function answered, seen by view, is what the text is, unless memory was refused.
+abbrev pub Reads : {X Y : Type 0} → (X → Y) → Result X LineError → Option Y → Type 0
+Reads view (Ok found) wanted = wanted ≡ Some (view found)
+Reads view (Err error) wanted = error ≢ NoMemory → wanted ≡ None
