@@ -66,7 +66,7 @@ module _ (name : List ℕ) (c flags : ℕ) (names later : registry.Registry) (al
       seen later all (with_slot name (slot_names names.slots)) slots_are
       ∙ ap (λ (n : registry.Registry). let r : Registrations = record { claims = n.claims; slots = with_slot name (slot_names names.slots); entries = all.entries; last_entry = all.last } in r) later_is
 
-count-cons : {X : Type 0} (p : X → Bool) (x : X) (xs : List X) → count_by p (x ∷ xs) ≡ cond (p x) 1 0 + count_by p xs
+pub count-cons : {X : Type 0} (p : X → Bool) (x : X) (xs : List X) → count_by p (x ∷ xs) ≡ cond (p x) 1 0 + count_by p xs
 count-cons p x xs = sum_by-cons (λ y. cond (p y) 1 0) x xs
 
 pub count-push : {X : Type 0} (p : X → Bool) (xs : List X) (x : X) → count_by p (xs ++ x ∷ []) ≡ count_by p xs + cond (p x) 1 0
@@ -89,12 +89,12 @@ pub all-push : {X : Type 0} (p : X → Bool) (xs : List X) (x : X) → list_all 
 all-push p [] x h e = rw e refl
 all-push p (y ∷ xs) x h e = let parts = both_true (p y) (list_all p xs) h in and_true (p y) (list_all p (xs ++ x ∷ [])) parts.0 (all-push p xs x parts.1 e)
 
-same_holdings : (entries later : List Entry) (slots : List (Option (List ℕ))) → ((name : List ℕ) → rules_with name entries ≡ rules_with name later) → holdings entries slots ≡ holdings later slots
+pub same_holdings : (entries later : List Entry) (slots : List (Option (List ℕ))) → ((name : List ℕ) → rules_with name entries ≡ rules_with name later) → holdings entries slots ≡ holdings later slots
 same_holdings entries later [] h = refl
 same_holdings entries later (None ∷ slots) h = ap (λ (s : List _). None ∷ s) (same_holdings entries later slots h)
 same_holdings entries later (Some name ∷ slots) h = rw (h name, same_holdings entries later slots h) refl
 
-if_not : (b : Bool) → b ≡ false → cond {A = ℕ} b 1 0 ≡ 0
+pub if_not : (b : Bool) → b ≡ false → cond {A = ℕ} b 1 0 ≡ 0
 if_not false e = refl
 if_not true e = cc
 
@@ -117,25 +117,32 @@ added_tie names all later e tie is same none =
       own_slots = rw same (all-push (has_own_slot slots) all.entries e tie.own_slots fits);
     }
 
--- a rule that asks for a name as the sender is added, and was compiled for the slot that the name has or gets
-asked_now : (name other : List ℕ) (entries : List Entry) (e : Entry) → sender_asked e.filter ≡ Some name → other ≢ name → rules_with other entries ≡ rules_with other (entries ++ e ∷ [])
-asked_now name other entries e is apart =
-    let no : asks_for other e ≡ false = ap (is_name other) is ∙ not_same (bytes_eq name other) refl in
-    let more = count-push (asks_for other) entries e in
-    let nothing = if_not (asks_for other e) no in
-    omega (arith, more, nothing)
+-- which names an entry asks for
+pub asked_apart : (name other : List ℕ) (e : Entry) → sender_asked e.filter ≡ Some name → other ≢ name → asks_for other e ≡ false
+asked_apart name other e is apart = ap (is_name other) is ∙ not_same (bytes_eq name other) refl
   where
     not_same : (b : Bool) → bytes_eq name other ≡ b → b ≡ false
     not_same false f = refl
     not_same true f = absurd (apart (sym ((bytes_eq-Decides name other).0 f)))
 
-if_so : (b : Bool) → b ≡ true → cond {A = ℕ} b 1 0 ≡ 1
+pub asked_itself : (name : List ℕ) (e : Entry) → sender_asked e.filter ≡ Some name → asks_for name e ≡ true
+asked_itself name e is = ap (is_name name) is ∙ (bytes_eq-Decides name name).1 refl
+
+-- a rule that asks for a name as the sender is added, and was compiled for the slot that the name has or gets
+asked_now : (name other : List ℕ) (entries : List Entry) (e : Entry) → sender_asked e.filter ≡ Some name → other ≢ name → rules_with other entries ≡ rules_with other (entries ++ e ∷ [])
+asked_now name other entries e is apart =
+    let no = asked_apart name other e is apart in
+    let more = count-push (asks_for other) entries e in
+    let nothing = if_not (asks_for other e) no in
+    omega (arith, more, nothing)
+
+pub if_so : (b : Bool) → b ≡ true → cond {A = ℕ} b 1 0 ≡ 1
 if_so true e = refl
 if_so false e = cc
 
 one_more : (name : List ℕ) (entries : List Entry) (e : Entry) → sender_asked e.filter ≡ Some name → rules_with name (entries ++ e ∷ []) ≡ rules_with name entries + 1
 one_more name entries e is =
-    let so : asks_for name e ≡ true = ap (is_name name) is ∙ (bytes_eq-Decides name name).1 refl in
+    let so = asked_itself name e is in
     let more = count-push (asks_for name) entries e in
     let one = if_so (asks_for name e) so in
     omega (arith, more, one)

@@ -47,7 +47,7 @@ slot_names-holdings entries (x ∷ slots) = rw (name_of_holding entries x, slot_
 abbrev pub HaveOneSlot : List (Option (List ℕ)) → Type 0
 HaveOneSlot slots = (slot : ℕ) (name : List ℕ) → slice_get slots slot ≡ Some (Some name) → slot_of name slots ≡ Some slot
 
-same_name : (name other : List ℕ) → bytes_eq other name ≡ true → other ≡ name
+pub same_name : (name other : List ℕ) → bytes_eq other name ≡ true → other ≡ name
 same_name name other e = (bytes_eq-Decides other name).0 e
 
 named : (name : List ℕ) (x : Option (List ℕ)) → is_name name x ≡ true → x ≡ Some name
@@ -147,7 +147,7 @@ and_parts true b e = (refl, e)
 and_parts false b e = cc
 
 -- an entry that asks for a name has its slot
-asked_slot : (name : List ℕ) (slots : List (Option (List ℕ))) (asked : Option (List ℕ)) (slot : Option ℕ) → is_own_slot asked slot slots ≡ true → is_name name asked ≡ true → is_some (slot_of name slots) ≡ true
+pub asked_slot : (name : List ℕ) (slots : List (Option (List ℕ))) (asked : Option (List ℕ)) (slot : Option ℕ) → is_own_slot asked slot slots ≡ true → is_name name asked ≡ true → is_some (slot_of name slots) ≡ true
 asked_slot name slots None slot fits asks = cc
 asked_slot name slots (Some other) slot fits asks =
     let same = same_name name other asks in

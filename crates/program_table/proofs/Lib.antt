@@ -8,3 +8,6 @@ mod Tying
 mod Adding
 mod Beginning
 mod Sound
+mod Removing
+mod Freeing
+mod Gone

@@ -13,5 +13,6 @@ pub mod History
 pub mod IsState
 pub mod Ties
 pub mod Senders
+pub mod Removal
 pub mod Recipients
 pub mod Candidates

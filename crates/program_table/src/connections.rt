@@ -4,7 +4,7 @@ ghost use Rattle.std.specs.Option.{option_copied};
 ghost use Rattle.std.specs.List.Sorted.{IsStrictlyIncreasing};
 ghost use Rattle.program_table.specs.Connections.{numbers_of, is_connected, mailbox_of, commands_of, with_command, without_connection, max_connections};
 ghost use Rattle.program_table.specs.Places.{HaveOtherNumbers, IsPlaceOf};
-ghost use Rattle.program_table.specs.ConnectionList.{with_connection};
+ghost use Rattle.program_table.specs.ConnectionList.{with_connection, IsConnectionList};
 
 use crate::connection::Connection;
 use std::alloc::{AllocError, Global};
@@ -52,7 +52,9 @@ impl<M> Connections<M> {
 
     /// The last number that was given, 0 before the first.
     pub(crate) fn last(&self) -> u64
-        ensures { result ≡ self.now.last }
+        ensures value { result ≡ self.now.last }
+        // Numbers rise, none is above the last, and there are at most 256.
+        ensures sound { IsConnectionList self.now }
     {
         self.last
     }

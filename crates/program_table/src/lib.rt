@@ -8,6 +8,7 @@ mod connections;
 mod mailbox;
 mod refusal;
 mod registration_table;
+mod removal;
 mod state;
 
 pub use command::{Command, Reply};

@@ -1,14 +1,11 @@
 // Claims on names and entries, tied by the slots of names.
 
-ghost use Rattle.std.specs.Prelude.{◌≡◌, ◌<◌, IfSome};
-ghost use Rattle.match_rule.specs.RuleTree.{sender_name_of};
-ghost use Rattle.owners.specs.Registry.{rules_of};
-ghost use Rattle.program_table.specs.SlotNames.{sender_asked};
-ghost use Rattle.program_table.specs.Senders.{without_sender};
+ghost use Rattle.std.specs.Prelude.{◌≡◌};
 ghost use Rattle.program_table.specs.Refusals.{claim_refusal};
 
 use crate::command::Reply;
 use crate::refusal::Refusal;
+use crate::removal::{self, sender_of};
 use entry_table::{Attachment, EntryTable, Filter, Offered, RuleProgram};
 use match_rule::Rule;
 use message_view::View;
@@ -185,9 +182,7 @@ impl RegistrationTable {
     pub(crate) fn remove_entry(&mut self, connection: u64, id: u32)
         ensures { self.new ≡ without_entry connection (Some id) self.old }
     {
-        if let Some(entry) = self.entries.remove(connection, id) {
-            free_slot(&mut self.names, &entry.filter);
-        }
+        removal::remove_entry(&mut self.names, &mut self.entries, connection, id);
     }
 
     /// Takes out the connection's oldest entry with an equal rule.
@@ -223,10 +218,7 @@ impl RegistrationTable {
     pub(crate) fn close(&mut self, connection: u64)
         ensures { self.new ≡ without_all_of connection self.old }
     {
-        while let Some(entry) = self.entries.remove_oldest(connection) {
-            free_slot(&mut self.names, &entry.filter);
-        }
-        self.names.drop_all(connection);
+        removal::remove_all(&mut self.names, &mut self.entries, connection);
     }
 
     /// The slots of the names whose primary owner is the sender. None is the bus.
@@ -276,29 +268,5 @@ fn claim_refusal(error: ClaimError) -> Refusal
     match error {
         ClaimError::NamesFull => Refusal::NamesFull,
         ClaimError::QueueFull | ClaimError::BadName | ClaimError::Reserved => Refusal::QueueFull,
-    }
-}
-
-/// The owned name that a rule asks for as the sender.
-fn sender_of(program: &RuleProgram) -> Option<WellKnown>
-    ensures { result ≡ sender_name_of program.now.rule }
-{
-    let rule = program.rule();
-    let _ = rule.conditions();
-    match rule.sender_name() {
-        Some(name) => WellKnown::read(name).ok(),
-        None => None,
-    }
-}
-
-/// A filter is gone: a rule's sender name has one rule fewer.
-fn free_slot(names: &mut Claims, filter: &Filter)
-    requires { IfSome (sender_asked filter.now) (λ name. 0 < rules_of name names.old.slots) }
-    ensures { names.new ≡ without_sender (sender_asked filter.now) names.old }
-{
-    if let Filter::Rule(program) = filter {
-        if let Some(name) = sender_of(program) {
-            names.slot_free(&name);
-        }
     }
 }

@@ -286,6 +286,7 @@ impl<M: Mailbox> BusState<M> {
         // Entries are of connections, rules have the slots of their senders, and no name has two slots.
         ensures state { IsState self.now }
     {
+        let _ = self.connections.last();
         self.registrations.offered(view)
     }
 }

@@ -3,7 +3,7 @@ use Rattle.std.specs.Prelude.{Ok}
 use Rattle.std.specs.Result.{result_ok}
 use Rattle.match_rule.specs.RuleTree.{RuleTree, sender_name_of}
 use Rattle.program_table.proofs.SenderNames.{is_read}
-use Rattle.program_table.proofs.registration_table.sender_of.Goals as goal
+use Rattle.program_table.proofs.removal.sender_of.Goals as goal
 
 pub returns-in-Some : goal.returns-in-Some
 returns-in-Some c =
