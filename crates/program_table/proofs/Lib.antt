@@ -1,7 +1,13 @@
 mod Places
 mod Positions
 mod Holdings
+mod SenderNames
+mod Counting
 mod Kept
 mod Tying
+mod Adding
 mod Beginning
 mod Sound
+mod Removing
+mod Freeing
+mod Gone

@@ -12,5 +12,7 @@ pub mod Does
 pub mod History
 pub mod IsState
 pub mod Ties
+pub mod Senders
+pub mod Removal
 pub mod Recipients
 pub mod Candidates

@@ -1,10 +1,10 @@
 // The connections in a vector by rising number.
-ghost use Rattle.std.specs.Prelude.{◌≡◌, ℕ, ◌<◌, ◌≤◌, [], nat_le, IfOk, MatchOption, length, slice_index};
+ghost use Rattle.std.specs.Prelude.{◌≡◌, ℕ, ◌<◌, ◌≤◌, [], true, nat_le, IfOk, MatchOption, length, slice_index};
 ghost use Rattle.std.specs.Option.{option_copied};
 ghost use Rattle.std.specs.List.Sorted.{IsStrictlyIncreasing};
-ghost use Rattle.program_table.specs.Connections.{numbers_of, is_connected, mailbox_of, commands_of, max_connections};
+ghost use Rattle.program_table.specs.Connections.{numbers_of, is_connected, mailbox_of, commands_of, with_command, without_connection, max_connections};
 ghost use Rattle.program_table.specs.Places.{HaveOtherNumbers, IsPlaceOf};
-ghost use Rattle.program_table.specs.ConnectionList.{IsConnectionList};
+ghost use Rattle.program_table.specs.ConnectionList.{with_connection, IsConnectionList};
 
 use crate::connection::Connection;
 use std::alloc::{AllocError, Global};
@@ -90,6 +90,46 @@ impl<M> Connections<M> {
         ensures { result.now ≡ self.now.connections }
     {
         self.list.as_slice()
+    }
+
+    /// One more connection, with the next number and one command.
+    pub(crate) fn push(&mut self, mailbox: M)
+        requires room { length self.old.connections < max_connections }
+        requires number { self.old.last < 18446744073709551615 }
+        ensures { self.new ≡ with_connection self.old mailbox }
+    {
+        self.last += 1;
+        self.list.push_reserved(Connection {
+            number: self.last,
+            mailbox,
+            commands: 1,
+        });
+    }
+
+    /// One more command of a connection that is there.
+    pub(crate) fn count_command(&mut self, number: u64)
+        requires there { is_connected number self.old.connections ≡ true }
+        requires fits { commands_of number self.old.connections < 18446744073709551615 }
+        ensures { self.new ≡ record self.old { connections = with_command number self.old.connections } }
+    {
+        match place_of(self.list.as_slice(), number) {
+            Some(place) => self.list[place].commands += 1,
+            None => {}
+        }
+    }
+
+    /// Takes a connection out, if it is there.
+    pub(crate) fn remove(&mut self, number: u64)
+    where
+        M: Drop,
+        ensures { self.new ≡ record self.old { connections = without_connection number self.old.connections } }
+    {
+        match place_of(self.list.as_slice(), number) {
+            Some(place) => {
+                self.list.remove(place);
+            }
+            None => {}
+        }
     }
 }
 

@@ -1,6 +1,5 @@
-//! The state of the bus: its connections, claims and entries, and what each command is answered. The layers above use
-//! that `answer` is the reply of the table of commands (specs/Does.antt). Commands are answered but not done yet: no call
-//! changes a state, so each state is the opening one.
+//! The state of the bus: its connections, claims and entries, and what each command is answered and does. The layers
+//! above use what `answer` and `apply` ensure, which is the table of commands.
 #![tactic(auto)]
 
 mod command;
@@ -9,6 +8,7 @@ mod connections;
 mod mailbox;
 mod refusal;
 mod registration_table;
+mod removal;
 mod state;
 
 pub use command::{Command, Reply};

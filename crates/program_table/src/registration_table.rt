@@ -5,7 +5,8 @@ ghost use Rattle.program_table.specs.Refusals.{claim_refusal};
 
 use crate::command::Reply;
 use crate::refusal::Refusal;
-use entry_table::{EntryTable, Offered, RuleProgram};
+use crate::removal::{self, sender_of};
+use entry_table::{Attachment, EntryTable, Filter, Offered, RuleProgram};
 use match_rule::Rule;
 use message_view::View;
 use owners::{ClaimError, Claims, Dropped, WellKnown};
@@ -32,18 +33,20 @@ impl Model for RegistrationTable {
 }
 
 impl RegistrationTable {
-    ghost use Rattle.std.specs.Prelude.{◌≡◌, IfOk, option_map};
+    ghost use Rattle.std.specs.Prelude.{◌≡◌, ℕ, true, Ok, IfOk, Some, option_map, is_ok};
     ghost use Rattle.message_view.specs.Message.{Message};
     ghost use Rattle.message_view.specs.Valid.{Valid};
     ghost use Rattle.match_rule.specs.RuleTree.{sender_name_of};
+    ghost use Rattle.summary.specs.Sets.{has_slot, IsSet};
     ghost use Rattle.owners.specs.Queues.{owner_of};
-    ghost use Rattle.owners.specs.Registry.{next_name};
+    ghost use Rattle.owners.specs.Registry.{next_name, least_of};
+    ghost use Rattle.entry_table.specs.declared.entry.Filter.TheVariants as filters;
     ghost use Rattle.entry_table.specs.OfferedEntries.{AreOffered};
     ghost use Rattle.program_table.specs.SlotNames.{slot_next};
     ghost use Rattle.program_table.specs.Recipients.{AreOwnedSlots};
     ghost use Rattle.program_table.specs.IsState.{AreRegistrations};
-    ghost use Rattle.program_table.specs.Registrations.{no_registrations};
-    ghost use Rattle.program_table.specs.Answers.{has_room, slot_fits, add_rule_answer, remove_rule_answer, attach_answer, detach_answer, request_answer, release_answer, drop_answer};
+    ghost use Rattle.program_table.specs.Registrations.{no_registrations, with_entry, with_sender, without_entry, with_request, without_claim, without_all_of};
+    ghost use Rattle.program_table.specs.Answers.{has_room, slot_fits, oldest_with, add_rule_answer, remove_rule_answer, attach_answer, detach_answer, request_answer, release_answer, drop_answer};
 
     /// No claim and no entry.
     pub(crate) fn new(alloc: Global) -> Result<RegistrationTable, AllocError>
@@ -145,6 +148,77 @@ impl RegistrationTable {
             Dropped::Waiting => Reply::Waiting,
             Dropped::Changed(change) => Reply::Changed(change),
         }
+    }
+
+    /// Adds an entry with a rule. The name that it asks for as the sender, if it does, gets a slot.
+    pub(crate) fn add_rule(&mut self, connection: u64, program: RuleProgram)
+        requires room { has_room self.old ≡ Ok tt }
+        requires fits { slot_fits (sender_name_of program.rule) program.slot self.old.slots ≡ Ok tt }
+        ensures { self.new ≡ with_sender (sender_name_of program.rule) (with_entry connection (filters.Rule program) self.old) }
+    {
+        match sender_of(&program) {
+            Some(name) => {
+                let _ = self.names.slot_for(&name);
+                self.entries.add(connection, Filter::Rule(program));
+                let _ = self.entries.last_id();
+            }
+            None => {
+                self.entries.add(connection, Filter::Rule(program));
+                let _ = self.entries.last_id();
+            }
+        }
+    }
+
+    /// Adds an entry with an attached program.
+    pub(crate) fn attach(&mut self, connection: u64, attachment: Attachment)
+        requires { has_room self.old ≡ Ok tt }
+        ensures { self.new ≡ with_entry connection (filters.Attached attachment) self.old }
+    {
+        self.entries.add(connection, Filter::Attached(attachment));
+        let _ = self.entries.last_id();
+    }
+
+    /// Takes out the connection's entry of this id, if it has one.
+    pub(crate) fn remove_entry(&mut self, connection: u64, id: u32)
+        ensures { self.new ≡ without_entry connection (Some id) self.old }
+    {
+        removal::remove_entry(&mut self.names, &mut self.entries, connection, id);
+    }
+
+    /// Takes out the connection's oldest entry with an equal rule.
+    pub(crate) fn remove_rule(&mut self, connection: u64, rule: &Rule)
+        ensures { self.new ≡ without_entry connection (oldest_with connection rule.now self.old.entries) self.old }
+    {
+        match self.entries.find_rule(connection, rule) {
+            Some(id) => self.remove_entry(connection, id),
+            None => {}
+        }
+    }
+
+    pub(crate) fn request(&mut self, name: &WellKnown, connection: u64, flags: u32)
+        requires { is_ok (request_answer name.now connection flags self.old) ≡ true }
+        ensures { self.new ≡ with_request name.now connection flags self.old }
+    {
+        let _ = self.names.request(name, connection, flags);
+    }
+
+    pub(crate) fn release(&mut self, name: &WellKnown, connection: u64)
+        ensures { self.new ≡ without_claim connection (Some name.now) self.old }
+    {
+        let _ = self.names.release(name, connection);
+    }
+
+    pub(crate) fn drop_one(&mut self, connection: u64)
+        ensures { self.new ≡ without_claim connection (least_of connection self.old.claims) self.old }
+    {
+        let _ = self.names.drop_one(connection);
+    }
+
+    /// Takes out all claims and entries of a connection.
+    pub(crate) fn close(&mut self, connection: u64)
+        ensures { self.new ≡ without_all_of connection self.old }
+    {
+        removal::remove_all(&mut self.names, &mut self.entries, connection);
     }
 
     /// The slots of the names whose primary owner is the sender. None is the bus.

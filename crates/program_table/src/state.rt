@@ -13,7 +13,7 @@ use std::alloc::{AllocError, Global};
 use std::marker::Model;
 use summary::Slots;
 
-/// The state of the bus: what a command is answered. All its room is taken by `new`.
+/// The state of the bus, to which commands are applied one after the other. All its room is taken by `new`.
 #[derive(Drop)]
 pub struct BusState<M: Mailbox> {
     commands: u64,
@@ -33,16 +33,17 @@ impl<M: Mailbox> Model for BusState<M> {
 }
 
 impl<M: Mailbox> BusState<M> {
-    ghost use Rattle.std.specs.Prelude.{◌≡◌, ◌<◌, IfOk, option_map, option_copied};
+    ghost use Rattle.std.specs.Prelude.{◌≡◌, ◌<◌, ℕ, true, None, IfOk, MatchResult, option_map, option_copied};
     ghost use Rattle.message_view.specs.Message.{Message};
     ghost use Rattle.message_view.specs.Valid.{Valid};
+    ghost use Rattle.summary.specs.Sets.{has_slot, IsSet};
     ghost use Rattle.owners.specs.Queues.{owner_of};
     ghost use Rattle.owners.specs.Registry.{next_name};
     ghost use Rattle.entry_table.specs.OfferedEntries.{AreOffered};
-    ghost use Rattle.program_table.specs.Connections.{mailbox_of, commands_of};
+    ghost use Rattle.program_table.specs.Connections.{mailbox_of, commands_of, is_connected};
     ghost use Rattle.program_table.specs.SlotNames.{slot_next};
-    ghost use Rattle.program_table.specs.State.{opening};
-    ghost use Rattle.program_table.specs.Does.{reply_to, max_commands, answer_of, row, connect_row, connected};
+    ghost use Rattle.program_table.specs.State.{State, opening};
+    ghost use Rattle.program_table.specs.Does.{Does, reply_to, max_commands, answer_of, is_accepted, row, connect_row, connected, changed, effect};
     ghost use Rattle.program_table.specs.Recipients.{AreOwnedSlots};
     ghost use Rattle.program_table.specs.IsState.{IsState};
 
@@ -64,6 +65,19 @@ impl<M: Mailbox> BusState<M> {
         match self.decide(command) {
             Ok(reply) => reply,
             Err(refusal) => Reply::Refused(refusal),
+        }
+    }
+
+    /// Does the command. Where a share of its mailbox, rule or program is refused for memory, the state is as it was.
+    pub fn apply(&mut self, command: &Command<M>) -> Result<Reply, AllocError>
+        ensures { MatchResult result (λ reply. Does self.old command.now reply self.new) (λ _. self.new ≡ self.old) }
+    {
+        match self.decide(command) {
+            Ok(reply) => {
+                self.perform(command)?;
+                Ok(reply)
+            }
+            Err(refusal) => Ok(Reply::Refused(refusal)),
         }
     }
 
@@ -139,6 +153,74 @@ impl<M: Mailbox> BusState<M> {
         } else {
             Err(Refusal::Closed)
         }
+    }
+
+    /// Does a command that is accepted.
+    fn perform(&mut self, command: &Command<M>) -> Result<(), AllocError>
+        requires { is_accepted self.old command.now ≡ true }
+        ensures { MatchResult result (λ _. self.new ≡ effect self.old command.now) (λ _. self.new ≡ self.old) }
+    {
+        match command {
+            Command::Connect(mailbox) => {
+                let mailbox = mailbox.share()?;
+                self.connections.push(mailbox);
+                self.commands += 1;
+                Ok(())
+            }
+            Command::AddRule(connection, program) => {
+                let program = program.share()?;
+                self.registrations.add_rule(*connection, program);
+                self.count(*connection);
+                Ok(())
+            }
+            Command::RemoveRule(connection, rule) => {
+                self.registrations.remove_rule(*connection, rule);
+                self.count(*connection);
+                Ok(())
+            }
+            Command::Attach(connection, attachment) => {
+                let attachment = attachment.share()?;
+                self.registrations.attach(*connection, attachment);
+                self.count(*connection);
+                Ok(())
+            }
+            Command::Detach(connection, id) => {
+                self.registrations.remove_entry(*connection, *id);
+                self.count(*connection);
+                Ok(())
+            }
+            Command::Request(connection, name, flags) => {
+                self.registrations.request(name, *connection, *flags);
+                self.count(*connection);
+                Ok(())
+            }
+            Command::Release(connection, name) => {
+                self.registrations.release(name, *connection);
+                self.count(*connection);
+                Ok(())
+            }
+            Command::DropOne(connection) => {
+                self.registrations.drop_one(*connection);
+                self.count(*connection);
+                Ok(())
+            }
+            Command::Close(connection) => {
+                self.registrations.close(*connection);
+                self.connections.remove(*connection);
+                self.commands += 1;
+                Ok(())
+            }
+        }
+    }
+
+    /// One more command of a connection was accepted.
+    fn count(&mut self, connection: u64)
+        requires there { is_connected connection self.old.connections ≡ true }
+        requires fits { self.old.commands < max_commands }
+        ensures { self.new ≡ changed connection self.old self.old.registrations }
+    {
+        self.connections.count_command(connection);
+        self.commands += 1;
     }
 
     /// How many commands were accepted.
