@@ -76,10 +76,10 @@ pub all_gone : (c : ℕ) (r s : Registrations) → AreSomeGone c r s → entries
 all_gone c r s gone last =
     let same : s.entries ≡ entries_not_of c r.entries = sym last ∙ gone.others in
     let slots : used_slots (without_all c s.claims) s.entries s.slots ≡ used_slots (without_all c r.claims) (entries_not_of c r.entries) r.slots =
-      ap (λ (cs : List Claim). used_slots (without_all c cs) s.entries s.slots) gone.claims
-      ∙ ap (used_slots (without_all c r.claims) s.entries) gone.slots
-      ∙ used_twice r.claims (without_all c r.claims) s.entries s.entries r.slots (λ name. or_more (list_any (is_on name) (without_all c r.claims)) (list_any (asks_for name) s.entries) (list_any (is_on name) r.claims) (list_any (asks_for name) s.entries) (any_kept (is_on name) _ r.claims) (λ f. f))
-      ∙ ap (λ (es : List Entry). used_slots (without_all c r.claims) es r.slots) same in
+    ap (λ (cs : List Claim). used_slots (without_all c cs) s.entries s.slots) gone.claims
+    ∙ ap (used_slots (without_all c r.claims) s.entries) gone.slots
+    ∙ used_twice r.claims (without_all c r.claims) s.entries s.entries r.slots (λ name. or_more (list_any (is_on name) (without_all c r.claims)) (list_any (asks_for name) s.entries) (list_any (is_on name) r.claims) (list_any (asks_for name) s.entries) (any_kept (is_on name) _ r.claims) (λ f. f))
+    ∙ ap (λ (es : List Entry). used_slots (without_all c r.claims) es r.slots) same in
     ap (λ (cs : List Claim). let x : Registrations = record { claims = without_all c cs; slots = used_slots (without_all c s.claims) s.entries s.slots; entries = s.entries; last_entry = s.last_entry } in x) gone.claims
     ∙ ap (λ (ss : List (Option (List ℕ))). let x : Registrations = record { claims = without_all c r.claims; slots = ss; entries = s.entries; last_entry = s.last_entry } in x) slots
     ∙ ap (λ (es : List Entry). let x : Registrations = record { claims = without_all c r.claims; slots = used_slots (without_all c r.claims) (entries_not_of c r.entries) r.slots; entries = es; last_entry = s.last_entry } in x) same

@@ -39,12 +39,7 @@ fn free_slot(names: &mut Claims, filter: &Filter)
 }
 
 /// Takes out the connection's entry of this id, if it has one.
-pub(crate) fn remove_entry(
-    names: &mut Claims,
-    entries: &mut EntryTable,
-    connection: u64,
-    id: u32,
-)
+pub(crate) fn remove_entry(names: &mut Claims, entries: &mut EntryTable, connection: u64, id: u32)
     requires { AreTied names.old entries.old }
     ensures tied { AreTied names.new entries.new }
     ensures gone { registrations_of names.new entries.new ≡ without_entry connection (Some id) (registrations_of names.old entries.old) }

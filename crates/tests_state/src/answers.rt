@@ -1,7 +1,8 @@
-// What a bus without connections answers.
+// What commands are answered, and that they are done.
 
 use entry_table::RuleProgram;
 use match_rule::Rule;
+use owners::WellKnown;
 use program_table::{BusState, Command, Refusal, Reply};
 use std::process::Abort;
 use std::test::Fail;
@@ -27,5 +28,26 @@ fn answers_before_anyone_connects(rt: HostRuntime) -> Result<(), Fail> {
     assert_eq!(rt; state.commands(), 0);
     assert!(rt; state.connections().is_empty());
     assert!(rt; state.mailbox_of(1).is_none());
+    Ok(())
+}
+
+#[test]
+fn each_command_is_done(rt: HostRuntime) -> Result<(), Fail> {
+    let mut state: BusState<()> = BusState::new(rt.alloc())?;
+    assert_eq!(rt; state.apply(&Command::Connect(()))?, Reply::Connected(1));
+    assert_eq!(rt; state.apply(&Command::Connect(()))?, Reply::Connected(2));
+    let name = WellKnown::read("com.example.A")?;
+    let _ = state.apply(&Command::Request(1, name.copy(), 1))?;
+    assert_eq!(rt; state.owner_of("com.example.A"), Some(1));
+    let _ = state.apply(&Command::Request(2, name.copy(), 2))?;
+    assert_eq!(rt; state.owner_of("com.example.A"), Some(2));
+    assert_eq!(rt; state.apply(&Command::Close(2))?, Reply::Done);
+    assert_eq!(rt; state.owner_of("com.example.A"), Some(1));
+    assert_eq!(rt;
+        state.apply(&Command::DropOne(2))?,
+        Reply::Refused(Refusal::Closed)
+    );
+    assert_eq!(rt; state.commands(), 5);
+    assert_eq!(rt; state.commands_of(1), 2);
     Ok(())
 }

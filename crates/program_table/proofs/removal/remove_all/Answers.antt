@@ -9,9 +9,10 @@ pub theirs-init : goal.theirs-init
 theirs-init c = (c.requires, none_gone c.args.connection c.args.names.now c.args.entries.now c.requires)
 
 pub theirs-preserved : goal.theirs-preserved
-theirs-preserved c =
-    (c.remove_oldest.ensures.tied,
-    more_gone c.args.connection (registrations_of c.args.names.now c.args.entries.now) (registrations_of c.theirs.names c.theirs.entries) (registrations_of c.remove_oldest.new.names c.remove_oldest.new.entries) c.theirs.invariant.1 c.remove_oldest.ensures.gone)
+theirs-preserved c = (
+  c.remove_oldest.ensures.tied,
+  more_gone c.args.connection (registrations_of c.args.names.now c.args.entries.now) (registrations_of c.theirs.names c.theirs.entries) (registrations_of c.remove_oldest.new.names c.remove_oldest.new.entries) c.theirs.invariant.1 c.remove_oldest.ensures.gone,
+)
 
 pub returns-clause-tied : goal.returns-clause-tied
 returns-clause-tied c =
