@@ -283,7 +283,7 @@ impl<M: Mailbox> BusState<M> {
     /// `arg0` conditions, where there are such, hold of the message.
     pub fn offered<'a>(&'a self, view: &View<'a>) -> Offered<'a>
         ensures offered { (m : Message) → Valid view.now m → AreOffered self.now.registrations.entries m result }
-        // Entries are of connections, rules have the slots of their senders, and no name has two slots.
+        // Rules have the slots of their senders, and no name has two slots.
         ensures state { IsState self.now }
     {
         let _ = self.connections.last();
