@@ -11,3 +11,4 @@ mod Sound
 mod Removing
 mod Freeing
 mod Gone
+mod OwnCounts

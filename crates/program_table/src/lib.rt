@@ -5,6 +5,7 @@
 mod command;
 mod connection;
 mod connections;
+mod laws;
 mod mailbox;
 mod refusal;
 mod registration_table;
@@ -13,6 +14,7 @@ mod state;
 
 pub use command::{Command, Reply};
 pub use connection::Connection;
+pub use laws::commands_are_counted;
 pub use mailbox::Mailbox;
 pub use refusal::Refusal;
 pub use state::BusState;

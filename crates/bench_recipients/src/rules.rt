@@ -1,0 +1,54 @@
+// States of a bus in which each connection has given rules.
+
+use entry_table::{IndexKey, RuleProgram};
+use match_rule::Rule;
+use program_table::{BusState, Command, Reply};
+use std::alloc::Global;
+
+/// Each connection takes as many rules as this, one after the other.
+#[derive(Clone, Copy)]
+pub(crate) struct Rules<'a> {
+    /// One rule a line.
+    pub(crate) lines: &'a str,
+    pub(crate) of_each: u32,
+}
+
+/// Adds a rule, which may not ask for an owned name as the sender.
+fn add_rule(alloc: Global, state: &mut BusState<()>, connection: u64, line: &str) -> Option<()> {
+    let rule = Rule::read(alloc, line).ok()?;
+    if rule.sender_name().is_some() {
+        return None;
+    }
+    let program = RuleProgram::compile(alloc, rule, None).ok()?;
+    match state.apply(&Command::AddRule(connection, program)).ok()? {
+        Reply::Entry(_) => Some(()),
+        _ => None,
+    }
+}
+
+/// One more connection, by its number.
+fn connect(state: &mut BusState<()>) -> Option<u64> {
+    match state.apply(&Command::Connect(())).ok()? {
+        Reply::Connected(connection) => Some(connection),
+        _ => None,
+    }
+}
+
+/// The state of a bus to which connections came until all rules were given; of no rules one with a connection alone.
+pub(crate) fn state_of(alloc: Global, rules: Rules<'_>) -> Option<BusState<()>> {
+    let mut state = BusState::new(alloc, IndexKey::new(1, 2)).ok()?;
+    let mut connection = connect(&mut state)?;
+    if rules.lines.is_empty() {
+        return Some(state);
+    }
+    let mut given = 0;
+    for line in rules.lines.split('\n') {
+        if given == rules.of_each {
+            connection = connect(&mut state)?;
+            given = 0;
+        }
+        add_rule(alloc, &mut state, connection, line)?;
+        given += 1;
+    }
+    Some(state)
+}
