@@ -3,6 +3,7 @@ mod Positions
 mod Holdings
 mod SenderNames
 mod Counting
+mod OfConnections
 mod Kept
 mod Tying
 mod Adding

@@ -1,14 +1,13 @@
 -- What follows where the place of a connection is known.
-use Rattle.std.proofs.Common.{◌≡◌, ◌≢◌, ℕ, zero, suc, ◌+◌, ◌-◌, ◌<◌, ◌≤◌, ◌==◌, Bool, true, false, not, cond, List, [], ◌∷◌, ◌++◌, length, get_or, set, map, filter, take, drop, Option, Some, None, refl, sym, ap, subst, ◌∙◌, arith, length-append, length-set}
-use Rattle.std.specs.Prelude.{find, remove, is_some, MatchOption, All}
+use Rattle.std.proofs.Common.{◌≡◌, ◌≢◌, ℕ, zero, suc, ◌+◌, ◌<◌, ◌≤◌, ◌==◌, Bool, true, false, not, cond, List, [], ◌∷◌, ◌++◌, length, get_or, set, map, filter, Option, Some, None, refl, sym, ap, subst, ◌∙◌, arith, length-append, length-set}
+use Rattle.std.specs.Prelude.{find, remove, is_some, slice_get, MatchOption, All}
 use Rattle.std.specs.List.Sorted.{IsStrictlyIncreasing}
-use Rattle.std.proofs.lemmas.Bool.{eqb-true, eq-eqb, ne_eqb}
+use Rattle.std.proofs.lemmas.Bool.{eq-eqb, ne_eqb}
 use Rattle.std.proofs.lemmas.List.{get_or-map, length-map}
-use Rattle.std.proofs.lemmas.List.Elements.{filter-append, All-filter}
+use Rattle.std.proofs.lemmas.List.Elements.{All-filter}
 use Rattle.std.proofs.lemmas.List.Sums.{length-filter, count_by-le-length}
 use Rattle.std.proofs.Math.Seq.{map-set_same}
-use Rattle.program_table.specs.ConnectionList.{ConnectionList, IsConnectionList}
-use Rattle.std.proofs.lemmas.List.Edits.{remove-append_right}
+use Rattle.program_table.specs.ConnectionList.{IsConnectionList}
 use Rattle.std.proofs.lemmas.List.Kept.{AllPairs-from_increasing, IsStrictlyIncreasing-filter}
 use Rattle.std.proofs.Math.Seq.{get_or-append_seam, set-append_seam}
 use Rattle.program_table.specs.declared.connection.Connection.{Connection}
@@ -171,3 +170,14 @@ module _ {M : Type 0} where
     given = subst (λ (ns : List ℕ). All (λ m. m ≤ last) ns) (sym (rising_without n cs)) (All-filter (λ (m : ℕ). not (m == n)) (λ m. m ≤ last) (numbers_of cs) h.given);
     few = omega (arith, h.few, length-filter (λ (c : Connection M). not (has_number n c)) cs, count_by-le-length (λ (c : Connection M). not (has_number n c)) cs);
   }
+
+  number_get : (front : List (Connection M)) (here : Connection M) (back : List (Connection M)) → slice_get (numbers_of (front ++ here ∷ back)) (length front) ≡ Some here.number
+  number_get [] here back = refl
+  number_get (c ∷ front) here back = number_get front here back
+
+  pub number_here : (n k : ℕ) (cs : List (Connection M)) → IsPlaceOf n cs k → slice_get (numbers_of cs) k ≡ Some n
+  number_here n k cs p = rw (p.parts, ← p.place_is) (number_get p.front p.here p.back ∙ ap (λ (m : ℕ). Some m) p.number_is)
+
+  pub place_told : (n : ℕ) (cs : List (Connection M)) (r : Option ℕ) → MatchOption r (HaveOtherNumbers n cs) (IsPlaceOf n cs) → MatchOption r (is_connected n cs ≡ false) (λ place. slice_get (numbers_of cs) place ≡ Some n)
+  place_told n cs None h = ap is_some (find-none n cs h)
+  place_told n cs (Some k) p = number_here n k cs p

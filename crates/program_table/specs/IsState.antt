@@ -1,5 +1,5 @@
 -- What is true of each state of the bus.
-use Rattle.std.specs.Prelude.{◌≡◌, ℕ, ◌≤◌, ◌<◌, Bool, true, false, ◌&&◌, List, All, AllPairs, Option, Some, None, is_some, length, nat_eq, nat_le, slice_get}
+use Rattle.std.specs.Prelude.{◌≡◌, ℕ, ◌≤◌, ◌<◌, Bool, true, ◌&&◌, List, All, AllPairs, Option, Some, None, is_some, length, nat_eq, nat_le, slice_get}
 use Rattle.std.specs.List.{list_all}
 use Rattle.std.specs.Option.{option_eq}
 use Rattle.std.specs.List.Sorted.{IsStrictlyIncreasing}
@@ -9,7 +9,7 @@ use Rattle.entry_table.specs.declared.entry.Entry.{Entry}
 use Rattle.entry_table.specs.declared.entry.Filter.{Filter}
 use Rattle.entry_table.specs.declared.entry.Filter.TheVariants.{Rule, Attached}
 use Rattle.program_table.specs.declared.connection.Connection.{Connection}
-use Rattle.program_table.specs.Connections.{max_connections, numbers_of}
+use Rattle.program_table.specs.Connections.{max_connections, numbers_of, is_connected}
 use Rattle.program_table.specs.SlotNames.{slot_of, sender_asked, used_slots}
 use Rattle.program_table.specs.Registrations.{Registrations}
 use Rattle.program_table.specs.Answers.{max_entries}
@@ -52,3 +52,6 @@ pub record IsState {M : Type 0} (s : State M) : Type 0 where
   pub numbered : s.last_connection ≤ s.commands
   pub counted : list_all (λ (c : Connection M). nat_le c.commands s.commands) s.connections ≡ true
   pub registrations : AreRegistrations s.registrations
+  -- entries and claims are of connections
+  pub of_connections : list_all (λ (e : Entry). is_connected e.connection s.connections) s.registrations.entries ≡ true
+  pub claims_of_connections : list_all (λ (c : Claim). is_connected c.connection s.connections) s.registrations.claims ≡ true

@@ -5,6 +5,7 @@ pub mod Places
 pub mod Counts
 pub mod SlotNames
 pub mod Registrations
+pub mod OfConnections
 pub mod State
 pub mod Refusals
 pub mod Answers

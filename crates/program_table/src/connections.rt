@@ -1,5 +1,5 @@
 // The connections in a vector by rising number.
-ghost use Rattle.std.specs.Prelude.{◌≡◌, ℕ, ◌<◌, ◌≤◌, [], true, nat_le, IfOk, MatchOption, length, slice_index};
+ghost use Rattle.std.specs.Prelude.{◌≡◌, ℕ, ◌<◌, ◌≤◌, [], true, false, nat_le, IfOk, MatchOption, length, slice_get, slice_index};
 ghost use Rattle.std.specs.Option.{option_copied};
 ghost use Rattle.std.specs.List.Sorted.{IsStrictlyIncreasing};
 ghost use Rattle.program_table.specs.Connections.{numbers_of, is_connected, mailbox_of, commands_of, with_command, without_connection, max_connections};
@@ -64,6 +64,13 @@ impl<M> Connections<M> {
         ensures { result ≡ is_connected number self.now.connections }
     {
         place_of(self.list.as_slice(), number).is_some()
+    }
+
+    /// Where a connection stands in the list.
+    pub(crate) fn place_of(&self, number: u64) -> Option<usize>
+        ensures { MatchOption result (is_connected number self.now.connections ≡ false) (λ place. slice_get (numbers_of self.now.connections) place ≡ Some number) }
+    {
+        place_of(self.list.as_slice(), number)
     }
 
     /// How many commands of a connection were accepted, 0 where it isn't there.

@@ -24,23 +24,24 @@ pub struct BusState<M: Mailbox> {
 impl<M: Mailbox> Model for BusState<M> {
     ghost use Rattle.program_table.specs.State.{State};
     ghost use Rattle.program_table.specs.Counts.{AreCounts};
+    ghost use Rattle.program_table.specs.OfConnections.{AreOfConnections};
 
     ghost Value = { State M };
 
     ghost view = { λ s. record { commands = s.commands; connections = s.connections.connections; last_connection = s.connections.last; registrations = s.registrations } };
 
-    ghost invariant = { λ s. AreCounts s.commands s.connections };
+    ghost invariant = { λ s. AreCounts s.commands s.connections × AreOfConnections s.connections.connections s.registrations };
 }
 
 impl<M: Mailbox> BusState<M> {
-    ghost use Rattle.std.specs.Prelude.{◌≡◌, ◌<◌, ℕ, true, None, IfOk, MatchResult, option_map, option_copied};
+    ghost use Rattle.std.specs.Prelude.{◌≡◌, ◌<◌, ℕ, true, false, None, IfOk, MatchResult, MatchOption, option_map, option_copied, slice_get};
     ghost use Rattle.message_view.specs.Message.{Message};
     ghost use Rattle.message_view.specs.Valid.{Valid};
     ghost use Rattle.summary.specs.Sets.{has_slot, IsSet};
     ghost use Rattle.owners.specs.Queues.{owner_of};
     ghost use Rattle.owners.specs.Registry.{next_name};
     ghost use Rattle.entry_table.specs.OfferedEntries.{AreOffered};
-    ghost use Rattle.program_table.specs.Connections.{mailbox_of, commands_of, is_connected};
+    ghost use Rattle.program_table.specs.Connections.{numbers_of, mailbox_of, commands_of, is_connected};
     ghost use Rattle.program_table.specs.SlotNames.{slot_next};
     ghost use Rattle.program_table.specs.State.{State, opening};
     ghost use Rattle.program_table.specs.Does.{Does, reply_to, max_commands, answer_of, is_accepted, row, connect_row, connected, changed, effect};
@@ -244,6 +245,13 @@ impl<M: Mailbox> BusState<M> {
         self.connections.as_slice()
     }
 
+    /// Where a connection stands in that list.
+    pub fn place_of(&self, connection: u64) -> Option<usize>
+        ensures { MatchOption result (is_connected connection self.now.connections ≡ false) (λ place. slice_get (numbers_of self.now.connections) place ≡ Some connection) }
+    {
+        self.connections.place_of(connection)
+    }
+
     /// Where the messages for a connection go.
     pub fn mailbox_of(&self, connection: u64) -> Option<&M>
         ensures { option_copied result ≡ mailbox_of connection self.now.connections }
@@ -283,7 +291,7 @@ impl<M: Mailbox> BusState<M> {
     /// `arg0` conditions, where there are such, hold of the message.
     pub fn offered<'a>(&'a self, view: &View<'a>) -> Offered<'a>
         ensures offered { (m : Message) → Valid view.now m → AreOffered self.now.registrations.entries m result }
-        // Rules have the slots of their senders, and no name has two slots.
+        // Rules have the slots of their senders, no name has two slots, and entries are of connections.
         ensures state { IsState self.now }
     {
         let _ = self.connections.last();

@@ -1,20 +1,66 @@
-use Rattle.std.proofs.Common.{◌≡◌, ℕ, ◌+◌, Some, sym, ap, ◌∙◌}
-use Rattle.program_table.specs.Connections.{without_connection}
+use Rattle.std.proofs.Common.{◌≡◌, ℕ, ◌+◌, true, Some, sym, ap, ◌∙◌}
+use Rattle.std.specs.Prelude.{nat_le}
+use Rattle.owners.specs.Registry.{least_of}
+use Rattle.program_table.specs.declared.command.Command.TheVariants.{Request}
+use Rattle.program_table.specs.Connections.{is_connected, without_connection}
 use Rattle.program_table.specs.ConnectionList.{ConnectionList}
 use Rattle.program_table.specs.Registrations.{Registrations, without_entry, with_request, without_claim}
 use Rattle.program_table.specs.State.{State}
-use Rattle.program_table.specs.Does.{changed, closed, effect}
+use Rattle.program_table.specs.Answers.{oldest_with, request_answer}
+use Rattle.program_table.specs.Does.{max_commands, is_accepted, changed, closed, effect}
 use Rattle.program_table.proofs.Counting.{counts_connected, counts_closed}
+use Rattle.program_table.proofs.OfConnections.{connected_theirs, closed_theirs, removed_theirs, requested_theirs, released_theirs, accepted_there}
 use Rattle.program_table.proofs.state.BusState.perform.Goals as goal
 
 abbrev state_of : {M : Type 0} → ℕ → ConnectionList M → Registrations → State M
 state_of commands list r = record { commands = commands; connections = list.connections; last_connection = list.last; registrations = r }
 
 pub invariant_of-self : goal.invariant_of-self
-invariant_of-self g c = rw c.push.ensures (counts_connected c.self.inside.commands c.self.inside.connections c.in_ok-mailbox-in-Connect.mailbox c.self.invariant)
+invariant_of-self g c = rw c.push.ensures (
+  counts_connected c.self.inside.commands c.self.inside.connections c.in_ok-mailbox-in-Connect.mailbox c.self.invariant.0,
+  connected_theirs c.self.inside.connections.connections _ c.self.inside.registrations c.self.invariant.1,
+)
 
 pub invariant_of-self-in-Close : goal.invariant_of-self-in-Close
-invariant_of-self-in-Close g c = rw c.remove.ensures (counts_closed c.in-Close.connection c.self-in-Close.inside.commands c.self-in-Close.inside.connections c.self-in-Close.invariant)
+invariant_of-self-in-Close g c = rw (c.remove.ensures, c.close.ensures) (
+  counts_closed c.in-Close.connection c.self-in-Close.inside.commands c.self-in-Close.inside.connections c.self-in-Close.invariant.0,
+  closed_theirs c.in-Close.connection c.self-in-Close.inside.connections.connections c.self-in-Close.inside.registrations c.self-in-Close.invariant.1,
+)
+
+pub invariant_of-self-in-RemoveRule : goal.invariant_of-self-in-RemoveRule
+invariant_of-self-in-RemoveRule g c = rw c.remove_rule.ensures (
+  c.self-in-RemoveRule.invariant.0,
+  removed_theirs c.in-RemoveRule.connection (oldest_with c.in-RemoveRule.connection c.in-RemoveRule.rule c.self-in-RemoveRule.inside.registrations.entries) c.self-in-RemoveRule.inside.connections.connections c.self-in-RemoveRule.inside.registrations c.self-in-RemoveRule.invariant.1,
+)
+
+pub invariant_of-self-in-Detach : goal.invariant_of-self-in-Detach
+invariant_of-self-in-Detach g c = rw c.remove_entry.ensures (
+  c.self-in-Detach.invariant.0,
+  removed_theirs c.in-Detach.connection (Some c.in-Detach.id) c.self-in-Detach.inside.connections.connections c.self-in-Detach.inside.registrations c.self-in-Detach.invariant.1,
+)
+
+pub invariant_of-self-in-Request : goal.invariant_of-self-in-Request
+invariant_of-self-in-Request g c =
+    let number = c.in-Request.connection in
+    let accepted : is_accepted c.args.self.now (Request number c.in-Request.name c.in-Request.flags) ≡ true = sym (ap (is_accepted c.args.self.now) c.in-Request.is) ∙ c.requires in
+    let there : is_connected number c.args.self.now.connections ≡ true = accepted_there (nat_le max_commands c.args.self.now.commands) number c.args.self.now (request_answer c.in-Request.name number c.in-Request.flags c.args.self.now.registrations) accepted in
+    let here : is_connected number c.self-in-Request.inside.connections.connections ≡ true = ap (λ (s : State _). is_connected number s.connections) c.self-in-Request.view_is ∙ there in
+    rw c.request.ensures (
+      c.self-in-Request.invariant.0,
+      requested_theirs c.in-Request.name number c.in-Request.flags c.self-in-Request.inside.connections.connections c.self-in-Request.inside.registrations here c.self-in-Request.invariant.1,
+    )
+
+pub invariant_of-self-in-Release : goal.invariant_of-self-in-Release
+invariant_of-self-in-Release g c = rw c.release.ensures (
+  c.self-in-Release.invariant.0,
+  released_theirs c.in-Release.connection (Some c.in-Release.name) c.self-in-Release.inside.connections.connections c.self-in-Release.inside.registrations c.self-in-Release.invariant.1,
+)
+
+pub invariant_of-self-in-DropOne : goal.invariant_of-self-in-DropOne
+invariant_of-self-in-DropOne g c = rw c.drop_one.ensures (
+  c.self-in-DropOne.invariant.0,
+  released_theirs c.in-DropOne.connection (least_of c.in-DropOne.connection c.self-in-DropOne.inside.registrations.claims) c.self-in-DropOne.inside.connections.connections c.self-in-DropOne.inside.registrations c.self-in-DropOne.invariant.1,
+)
 
 pub returns-in-Detach : goal.returns-in-Detach
 returns-in-Detach g c =
