@@ -1,6 +1,6 @@
 -- What each command is answered and does: the table of commands, a row a case. The refusals of a row are tested in its
 -- order (D-Bus Specification, "Message Bus Messages": AddMatch, RemoveMatch, RequestName, ReleaseName).
-use Rattle.std.specs.Prelude.{◌≡◌, ℕ, ◌+◌, Bool, not, List, [], ◌∷◌, ◌++◌, length, Some, is_ok, Result, Ok, Err, nat_le, if◌then◌else◌}
+use Rattle.std.specs.Prelude.{◌≡◌, ℕ, ◌+◌, Bool, true, false, not, List, [], ◌∷◌, ◌++◌, length, Some, is_ok, Result, Ok, Err, nat_le, if◌then◌else◌}
 use Rattle.match_rule.specs.RuleTree.{sender_name_of}
 use Rattle.owners.specs.Registry.{least_of}
 use Rattle.entry_table.specs.declared.entry.Filter.TheVariants.{Rule, Attached}
@@ -103,6 +103,13 @@ module _ {M : Type 0} where
   -- the command is accepted
   abbrev pub is_accepted : State M → Command M → Bool
   is_accepted s command = is_ok (answer_of s command)
+
+  -- the command's mailbox, rule or program is shared, which takes memory
+  abbrev pub is_sharing : Command M → Bool
+  is_sharing (Connect m) = true
+  is_sharing (AddRule c compiled) = true
+  is_sharing (Attach c attachment) = true
+  is_sharing _ = false
 
   abbrev pub reply_to : State M → Command M → Reply
   reply_to s command = reply_of (answer_of s command)

@@ -34,7 +34,7 @@ impl<M: Mailbox> Model for BusState<M> {
 }
 
 impl<M: Mailbox> BusState<M> {
-    ghost use Rattle.std.specs.Prelude.{◌≡◌, ◌<◌, ℕ, true, false, None, IfOk, MatchResult, MatchOption, option_map, option_copied, slice_get};
+    ghost use Rattle.std.specs.Prelude.{◌≡◌, ◌<◌, ℕ, true, false, None, IfOk, IfErr, MatchResult, MatchOption, option_map, option_copied, slice_get};
     ghost use Rattle.message_view.specs.Message.{Message};
     ghost use Rattle.message_view.specs.Valid.{Valid};
     ghost use Rattle.summary.specs.Sets.{has_slot, IsSet};
@@ -44,7 +44,7 @@ impl<M: Mailbox> BusState<M> {
     ghost use Rattle.program_table.specs.Connections.{numbers_of, mailbox_of, commands_of, is_connected};
     ghost use Rattle.program_table.specs.SlotNames.{slot_next};
     ghost use Rattle.program_table.specs.State.{State, opening};
-    ghost use Rattle.program_table.specs.Does.{Does, reply_to, max_commands, answer_of, is_accepted, row, connect_row, connected, changed, effect};
+    ghost use Rattle.program_table.specs.Does.{Does, reply_to, max_commands, answer_of, is_accepted, is_sharing, row, connect_row, connected, changed, effect};
     ghost use Rattle.program_table.specs.Recipients.{AreOwnedSlots};
     ghost use Rattle.program_table.specs.IsState.{IsState};
 
@@ -71,7 +71,9 @@ impl<M: Mailbox> BusState<M> {
 
     /// Does the command. Where a share of its mailbox, rule or program is refused for memory, the state is as it was.
     pub fn apply(&mut self, command: &Command<M>) -> Result<Reply, AllocError>
-        ensures { MatchResult result (λ reply. Does self.old command.now reply self.new) (λ _. self.new ≡ self.old) }
+        ensures done { MatchResult result (λ reply. Does self.old command.now reply self.new) (λ _. self.new ≡ self.old) }
+        // Only a command that shares something takes memory, and only where it is accepted.
+        ensures memory { IfErr result (λ _. (is_accepted self.old command.now ≡ true) × (is_sharing command.now ≡ true)) }
     {
         match self.decide(command) {
             Ok(reply) => {
@@ -159,7 +161,8 @@ impl<M: Mailbox> BusState<M> {
     /// Does a command that is accepted.
     fn perform(&mut self, command: &Command<M>) -> Result<(), AllocError>
         requires { is_accepted self.old command.now ≡ true }
-        ensures { MatchResult result (λ _. self.new ≡ effect self.old command.now) (λ _. self.new ≡ self.old) }
+        ensures done { MatchResult result (λ _. self.new ≡ effect self.old command.now) (λ _. self.new ≡ self.old) }
+        ensures memory { IfErr result (λ _. is_sharing command.now ≡ true) }
     {
         match command {
             Command::Connect(mailbox) => {
