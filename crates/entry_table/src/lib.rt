@@ -5,6 +5,7 @@
 
 mod attachment;
 mod entry;
+mod index_key;
 mod offered;
 mod rule_program;
 mod search;
@@ -14,6 +15,7 @@ mod texts;
 
 pub use attachment::Attachment;
 pub use entry::{Entry, Filter};
+pub use index_key::IndexKey;
 pub use offered::Offered;
 pub use rule_program::RuleProgram;
 pub use table::{EntryTable, MAX_ENTRIES};

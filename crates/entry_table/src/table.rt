@@ -1,6 +1,7 @@
 // The table of entries.
 
 use crate::entry::{Entry, Filter};
+use crate::index_key::IndexKey;
 use crate::offered::Offered;
 use crate::search::{Wanted, last_place};
 use crate::shelf::Shelf;
@@ -19,6 +20,7 @@ pub struct EntryTable {
     shelf: Shelf,
     last: u32,
     count: usize,
+    key: IndexKey,
 }
 
 impl Model for EntryTable {
@@ -42,14 +44,15 @@ impl EntryTable {
     ghost use Rattle.entry_table.specs.OfferedEntries.{AreOffered};
     ghost use Rattle.entry_table.specs.Searching.{is_wanted};
 
-    /// A table without entries. Only this call takes memory.
-    pub fn new(alloc: Global) -> Result<EntryTable, AllocError>
+    /// A table without entries, whose index hashes texts with this key. Only this call takes memory.
+    pub fn new(alloc: Global, key: IndexKey) -> Result<EntryTable, AllocError>
         ensures { IfOk result (λ table. table ≡ no_entries) }
     {
         Ok(EntryTable {
             shelf: Shelf::new(alloc)?,
             last: 0,
             count: 0,
+            key,
         })
     }
 
