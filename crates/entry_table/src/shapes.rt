@@ -61,7 +61,8 @@ impl Shapes {
         ensures { self.new ≡ slice_set self.old shape (slice_index self.old shape - 1) }
     {
         let count = self.counts[usize::from(shape)];
-        if count == 1 && shape != 0 {
+        let is_last = count == 1;
+        if is_last && shape != 0 {
             self.used.remove(0, shape);
         }
         self.counts[usize::from(shape)] = count - 1;
