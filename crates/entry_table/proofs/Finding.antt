@@ -1,19 +1,22 @@
 -- The entry that a search finds, and what is left when it is taken.
-use Rattle.std.proofs.Common.{◌≡◌, ℕ, ◌<◌, ◌≤◌, ◌+◌, Bool, true, false, not, ◌||◌, ◌&&◌, cond, List, [], ◌∷◌, ◌++◌, map, reverse, length, refl, sym, ap, ◌∙◌, subst, eqb, inl, inr, arith}
+use Rattle.std.proofs.Common.{◌≡◌, ◌≢◌, ℕ, ◌%◌, ◌<◌, ◌≤◌, ◌+◌, Bool, true, false, not, ◌||◌, ◌&&◌, cond, List, [], ◌∷◌, ◌++◌, map, reverse, length, refl, sym, ap, ◌∙◌, subst, eqb, inl, inr, arith}
 use Rattle.std.proofs.lemmas.List.{reverse-append, append-nil, length-reverse, length-map}
 use Rattle.std.proofs.lemmas.List.Elements.{filter-append, All-nil, All-push}
 use Rattle.std.proofs.lemmas.List.Folds.{find-append}
 use Rattle.std.proofs.lemmas.List.Quantifiers.{all_pairs_push}
-use Rattle.std.proofs.lemmas.Bool.{eqb-true, eqb-false, ne_eqb, eq-eqb, or_left, or_right, or_parts, cases_Bool, cond-true, cond-false, not_from_true, not_from_false}
+use Rattle.std.proofs.lemmas.Bool.{eqb-true, eqb-false, ne_eqb, eq-eqb, or_left, or_right, or_parts, and_parts, cases_Bool, cases_eq, false≢true, cond-true, cond-false, not_from_true, not_from_false}
 use Rattle.std.specs.Prelude.{Option, Some, None, option_map, IfSome, is_some, find, filter, All, AllPairs}
 use Rattle.std.specs.Option.{option_or}
 use Rattle.std.specs.List.{list_any}
 use Rattle.place_lists.specs.PlaceLists.{has_place, AreOnce}
 use Rattle.entry_table.specs.declared.entry.Entry.{Entry}
 use Rattle.entry_table.specs.declared.search.Wanted.{Wanted}
-use Rattle.entry_table.specs.Entries.{AreEntries}
+use Rattle.entry_table.specs.declared.search.Wanted.TheVariants.{Any}
+use Rattle.entry_table.specs.Entries.{AreEntries, is_of}
 use Rattle.entry_table.specs.PlacedEntries.{Placed, places_of, entry_at, but_at}
-use Rattle.entry_table.specs.Searching.{is_wanted, is_wanted_in, or_place, last_place, entries_of, AreGiven, AreBelow, IdsFall, IsTable}
+use Rattle.entry_table.specs.IndexLists.{keyed, connection_key, connection_lists}
+use Rattle.entry_table.specs.Searching.{suits, is_wanted, is_wanted_in, or_place, last_place, entries_of, AreGiven, AreBelow, IdsFall, IsTable}
+use Rattle.entry_table.proofs.Keying.{keyed-here, keyed-other}
 
 abbrev pub or_placed : Option Placed → Option Placed → Option Placed
 or_placed (Some x) other = Some x
@@ -149,7 +152,7 @@ below-at id place e (x ∷ xs) below at =
     some_same : (f g : Entry) → Some f ≡ Some g → f ≡ g
     some_same f g h = cc
 
-some_one : (f g : Entry) → Some f ≡ Some g → f ≡ g
+pub some_one : (f g : Entry) → Some f ≡ Some g → f ≡ g
 some_one f g h = cc
 
 removed_entries : (place : ℕ) (e : Entry) (held : List Placed) → AreOnce (places_of held) → IdsFall held → entry_at place held ≡ Some e → map (λ (y : Placed). y.1) (but_at place held) ≡ others e.id (map (λ (y : Placed). y.1) held)
@@ -264,13 +267,37 @@ AreEntries-held held last count h = record {
   few = omega (arith, length-entries_of held, h.few);
 }
 
--- what a walk over all places finds
-pub searched : (held : List Placed) (wanted : Wanted) (connection : ℕ) (walk : List ℕ) (r : Option ℕ) → AreOnce (places_of held) → walk ≡ places_of held → r ≡ last_place (λ place. is_wanted_in wanted connection (entry_at place held)) walk
+or_none : (r : Option ℕ) → or_place r None ≡ r
+or_none None = refl
+or_none (Some place) = refl
+
+not_theirs : (wanted : Wanted) (connection : ℕ) (e : Entry) → connection_key e ≢ connection % connection_lists → is_wanted wanted connection e ≡ false
+not_theirs wanted connection e other = decided (is_of connection e) refl
+  where
+    decided : (b : Bool) → is_of connection e ≡ b → (b && suits wanted e) ≡ false
+    decided true is = absurd (other (ap (λ (n : ℕ). n % connection_lists) (eqb-true e.connection connection is)))
+    decided false is = refl
+
+-- in the connection's list the search finds what it finds among all
+pub last_place-theirs : (all xs : List Placed) (wanted : Wanted) (connection : ℕ) → AreKept all xs → last_place (λ place. is_wanted_in wanted connection (entry_at place all)) (keyed connection_key (connection % connection_lists) xs) ≡ last_place (λ place. is_wanted_in wanted connection (entry_at place all)) (places_of xs)
+last_place-theirs all [] wanted connection kept = refl
+last_place-theirs all (x ∷ xs) wanted connection kept =
+    let test : ℕ → Bool = λ place. is_wanted_in wanted connection (entry_at place all) in
+    let k : ℕ = connection % connection_lists in
+    let rest = last_place-theirs all xs wanted connection kept.1 in
+    elim (cases_eq (connection_key x.1) k) [
+      | inl is ↦ ap (last_place test) (keyed-here connection_key k x xs is) ∙ ap (λ (r : Option ℕ). or_place r (cond (test x.0) (Some x.0) None)) rest
+      | inr other ↦ ap (last_place test) (keyed-other connection_key k x xs other) ∙ rest ∙ sym (or_none (last_place test (places_of xs)))
+          ∙ ap (λ (b : Bool). or_place (last_place test (places_of xs)) (cond b (Some x.0) None)) (sym (ap (is_wanted_in wanted connection) kept.0 ∙ not_theirs wanted connection x.1 other))
+    ]
+
+-- what a walk over the connection's list finds
+pub searched : (held : List Placed) (wanted : Wanted) (connection : ℕ) (walk : List ℕ) (r : Option ℕ) → AreOnce (places_of held) → walk ≡ keyed connection_key (connection % connection_lists) held → r ≡ last_place (λ place. is_wanted_in wanted connection (entry_at place held)) walk
     → IsFound held (is_wanted wanted connection) r (find (is_wanted wanted connection) (entries_of held))
 searched held wanted connection walk r once over is =
     let f = IsFound-search held wanted connection once in
     record {
-      here = is ∙ ap (last_place (λ place. is_wanted_in wanted connection (entry_at place held))) over ∙ f.here;
+      here = is ∙ ap (last_place (λ place. is_wanted_in wanted connection (entry_at place held))) over ∙ last_place-theirs held held wanted connection (AreKept-all held once) ∙ f.here;
       first = f.first;
       kept = f.kept;
     }
@@ -337,3 +364,51 @@ find-same p q same (e ∷ es) = ap (λ (b : Bool). cond b (Some e) (find p es)) 
 pub and-true : (b : Bool) → (b && true) ≡ b
 and-true true = refl
 and-true false = refl
+
+-- what the first place that is wanted in any list has
+passes-first : (test : ℕ → Bool) (places : List ℕ) (place : ℕ) → find test places ≡ Some place → test place ≡ true
+passes-first test [] place found = absurd cc
+passes-first test (p ∷ ps) place found =
+    elim (cases_Bool (test p)) [
+      | inl passes ↦ (let same : p ≡ place = (let both : Some p ≡ Some place = sym (cond-true (test p) (Some p) (find test ps) passes) ∙ found in cc) in ap test (sym same) ∙ passes)
+      | inr fails ↦ passes-first test ps place (sym (cond-false (test p) (Some p) (find test ps) fails) ∙ found)
+    ]
+
+-- the entry at the first place that is the connection's
+pub first-theirs : (held : List Placed) (connection : ℕ) (places : List ℕ) (place : ℕ) → Some place ≡ find (λ p. is_wanted_in Any connection (entry_at p held)) places → (e : Entry) × (entry_at place held ≡ Some e) × (is_of connection e ≡ true)
+first-theirs held connection places place found =
+    there (entry_at place held) refl (passes-first (λ p. is_wanted_in Any connection (entry_at p held)) places place (sym found))
+  where
+    there : (o : Option Entry) → entry_at place held ≡ o → is_wanted_in Any connection (entry_at place held) ≡ true → (e : Entry) × (entry_at place held ≡ Some e) × (is_of connection e ≡ true)
+    there None is passes = absurd (false≢true (sym (ap (is_wanted_in Any connection) is) ∙ passes))
+    there (Some e) is passes = (e, is, (and_parts (is_of connection e) (suits Any e) (sym (ap (is_wanted_in Any connection) is) ∙ passes)).0)
+
+-- none is the connection's where its list has none
+none-oldest : (all xs : List Placed) (connection : ℕ) → AreKept all xs → find (λ p. is_wanted_in Any connection (entry_at p all)) (keyed connection_key (connection % connection_lists) xs) ≡ None → oldest_of (is_of connection) xs ≡ None
+none-oldest all [] connection kept none = refl
+none-oldest all (x ∷ xs) connection kept none =
+    let test : ℕ → Bool = λ p. is_wanted_in Any connection (entry_at p all) in
+    let k : ℕ = connection % connection_lists in
+    let seen : test x.0 ≡ is_of connection x.1 = ap (is_wanted_in Any connection) kept.0 ∙ and-true (is_of connection x.1) in
+    elim (cases_eq (connection_key x.1) k) [
+      | inl is ↦ (
+          let found : cond (test x.0) (Some x.0) (find test (keyed connection_key k xs)) ≡ None = sym (ap (find test) (keyed-here connection_key k x xs is)) ∙ none in
+          let parts = neither x.0 (find test (keyed connection_key k xs)) (test x.0) found in
+          joined x (is_of connection x.1) (oldest_of (is_of connection) xs) (sym seen ∙ parts.0) (none-oldest all xs connection kept.1 parts.1))
+      | inr other ↦ joined x (is_of connection x.1) (oldest_of (is_of connection) xs) (sym (and-true (is_of connection x.1)) ∙ not_theirs Any connection x.1 other)
+          (none-oldest all xs connection kept.1 (sym (ap (find test) (keyed-other connection_key k x xs other)) ∙ none))
+    ]
+  where
+    neither : (p : ℕ) (r : Option ℕ) (b : Bool) → cond b (Some p) r ≡ None → (b ≡ false) × (r ≡ None)
+    neither p r true none = absurd cc
+    neither p r false none = (refl, none)
+
+    joined : (x : Placed) (b : Bool) (r : Option Placed) → b ≡ false → r ≡ None → or_placed r (cond b (Some x) None) ≡ None
+    joined x true r fails none = absurd (false≢true (sym fails))
+    joined x false None fails none = refl
+    joined x false (Some y) fails none = absurd cc
+
+pub none-theirs : (held : List Placed) (connection : ℕ) (walk : List ℕ) → AreOnce (places_of held) → walk ≡ keyed connection_key (connection % connection_lists) held → None ≡ find (λ p. is_wanted_in Any connection (entry_at p held)) walk → find (is_of connection) (entries_of held) ≡ None
+none-theirs held connection walk once over none =
+    find-oldest (is_of connection) held
+    ∙ ap (option_map {T = Placed} {U = Entry} (λ (y : Placed). y.1)) (none-oldest held held connection (AreKept-all held once) (ap (find (λ p. is_wanted_in Any connection (entry_at p held))) (sym over) ∙ sym none))

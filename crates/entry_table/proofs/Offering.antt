@@ -1,48 +1,56 @@
--- What the entries at the places of all are: those that a message is offered to.
-use Rattle.std.proofs.Common.{◌≡◌, ◌≢◌, ℕ, Bool, true, ◌&&◌, List, [], ◌∷◌, map, refl, sym, ap, ◌∙◌, subst, ◌⊎◌, inl, inr, arith}
-use Rattle.std.proofs.lemmas.Bool.{and_parts, and_from, cases_Bool, cond-true, cond-false, false≢true}
-use Rattle.std.proofs.lemmas.List.Elements.{Contains-append_cases, Contains-append_left, Contains-append_right, Contains-push, Contains-push_cases, All-nil, All-cons}
-use Rattle.std.proofs.lemmas.List.Kept.{AllPairs-filter, AllPairs-cons}
-use Rattle.std.specs.Prelude.{Option, Some, None, IfSome, filter, Contains, All, AllPairs}
+-- Which texts a message has of those that an entry fixes, and what stands in the list of an entry's texts.
+use Rattle.std.proofs.Common.{◌≡◌, ℕ, ◌<◌, ◌≤◌, ◌+◌, ◌*◌, ◌/◌, ◌%◌, Bool, true, false, ◌&&◌, cond, List, [], ◌∷◌, map, refl, sym, ap, ◌∙◌, subst, ◌⊎◌, inl, inr, arith}
+use Rattle.std.proofs.lemmas.Bool.{and_parts, and_from, cases_Bool, cases_eq, cond-true, cond-false, false≢true}
+use Rattle.std.proofs.lemmas.List.Elements.{Contains-append_cases, Contains-append_left, Contains-append_right, Contains-push, Contains-push_cases}
+use Rattle.std.specs.Prelude.{Option, Some, None, IfSome, filter, Contains}
 use Rattle.std.specs.List.{filter_map}
 use Rattle.std.proofs.lemmas.Slice.Eq.{bytes_eq-Decides}
-use Rattle.message_view.specs.Message.{Message}
-use Rattle.match_rule.specs.FixedTexts.{FixedTexts, AreFound, texts_of}
-use Rattle.place_lists.specs.PlaceLists.{AreOnce}
+use Rattle.match_rule.specs.FixedTexts.{FixedTexts, AreFound}
 use Rattle.entry_table.specs.declared.entry.Entry.{Entry}
-use Rattle.entry_table.specs.OfferedEntries.{texts_fixed, AreOffered}
-use Rattle.entry_table.specs.FoundTexts.{is_text_found, are_found, offered_at}
-use Rattle.entry_table.specs.PlacedEntries.{Placed, places_of, entry_at}
-use Rattle.entry_table.specs.Searching.{entries_of, AreBelow, IdsFall}
-use Rattle.entry_table.proofs.Finding.{AreKept, AreKept-all, entries_of-cons}
+use Rattle.entry_table.specs.FoundTexts.{is_text_found, are_found}
+use Rattle.entry_table.specs.IndexLists.{keyed}
+use Rattle.entry_table.specs.TextKeys.{bit_of, shape_of, where_bit, in_shape}
+use Rattle.entry_table.specs.PlacedEntries.{Placed, entry_at}
+use Rattle.entry_table.specs.Searching.{entries_of}
+use Rattle.entry_table.proofs.Finding.{AreKept, entries_of-cons}
+use Rattle.entry_table.proofs.Keying.{keyed-here, keyed-other}
 
 abbrev consed : Option Entry → List Entry → List Entry
 consed None es = es
 consed (Some e) es = e ∷ es
 
--- the entries at their own places
-entries-kept : (all xs : List Placed) → AreKept all xs → filter_map (λ (place : ℕ). entry_at place all) (places_of xs) ≡ map (λ (x : Placed). x.1) xs
-entries-kept all [] kept = refl
-entries-kept all (x ∷ xs) kept =
-    ap (λ (o : Option Entry). consed o (filter_map (λ (place : ℕ). entry_at place all) (places_of xs))) kept.0 ∙ ap (λ (es : List Entry). x.1 ∷ es) (entries-kept all xs kept.1)
+-- of the entries in a list by a key, those that pass a test which decides the key
+pub in_list : (key : Entry → ℕ) (k : ℕ) (q : Entry → Bool) → ((e : Entry) → q e ≡ true → key e ≡ k) → (all xs : List Placed) → AreKept all xs → filter q (filter_map (λ (place : ℕ). entry_at place all) (keyed key k xs)) ≡ filter q (map (λ (x : Placed). x.1) xs)
+in_list key k q only all [] kept = refl
+in_list key k q only all (x ∷ xs) kept =
+    let seen : List ℕ → List Entry = λ places. filter_map (λ (place : ℕ). entry_at place all) places in
+    let rest = in_list key k q only all xs kept.1 in
+    elim (cases_eq (key x.1) k) [
+      | inl is ↦ ap (λ (places : List ℕ). filter q (seen places)) (keyed-here key k x xs is)
+          ∙ ap (λ (o : Option Entry). filter q (consed o (seen (keyed key k xs)))) kept.0
+          ∙ ap (λ (es : List Entry). cond (q x.1) (x.1 ∷ es) es) rest
+      | inr other ↦ ap (λ (places : List ℕ). filter q (seen places)) (keyed-other key k x xs other) ∙ rest
+          ∙ sym (skipped x.1 (filter q (map (λ (y : Placed). y.1) xs)) (q x.1) (λ passes. other (only x.1 passes)))
+    ]
+  where
+    skipped : (e : Entry) (es : List Entry) (b : Bool) → (b ≡ true → ⊥) → cond b (e ∷ es) es ≡ es
+    skipped e es true never = absurd (never refl)
+    skipped e es false never = refl
 
-pub offered_at-all : (held : List Placed) (found : FixedTexts) → AreOnce (places_of held) → offered_at held found (places_of held) ≡ filter (λ (e : Entry). are_found (texts_fixed e.filter) found) (map (λ (x : Placed). x.1) held)
-offered_at-all held found once = ap (filter (λ (e : Entry). are_found (texts_fixed e.filter) found)) (entries-kept held held (AreKept-all held once))
-
-contains-cons : (y : Entry) (ys : List Entry) (e : Entry) → Contains (y ∷ ys) e → (y ≡ e) ⊎ Contains ys e
+pub contains-cons : (y : Entry) (ys : List Entry) (e : Entry) → Contains (y ∷ ys) e → (y ≡ e) ⊎ Contains ys e
 contains-cons y ys e h =
     elim (Contains-append_cases (y ∷ []) ys e h) [
       | inl first ↦ (elim (Contains-push_cases [] y e first) [ inl none ↦ absurd (omega (arith, none.1)) | inr same ↦ inl same ])
       | inr later ↦ inr later
     ]
 
-contains-first : (y : Entry) (ys : List Entry) (e : Entry) → y ≡ e → Contains (y ∷ ys) e
+pub contains-first : (y : Entry) (ys : List Entry) (e : Entry) → y ≡ e → Contains (y ∷ ys) e
 contains-first y ys e same = subst (λ (f : Entry). Contains (y ∷ ys) f) same (Contains-append_left (y ∷ []) ys y (Contains-push [] y))
 
-contains-later : (y : Entry) (ys : List Entry) (e : Entry) → Contains ys e → Contains (y ∷ ys) e
+pub contains-later : (y : Entry) (ys : List Entry) (e : Entry) → Contains ys e → Contains (y ∷ ys) e
 contains-later y ys e h = Contains-append_right (y ∷ []) ys e h
 
-filter-contains : (q : Entry → Bool) (ys : List Entry) (e : Entry) → Contains (filter q ys) e → Contains ys e × (q e ≡ true)
+pub filter-contains : (q : Entry → Bool) (ys : List Entry) (e : Entry) → Contains (filter q ys) e → Contains ys e × (q e ≡ true)
 filter-contains q [] e h = absurd (omega (arith, h.1))
 filter-contains q (y ∷ ys) e h =
     elim (cases_Bool (q y)) [
@@ -53,7 +61,7 @@ filter-contains q (y ∷ ys) e h =
       | inr fails ↦ (let found = filter-contains q ys e (subst (λ (es : List Entry). Contains es e) (cond-false (q y) (y ∷ filter q ys) (filter q ys) fails) h) in (contains-later y ys e found.0, found.1))
     ]
 
-contains-filter : (q : Entry → Bool) (ys : List Entry) (e : Entry) → Contains ys e → q e ≡ true → Contains (filter q ys) e
+pub contains-filter : (q : Entry → Bool) (ys : List Entry) (e : Entry) → Contains ys e → q e ≡ true → Contains (filter q ys) e
 contains-filter q [] e h passes = absurd (omega (arith, h.1))
 contains-filter q (y ∷ ys) e h passes =
     elim (contains-cons y ys e h) [
@@ -64,7 +72,7 @@ contains-filter q (y ∷ ys) e h passes =
       ])
     ]
 
-reversed : (held : List Placed) (e : Entry) → Contains (map (λ (x : Placed). x.1) held) e → Contains (entries_of held) e
+pub reversed : (held : List Placed) (e : Entry) → Contains (map (λ (x : Placed). x.1) held) e → Contains (entries_of held) e
 reversed [] e h = absurd (omega (arith, h.1))
 reversed (x ∷ xs) e h =
     subst (λ (es : List Entry). Contains es e) (sym (entries_of-cons x xs)) (elim (contains-cons x.1 (map (λ (x : Placed). x.1) xs) e h) [
@@ -72,7 +80,7 @@ reversed (x ∷ xs) e h =
       | inr later ↦ Contains-append_left (entries_of xs) (x.1 ∷ []) e (reversed xs e later)
     ])
 
-turned_back : (held : List Placed) (e : Entry) → Contains (entries_of held) e → Contains (map (λ (x : Placed). x.1) held) e
+pub turned_back : (held : List Placed) (e : Entry) → Contains (entries_of held) e → Contains (map (λ (x : Placed). x.1) held) e
 turned_back [] e h = absurd (omega (arith, h.1))
 turned_back (x ∷ xs) e h =
     elim (Contains-append_cases (entries_of xs) (x.1 ∷ []) e (subst (λ (es : List Entry). Contains es e) (entries_of-cons x xs) h)) [
@@ -80,13 +88,31 @@ turned_back (x ∷ xs) e h =
       | inr first ↦ (elim (contains-cons x.1 [] e first) [ inl same ↦ contains-first x.1 (map (λ (x : Placed). x.1) xs) e same | inr none ↦ absurd (omega (arith, none.1)) ])
     ]
 
-ids_apart : (id : ℕ) (xs : List Placed) → AreBelow id xs → All (λ (f : Entry). id ≢ f.id) (map (λ (x : Placed). x.1) xs)
-ids_apart id [] h = All-nil (λ (f : Entry). id ≢ f.id)
-ids_apart id (x ∷ xs) h = All-cons (λ (f : Entry). id ≢ f.id) x.1 (map (λ (x : Placed). x.1) xs) (λ e. omega (arith, h.0)) (ids_apart id xs h.1)
+bit-small : (text : Option (List ℕ)) → bit_of text ≤ 1
+bit-small None = omega arith
+bit-small (Some text) = omega arith
 
-all_apart : (xs : List Placed) → IdsFall xs → AllPairs (λ (e f : Entry). e.id ≢ f.id) (map (λ (x : Placed). x.1) xs)
-all_apart [] h = λ i j d before within. absurd (omega arith)
-all_apart (x ∷ xs) h = AllPairs-cons (λ (e f : Entry). e.id ≢ f.id) x.1 (map (λ (x : Placed). x.1) xs) (ids_apart x.1.id xs h.0) (all_apart xs h.1)
+shape-member : (t : FixedTexts) → shape_of t % 2 ≡ bit_of t.member
+shape-member t = omega (arith, bit-small t.member, bit-small t.interface, bit-small t.path, bit-small t.arg0)
+
+shape-interface : (t : FixedTexts) → shape_of t / 2 % 2 ≡ bit_of t.interface
+shape-interface t = omega (arith, bit-small t.member, bit-small t.interface, bit-small t.path, bit-small t.arg0)
+
+shape-path : (t : FixedTexts) → shape_of t / 4 % 2 ≡ bit_of t.path
+shape-path t = omega (arith, bit-small t.member, bit-small t.interface, bit-small t.path, bit-small t.arg0)
+
+shape-arg0 : (t : FixedTexts) → shape_of t / 8 % 2 ≡ bit_of t.arg0
+shape-arg0 t = omega (arith, bit-small t.member, bit-small t.interface, bit-small t.path, bit-small t.arg0)
+
+pub shape-below : (t : FixedTexts) → shape_of t < 16
+shape-below t = omega (arith, bit-small t.member, bit-small t.interface, bit-small t.path, bit-small t.arg0)
+
+same_texts : (s t : FixedTexts) → s.member ≡ t.member → s.interface ≡ t.interface → s.path ≡ t.path → s.arg0 ≡ t.arg0 → s ≡ t
+same_texts s t member interface path arg0 =
+    ap (λ (x : Option (List ℕ)). record s { member = x }) member
+    ∙ ap (λ (x : Option (List ℕ)). record s { member = t.member; interface = x }) interface
+    ∙ ap (λ (x : Option (List ℕ)). record s { member = t.member; interface = t.interface; path = x }) path
+    ∙ ap (λ (x : Option (List ℕ)). record s { member = t.member; interface = t.interface; path = t.path; arg0 = x }) arg0
 
 module _ (asked found : FixedTexts) where
   text_found : (a f : Option (List ℕ)) → is_text_found a f ≡ true → IfSome a (λ text. f ≡ Some text)
@@ -99,7 +125,7 @@ module _ (asked found : FixedTexts) where
   found_text (Some text) None h = absurd cc
   found_text (Some text) (Some other) h = let same : other ≡ text = cc in (bytes_eq-Decides other text).1 same
 
-  AreFound-test : are_found asked found ≡ true → AreFound asked found
+  pub AreFound-test : are_found asked found ≡ true → AreFound asked found
   AreFound-test h =
       let last = and_parts (is_text_found asked.member found.member && is_text_found asked.interface found.interface && is_text_found asked.path found.path) (is_text_found asked.arg0 found.arg0) h in
       let third = and_parts (is_text_found asked.member found.member && is_text_found asked.interface found.interface) (is_text_found asked.path found.path) last.0 in
@@ -111,7 +137,7 @@ module _ (asked found : FixedTexts) where
         arg0 = text_found asked.arg0 found.arg0 last.1;
       }
 
-  test-AreFound : AreFound asked found → are_found asked found ≡ true
+  pub test-AreFound : AreFound asked found → are_found asked found ≡ true
   test-AreFound h =
       and_from (is_text_found asked.member found.member && is_text_found asked.interface found.interface && is_text_found asked.path found.path) (is_text_found asked.arg0 found.arg0)
       (and_from (is_text_found asked.member found.member && is_text_found asked.interface found.interface) (is_text_found asked.path found.path)
@@ -119,17 +145,19 @@ module _ (asked found : FixedTexts) where
       (found_text asked.path found.path h.path))
       (found_text asked.arg0 found.arg0 h.arg0)
 
--- exactly the entries that a message is offered to, each once
-pub AreOffered-all : (held : List Placed) (m : Message) (offered : List Entry) → AreOnce (places_of held) → IdsFall held → offered ≡ offered_at held (texts_of m) (places_of held) → AreOffered (entries_of held) m offered
-AreOffered-all held m offered once falls is =
-    let found : FixedTexts = texts_of m in
-    let q : Entry → Bool = λ e. are_found (texts_fixed e.filter) found in
-    let seen : List Entry = map (λ (x : Placed). x.1) held in
-    let same : offered ≡ filter q seen = is ∙ offered_at-all held found once in
-    record {
-      exact = λ e. (
-        λ h. (let both = filter-contains q seen e (subst (λ (es : List Entry). Contains es e) same h) in (reversed held e both.0, AreFound-test (texts_fixed e.filter) found both.1)),
-        λ h. subst (λ (es : List Entry). Contains es e) (sym same) (contains-filter q seen e (turned_back held e h.0) (test-AreFound (texts_fixed e.filter) found h.1)),
-      );
-      once = subst (λ (es : List Entry). AllPairs (λ (e f : Entry). e.id ≢ f.id) es) (sym same) (AllPairs-filter (λ (e f : Entry). e.id ≢ f.id) q seen (all_apart held falls));
-    }
+  where_found : (a f : Option (List ℕ)) → is_text_found a f ≡ true → where_bit (bit_of a) f ≡ a
+  where_found None f h = refl
+  where_found (Some text) None h = absurd (false≢true h)
+  where_found (Some text) (Some other) h = ap (λ (t : List ℕ). Some t) ((bytes_eq-Decides other text).0 h)
+
+  -- of the texts that are found, those of the shape of what is asked for are just what is asked for
+  pub in_own_shape : are_found asked found ≡ true → in_shape (shape_of asked) found ≡ asked
+  in_own_shape h =
+      let last = and_parts (is_text_found asked.member found.member && is_text_found asked.interface found.interface && is_text_found asked.path found.path) (is_text_found asked.arg0 found.arg0) h in
+      let third = and_parts (is_text_found asked.member found.member && is_text_found asked.interface found.interface) (is_text_found asked.path found.path) last.0 in
+      let second = and_parts (is_text_found asked.member found.member) (is_text_found asked.interface found.interface) third.0 in
+      let member = ap (λ (n : ℕ). where_bit n found.member) (shape-member asked) ∙ where_found asked.member found.member second.0 in
+      let interface = ap (λ (n : ℕ). where_bit n found.interface) (shape-interface asked) ∙ where_found asked.interface found.interface second.1 in
+      let path = ap (λ (n : ℕ). where_bit n found.path) (shape-path asked) ∙ where_found asked.path found.path third.1 in
+      let arg0 = ap (λ (n : ℕ). where_bit n found.arg0) (shape-arg0 asked) ∙ where_found asked.arg0 found.arg0 last.1 in
+      same_texts (in_shape (shape_of asked) found) asked member interface path arg0

@@ -92,3 +92,12 @@ cond_some false (Some e) h = absurd (false≢true (sym h))
 
 pub entry_at-placed : (cells : List (Option Entry)) (place : ℕ) (places : List ℕ) → is_some (get_or cells place None) ≡ has_place place places → entry_at place (placed_at cells places) ≡ get_or cells place None
 entry_at-placed cells place places same = entry_at-among cells place places ∙ cond_some (has_place place places) (get_or cells place None) same
+
+-- the places of the other entries
+pub places_of-but : (place : ℕ) (held : List Placed) → places_of (but_at place held) ≡ without place (places_of held)
+places_of-but place [] = refl
+places_of-but place (x ∷ xs) =
+    elim (cases_Bool (not (eqb place x.0))) [
+      | inl keeps ↦ ap places_of (cond-true (not (eqb place x.0)) (x ∷ but_at place xs) (but_at place xs) keeps) ∙ ap (λ (ys : List ℕ). x.0 ∷ ys) (places_of-but place xs) ∙ sym (cond-true (not (eqb place x.0)) (x.0 ∷ without place (places_of xs)) (without place (places_of xs)) keeps)
+      | inr drops ↦ ap places_of (cond-false (not (eqb place x.0)) (x ∷ but_at place xs) (but_at place xs) drops) ∙ places_of-but place xs ∙ sym (cond-false (not (eqb place x.0)) (x.0 ∷ without place (places_of xs)) (without place (places_of xs)) drops)
+    ]

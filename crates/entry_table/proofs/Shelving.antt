@@ -69,6 +69,14 @@ length-without place (x ∷ xs) once stands =
       ])
     ]
 
+pub has_place-kept : (p q : ℕ) → p ≢ q → (xs : List ℕ) → has_place p (without q xs) ≡ has_place p xs
+has_place-kept p q ne [] = refl
+has_place-kept p q ne (x ∷ xs) =
+    elim (cases_Bool (eqb q x)) [
+      | inl here ↦ ap (has_place p) (cond-false (not (eqb q x)) (x ∷ without q xs) (without q xs) (not_from_true (eqb q x) here)) ∙ has_place-kept p q ne xs ∙ sym (ap (λ (b : Bool). b || has_place p xs) (ne_eqb p x (λ e. ne (e ∙ sym (eqb-true q x here)))))
+      | inr there ↦ ap (has_place p) (cond-true (not (eqb q x)) (x ∷ without q xs) (without q xs) (not_from_false (eqb q x) there)) ∙ ap (λ (b : Bool). eqb p x || b) (has_place-kept p q ne xs)
+    ]
+
 -- an entry is put at a vacant place
 pub IsShelf-put : (cells : List (Option Entry)) (ages : PlaceLists) (place : ℕ) (e : Entry) → IsShelf cells ages → AreApart ages → has_place place (places_in ages 1) ≡ true → has_place place (places_in ages 0) ≡ false → IsShelf (set cells place (Some e)) (moved ages place 1 0)
 IsShelf-put cells ages place e h apart stands out =
@@ -123,14 +131,6 @@ IsShelf-take cells ages place h apart stands =
       ];
       all = omega (arith, h.all, ap (λ (xs : List ℕ). length xs) first, ap (λ (xs : List ℕ). length xs) second, length-without place (places_in ages 0) h.once stands);
     }
-  where
-    has_place-kept : (p q : ℕ) → p ≢ q → (xs : List ℕ) → has_place p (without q xs) ≡ has_place p xs
-    has_place-kept p q ne [] = refl
-    has_place-kept p q ne (x ∷ xs) =
-        elim (cases_Bool (eqb q x)) [
-          | inl here ↦ ap (has_place p) (cond-false (not (eqb q x)) (x ∷ without q xs) (without q xs) (not_from_true (eqb q x) here)) ∙ has_place-kept p q ne xs ∙ sym (ap (λ (b : Bool). b || has_place p xs) (ne_eqb p x (λ e. ne (e ∙ sym (eqb-true q x here)))))
-          | inr there ↦ ap (has_place p) (cond-true (not (eqb q x)) (x ∷ without q xs) (without q xs) (not_from_false (eqb q x) there)) ∙ ap (λ (b : Bool). eqb p x || b) (has_place-kept p q ne xs)
-        ]
 
 pub held-take : (cells : List (Option Entry)) (ages : PlaceLists) (place : ℕ) → IsShelf cells ages → placed_at (set cells place None) (places_in (moved ages place 0 1) 0) ≡ but_at place (placed_at cells (places_in ages 0))
 held-take cells ages place h =

@@ -4,4 +4,7 @@ pub mod Entries
 pub mod OfferedEntries
 pub mod PlacedEntries
 pub mod Searching
+pub mod TextKeys
+pub mod ShapeCounts
+pub mod IndexLists
 pub mod FoundTexts

@@ -1,30 +1,36 @@
 // The entries that a message is offered to.
 
-ghost use Rattle.std.specs.Prelude.{◌≡◌, ◌∷◌, [], MatchOption};
-ghost use Rattle.entry_table.specs.OfferedEntries.{texts_fixed};
-ghost use Rattle.entry_table.specs.FoundTexts.{are_found, offered_at};
+ghost use Rattle.std.specs.Prelude.{◌≡◌, ◌∷◌, ◌+◌, [], length, MatchOption};
+ghost use Rattle.entry_table.specs.TextKeys.{hash_lists};
+ghost use Rattle.entry_table.specs.FoundTexts.{is_offered, offered_at, coming};
 
 use crate::entry::Entry;
 use crate::shelf::Shelf;
-use crate::texts::Texts;
-use place_lists::Walk;
+use crate::texts::{HASH_LISTS, MessageTexts, Texts};
+use place_lists::{Lists, Walk};
 use std::marker::Model;
 
-/// Whether a message with these texts is offered to an entry.
-fn is_offered(entry: &Entry, found: &Texts<'_>) -> bool
-    ensures { result ≡ are_found (texts_fixed entry.now.filter) found.now }
+/// Whether an entry has the shape and a message with these texts is offered to it. Entries of other texts stand in
+/// the same list where their hashes meet, so the texts themselves are compared.
+fn is_offered(shape: u16, found: &MessageTexts<'_>, entry: &Entry) -> bool
+    ensures { result ≡ is_offered shape found.now.texts entry.now }
 {
     let asked = Texts::of_filter(&entry.filter);
-    asked.are_found(found)
+    asked.shape() == shape && found.has(&asked)
 }
 
-/// The next of the entries at these places that a message with these texts is offered to.
-fn next_offered<'a>(shelf: &'a Shelf, found: &Texts<'_>, places: &mut Walk<'_>) -> Option<&'a Entry>
-    ensures { MatchOption result ((offered_at shelf.entry.now found.now places.old ≡ []) × (offered_at shelf.entry.now found.now places.new ≡ [])) (λ e. offered_at shelf.entry.now found.now places.old ≡ e.now ∷ offered_at shelf.entry.now found.now places.new) }
+/// The next of the entries of a shape at these places that a message with these texts is offered to.
+fn next_at<'a>(
+    shelf: &'a Shelf,
+    found: &MessageTexts<'_>,
+    shape: u16,
+    places: &mut Walk<'_>,
+) -> Option<&'a Entry>
+    ensures { MatchOption result ((offered_at shelf.entry.now found.now.texts shape places.old ≡ []) × (offered_at shelf.entry.now found.now.texts shape places.new ≡ [])) (λ e. offered_at shelf.entry.now found.now.texts shape places.old ≡ e.now ∷ offered_at shelf.entry.now found.now.texts shape places.new) }
 {
     while let Some(place) = places.next() {
         if let Some(entry) = shelf.get(place) {
-            if is_offered(entry, found) {
+            if is_offered(shape, found, entry) {
                 return Some(entry);
             }
         }
@@ -32,33 +38,81 @@ fn next_offered<'a>(shelf: &'a Shelf, found: &Texts<'_>, places: &mut Walk<'_>) 
     None
 }
 
+/// How far a message was looked up: a shape, the places of its list that are still to come, and the shapes after it.
+#[derive(Drop)]
+struct Cursor<'a> {
+    shape: u16,
+    places: Walk<'a>,
+    shapes: Walk<'a>,
+}
+
+/// The next of the entries that a message is offered to.
+fn next_offered<'a>(
+    shelf: &'a Shelf,
+    by_texts: &'a Lists,
+    found: &mut MessageTexts<'_>,
+    at: &mut Cursor<'a>,
+) -> Option<&'a Entry>
+    requires { length by_texts.now.lists ≡ hash_lists + 1 }
+    ensures next { MatchOption result ((coming shelf.entry.now by_texts.entry.now found.old at.old ≡ []) × (coming shelf.entry.now by_texts.entry.now found.old at.new ≡ [])) (λ e. coming shelf.entry.now by_texts.entry.now found.old at.old ≡ e.now ∷ coming shelf.entry.now by_texts.entry.now found.old at.new) }
+    ensures same { found.new ≡ found.old }
+{
+    'shapes: loop {
+        if let Some(entry) = next_at(shelf, found, at.shape, &mut at.places) {
+            return Some(entry);
+        }
+        let shape = at.shapes.next()?;
+        at.shape = shape;
+        at.places = by_texts.walk(found.list_of(shape));
+    }
+}
+
 /// The entries that a message is offered to, one after the other. Contracts see the list that is still to come.
 #[derive(Drop)]
 pub struct Offered<'a> {
     shelf: &'a Shelf,
-    found: Texts<'a>,
-    places: Walk<'a>,
+    by_texts: &'a Lists,
+    found: MessageTexts<'a>,
+    at: Cursor<'a>,
 }
 
 impl<'a> Model for Offered<'a> {
-    ghost use Rattle.std.specs.Prelude.{List};
+    ghost use Rattle.std.specs.Prelude.{◌≡◌, ◌+◌, List, length};
     ghost use Rattle.entry_table.specs.declared.entry.Entry.{Entry};
-    ghost use Rattle.entry_table.specs.FoundTexts.{offered_at};
+    ghost use Rattle.entry_table.specs.TextKeys.{hash_lists};
+    ghost use Rattle.entry_table.specs.FoundTexts.{coming};
 
     ghost Value = { List Entry };
 
-    ghost view = { λ o. offered_at o.shelf.now o.found o.places };
+    ghost view = { λ o. coming o.shelf.now o.by_texts.now o.found o.at };
+
+    ghost invariant = { λ o. length o.by_texts.now.lists ≡ hash_lists + 1 };
 }
 
 impl<'a> Offered<'a> {
-    /// Of the entries at these places those that a message with these texts is offered to.
-    pub(crate) fn at(shelf: &'a Shelf, found: Texts<'a>, places: Walk<'a>) -> Offered<'a>
-        ensures { result ≡ offered_at shelf.entry.now found.entry places.entry }
+    ghost use Rattle.place_lists.specs.PlaceLists.{places_in};
+
+    /// The entries of a shelf that a message with these texts is offered to: those that fix no text, and after them
+    /// those of these shapes.
+    pub(crate) fn new(
+        shelf: &'a Shelf,
+        by_texts: &'a Lists,
+        found: MessageTexts<'a>,
+        shapes: Walk<'a>,
+    ) -> Offered<'a>
+        requires { length by_texts.now.lists ≡ hash_lists + 1 }
+        ensures { result ≡ coming shelf.entry.now by_texts.entry.now found.entry (record { shape = 0; places = places_in by_texts.entry.now hash_lists; shapes = shapes.entry }) }
     {
+        let at = Cursor {
+            shape: 0,
+            places: by_texts.walk(HASH_LISTS),
+            shapes,
+        };
         Offered {
             shelf,
+            by_texts,
             found,
-            places,
+            at,
         }
     }
 }
@@ -73,6 +127,6 @@ impl<'a> Iterator for Offered<'a> {
     ghost remaining = { item_count (λ s. s) };
 
     fn next(&mut self) -> Option<&'a Entry> {
-        next_offered(self.shelf, &self.found, &mut self.places)
+        next_offered(self.shelf, self.by_texts, &mut self.found, &mut self.at)
     }
 }

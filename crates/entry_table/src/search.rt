@@ -1,11 +1,11 @@
 // The search for an entry of a connection.
 
-ghost use Rattle.std.specs.Prelude.{◌≡◌};
+ghost use Rattle.std.specs.Prelude.{◌≡◌, find};
 ghost use Rattle.entry_table.specs.PlacedEntries.{entry_at};
 ghost use Rattle.entry_table.specs.Searching.{suits, is_wanted, is_wanted_in, last_place};
 
-use crate::entry::{Entry, Filter};
-use crate::shelf::Shelf;
+use crate::entry::Entry;
+use crate::indexed_shelf::IndexedShelf;
 use match_rule::Rule;
 use place_lists::Walk;
 
@@ -38,7 +38,7 @@ fn is_wanted(wanted: Wanted<'_>, connection: u64, entry: &Entry) -> bool
 }
 
 /// Whether the entry at a place is wanted.
-fn is_wanted_at(shelf: &Shelf, place: u16, wanted: Wanted<'_>, connection: u64) -> bool
+fn is_wanted_at(shelf: &IndexedShelf, place: u16, wanted: Wanted<'_>, connection: u64) -> bool
     ensures { result ≡ is_wanted_in wanted.entry connection (entry_at place shelf.now) }
 {
     match shelf.get(place) {
@@ -49,7 +49,7 @@ fn is_wanted_at(shelf: &Shelf, place: u16, wanted: Wanted<'_>, connection: u64) 
 
 /// The last of the places whose entry is wanted.
 pub(crate) fn last_place(
-    shelf: &Shelf,
+    shelf: &IndexedShelf,
     mut places: Walk<'_>,
     wanted: Wanted<'_>,
     connection: u64,
@@ -63,4 +63,21 @@ pub(crate) fn last_place(
         }
     }
     last
+}
+
+/// The first of the places whose entry is wanted.
+pub(crate) fn first_place(
+    shelf: &IndexedShelf,
+    mut places: Walk<'_>,
+    wanted: Wanted<'_>,
+    connection: u64,
+) -> Option<u16>
+    ensures { result ≡ find (λ place. is_wanted_in wanted.entry connection (entry_at place shelf.now)) places.entry }
+{
+    while let Some(place) = places.next() {
+        if is_wanted_at(shelf, place, wanted, connection) {
+            return Some(place);
+        }
+    }
+    None
 }

@@ -2,7 +2,7 @@
 
 use crate::entry::Entry;
 use crate::table::MAX_ENTRIES;
-use place_lists::{Lists, Walk};
+use place_lists::Lists;
 use std::alloc::{AllocError, Global};
 use std::marker::Model;
 
@@ -31,9 +31,8 @@ impl Model for Shelf {
 }
 
 impl Shelf {
-    ghost use Rattle.std.specs.Prelude.{◌≡◌, ◌<◌, ◌≤◌, ◌∷◌, [], true, false, length, IfOk, option_map};
+    ghost use Rattle.std.specs.Prelude.{◌≡◌, ◌<◌, ◌∷◌, [], true, false, length, IfOk, option_map};
     ghost use Rattle.place_lists.specs.PlaceLists.{has_place, AreOnce};
-    ghost use Rattle.entry_table.specs.declared.entry.Entry.{Entry};
     ghost use Rattle.entry_table.specs.PlacedEntries.{places_of, entry_at, but_at};
 
     /// A shelf without entries. Only this call takes memory.
@@ -75,25 +74,6 @@ impl Shelf {
             Some(cell) => cell.as_ref(),
             None => None,
         }
-    }
-
-    /// The id of the entry at a place.
-    pub(crate) fn id_at(&self, place: u16) -> Option<u32>
-        ensures { result ≡ option_map (λ (e : Entry). e.id) (entry_at place self.now) }
-    {
-        match self.get(place) {
-            Some(entry) => Some(entry.id),
-            None => None,
-        }
-    }
-
-    /// The places of the entries, the newest first.
-    pub(crate) fn walk(&self) -> Walk<'_>
-        ensures value { result ≡ places_of self.now }
-        // No place has two entries.
-        ensures once { AreOnce (places_of self.now) }
-    {
-        self.ages.walk(USED)
     }
 
     /// Takes the entry at a place.

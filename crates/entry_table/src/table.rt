@@ -1,10 +1,10 @@
 // The table of entries.
 
 use crate::entry::{Entry, Filter};
+use crate::index_key::IndexKey;
+use crate::indexed_shelf::IndexedShelf;
 use crate::offered::Offered;
-use crate::search::{Wanted, last_place};
-use crate::shelf::Shelf;
-use crate::texts::Texts;
+use crate::search::{Wanted, first_place, last_place};
 use match_rule::Rule;
 use message_view::View;
 use std::alloc::{AllocError, Global};
@@ -16,7 +16,7 @@ pub const MAX_ENTRIES: usize = 16384;
 /// The entries of a bus, by rising id.
 #[derive(Drop)]
 pub struct EntryTable {
-    shelf: Shelf,
+    shelf: IndexedShelf,
     last: u32,
     count: usize,
 }
@@ -33,7 +33,7 @@ impl Model for EntryTable {
 }
 
 impl EntryTable {
-    ghost use Rattle.std.specs.Prelude.{◌≡◌, ◌+◌, Bool, false, ◌++◌, ◌∷◌, [], IfOk, IfNone, IfSome, Option, option_map, find, filter, length, ◌<◌, List, ◌==◌};
+    ghost use Rattle.std.specs.Prelude.{◌≡◌, ◌+◌, Bool, true, false, ◌++◌, ◌∷◌, [], IfOk, IfNone, IfSome, Option, option_map, find, filter, length, ◌<◌, List, ◌==◌};
     ghost use Rattle.std.specs.List.{list_any};
     ghost use Rattle.message_view.specs.Message.{Message};
     ghost use Rattle.message_view.specs.Valid.{Valid};
@@ -42,12 +42,12 @@ impl EntryTable {
     ghost use Rattle.entry_table.specs.OfferedEntries.{AreOffered};
     ghost use Rattle.entry_table.specs.Searching.{is_wanted};
 
-    /// A table without entries. Only this call takes memory.
-    pub fn new(alloc: Global) -> Result<EntryTable, AllocError>
+    /// A table without entries, whose index hashes texts with this key. Only this call takes memory.
+    pub fn new(alloc: Global, key: IndexKey) -> Result<EntryTable, AllocError>
         ensures { IfOk result (λ table. table ≡ no_entries) }
     {
         Ok(EntryTable {
-            shelf: Shelf::new(alloc)?,
+            shelf: IndexedShelf::new(alloc, key)?,
             last: 0,
             count: 0,
         })
@@ -92,7 +92,7 @@ impl EntryTable {
     {
         let found = last_place(
             &self.shelf,
-            self.shelf.walk(),
+            self.shelf.of_connection(connection),
             Wanted::EqualRule(rule),
             connection,
         );
@@ -108,7 +108,7 @@ impl EntryTable {
     {
         let found = last_place(
             &self.shelf,
-            self.shelf.walk(),
+            self.shelf.of_connection(connection),
             Wanted::Attachment(id),
             connection,
         );
@@ -124,7 +124,12 @@ impl EntryTable {
         ensures fewer { IfSome result (λ e. length self.new.entries < length self.old.entries) }
         ensures unchanged { IfNone result (self.new ≡ self.old) }
     {
-        let found = last_place(&self.shelf, self.shelf.walk(), wanted, connection);
+        let found = last_place(
+            &self.shelf,
+            self.shelf.of_connection(connection),
+            wanted,
+            connection,
+        );
         match found {
             None => None,
             Some(place) => {
@@ -153,11 +158,37 @@ impl EntryTable {
         self.take(connection, Wanted::Any)
     }
 
+    /// Takes out the newest entry of a connection, if it has any: the first that its list comes to.
+    fn take_newest(&mut self, connection: u64) -> Option<Entry>
+        ensures theirs { IfSome result (λ e. is_of connection e ≡ true) }
+        // Each other entry stays.
+        ensures kept { IfSome result (λ e. (test : Entry → Bool) → test e ≡ false → filter test self.new.entries ≡ filter test self.old.entries) }
+        ensures last { self.new.last ≡ self.old.last }
+        ensures fewer { IfSome result (λ e. length self.new.entries < length self.old.entries) }
+        ensures none { IfNone result (find (is_of connection) self.old.entries ≡ None) }
+        ensures unchanged { IfNone result (self.new ≡ self.old) }
+    {
+        let found = first_place(
+            &self.shelf,
+            self.shelf.of_connection(connection),
+            Wanted::Any,
+            connection,
+        );
+        match found {
+            None => None,
+            Some(place) => {
+                let entry = self.shelf.take(place);
+                self.count -= 1;
+                Some(entry)
+            }
+        }
+    }
+
     /// Takes out all entries of a connection.
     pub fn remove_all(&mut self, connection: u64)
         ensures { self.new ≡ entries_but (is_of connection) self.old }
     {
-        'theirs: while let Some(_) = self.take(connection, Wanted::Any) {}
+        'theirs: while let Some(_) = self.take_newest(connection) {}
     }
 
     /// The entries that a message is offered to: attached programs, and the rules whose member, interface, path and
@@ -165,6 +196,6 @@ impl EntryTable {
     pub fn offered<'a>(&'a self, view: &View<'a>) -> Offered<'a>
         ensures { (m : Message) → Valid view.now m → AreOffered self.now.entries m result }
     {
-        Offered::at(&self.shelf, Texts::of_message(view), self.shelf.walk())
+        self.shelf.offered(view)
     }
 }

@@ -1,6 +1,7 @@
-// The texts of a message that decide which entries it is offered to.
+// The texts that decide which entries a message is offered to.
 
-ghost use Rattle.std.specs.Prelude.{◌≡◌, ◌↔◌, IsTrue, Some, option_map};
+ghost use Rattle.std.specs.Prelude.{◌≡◌, ◌≤◌, ◌<◌, Some, None, option_map, if◌then◌else◌};
+ghost use Rattle.std.specs.Option.{ForSome};
 ghost use Rattle.message_value.specs.ShownArguments.{shown_arg};
 ghost use Rattle.message_view.specs.Message.{Message};
 ghost use Rattle.message_view.specs.Valid.{Valid};
@@ -8,12 +9,17 @@ ghost use Rattle.match_rule.specs.Arguments.{text_in};
 ghost use Rattle.match_rule.specs.FixedTexts.{FixedTexts, arg0_of, string_in, texts_of};
 ghost use Rattle.entry_table.specs.OfferedEntries.{texts_fixed};
 ghost use Rattle.entry_table.specs.FoundTexts.{is_text_found, are_found};
+ghost use Rattle.entry_table.specs.TextKeys.{bit_of, shape_of, in_shape, where_bit, text_hash, joined, joined_hash, list_of, hash_lists};
 
 use crate::entry::Filter;
+use crate::index_key::IndexKey;
 use message_view::{Arg, View};
 use std::marker::Model;
 
-/// The texts of the four keys member, interface, path and arg0 that a rule fixes, or that a message has.
+/// How many lists there are for entries that fix a text, by the hash of their texts.
+pub(crate) const HASH_LISTS: usize = 32768;
+
+/// The texts of the four keys member, interface, path and arg0 that an entry fixes.
 #[derive(Drop)]
 pub(crate) struct Texts<'a> {
     member: Option<&'a str>,
@@ -65,19 +71,36 @@ fn is_text_found(asked: Option<&str>, found: Option<&str>) -> bool
     }
 }
 
-impl<'a> Texts<'a> {
-    /// The texts that a message has.
-    pub(crate) fn of_message(view: &View<'a>) -> Texts<'a>
-        ensures { (m : Message) → Valid view.now m → result ≡ texts_of m }
-    {
-        Texts {
-            member: view.member(),
-            interface: view.interface(),
-            path: view.path(),
-            arg0: arg0_of(view),
-        }
+/// 1 where there is a text.
+fn bit_of(text: Option<&str>) -> u16
+    ensures value { result ≡ bit_of (option_map (λ text. text.now) text.entry) }
+    ensures below { result ≤ 1 }
+{
+    match text {
+        None => 0,
+        Some(_) => 1,
     }
+}
 
+/// The hashes of four texts as one. Each gives other bits, so that equal texts don't cancel each other out.
+fn join_hashes(member: u64, interface: u64, path: u64, arg0: u64) -> u64
+    ensures { result ≡ joined member interface path arg0 }
+{
+    member ^ (interface >> 16) ^ (path >> 32) ^ (arg0 >> 48)
+}
+
+/// The list of entries of a shape whose texts have this hash. Entries that fix no text have a list of their own.
+pub(crate) fn list_of(shape: u16, hash: u64) -> usize
+    ensures value { result ≡ list_of shape hash }
+    ensures below { result ≤ hash_lists }
+{
+    if shape == 0 {
+        return HASH_LISTS;
+    }
+    (hash % HASH_LISTS as u64) as usize
+}
+
+impl<'a> Texts<'a> {
     /// The texts that a filter fixes.
     pub(crate) fn of_filter(filter: &'a Filter) -> Texts<'a>
         ensures { result ≡ texts_fixed filter.entry.now }
@@ -101,13 +124,118 @@ impl<'a> Texts<'a> {
         }
     }
 
-    /// Whether each of the texts is among those of a message.
-    pub(crate) fn are_found(&self, found: &Texts<'_>) -> bool
-        ensures { result ≡ are_found self.now found.now }
+    /// Which keys have a text: 1 for the member, 2 for the interface, 4 for the path, 8 for arg0, added up.
+    pub(crate) fn shape(&self) -> u16
+        ensures value { result ≡ shape_of self.now }
+        ensures below { result < 16 }
     {
-        is_text_found(self.member, found.member)
-            && is_text_found(self.interface, found.interface)
-            && is_text_found(self.path, found.path)
-            && is_text_found(self.arg0, found.arg0)
+        bit_of(self.member)
+            + 2 * bit_of(self.interface)
+            + 4 * bit_of(self.path)
+            + 8 * bit_of(self.arg0)
+    }
+
+    /// The hash of the texts with this key.
+    pub(crate) fn hash(&self, key: IndexKey) -> u64
+        ensures { result ≡ joined_hash key self.now }
+    {
+        join_hashes(
+            key.hash(self.member),
+            key.hash(self.interface),
+            key.hash(self.path),
+            key.hash(self.arg0),
+        )
+    }
+}
+
+/// The hash of a text where it is wanted, else 0. It is computed once.
+fn hash_once(wanted: bool, known: &mut Option<u64>, key: IndexKey, text: Option<&str>) -> u64
+    requires { ForSome known.old (λ hash. hash ≡ text_hash key (option_map (λ text. text.now) text)) }
+    ensures value { result ≡ text_hash key (if wanted then option_map (λ text. text.now) text.entry else None) }
+    ensures known { ForSome known.new (λ hash. hash ≡ text_hash key (option_map (λ text. text.now) text.entry)) }
+{
+    if !wanted {
+        return 0;
+    }
+    match *known {
+        Some(hash) => hash,
+        None => {
+            let hash = key.hash(text);
+            *known = Some(hash);
+            hash
+        }
+    }
+}
+
+/// The texts of a message, and the hashes of those that were wanted so far. Contracts see the texts and the key.
+#[derive(Drop)]
+pub(crate) struct MessageTexts<'a> {
+    key: IndexKey,
+    member: Option<&'a str>,
+    interface: Option<&'a str>,
+    path: Option<&'a str>,
+    arg0: Option<&'a str>,
+    member_hash: Option<u64>,
+    interface_hash: Option<u64>,
+    path_hash: Option<u64>,
+    arg0_hash: Option<u64>,
+}
+
+impl<'a> Model for MessageTexts<'a> {
+    ghost use Rattle.std.specs.Prelude.{option_map};
+    ghost use Rattle.entry_table.specs.TextKeys.{KeyedTexts, AreHashes};
+
+    ghost Value = { KeyedTexts };
+
+    ghost view = { λ m. record { key = m.key; texts = record { member = option_map (λ text. text.now) m.member; interface = option_map (λ text. text.now) m.interface; path = option_map (λ text. text.now) m.path; arg0 = option_map (λ text. text.now) m.arg0 } } };
+
+    ghost invariant = { λ m. AreHashes (record { key = m.key; texts = record { member = option_map (λ text. text.now) m.member; interface = option_map (λ text. text.now) m.interface; path = option_map (λ text. text.now) m.path; arg0 = option_map (λ text. text.now) m.arg0 } }) (record { member = m.member_hash; interface = m.interface_hash; path = m.path_hash; arg0 = m.arg0_hash }) };
+}
+
+impl<'a> MessageTexts<'a> {
+    /// The texts that a message has; no hash is known.
+    pub(crate) fn new(key: IndexKey, view: &View<'a>) -> MessageTexts<'a>
+        ensures { (m : Message) → Valid view.now m → result ≡ record { key = key; texts = texts_of m } }
+    {
+        MessageTexts {
+            key,
+            member: view.member(),
+            interface: view.interface(),
+            path: view.path(),
+            arg0: arg0_of(view),
+            member_hash: None,
+            interface_hash: None,
+            path_hash: None,
+            arg0_hash: None,
+        }
+    }
+
+    /// The list of the entries of a shape that fix the message's texts.
+    pub(crate) fn list_of(&mut self, shape: u16) -> usize
+        ensures list { result ≡ list_of shape (joined_hash self.old.key (in_shape shape self.old.texts)) }
+        ensures below { result ≤ hash_lists }
+        ensures same { self.new ≡ self.old }
+    {
+        let key = self.key;
+        let member = hash_once(shape % 2 == 1, &mut self.member_hash, key, self.member);
+        let interface = hash_once(
+            shape / 2 % 2 == 1,
+            &mut self.interface_hash,
+            key,
+            self.interface,
+        );
+        let path = hash_once(shape / 4 % 2 == 1, &mut self.path_hash, key, self.path);
+        let arg0 = hash_once(shape / 8 % 2 == 1, &mut self.arg0_hash, key, self.arg0);
+        list_of(shape, join_hashes(member, interface, path, arg0))
+    }
+
+    /// Whether each of the texts that an entry fixes is the message's.
+    pub(crate) fn has(&self, asked: &Texts<'_>) -> bool
+        ensures { result ≡ are_found asked.now self.now.texts }
+    {
+        is_text_found(asked.member, self.member)
+            && is_text_found(asked.interface, self.interface)
+            && is_text_found(asked.path, self.path)
+            && is_text_found(asked.arg0, self.arg0)
     }
 }

@@ -6,7 +6,7 @@ ghost use Rattle.program_table.specs.Refusals.{claim_refusal};
 use crate::command::Reply;
 use crate::refusal::Refusal;
 use crate::removal::{self, sender_of};
-use entry_table::{Attachment, EntryTable, Filter, Offered, RuleProgram};
+use entry_table::{Attachment, EntryTable, Filter, IndexKey, Offered, RuleProgram};
 use match_rule::Rule;
 use message_view::View;
 use owners::{ClaimError, Claims, Dropped, WellKnown};
@@ -48,12 +48,12 @@ impl RegistrationTable {
     ghost use Rattle.program_table.specs.Registrations.{no_registrations, with_entry, with_sender, without_entry, with_request, without_claim, without_all_of};
     ghost use Rattle.program_table.specs.Answers.{has_room, slot_fits, oldest_with, add_rule_answer, remove_rule_answer, attach_answer, detach_answer, request_answer, release_answer, drop_answer};
 
-    /// No claim and no entry.
-    pub(crate) fn new(alloc: Global) -> Result<RegistrationTable, AllocError>
+    /// No claim and no entry. The index of entries hashes texts with this key.
+    pub(crate) fn new(alloc: Global, key: IndexKey) -> Result<RegistrationTable, AllocError>
         ensures { IfOk result (λ table. table ≡ no_registrations) }
     {
         let names = Claims::new(alloc)?;
-        let entries = EntryTable::new(alloc)?;
+        let entries = EntryTable::new(alloc, key)?;
         let _ = entries.last_id();
         Ok(RegistrationTable { names, entries })
     }

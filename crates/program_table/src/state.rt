@@ -6,7 +6,7 @@ use crate::connections::Connections;
 use crate::mailbox::Mailbox;
 use crate::refusal::Refusal;
 use crate::registration_table::RegistrationTable;
-use entry_table::Offered;
+use entry_table::{IndexKey, Offered};
 use message_view::View;
 use owners::WellKnown;
 use std::alloc::{AllocError, Global};
@@ -48,14 +48,14 @@ impl<M: Mailbox> BusState<M> {
     ghost use Rattle.program_table.specs.Recipients.{AreOwnedSlots};
     ghost use Rattle.program_table.specs.IsState.{IsState};
 
-    /// Nobody is connected.
-    pub fn new(alloc: Global) -> Result<BusState<M>, AllocError>
+    /// Nobody is connected. The index of entries hashes texts with this key.
+    pub fn new(alloc: Global, key: IndexKey) -> Result<BusState<M>, AllocError>
         ensures { IfOk result (λ state. state ≡ opening) }
     {
         Ok(BusState {
             commands: 0,
             connections: Connections::new(alloc)?,
-            registrations: RegistrationTable::new(alloc)?,
+            registrations: RegistrationTable::new(alloc, key)?,
         })
     }
 

@@ -2,7 +2,7 @@
 
 use bpf_code::Ins;
 use bpf_verify::{Verified, verify};
-use entry_table::{Attachment, EntryTable, Filter, RuleProgram};
+use entry_table::{Attachment, EntryTable, Filter, IndexKey, RuleProgram};
 use match_rule::Rule;
 use message_view::View;
 use std::alloc::Global;
@@ -50,7 +50,11 @@ fn offered_ids(alloc: Global, table: &EntryTable) -> Result<Vec<u32>, Fail> {
 #[test]
 fn entries_of_two_connections(rt: HostRuntime) -> Result<(), Fail> {
     let alloc = rt.alloc();
-    let mut table = EntryTable::new(alloc)?;
+    let key = IndexKey {
+        first: 1,
+        second: 2,
+    };
+    let mut table = EntryTable::new(alloc, key)?;
     for (connection, text) in [(1, "member='c'"), (2, "member='d'"), (2, "path='/a'")] {
         let filter = rule_entry(alloc, text)?;
         assert!(rt; !table.is_full());

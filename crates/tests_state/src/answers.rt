@@ -1,15 +1,20 @@
 // What commands are answered, and that they are done.
 
-use entry_table::RuleProgram;
+use entry_table::{IndexKey, RuleProgram};
 use match_rule::Rule;
 use owners::WellKnown;
 use program_table::{BusState, Command, Refusal, Reply};
 use std::process::Abort;
 use std::test::Fail;
 
+const KEY: IndexKey = IndexKey {
+    first: 1,
+    second: 2,
+};
+
 #[test]
 fn answers_before_anyone_connects(rt: HostRuntime) -> Result<(), Fail> {
-    let state: BusState<()> = BusState::new(rt.alloc())?;
+    let state: BusState<()> = BusState::new(rt.alloc(), KEY)?;
     assert_eq!(rt; state.answer(&Command::Connect(())), Reply::Connected(1));
     let rule = Rule::read(rt.alloc(), "member='c'")?;
     if rule.sender_name().is_some() {
@@ -33,7 +38,7 @@ fn answers_before_anyone_connects(rt: HostRuntime) -> Result<(), Fail> {
 
 #[test]
 fn each_command_is_done(rt: HostRuntime) -> Result<(), Fail> {
-    let mut state: BusState<()> = BusState::new(rt.alloc())?;
+    let mut state: BusState<()> = BusState::new(rt.alloc(), KEY)?;
     assert_eq!(rt; state.apply(&Command::Connect(()))?, Reply::Connected(1));
     assert_eq!(rt; state.apply(&Command::Connect(()))?, Reply::Connected(2));
     let name = WellKnown::read("com.example.A")?;

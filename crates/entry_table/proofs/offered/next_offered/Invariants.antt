@@ -1,10 +1,10 @@
 use Rattle.std.proofs.Common.{◌≡◌, length}
-use Rattle.entry_table.specs.FoundTexts.{offered_at}
+use Rattle.entry_table.specs.FoundTexts.{coming}
 use Rattle.entry_table.proofs.offered.next_offered.Given as goal
 
 -- none was offered so far
-abbrev pub invariant-loop-place : goal.invariant-loop-place
-invariant-loop-place l = offered_at l.shelf l.found l.places ≡ offered_at l.shelf l.found l.initial.places
+abbrev pub invariant-shapes : goal.invariant-shapes
+invariant-shapes l = (coming l.shelf l.by_texts l.found l.at ≡ coming l.shelf l.by_texts l.initial.found l.initial.at) × (l.found ≡ l.initial.found)
 
-abbrev pub decreases-loop-place : goal.decreases-loop-place
-decreases-loop-place l = length l.places
+abbrev pub decreases-shapes : goal.decreases-shapes
+decreases-shapes l = length l.at.shapes

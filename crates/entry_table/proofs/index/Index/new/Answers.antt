@@ -1,0 +1,14 @@
+use Rattle.std.proofs.Common.{ap, ◌∙◌, ℕ, List}
+use Rattle.std.specs.Prelude.{replicate}
+use Rattle.place_lists.specs.PlaceLists.{PlaceLists, empty_lists}
+use Rattle.entry_table.specs.declared.index.Index.{Index}
+use Rattle.entry_table.specs.PlacedEntries.{room}
+use Rattle.entry_table.specs.IndexLists.{connection_lists}
+use Rattle.entry_table.specs.TextKeys.{hash_lists}
+use Rattle.entry_table.proofs.index.Index.new.Goals as goal
+
+pub returns : goal.returns
+returns c =
+    ap (λ (l : PlaceLists). record { key = c.args.key; by_connection = l; by_texts = c.in_ok-new-2.field-0; shapes = c.in_ok-new-3.field-0 }) c.in_ok-new.ensures
+    ∙ ap (λ (l : PlaceLists). record { key = c.args.key; by_connection = empty_lists connection_lists room; by_texts = l; shapes = c.in_ok-new-3.field-0 }) c.in_ok-new-2.ensures
+    ∙ ap (λ (counts : List ℕ). record { key = c.args.key; by_connection = empty_lists connection_lists room; by_texts = empty_lists 32769 room; shapes = counts }) c.in_ok-new-3.ensures

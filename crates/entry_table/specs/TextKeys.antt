@@ -1,0 +1,70 @@
+-- Inner: the shape of texts, and the list of the index in which entries with such texts stand.
+use Rattle.std.specs.Prelude.{◌≡◌, ℕ, ◌+◌, ◌*◌, ◌/◌, ◌%◌, List, Option, Some, None, bit_xor, ◌==◌, if◌then◌else◌}
+use Rattle.std.specs.Option.{ForSome}
+use Rattle.core.specs.Hash.DefaultHasher.{with_keys, write, finish}
+use Rattle.match_rule.specs.FixedTexts.{FixedTexts}
+use Rattle.entry_table.specs.declared.index_key.IndexKey.{IndexKey}
+
+-- SipHash-1-3 of a text
+unfoldable pub hash_of : IndexKey → List ℕ → ℕ
+hash_of key text = finish (write (with_keys key.first key.second) text)
+
+-- the same, or 0 where there is no text
+abbrev pub text_hash : IndexKey → Option (List ℕ) → ℕ
+text_hash key None = 0
+text_hash key (Some text) = hash_of key text
+
+-- four hashes joined: each gives other bits
+abbrev pub joined : ℕ → ℕ → ℕ → ℕ → ℕ
+joined member interface path arg0 = bit_xor (bit_xor (bit_xor member (interface / 65536)) (path / 4294967296)) (arg0 / 281474976710656)
+
+abbrev pub joined_hash : IndexKey → FixedTexts → ℕ
+joined_hash key texts = joined (text_hash key texts.member) (text_hash key texts.interface) (text_hash key texts.path) (text_hash key texts.arg0)
+
+abbrev pub bit_of : Option (List ℕ) → ℕ
+bit_of None = 0
+bit_of (Some text) = 1
+
+-- which keys have a text: 1 for the member, 2 for the interface, 4 for the path, 8 for arg0, added up
+abbrev pub shape_of : FixedTexts → ℕ
+shape_of texts = bit_of texts.member + 2 * bit_of texts.interface + 4 * bit_of texts.path + 8 * bit_of texts.arg0
+
+-- the text, where the bit is 1
+abbrev pub where_bit : ℕ → Option (List ℕ) → Option (List ℕ)
+where_bit bit text = if bit == 1 then text else None
+
+-- of the texts those of the keys of a shape
+abbrev pub in_shape : ℕ → FixedTexts → FixedTexts
+in_shape shape texts = record {
+  member = where_bit (shape % 2) texts.member;
+  interface = where_bit (shape / 2 % 2) texts.interface;
+  path = where_bit (shape / 4 % 2) texts.path;
+  arg0 = where_bit (shape / 8 % 2) texts.arg0;
+}
+
+-- how many lists there are for texts; one more is for entries that fix none
+abbrev pub hash_lists : ℕ
+hash_lists = 32768
+
+-- the list of a shape and a joined hash
+abbrev pub list_of : ℕ → ℕ → ℕ
+list_of shape hash = if shape == 0 then hash_lists else hash % hash_lists
+
+-- the texts of a message, and the key that they are hashed with
+pub record KeyedTexts : Type 0 where
+  pub key : IndexKey
+  pub texts : FixedTexts
+
+-- the four hashes, where they are known
+pub record KnownHashes : Type 0 where
+  pub member : Option ℕ
+  pub interface : Option ℕ
+  pub path : Option ℕ
+  pub arg0 : Option ℕ
+
+-- a hash that is known is the text's
+pub record AreHashes (found : KeyedTexts) (known : KnownHashes) : Type 0 where
+  pub member : ForSome known.member (λ hash. hash ≡ text_hash found.key found.texts.member)
+  pub interface : ForSome known.interface (λ hash. hash ≡ text_hash found.key found.texts.interface)
+  pub path : ForSome known.path (λ hash. hash ≡ text_hash found.key found.texts.path)
+  pub arg0 : ForSome known.arg0 (λ hash. hash ≡ text_hash found.key found.texts.arg0)

@@ -1,0 +1,108 @@
+// Entries at places, with their index.
+
+use crate::entry::Entry;
+use crate::index::Index;
+use crate::index_key::IndexKey;
+use crate::offered::Offered;
+use crate::shelf::Shelf;
+use message_view::View;
+use place_lists::Walk;
+use std::alloc::{AllocError, Global};
+use std::marker::Model;
+
+/// A shelf and the lists by which its entries are looked up. Contracts see the shelf.
+#[derive(Drop)]
+pub(crate) struct IndexedShelf {
+    shelf: Shelf,
+    index: Index,
+}
+
+impl Model for IndexedShelf {
+    ghost use Rattle.std.specs.Prelude.{List};
+    ghost use Rattle.entry_table.specs.PlacedEntries.{Placed};
+    ghost use Rattle.entry_table.specs.IndexLists.{IsIndexed};
+
+    ghost Value = { List Placed };
+
+    ghost view = { λ s. s.shelf };
+
+    ghost invariant = { λ s. IsIndexed s.index s.shelf };
+}
+
+impl IndexedShelf {
+    ghost use Rattle.std.specs.Prelude.{◌≡◌, ◌<◌, ◌%◌, ◌∷◌, [], true, length, IfOk, option_map};
+    ghost use Rattle.message_view.specs.Message.{Message};
+    ghost use Rattle.message_view.specs.Valid.{Valid};
+    ghost use Rattle.place_lists.specs.PlaceLists.{has_place, AreOnce};
+    ghost use Rattle.entry_table.specs.declared.entry.Entry.{Entry};
+    ghost use Rattle.entry_table.specs.OfferedEntries.{AreOffered};
+    ghost use Rattle.entry_table.specs.PlacedEntries.{places_of, entry_at, but_at};
+    ghost use Rattle.entry_table.specs.IndexLists.{keyed, connection_key, connection_lists};
+    ghost use Rattle.entry_table.specs.Searching.{entries_of, IdsFall};
+
+    /// A shelf without entries. Only this call takes memory.
+    pub(crate) fn new(alloc: Global, key: IndexKey) -> Result<IndexedShelf, AllocError>
+        ensures { IfOk result (λ shelf. shelf ≡ []) }
+    {
+        Ok(IndexedShelf {
+            shelf: Shelf::new(alloc)?,
+            index: Index::new(alloc, key)?,
+        })
+    }
+
+    /// Puts an entry at a place that none has.
+    pub(crate) fn put(&mut self, entry: Entry) -> u16
+        requires { length self.old < 16384 }
+        ensures { self.new ≡ (result, entry) ∷ self.old }
+    {
+        let standing = self.index.standing_of(&entry);
+        let place = self.shelf.put(entry);
+        self.index.add(place, standing);
+        place
+    }
+
+    /// The entry at a place.
+    pub(crate) fn get(&self, place: u16) -> Option<&Entry>
+        ensures { option_map (λ e. e.now) result ≡ entry_at place self.now }
+    {
+        self.shelf.get(place)
+    }
+
+    /// The id of the entry at a place.
+    pub(crate) fn id_at(&self, place: u16) -> Option<u32>
+        ensures { result ≡ option_map (λ (e : Entry). e.id) (entry_at place self.now) }
+    {
+        match self.get(place) {
+            Some(entry) => Some(entry.id),
+            None => None,
+        }
+    }
+
+    /// The places of the entries of the connections that share a list with this one, the newest first.
+    pub(crate) fn of_connection(&self, connection: u64) -> Walk<'_>
+        ensures value { result ≡ keyed connection_key (connection % connection_lists) self.now }
+        // No place has two entries.
+        ensures once { AreOnce (places_of self.now) }
+    {
+        self.index.of_connection(connection)
+    }
+
+    /// Takes the entry at a place.
+    pub(crate) fn take(&mut self, place: u16) -> Entry
+        requires { has_place place (places_of self.old) ≡ true }
+        ensures entry { entry_at place self.old ≡ Some result }
+        ensures rest { self.new ≡ but_at place self.old }
+    {
+        let entry = self.shelf.take(place);
+        let standing = self.index.standing_of(&entry);
+        self.index.remove(place, standing);
+        entry
+    }
+
+    /// The entries that a message is offered to.
+    pub(crate) fn offered<'a>(&'a self, view: &View<'a>) -> Offered<'a>
+        ensures { (m : Message) → Valid view.now m → IdsFall self.entry.now → AreOffered (entries_of self.entry.now) m result }
+    {
+        self.index.offered(&self.shelf, view)
+    }
+}

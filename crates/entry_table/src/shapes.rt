@@ -1,0 +1,78 @@
+// The shapes of entries: which of the four texts they fix.
+
+use place_lists::{Lists, Walk};
+use std::alloc::{AllocError, Global};
+use std::marker::Model;
+
+/// How many shapes there are.
+pub(crate) const SHAPES: u16 = 16;
+
+/// How many entries have each shape, and the list of the shapes in use. Shape 0, that of entries that fix no text,
+/// is in no list: they are looked at for each message. Contracts see the counts.
+#[derive(Drop)]
+pub(crate) struct Shapes {
+    counts: Vec<u16>,
+    used: Lists,
+}
+
+impl Model for Shapes {
+    ghost use Rattle.std.specs.Prelude.{ℕ, List};
+    ghost use Rattle.entry_table.specs.ShapeCounts.{AreShapes};
+
+    ghost Value = { List ℕ };
+
+    ghost view = { λ s. s.counts.items };
+
+    ghost invariant = { λ s. AreShapes s.counts.items s.used };
+}
+
+impl Shapes {
+    ghost use Rattle.std.specs.Prelude.{◌≡◌, ◌<◌, ◌+◌, ◌-◌, ℕ, length, replicate, slice_index, slice_set, IfOk};
+    ghost use Rattle.place_lists.specs.PlaceLists.{has_place, AreOnce};
+    ghost use Rattle.entry_table.specs.ShapeCounts.{shape_count, is_in_use};
+
+    /// No entry has any shape. Only this call takes memory.
+    pub(crate) fn new(alloc: Global) -> Result<Shapes, AllocError>
+        ensures { IfOk result (λ shapes. shapes ≡ replicate shape_count 0) }
+    {
+        Ok(Shapes {
+            counts: vec![in alloc; 0; usize::from(SHAPES)]?,
+            used: Lists::new(alloc, 1, SHAPES)?,
+        })
+    }
+
+    /// Counts one more entry of a shape.
+    pub(crate) fn add(&mut self, shape: u16)
+        requires shape { shape < length self.old }
+        requires few { slice_index self.old shape < 65535 }
+        ensures { self.new ≡ slice_set self.old shape (slice_index self.old shape + 1) }
+    {
+        let count = self.counts[usize::from(shape)];
+        if count == 0 && shape != 0 {
+            self.used.push(0, shape);
+        }
+        self.counts[usize::from(shape)] = count + 1;
+    }
+
+    /// Counts one entry of a shape less.
+    pub(crate) fn remove(&mut self, shape: u16)
+        requires shape { shape < length self.old }
+        requires some { 0 < slice_index self.old shape }
+        ensures { self.new ≡ slice_set self.old shape (slice_index self.old shape - 1) }
+    {
+        let count = self.counts[usize::from(shape)];
+        let is_last = count == 1;
+        if is_last && shape != 0 {
+            self.used.remove(0, shape);
+        }
+        self.counts[usize::from(shape)] = count - 1;
+    }
+
+    /// The shapes in use.
+    pub(crate) fn in_use(&self) -> Walk<'_>
+        ensures used { (shape : ℕ) → has_place shape result ≡ is_in_use shape self.now }
+        ensures once { AreOnce result }
+    {
+        self.used.walk(0)
+    }
+}
