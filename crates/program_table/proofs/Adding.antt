@@ -1,5 +1,5 @@
 -- Requests and new entries keep names and entries tied.
-use Rattle.std.proofs.Common.{◌≡◌, ◌≢◌, ℕ, ◌+◌, ◌<◌, ◌==◌, Bool, true, false, not, cond, ◌&&◌, ◌||◌, List, length, [], ◌∷◌, ◌++◌, map, Option, Some, None, refl, sym, ap, subst, ◌∙◌, arith}
+use Rattle.std.proofs.Common.{◌≡◌, ◌≢◌, ℕ, ◌+◌, ◌<◌, ◌==◌, Bool, true, false, not, cond, ◌&&◌, ◌||◌, List, length, [], ◌∷◌, ◌++◌, Option, Some, None, refl, sym, ap, subst, ◌∙◌, arith}
 use Rattle.std.specs.Prelude.{Result, Ok, Err, is_ok, is_none, count_by, nat_eq, nat_le}
 use Rattle.std.specs.List.{list_all}
 use Rattle.std.specs.Option.{option_eq}
@@ -23,8 +23,8 @@ use Rattle.program_table.specs.Registrations.{Registrations, with_request}
 use Rattle.program_table.specs.Refusals.{◌>>=◌, refuse_if}
 use Rattle.program_table.specs.Answers.{request_answer, slot_fits, has_room}
 use Rattle.program_table.specs.IsState.{slot_in, is_own_slot, has_own_slot}
-use Rattle.program_table.specs.Ties.{slot_names, rules_with, holding_of, holdings, registrations_of, AreTied}
-use Rattle.program_table.proofs.Holdings.{IsNextSlot, own, free, next_is, with_slot-own, own-with_slot, put_holding, rules-holdings}
+use Rattle.program_table.specs.Ties.{slot_names, rules_with, holdings, registrations_of, AreTied}
+use Rattle.program_table.proofs.Holdings.{own, free, next_is, with_slot-own, own-with_slot, put_holding, rules-holdings}
 use Rattle.program_table.proofs.Positions.{position-set_first}
 use Rattle.program_table.proofs.Kept.{replied, request_replied}
 use Rattle.program_table.proofs.Tying.{tied, seen, requested_slots, one_slot}

@@ -1,11 +1,11 @@
 -- The names and entries of the opening state.
-use Rattle.std.proofs.Common.{◌≡◌, ℕ, zero, suc, true, List, [], ◌∷◌, Option, None, refl, sym, ap, ◌∙◌}
+use Rattle.std.proofs.Common.{◌≡◌, ℕ, zero, suc, List, [], ◌∷◌, Option, None, refl, sym, ap, ◌∙◌}
 use Rattle.std.specs.Prelude.{replicate}
 use Rattle.owners.specs.declared.holding.Holding.{Holding}
 use Rattle.owners.specs.Registry as registry
 use Rattle.entry_table.specs.Entries.{Entries, AreEntries, no_entries}
 use Rattle.program_table.specs.Registrations.{Registrations, no_registrations}
-use Rattle.program_table.specs.Ties.{slot_names, holdings, registrations_of, AreTied}
+use Rattle.program_table.specs.Ties.{holdings, registrations_of, AreTied}
 use Rattle.program_table.proofs.Tying.{tied, seen}
 
 no_holdings : (n : ℕ) → replicate n None ≡ holdings [] (replicate n None)

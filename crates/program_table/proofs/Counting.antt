@@ -1,10 +1,10 @@
 -- Counts of commands stay below the count of all.
-use Rattle.std.proofs.Common.{◌≡◌, ℕ, ◌+◌, ◌<◌, ◌≤◌, ◌==◌, Bool, true, false, cond, not, ◌&&◌, List, [], ◌∷◌, ◌++◌, filter, Option, Some, None, refl, arith}
-use Rattle.std.specs.Prelude.{nat_le, find}
+use Rattle.std.proofs.Common.{◌≡◌, ℕ, ◌+◌, ◌≤◌, Bool, true, false, cond, not, ◌&&◌, List, [], ◌∷◌, refl, arith}
+use Rattle.std.specs.Prelude.{nat_le}
 use Rattle.std.specs.List.{list_all}
 use Rattle.std.proofs.lemmas.Bool.Decides.{nat_tests}
 use Rattle.program_table.specs.declared.connection.Connection.{Connection}
-use Rattle.program_table.specs.Connections.{has_number, connection_of, commands_of, one_more_if, with_command, without_connection}
+use Rattle.program_table.specs.Connections.{has_number, commands_of, with_command, without_connection}
 use Rattle.program_table.specs.ConnectionList.{ConnectionList, with_connection}
 use Rattle.program_table.specs.Counts.{AreCounts}
 use Rattle.program_table.proofs.Adding.{all-push}

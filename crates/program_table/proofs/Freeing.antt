@@ -1,5 +1,5 @@
 -- Names and entries stay tied where an entry is taken out.
-use Rattle.std.proofs.Common.{◌≡◌, ◌≢◌, ℕ, zero, suc, ◌+◌, ◌-◌, ◌<◌, ◌≤◌, Bool, true, false, cond, ◌&&◌, List, [], ◌∷◌, ◌++◌, map, Option, Some, None, refl, sym, ap, subst, ◌∙◌, arith}
+use Rattle.std.proofs.Common.{◌≡◌, ◌≢◌, ℕ, ◌+◌, ◌-◌, ◌<◌, Bool, true, false, cond, List, [], ◌∷◌, ◌++◌, map, Option, Some, None, refl, sym, ap, subst, ◌∙◌, arith}
 use Rattle.std.specs.Prelude.{IfSome, is_some, is_none, position}
 use Rattle.std.specs.List.{list_all}
 use Rattle.owners.specs.declared.holding.Holding.{Holding}
@@ -7,10 +7,10 @@ use Rattle.owners.specs.Queues.{Claim}
 use Rattle.owners.specs.Registry as registry
 use Rattle.entry_table.specs.declared.entry.Entry.{Entry}
 use Rattle.entry_table.specs.Entries.{Entries, AreEntries}
-use Rattle.program_table.specs.SlotNames.{slot_of, slot_next, with_slot, sender_asked, asks_for, is_name, is_used, used_slot, used_slots}
+use Rattle.program_table.specs.SlotNames.{slot_of, slot_next, sender_asked, asks_for, is_name, is_used, used_slot, used_slots}
 use Rattle.program_table.specs.Registrations.{Registrations, settled}
 use Rattle.program_table.specs.Senders.{without_sender}
-use Rattle.program_table.specs.IsState.{slot_in, is_own_slot, has_own_slot}
+use Rattle.program_table.specs.IsState.{slot_in, has_own_slot}
 use Rattle.program_table.specs.Ties.{slot_names, rules_with, holdings, registrations_of, AreTied}
 use Rattle.program_table.proofs.Holdings.{asked_slot, with_slot-own, put_holding, kept-holdings, rules-holdings, own-used_slots}
 use Rattle.program_table.proofs.Adding.{same_holdings, if_not, if_so, asked_apart, asked_itself}

@@ -6,13 +6,13 @@ use Rattle.owners.specs.Queues.{Claim, is_on, without_all}
 use Rattle.owners.specs.Registry as registry
 use Rattle.entry_table.specs.declared.entry.Entry.{Entry}
 use Rattle.entry_table.specs.Entries.{Entries, AreEntries, is_of, is_entry, entries_but}
-use Rattle.program_table.specs.SlotNames.{sender_asked, asks_for, is_used, used_slots}
+use Rattle.program_table.specs.SlotNames.{sender_asked, asks_for, used_slots}
 use Rattle.program_table.specs.Registrations.{Registrations, settled, without_all_of}
 use Rattle.program_table.specs.Senders.{without_sender}
 use Rattle.program_table.specs.Removal.{entries_not_of, AreSomeGone}
 use Rattle.program_table.specs.Ties.{slot_names, registrations_of, AreTied}
 use Rattle.program_table.proofs.Holdings.{slot_names-holdings}
-use Rattle.program_table.proofs.Removing.{IsTaken, taken, taken_entry, none_taken, others, filter_between, length_between}
+use Rattle.program_table.proofs.Removing.{IsTaken, taken, taken_entry, none_taken, filter_between, length_between}
 use Rattle.program_table.proofs.Freeing.{freed_slots, freed_view, same_claims, used_twice}
 use Rattle.program_table.proofs.Sound.{registrations_sound}
 

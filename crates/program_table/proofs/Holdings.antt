@@ -1,21 +1,20 @@
 -- Names with their slots, and the rules that ask for them.
-use Rattle.std.proofs.Common.{◌≡◌, ◌≢◌, ℕ, zero, suc, ◌+◌, ◌-◌, ◌<◌, ◌≤◌, Bool, true, false, not, cond, ◌&&◌, ◌||◌, List, [], ◌∷◌, ◌++◌, length, map, set, filter, Option, Some, None, refl, sym, ap, subst, ◌∙◌, arith}
-use Rattle.std.specs.Prelude.{◌==◌, position, is_none, is_some, option_map, nat_lt, nat_eq, slice_get, count_by}
+use Rattle.std.proofs.Common.{◌≡◌, ◌≢◌, ℕ, zero, suc, ◌+◌, Bool, true, false, not, cond, ◌&&◌, ◌||◌, List, [], ◌∷◌, map, set, Option, Some, None, refl, sym, ap, subst, ◌∙◌, arith}
+use Rattle.std.specs.Prelude.{◌==◌, position, is_none, is_some, nat_lt, nat_eq, slice_get, count_by}
 use Rattle.std.specs.List.{list_any, list_all}
 use Rattle.std.specs.Option.{option_eq}
 use Rattle.std.specs.Str.{bytes_eq}
 use Rattle.std.proofs.lemmas.Slice.Eq.{bytes_eq-Decides}
 use Rattle.std.proofs.lemmas.List.{map-set}
-use Rattle.std.proofs.lemmas.List.Sums.{sum_by-cons, count_by-le-length}
+use Rattle.std.proofs.lemmas.List.Sums.{sum_by-cons}
 use Rattle.std.proofs.lemmas.Bool.Decides.{nat_tests}
 use Rattle.owners.specs.Queues.{Claim, is_on}
 use Rattle.owners.specs.Registry as registry
-use Rattle.owners.specs.declared.holding.Holding.{Holding}
 use Rattle.entry_table.specs.declared.entry.Entry.{Entry}
-use Rattle.program_table.specs.SlotNames.{is_name, slot_of, slot_next, with_slot_at, with_slot, sender_asked, asks_for, is_used, used_slot, used_slots}
+use Rattle.program_table.specs.SlotNames.{is_name, slot_of, slot_next, with_slot, sender_asked, asks_for, is_used, used_slot, used_slots}
 use Rattle.program_table.specs.IsState.{slot_in, is_own_slot, has_own_slot}
 use Rattle.program_table.specs.Ties.{slot_name, slot_names, rules_with, holding_of, holdings}
-use Rattle.program_table.proofs.Positions.{position_from-first, position-map, position-here, position-nowhere, position-set_same, position-set_first, set-agree, set-itself, slice_get-map}
+use Rattle.program_table.proofs.Positions.{position_from-first, position-map, position-here, position-set_same, set-agree, set-itself, slice_get-map}
 
 -- names and slots are the same in both views
 held_is : (entries : List Entry) (name : List ℕ) (x : Option (List ℕ)) → registry.is_held_by name (holding_of entries x) ≡ is_name name x

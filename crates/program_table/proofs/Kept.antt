@@ -1,10 +1,10 @@
 -- What the names that are kept tell of what is registered.
-use Rattle.std.proofs.Common.{◌≡◌, ℕ, Bool, true, false, cond, List, Option, Some, None, refl, sym, ap, ◌∙◌}
+use Rattle.std.proofs.Common.{◌≡◌, ℕ, Bool, true, false, cond, List, refl, sym, ap, ◌∙◌}
 use Rattle.std.specs.Prelude.{Result, Ok, Err, is_none, nat_lt, length}
 use Rattle.owners.specs.declared.answer.Named.{Named}
 use Rattle.owners.specs.declared.error.ClaimError.{ClaimError}
 use Rattle.owners.specs.declared.error.ClaimError.TheVariants as errors
-use Rattle.owners.specs.Queues.{requested, first_claim, request_reply}
+use Rattle.owners.specs.Queues.{requested}
 use Rattle.owners.specs.Registry as registry
 use Rattle.entry_table.specs.Entries.{Entries}
 use Rattle.program_table.specs.declared.command.Reply.{Reply}

@@ -1,6 +1,6 @@
 -- How many commands a history has, and how many of them are a connection's.
-use Rattle.std.proofs.Common.{◌≡◌, ℕ, ◌+◌, ◌≤◌, ◌==◌, Bool, true, false, cond, not, ◌&&◌, List, [], ◌∷◌, ◌++◌, length, fold, filter, Option, Some, None, refl, sym, ap, ◌∙◌, arith}
-use Rattle.std.specs.Prelude.{Result, Ok, Err, is_ok, is_some, find, nat_le, if◌then◌else◌}
+use Rattle.std.proofs.Common.{◌≡◌, ℕ, ◌+◌, ◌≤◌, ◌==◌, Bool, true, false, cond, not, ◌&&◌, List, [], ◌∷◌, ◌++◌, length, fold, Some, refl, sym, ap, ◌∙◌, arith}
+use Rattle.std.specs.Prelude.{Result, Err, is_ok, is_some, find, nat_le, if◌then◌else◌}
 use Rattle.std.specs.List.{list_all}
 use Rattle.std.proofs.lemmas.Bool.Decides.{nat_tests}
 use Rattle.program_table.specs.declared.connection.Connection.{Connection}
@@ -9,11 +9,11 @@ use Rattle.program_table.specs.declared.command.Command.TheVariants.{Connect, Ad
 use Rattle.program_table.specs.declared.command.Reply.{Reply}
 use Rattle.program_table.specs.declared.refusal.Refusal.{Refusal}
 use Rattle.program_table.specs.declared.refusal.Refusal.TheVariants as refusals
-use Rattle.program_table.specs.Connections.{has_number, is_connected, commands_of, one_more_if, with_command, without_connection}
+use Rattle.program_table.specs.Connections.{has_number, is_connected, commands_of, with_command, without_connection}
 use Rattle.program_table.specs.Registrations.{Registrations}
 use Rattle.program_table.specs.Refusals.{◌>>=◌, refuse_if}
 use Rattle.program_table.specs.State.{State, opening}
-use Rattle.program_table.specs.Does.{connected, row, answer_of, is_accepted, effect, next_of, changed, max_commands}
+use Rattle.program_table.specs.Does.{row, is_accepted, effect, next_of, changed, max_commands}
 use Rattle.program_table.specs.History.{after, are_accepted, IsHistory, is_command_of, own_from, own_commands}
 
 abbrev one_if : Bool → ℕ
@@ -80,6 +80,7 @@ module _ {M : Type 0} where
       here false false p = refl
       here true false p = absurd (cc)
       here false true p = absurd (cc)
+
       go : (b : Bool) → has_number c x ≡ b → commands_of c (with_command d cs) ≡ commands_of c cs + one_if (is_connected c cs && (c == d)) →
           commands_of c (with_command d (x ∷ cs)) ≡ commands_of c (x ∷ cs) + one_if (is_connected c (x ∷ cs) && (c == d))
       go true is later = rw is (here (has_number d x) (c == d) (same_tests x.number c d is))
@@ -161,6 +162,7 @@ module _ {M : Type 0} where
       kept : (b : Bool) → has_number c x ≡ false → is_connected c (without_connection d cs) ≡ false → is_connected c (cond b (x ∷ without_connection d cs) (without_connection d cs)) ≡ false
       kept true is later = rw is later
       kept false is later = later
+
       go : (b : Bool) → has_number c x ≡ b → is_connected c (x ∷ cs) ≡ false → (is_connected c cs ≡ false → is_connected c (without_connection d cs) ≡ false) →
           is_connected c (without_connection d (x ∷ cs)) ≡ false
       go true is gone later = absurd (cc)

@@ -1,13 +1,13 @@
 -- The sender that a rule asks for is a name that a connection can own.
-use Rattle.std.proofs.Common.{◌≡◌, ℕ, Bool, true, false, not, cond, ◌&&◌, List, [], ◌∷◌, Option, Some, None, refl, sym, ap, ◌∙◌}
-use Rattle.std.specs.Prelude.{Result, Ok, Err, codes}
+use Rattle.std.proofs.Common.{◌≡◌, ℕ, Bool, true, false, not, ◌&&◌, List, [], ◌∷◌, Some, refl}
+use Rattle.std.specs.Prelude.{Ok}
 use Rattle.std.specs.Str.{bytes_eq}
 use Rattle.signature.specs.Name.{is_bus_name}
 use Rattle.match_rule.specs.declared.condition.Condition.{Condition}
 use Rattle.match_rule.specs.declared.condition.Condition.TheVariants.{Kind, Sender, Interface, Member, Path, PathNamespace, Destination, Arg, ArgPath, Arg0Namespace}
 use Rattle.match_rule.specs.RuleTree.{RuleTree, sender_name_of, first_owned_name, is_owned_name}
-use Rattle.match_rule.specs.Parts.{has_sender_name, have_sender_names}
-use Rattle.owners.specs.WellKnown.{name_in, bus_name, is_unique, is_well_known}
+use Rattle.match_rule.specs.Parts.{have_sender_names}
+use Rattle.owners.specs.WellKnown.{name_in, bus_name, is_unique}
 
 both_true : (a b : Bool) → (a && b) ≡ true → (a ≡ true) × (b ≡ true)
 both_true true b e = (refl, e)

@@ -1,15 +1,14 @@
 -- What is true of everything that is registered.
-use Rattle.std.proofs.Common.{◌≡◌, ℕ, Bool, true, false, ◌&&◌, List, [], ◌∷◌, length, map, Option, refl, sym, ap, ◌∙◌, arith}
+use Rattle.std.proofs.Common.{◌≡◌, Bool, List, [], ◌∷◌, map, refl, sym, ap, ◌∙◌}
 use Rattle.std.specs.Prelude.{is_some}
 use Rattle.std.specs.List.{list_all}
 use Rattle.std.proofs.lemmas.List.{length-map}
-use Rattle.owners.specs.declared.holding.Holding.{Holding}
 use Rattle.owners.specs.Queues.{Claim}
 use Rattle.owners.specs.Registry as registry
 use Rattle.entry_table.specs.Entries.{Entries}
 use Rattle.program_table.specs.SlotNames.{slot_of, used_slots}
 use Rattle.program_table.specs.IsState.{AreRegistrations}
-use Rattle.program_table.specs.Ties.{slot_name, slot_names, holdings, registrations_of, AreTied}
+use Rattle.program_table.specs.Ties.{slot_name, slot_names, registrations_of, AreTied}
 use Rattle.program_table.proofs.Holdings.{slot_names-holdings, kept-holdings}
 use Rattle.program_table.proofs.Tying.{one_slot, slot_of_kept}
 

@@ -1,22 +1,16 @@
 -- Names and entries stay tied.
-use Rattle.std.proofs.Common.{◌≡◌, ℕ, zero, suc, Bool, true, false, cond, ◌&&◌, List, [], ◌∷◌, ◌++◌, map, Option, Some, None, refl, sym, ap, subst, ◌∙◌, arith}
-use Rattle.std.specs.Prelude.{Ok, is_ok, option_map, slice_get}
-use Rattle.std.specs.List.{list_any, list_all}
-use Rattle.std.proofs.lemmas.List.Sums.{sum_by-cons}
+use Rattle.std.proofs.Common.{◌≡◌, ℕ, zero, suc, true, List, [], ◌∷◌, map, Option, Some, None, refl, sym, ap, subst, ◌∙◌}
+use Rattle.std.specs.Prelude.{option_map, slice_get}
+use Rattle.std.specs.List.{list_all}
 use Rattle.owners.specs.declared.holding.Holding.{Holding}
-use Rattle.owners.specs.declared.answer.Named.{Named}
-use Rattle.owners.specs.declared.error.ClaimError.{ClaimError}
-use Rattle.owners.specs.Queues.{Claim, without, without_all, requested}
+use Rattle.owners.specs.Queues.{Claim, without}
 use Rattle.owners.specs.Registry as registry
-use Rattle.entry_table.specs.declared.entry.Entry.{Entry}
 use Rattle.entry_table.specs.Entries.{Entries, AreEntries}
-use Rattle.program_table.specs.SlotNames.{slot_of, slot_next, with_slot, sender_asked, asks_for, is_name, used_slots}
-use Rattle.program_table.specs.Registrations.{Registrations, settled, without_claim, with_request}
-use Rattle.program_table.specs.Answers.{request_answer}
+use Rattle.program_table.specs.SlotNames.{slot_of, slot_next, with_slot, used_slots}
+use Rattle.program_table.specs.Registrations.{Registrations, settled, without_claim}
 use Rattle.program_table.specs.IsState.{has_own_slot}
-use Rattle.program_table.specs.Ties.{slot_name, slot_names, rules_with, holding_of, holdings, registrations_of, AreTied}
-use Rattle.program_table.proofs.Holdings.{HaveOneSlot, slot_of-holdings, slot_names-holdings, put_holding, kept-holdings, rules-holdings, own-with_slot, own-used_slots}
-use Rattle.program_table.proofs.Kept.{replied, request_replied}
+use Rattle.program_table.specs.Ties.{slot_name, slot_names, holdings, registrations_of, AreTied}
+use Rattle.program_table.proofs.Holdings.{HaveOneSlot, slot_of-holdings, slot_names-holdings, put_holding, kept-holdings, rules-holdings, own-used_slots}
 
 pub slot_of_kept : (name : List ℕ) (names : registry.Registry) (all : Entries) → AreTied names all → registry.slot_of name names.slots ≡ slot_of name (slot_names names.slots)
 slot_of_kept name names all tie = ap (registry.slot_of name) (sym tie.counted) ∙ slot_of-holdings all.entries name (slot_names names.slots)

@@ -1,6 +1,5 @@
 -- The entries that a message may match by its member and its interface.
-use Rattle.std.specs.Prelude.{ℕ, Bool, true, false, ◌&&◌, List, filter, Option, Some, None}
-use Rattle.std.specs.Str.{bytes_eq}
+use Rattle.std.specs.Prelude.{ℕ, Bool, true, ◌&&◌, List, filter, Option, Some, None}
 use Rattle.message_view.specs.Message.{Message, member_of, interface_of}
 use Rattle.match_rule.specs.FixedTexts.{member_asked, interface_asked}
 use Rattle.entry_table.specs.declared.entry.Entry.{Entry}

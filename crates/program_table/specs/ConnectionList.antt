@@ -1,5 +1,5 @@
 -- The connections and the last number that was given.
-use Rattle.std.specs.Prelude.{◌≡◌, ℕ, ◌+◌, ◌≤◌, List, [], ◌∷◌, ◌++◌, All, length}
+use Rattle.std.specs.Prelude.{ℕ, ◌+◌, ◌≤◌, List, [], ◌∷◌, ◌++◌, All, length}
 use Rattle.std.specs.List.Sorted.{IsStrictlyIncreasing}
 use Rattle.program_table.specs.declared.connection.Connection.{Connection}
 use Rattle.program_table.specs.Connections.{numbers_of, max_connections}

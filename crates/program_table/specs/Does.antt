@@ -1,6 +1,6 @@
 -- What each command is answered and does: the table of commands, a row a case. The refusals of a row are tested in its
 -- order (D-Bus Specification, "Message Bus Messages": AddMatch, RemoveMatch, RequestName, ReleaseName).
-use Rattle.std.specs.Prelude.{◌≡◌, ℕ, ◌+◌, Bool, true, false, not, List, [], ◌∷◌, ◌++◌, length, Some, is_ok, Result, Ok, Err, nat_le, if◌then◌else◌}
+use Rattle.std.specs.Prelude.{◌≡◌, ℕ, ◌+◌, Bool, true, false, not, [], ◌∷◌, ◌++◌, length, Some, is_ok, Result, Ok, Err, nat_le, if◌then◌else◌}
 use Rattle.match_rule.specs.RuleTree.{sender_name_of}
 use Rattle.owners.specs.Registry.{least_of}
 use Rattle.entry_table.specs.declared.entry.Filter.TheVariants.{Rule, Attached}

@@ -1,6 +1,6 @@
 -- What connections have registered: their claims on names, with the slots of the names, and their entries (D-Bus
 -- Specification, "Message Bus Messages": RequestName, ReleaseName, AddMatch, RemoveMatch).
-use Rattle.std.specs.Prelude.{ℕ, ◌+◌, Bool, not, List, [], ◌∷◌, ◌++◌, filter, Option, Some, None, replicate}
+use Rattle.std.specs.Prelude.{ℕ, ◌+◌, not, List, [], ◌∷◌, ◌++◌, filter, Option, Some, None, replicate}
 use Rattle.owners.specs.Queues.{Claim, without, without_all, requested}
 use Rattle.owners.specs.Registry.{max_names}
 use Rattle.entry_table.specs.declared.entry.Entry.{Entry}

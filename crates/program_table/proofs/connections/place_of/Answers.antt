@@ -1,4 +1,4 @@
-use Rattle.std.proofs.Common.{◌≡◌, ◌<◌, length, arith}
+use Rattle.std.proofs.Common.{arith}
 use Rattle.program_table.proofs.Places.{place_found, none_found, not_there}
 use Rattle.program_table.proofs.connections.place_of.Goals as goal
 use Rattle.program_table.proofs.connections.place_of.Goals.{else-place-list-via-then-place-list+else-list-place, else-place-list-via-else-place-list}

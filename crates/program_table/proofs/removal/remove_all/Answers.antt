@@ -1,4 +1,4 @@
-use Rattle.std.proofs.Common.{◌≡◌, sym, ap, ◌∙◌, refl}
+use Rattle.std.proofs.Common.{◌∙◌}
 use Rattle.owners.specs.Queues.{without_all}
 use Rattle.program_table.specs.Ties.{registrations_of}
 use Rattle.program_table.proofs.Tying.{settled_tie, settled_view}

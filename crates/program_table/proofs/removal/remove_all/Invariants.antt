@@ -1,4 +1,4 @@
-use Rattle.std.proofs.Common.{ℕ, length}
+use Rattle.std.proofs.Common.{length}
 use Rattle.program_table.specs.Ties.{registrations_of, AreTied}
 use Rattle.program_table.specs.Removal.{AreSomeGone}
 use Rattle.program_table.proofs.removal.remove_all.Given as goal

@@ -1,4 +1,4 @@
-use Rattle.std.proofs.Common.{◌≡◌, sym}
+use Rattle.std.proofs.Common.{sym}
 use Rattle.entry_table.specs.Entries.{is_entry}
 use Rattle.program_table.proofs.Freeing.{some_rule, freed_tie}
 use Rattle.program_table.proofs.Gone.{taken_out, entry_gone, no_entry_gone}

@@ -1,4 +1,4 @@
-use Rattle.std.proofs.Common.{◌≡◌, sym, ap, subst, ◌∙◌}
+use Rattle.std.proofs.Common.{◌≡◌, sym, ap, subst}
 use Rattle.entry_table.specs.Entries.{Entries, is_of}
 use Rattle.program_table.specs.Removal.{entries_not_of, AreSomeGone}
 use Rattle.program_table.specs.Ties.{registrations_of}

@@ -1,7 +1,6 @@
-use Rattle.std.proofs.Common.{◌≡◌, ◌∙◌, sym, ap, Some}
-use Rattle.std.specs.Prelude.{Ok}
+use Rattle.std.proofs.Common.{◌∙◌, sym, ap}
 use Rattle.std.specs.Result.{result_ok}
-use Rattle.match_rule.specs.RuleTree.{RuleTree, sender_name_of}
+use Rattle.match_rule.specs.RuleTree.{sender_name_of}
 use Rattle.program_table.proofs.SenderNames.{is_read}
 use Rattle.program_table.proofs.removal.sender_of.Goals as goal
 

@@ -1,4 +1,4 @@
-use Rattle.std.proofs.Common.{◌≡◌, ◌∙◌, ap, sym}
+use Rattle.std.proofs.Common.{◌∙◌, ap, sym}
 use Rattle.program_table.specs.Connections.{commands_of}
 use Rattle.program_table.specs.ConnectionList.{ConnectionList}
 use Rattle.program_table.proofs.Places.{commands_here, commands_none}

@@ -1,4 +1,4 @@
-use Rattle.std.proofs.Common.{◌≡◌, ◌∙◌, ap}
+use Rattle.std.proofs.Common.{◌∙◌, ap}
 use Rattle.program_table.specs.Connections.{is_connected}
 use Rattle.program_table.specs.ConnectionList.{ConnectionList}
 use Rattle.program_table.proofs.Places.{connected_at}

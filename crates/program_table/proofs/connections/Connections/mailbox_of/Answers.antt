@@ -1,4 +1,4 @@
-use Rattle.std.proofs.Common.{◌≡◌, ◌∙◌, ap, sym}
+use Rattle.std.proofs.Common.{◌∙◌, ap, sym}
 use Rattle.program_table.specs.Connections.{mailbox_of}
 use Rattle.program_table.specs.ConnectionList.{ConnectionList}
 use Rattle.program_table.proofs.Places.{mailbox_here, mailbox_none}

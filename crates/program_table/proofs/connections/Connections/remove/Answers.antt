@@ -1,8 +1,8 @@
-use Rattle.std.proofs.Common.{◌≡◌, ℕ, ◌+◌, ◌<◌, ◌∙◌, ap, sym, arith, List, refl}
+use Rattle.std.proofs.Common.{◌≡◌, ◌∙◌, ap, sym, arith, List}
 use Rattle.program_table.specs.declared.connection.Connection.{Connection}
-use Rattle.program_table.specs.Connections.{commands_of, is_connected, with_command, without_connection}
+use Rattle.program_table.specs.Connections.{without_connection}
 use Rattle.program_table.specs.Places.{IsPlaceOf, HaveOtherNumbers}
-use Rattle.program_table.specs.ConnectionList.{ConnectionList, IsConnectionList}
+use Rattle.program_table.specs.ConnectionList.{ConnectionList}
 use Rattle.program_table.proofs.Places.{removed_here, without_list, without-differ}
 use Rattle.program_table.proofs.connections.Connections.remove.Goals as goal
 

@@ -1,11 +1,10 @@
-use Rattle.std.proofs.Common.{◌≡◌, ℕ, ◌+◌, ◌<◌, ◌≤◌, List, ◌++◌, ◌∷◌, [], Some, None, Option, length, ◌∙◌, sym, ap, arith, refl}
+use Rattle.std.proofs.Common.{◌≡◌, ℕ, List, ◌++◌, ◌∷◌, [], Some, Option, ◌∙◌, sym, ap, arith}
 use Rattle.std.specs.Prelude.{Ok}
 use Rattle.std.proofs.lemmas.List.Sums.{count_by-le-length}
 use Rattle.match_rule.specs.RuleTree.{sender_name_of}
 use Rattle.owners.specs.Registry as registry
-use Rattle.entry_table.specs.declared.entry.Entry.{Entry}
 use Rattle.entry_table.specs.Entries.{Entries}
-use Rattle.program_table.specs.SlotNames.{slot_next, asks_for, sender_asked}
+use Rattle.program_table.specs.SlotNames.{asks_for}
 use Rattle.entry_table.specs.declared.entry.Filter.TheVariants as filters
 use Rattle.program_table.specs.Registrations.{Registrations, with_entry, with_sender}
 use Rattle.program_table.specs.Answers.{slot_fits, has_room}

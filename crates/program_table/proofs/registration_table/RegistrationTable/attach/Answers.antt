@@ -1,4 +1,4 @@
-use Rattle.std.proofs.Common.{◌≡◌, ap, refl}
+use Rattle.std.proofs.Common.{ap, refl}
 use Rattle.entry_table.specs.Entries.{Entries}
 use Rattle.program_table.proofs.Adding.{added_tie}
 use Rattle.program_table.proofs.registration_table.RegistrationTable.attach.Goals as goal

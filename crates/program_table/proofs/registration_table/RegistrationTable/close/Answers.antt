@@ -1,4 +1,4 @@
-use Rattle.std.proofs.Common.{◌≡◌, ◌∙◌, ap}
+use Rattle.std.proofs.Common.{◌∙◌, ap}
 use Rattle.program_table.specs.Registrations.{without_all_of}
 use Rattle.program_table.proofs.registration_table.RegistrationTable.close.Goals as goal
 

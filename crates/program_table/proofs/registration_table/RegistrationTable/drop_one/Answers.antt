@@ -1,4 +1,4 @@
-use Rattle.std.proofs.Common.{◌≡◌, ◌∙◌, ap}
+use Rattle.std.proofs.Common.{◌∙◌, ap}
 use Rattle.owners.specs.Registry.{least_of}
 use Rattle.program_table.specs.Registrations.{Registrations, without_claim}
 use Rattle.program_table.proofs.Tying.{dropped_tie, dropped_view}

@@ -1,5 +1,3 @@
-use Rattle.program_table.specs.IsState.{AreRegistrations}
-use Rattle.program_table.specs.Ties.{registrations_of}
 use Rattle.program_table.proofs.Sound.{registrations_sound}
 use Rattle.program_table.proofs.registration_table.RegistrationTable.offered.Goals as goal
 

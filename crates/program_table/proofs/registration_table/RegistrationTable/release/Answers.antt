@@ -1,4 +1,4 @@
-use Rattle.std.proofs.Common.{◌≡◌, ◌∙◌, ap, Some}
+use Rattle.std.proofs.Common.{◌∙◌, ap, Some}
 use Rattle.owners.specs.Queues.{without}
 use Rattle.program_table.specs.Registrations.{without_claim}
 use Rattle.program_table.proofs.Tying.{settled_tie, settled_view}

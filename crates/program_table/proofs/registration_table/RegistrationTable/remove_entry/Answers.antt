@@ -1,4 +1,4 @@
-use Rattle.std.proofs.Common.{◌≡◌, ◌∙◌, ap, Some}
+use Rattle.std.proofs.Common.{◌∙◌, ap, Some}
 use Rattle.program_table.specs.Registrations.{without_entry}
 use Rattle.program_table.proofs.registration_table.RegistrationTable.remove_entry.Goals as goal
 

@@ -1,4 +1,4 @@
-use Rattle.std.proofs.Common.{◌≡◌, ◌∙◌, ap}
+use Rattle.std.proofs.Common.{◌∙◌, ap}
 use Rattle.program_table.specs.SlotNames.{slot_next}
 use Rattle.program_table.specs.Registrations.{Registrations}
 use Rattle.program_table.proofs.Kept.{next_kept}

@@ -1,6 +1,5 @@
 use Rattle.std.proofs.Common.{◌≡◌, ℕ, List, ◌∙◌, ap, sym, refl}
-use Rattle.std.specs.Prelude.{Result, Ok}
-use Rattle.program_table.specs.declared.command.Command.{Command}
+use Rattle.std.specs.Prelude.{Ok}
 use Rattle.program_table.specs.declared.command.Command.TheVariants.{Request}
 use Rattle.program_table.specs.State.{State}
 use Rattle.program_table.specs.Answers.{request_answer}
