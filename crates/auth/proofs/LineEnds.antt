@@ -1,5 +1,5 @@
 -- Where lines end in bytes that come in cuts.
-use Rattle.std.proofs.Common.{◌≡◌, ℕ, ◌+◌, ◌-◌, ◌<◌, ◌≤◌, Bool, true, false, cond, suc, List, [], ◌∷◌, ◌++◌, take, drop, length, refl, sym, ap, ◌∙◌, arith, get_or, length-append}
+use Rattle.std.proofs.Common.{◌≡◌, ℕ, ◌+◌, ◌-◌, ◌≤◌, Bool, true, false, cond, suc, List, [], ◌∷◌, ◌++◌, drop, length, refl, ap, ◌∙◌, arith, get_or, length-append}
 use Rattle.std.specs.Prelude.{◌==◌, ◌&&◌}
 use Rattle.std.proofs.lemmas.Bool.{eqb-true}
 use Rattle.auth.specs.Lines.{cr, lf, Pieces, with_byte, pieces_of, whole_piece}
@@ -70,6 +70,7 @@ opens byte next rest = go (pieces_of (next ∷ rest)) refl
         let later : p.later ≡ [] = ap (λ (x : Pieces). x.later) e in
         let whole : p ≡ whole_piece (next ∷ rest) = rw (← first, ← later) refl in
         record { test = rw first at test; tail = is ∙ whole }
+
     go : (p : Pieces) → pieces_of (next ∷ rest) ≡ p → with_byte byte p ≡ whole_piece (byte ∷ next ∷ rest) → Opens byte next rest
     go p is e = at p is (get_or p.first 0 0 == lf && byte == cr) refl e
 

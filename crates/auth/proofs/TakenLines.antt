@@ -2,17 +2,17 @@
 use Rattle.std.proofs.Common.{◌≡◌, ℕ, ◌+◌, ◌-◌, ◌<◌, ◌≤◌, Bool, true, false, cond, List, [], ◌∷◌, ◌++◌, take, drop, length, refl, sym, ap, subst, ◌∙◌, arith, length-append}
 use Rattle.std.specs.Prelude.{nat_lt, nat_le}
 use Rattle.std.proofs.lemmas.Bool.Decides.{nat_tests}
-use Rattle.std.proofs.lemmas.List.{append_assoc, append-nil, take-append-drop, length-take-le, drop-take}
+use Rattle.std.proofs.lemmas.List.{append_assoc, append-nil, take-append-drop, length-take-le}
 use Rattle.std.proofs.Math.Seq.{take-length, take-add}
 use Rattle.auth.specs.declared.stage.Stage.{Stage}
 use Rattle.auth.specs.declared.stage.Stage.TheVariants.{Failed}
 use Rattle.auth.specs.declared.stage.Reply.{Reply}
-use Rattle.auth.specs.declared.stage.Reply.TheVariants.{Rejected, Nothing}
-use Rattle.auth.specs.Lines.{Pieces, pieces_of, whole_piece, len_through, through_line}
+use Rattle.auth.specs.declared.stage.Reply.TheVariants.{Rejected}
+use Rattle.auth.specs.Lines.{pieces_of, whole_piece, len_through, through_line}
 use Rattle.auth.specs.Commands.{command_of}
 use Rattle.auth.specs.Stages.{is_over, row_of, reply_bytes}
 use Rattle.auth.specs.Added.{ended_piece}
-use Rattle.auth.specs.Talk.{Standing, Talked, max_rejections, at_stage, silent, refused, rejected, answered, hear, wait, after, by_pieces, talk_in, by_lines}
+use Rattle.auth.specs.Talk.{Standing, Talked, max_rejections, at_stage, silent, refused, answered, hear, wait, after, by_pieces, talk_in, by_lines}
 use Rattle.auth.proofs.LineEnds.{continued, pieces_of-append, first_len}
 use Rattle.auth.proofs.Talks.{over_stays, with_line, lines_in_cuts}
 
@@ -76,7 +76,7 @@ open_talk s bytes longer n t on open_line short =
 pub ended_len : (line bytes longer : List ℕ) (n : ℕ) → Takes line bytes longer n → 2 ≤ length longer → pieces_of longer ≡ ended_piece longer → n ≡ through_line line bytes
 ended_len line bytes longer n t two ends =
     let pieces : pieces_of (line ++ bytes) ≡ continued (take (length longer - 2) longer) ([] ∷ []) (drop n bytes) =
-        ap pieces_of (all_bytes line bytes longer n t) ∙ pieces_of-append longer (drop n bytes) ∙ ap (λ p. continued p.first p.later (drop n bytes)) ends in
+    ap pieces_of (all_bytes line bytes longer n t) ∙ pieces_of-append longer (drop n bytes) ∙ ap (λ p. continued p.first p.later (drop n bytes)) ends in
     let said : through_line line bytes ≡ length (take (length longer - 2) longer) + 2 - length line = ap (len_through (length line) (length bytes)) pieces in
     let len : length (take (length longer - 2) longer) ≡ length longer - 2 = length-take-le (length longer - 2) longer (omega arith) in
     let all : length longer ≡ length line + n = longer_len line bytes longer n t in

@@ -1,5 +1,5 @@
 -- A talk by bytes in two cuts is the talk by all of them.
-use Rattle.std.proofs.Common.{◌≡◌, ℕ, ◌+◌, ◌<◌, ◌≤◌, Bool, true, false, cond, List, [], ◌∷◌, ◌++◌, length, refl, sym, ap, ◌∙◌, arith, append_assoc, length-append}
+use Rattle.std.proofs.Common.{◌≡◌, ℕ, ◌+◌, ◌≤◌, Bool, true, false, cond, List, [], ◌∷◌, ◌++◌, length, refl, sym, ap, ◌∙◌, arith, append_assoc, length-append}
 use Rattle.std.specs.Prelude.{nat_lt, nat_le, ◌==◌}
 use Rattle.std.proofs.lemmas.Bool.Decides.{nat_tests}
 use Rattle.auth.specs.declared.command.Command.{Command}
@@ -7,12 +7,11 @@ use Rattle.auth.specs.declared.command.Command.TheVariants.{AskExternal, Begin}
 use Rattle.auth.specs.declared.stage.Stage.{Stage}
 use Rattle.auth.specs.declared.stage.Stage.TheVariants.{Opening, Start, Data, Ready, Begun, Failed}
 use Rattle.auth.specs.declared.stage.Reply.{Reply}
-use Rattle.auth.specs.declared.stage.Reply.TheVariants.{Nothing, Challenge, Accepted, Rejected, Unclear}
-use Rattle.auth.specs.declared.stage.Row.{Row}
+use Rattle.auth.specs.declared.stage.Reply.TheVariants.{Nothing, Rejected}
 use Rattle.auth.specs.Lines.{Pieces, pieces_of, whole_piece}
 use Rattle.auth.specs.Commands.{command_of}
 use Rattle.auth.specs.Stages.{is_over, start_row, data_row, ready_row, row_of, reply_bytes}
-use Rattle.auth.specs.Talk.{Standing, Talked, max_rejections, at_stage, silent, refused, rejected, answered, hear, wait, after, by_pieces, talk_in, by_lines, started, opened, talk}
+use Rattle.auth.specs.Talk.{Standing, Talked, max_rejections, at_stage, silent, refused, answered, hear, wait, after, by_pieces, talk_in, by_lines, started, talk}
 use Rattle.auth.proofs.LineEnds.{continued, pieces_of-append, LastIsOpen, last_open, first_len, first_whole}
 
 -- ---- a talk that is over
@@ -53,7 +52,7 @@ rest_goes_on s rest bytes is = go (is_over s.stage) refl (nat_le 1024 (length re
         let first : length rest ≤ length (pieces_of (rest ++ bytes)).first + 1 = first_len rest bytes is in
         let one : 1023 ≤ length (pieces_of (rest ++ bytes)).first = omega arith in
         let alone : (pieces_of (rest ++ bytes)).later ≡ [] → 1024 ≤ length (pieces_of (rest ++ bytes)).first =
-            λ none. omega (arith, ap (λ (x : List ℕ). length x) (first_whole (rest ++ bytes) none), length-append rest bytes) in
+        λ none. omega (arith, ap (λ (x : List ℕ). length x) (first_whole (rest ++ bytes) none), length-append rest bytes) in
         rw (on, long) (long_refused s (pieces_of (rest ++ bytes)) on one alone ∙ sym (over_stays (at_stage s Failed) (pieces_of bytes).first (pieces_of bytes).later refl))
     go false on false short = rw (on, short) (line_aside s rest (pieces_of (rest ++ bytes)).first (pieces_of (rest ++ bytes)).later on)
 
@@ -164,6 +163,7 @@ in_cuts s front back = go s.stage refl
         let whole : by_lines s (front ++ back) ≡ talk s (front ++ back) = lines_talk s (front ++ back) is in
         let part : by_lines s front ≡ talk s front = lines_talk s front is in
         sym whole ∙ lines_then_talk s front back is ∙ ap (λ (x : Talked). after x.answers (talk x.standing back)) part
+
     go : (stage : Stage) → s.stage ≡ stage → Cuts s front back
     go Opening at = opening_cuts s front back at
     go Start at = by_line_talk (rw at refl)

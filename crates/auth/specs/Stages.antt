@@ -1,9 +1,9 @@
 -- What the server answers at each stage of a talk (D-Bus Specification, "Authentication state diagrams").
 use Rattle.std.specs.Prelude.{ℕ, Bool, true, false, ◌++◌, List, [], codes}
 use Rattle.auth.specs.declared.command.Command.{Command}
-use Rattle.auth.specs.declared.command.Command.TheVariants.{AskExternal, Claim, OtherAuth, Response, OtherData, Begin, Cancel, Complaint, Unknown}
+use Rattle.auth.specs.declared.command.Command.TheVariants.{AskExternal, Claim, OtherAuth, Response, OtherData, Begin, Cancel, Complaint}
 use Rattle.auth.specs.declared.stage.Stage.{Stage}
-use Rattle.auth.specs.declared.stage.Stage.TheVariants.{Opening, Start, Data, Ready, Begun, Failed}
+use Rattle.auth.specs.declared.stage.Stage.TheVariants.{Start, Data, Ready, Begun, Failed}
 use Rattle.auth.specs.declared.stage.Reply.{Reply}
 use Rattle.auth.specs.declared.stage.Reply.TheVariants.{Nothing, Challenge, Accepted, Rejected, Unclear}
 use Rattle.auth.specs.declared.stage.Row.{Row}

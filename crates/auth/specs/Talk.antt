@@ -1,9 +1,9 @@
 -- A talk: what a server has answered to the bytes of a client, and where it stands (D-Bus Specification, "Authentication Protocol").
 use Rattle.std.specs.Prelude.{ℕ, ◌+◌, ◌==◌, nat_lt, nat_le, List, [], ◌∷◌, ◌++◌, length, if◌then◌else◌}
 use Rattle.auth.specs.declared.stage.Stage.{Stage}
-use Rattle.auth.specs.declared.stage.Stage.TheVariants.{Opening, Start, Data, Ready, Begun, Failed}
+use Rattle.auth.specs.declared.stage.Stage.TheVariants.{Opening, Start, Begun, Failed}
 use Rattle.auth.specs.declared.stage.Reply.{Reply}
-use Rattle.auth.specs.declared.stage.Reply.TheVariants.{Nothing, Challenge, Accepted, Rejected, Unclear}
+use Rattle.auth.specs.declared.stage.Reply.TheVariants.{Rejected}
 use Rattle.auth.specs.declared.stage.Row.{Row}
 use Rattle.auth.specs.Lines.{Pieces, pieces_of, through_line}
 use Rattle.auth.specs.Commands.{command_of}

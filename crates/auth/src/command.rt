@@ -35,7 +35,12 @@ impl Command {
         if word == b"AUTH".as_slice() {
             auth(more)
         } else if word == b"DATA".as_slice() {
-            by_text(Command::Response, Command::Response, Command::OtherData, more)
+            by_text(
+                Command::Response,
+                Command::Response,
+                Command::OtherData,
+                more,
+            )
         } else if word == b"BEGIN".as_slice() {
             alone(Command::Begin, more)
         } else if word == b"CANCEL".as_slice() {
@@ -69,7 +74,12 @@ fn auth(more: Option<&[u8]>) -> Command
     };
     let (word, user) = cut(text);
     if word == b"EXTERNAL".as_slice() {
-        by_text(Command::AskExternal, Command::Claim, Command::OtherAuth, user)
+        by_text(
+            Command::AskExternal,
+            Command::Claim,
+            Command::OtherAuth,
+            user,
+        )
     } else if word == b"ANONYMOUS".as_slice() {
         by_text(Command::Claim, Command::Claim, Command::OtherAuth, user)
     } else {

@@ -159,8 +159,16 @@ impl Auth {
         self.stage = Stage::Start;
         match self.take_line(rest) {
             Ok(fed) => {
-                let Fed { taken, answer, begun } = fed;
-                Ok(Fed { taken: taken + 1, answer, begun })
+                let Fed {
+                    taken,
+                    answer,
+                    begun,
+                } = fed;
+                Ok(Fed {
+                    taken: taken + 1,
+                    answer,
+                    begun,
+                })
             }
             Err(fault) => Err(fault),
         }
@@ -189,14 +197,22 @@ impl Auth {
             LineState::Ended => {
                 let text = without_end(self.line.as_slice());
                 let answered = answer_line(&self.guid, self.stage, self.rejections, text);
-                let Answered { stage, rejections, answer } = answered;
+                let Answered {
+                    stage,
+                    rejections,
+                    answer,
+                } = answered;
                 self.stage = stage;
                 self.rejections = rejections;
                 self.line.clear();
-                match stage {
-                    Stage::Failed => Err(AuthError),
-                    _ => Ok(Fed { taken, answer, begun: stage == Stage::Begun }),
+                if let Stage::Failed = stage {
+                    return Err(AuthError);
                 }
+                Ok(Fed {
+                    taken,
+                    answer,
+                    begun: stage == Stage::Begun,
+                })
             }
         }
     }

@@ -69,7 +69,10 @@ fn data_row(command: Command) -> Row
 {
     match command {
         Command::Response => Row::new(Reply::Accepted, Stage::Ready),
-        Command::OtherData | Command::Cancel | Command::Complaint => Row::new(Reply::Rejected, Stage::Start),
+        Command::OtherData | Command::Cancel | Command::Complaint => Row::new(
+            Reply::Rejected,
+            Stage::Start,
+        ),
         Command::Begin => Row::new(Reply::Nothing, Stage::Failed),
         _ => Row::new(Reply::Unclear, Stage::Data),
     }

@@ -1,5 +1,5 @@
 use Rattle.std.proofs.Common.{◌≡◌, drop, take, ◌++◌}
-use Rattle.auth.specs.Commands.{Words, words_of}
+use Rattle.auth.specs.Commands.{words_of}
 use Rattle.auth.proofs.command.cut.Given as goal
 
 abbrev pub invariant-loop-i : goal.invariant-loop-i

@@ -1,5 +1,5 @@
-use Rattle.std.proofs.Common.{◌≡◌, ◌++◌, ◌∷◌, [], ℕ, length, take, sym, ap, ◌∙◌, arith, get_or, length-append}
-use Rattle.std.specs.Prelude.{◌≤◌, ◌&&◌, true, false}
+use Rattle.std.proofs.Common.{length, sym, ◌∙◌, arith}
+use Rattle.std.specs.Prelude.{◌≤◌}
 use Rattle.std.proofs.lemmas.Grind.{common_steps}
 use Rattle.auth.proofs.LineEnds.{ends_here, goes_on, line_there}
 use Rattle.auth.proofs.line.add.Goals as goal

@@ -1,5 +1,5 @@
 use Rattle.std.proofs.Common.{◌≡◌, ◌<◌, ◌++◌, ℕ, List, length, take}
-use Rattle.auth.specs.Lines.{Pieces, pieces_of, whole_piece}
+use Rattle.auth.specs.Lines.{pieces_of, whole_piece}
 use Rattle.auth.proofs.line.add.Given as goal
 
 pub record Coming (line bytes start : List ℕ) (i : ℕ) : Type 0 where
