@@ -24,7 +24,7 @@ pub struct AuthError;
 
 impl fmt::Display for AuthError {
     fn fmt<W: fmt::Write>(&self, f: &mut fmt::Formatter<W>) -> fmt::Result {
-        f.write_str("the authentication failed")
+        f.write_str("Auth")
     }
 }
 
@@ -120,6 +120,7 @@ impl Auth {
     ///
     /// The client was refused, in this call or before.
     pub fn feed(&mut self, bytes: &[u8]) -> Result<Fed, AuthError>
+        ensures within { IfOk result (λ fed. fed.taken ≤ length bytes.now) }
         ensures taken { IfOk result (λ fed. fed.taken ≡ taken_of self.old bytes.now) }
         ensures talk { talk self.old (take (taken_of self.old bytes.now) bytes.now) ≡ record { standing = self.new; answers = answer_in result } }
         ensures begun { IfOk result (λ fed. IsTrue fed.begun ↔ (self.new.stage ≡ Stage.Begun)) }
@@ -139,6 +140,7 @@ impl Auth {
 
     fn open(&mut self, bytes: &[u8]) -> Result<Fed, AuthError>
         requires { self.old.stage ≡ Stage.Opening }
+        ensures within { IfOk result (λ fed. fed.taken ≤ length bytes.now) }
         ensures taken { IfOk result (λ fed. fed.taken ≡ taken_of self.old bytes.now) }
         ensures talk { talk self.old (take (taken_of self.old bytes.now) bytes.now) ≡ record { standing = self.new; answers = answer_in result } }
         ensures begun { IfOk result (λ fed. IsTrue fed.begun ↔ (self.new.stage ≡ Stage.Begun)) }
@@ -176,7 +178,7 @@ impl Auth {
 
     fn take_line(&mut self, bytes: &[u8]) -> Result<Fed, AuthError>
         requires { is_over self.old.stage ≡ false }
-        ensures short { IfOk result (λ fed. fed.taken ≤ length bytes.now) }
+        ensures within { IfOk result (λ fed. fed.taken ≤ length bytes.now) }
         ensures taken { IfOk result (λ fed. fed.taken ≡ through_line self.old.line bytes.now) }
         ensures talk { by_lines self.old (take (through_line self.old.line bytes.now) bytes.now) ≡ record { standing = self.new; answers = answer_in result } }
         ensures begun { IfOk result (λ fed. IsTrue fed.begun ↔ (self.new.stage ≡ Stage.Begun)) }

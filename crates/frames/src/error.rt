@@ -15,8 +15,8 @@ pub enum FrameError {
 impl fmt::Display for FrameError {
     fn fmt<W: fmt::Write>(&self, f: &mut fmt::Formatter<W>) -> fmt::Result {
         match self {
-            FrameError::Message(fault) => write!(f, "message {fault}"),
-            FrameError::NoMemory => f.write_str("memory"),
+            FrameError::Message(fault) => write!(f, "Message {fault}"),
+            FrameError::NoMemory => f.write_str("NoMemory"),
         }
     }
 }
