@@ -1,6 +1,6 @@
 // Laws about streams.
 
-ghost use Rattle.std.specs.Prelude.{◌≡◌, ◌++◌, ℕ, List, Option};
+ghost use Rattle.std.specs.Prelude.{◌≡◌, ◌++◌, ℕ, List, Option, Some};
 ghost use Rattle.message_value.specs.declared.fault.MsgError.{MsgError};
 ghost use Rattle.frames.specs.Stream.{IsCut, FramesOf};
 
@@ -14,4 +14,9 @@ pub fn given_come_first()
 pub fn one_framing()
     ensures { (stream rest other_rest : List ℕ) (messages others : List (List ℕ)) (fault other_fault : Option MsgError) → FramesOf stream messages rest fault → FramesOf stream others other_rest other_fault
         → (messages ≡ others) × (rest ≡ other_rest) × (fault ≡ other_fault) }
+{}
+
+/// A fault is the stream's, whatever comes after it.
+pub fn faults_stay()
+    ensures { (stream more rest : List ℕ) (messages : List (List ℕ)) (fault : MsgError) → FramesOf stream messages rest (Some fault) → FramesOf (stream ++ more) messages (rest ++ more) (Some fault) }
 {}

@@ -8,5 +8,5 @@ mod laws;
 mod stream;
 
 pub use error::FrameError;
-pub use laws::{given_come_first, one_framing};
+pub use laws::{faults_stay, given_come_first, one_framing};
 pub use stream::Frames;

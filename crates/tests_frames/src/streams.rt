@@ -78,5 +78,13 @@ fn front_stays_until_it_is_skipped(rt: HostRuntime) -> Result<(), Fail> {
         assert_eq!(rt; front.kind(), Kind::Signal);
         assert_eq!(rt; front.member(), Some("c"));
     }
+    let len = match frames.front()? {
+        Some(front) => front.raw().len(),
+        None => 0,
+    };
+    frames.skip(len);
+    let message = frames.next()?.ok_or("no message")?;
+    assert_eq!(rt; message.as_slice(), signal.as_slice());
+    assert!(rt; frames.next()?.is_none());
     Ok(())
 }
