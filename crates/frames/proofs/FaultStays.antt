@@ -1,5 +1,5 @@
 -- A fault stays where it is, whatever comes after it.
-use Rattle.std.proofs.Common.{◌≡◌, ℕ, ◌+◌, ◌<◌, ◌≤◌, ◌⊎◌, inl, inr, Bool, true, false, not, cond, leb, ltb, eqb, List, [], ◌∷◌, ◌++◌, take, drop, length, get_or, is_none, Option, Some, None, Result, Ok, Err, refl, sym, ap, ◌∙◌, arith, length-append}
+use Rattle.std.proofs.Common.{◌≡◌, ℕ, ◌+◌, ◌<◌, ◌≤◌, inl, inr, Bool, true, false, not, cond, leb, ltb, eqb, List, [], ◌∷◌, ◌++◌, take, drop, length, is_none, Option, Some, None, Ok, Err, refl, sym, ap, ◌∙◌, arith, length-append}
 use Rattle.std.specs.Prelude.{◌&&◌}
 use Rattle.std.proofs.lemmas.Bool.{leb-true, leb-false, le-leb}
 use Rattle.std.proofs.lemmas.List.{append_assoc, get_or_append_left, take-append-le, drop-append-le, length-drop}
@@ -9,13 +9,12 @@ use Rattle.message_value.specs.declared.fault.MsgError.{MsgError}
 use Rattle.message_value.specs.Order.{order_of, word_of}
 use Rattle.message_value.specs.Fits.{max_array_len}
 use Rattle.message_view.specs.Header.{kind_of}
-use Rattle.message_view.specs.Spelling.{fixed_len}
 use Rattle.message_view.specs.Valid.{max_message_len}
-use Rattle.message_view.specs.Fixed.{order_in, word_at, serial_in, fields_len, whole_len, Check, checks, first_failing, len_said, or_len, framing}
+use Rattle.message_view.specs.Fixed.{order_in, word_at, Check, checks, first_failing, or_len, framing}
 use Rattle.message_view.specs.Reading.{message_at}
 use Rattle.message_view.proofs.FixedPart.{framing_takes, framing_again}
 use Rattle.message_view.proofs.FrontMessage.{whole_in_front, fixed_in_front}
-use Rattle.frames.specs.Stream.{bytes_of, IsFault, IsCut, FramesOf}
+use Rattle.frames.specs.Stream.{bytes_of, IsFault, FramesOf}
 
 -- ---- checks of which more have their bytes
 
@@ -79,21 +78,37 @@ word_in_front place bytes more le =
     ap (λ (o : Order). word_of o (take 4 (drop place (bytes ++ more)))) (same_order bytes more (omega arith)) ∙ ap (word_of (order_in bytes)) four
 
 checks_grown : (bytes more : List ℕ) → AreGrown (length bytes) (checks bytes) (checks (bytes ++ more))
-checks_grown bytes more =
-    (record { need = refl; fault = refl; fails = λ le. ap (λ (b : ℕ). is_none (order_of b)) (sym (get_or_append_left bytes more 0 0 (omega arith))) },
-     (record { need = refl; fault = refl; fails = λ le. ap (λ (b : ℕ). is_none (kind_of b)) (sym (get_or_append_left bytes more 0 1 (omega arith))) },
-      (record { need = refl; fault = refl; fails = λ le. ap (λ (b : ℕ). not (eqb b 1)) (sym (get_or_append_left bytes more 0 3 (omega arith))) },
-       (record { need = refl; fault = refl; fails = λ le. ap (λ (n : ℕ). eqb n 0) (sym (word_in_front 8 bytes more (omega arith))) },
-        (record { need = refl; fault = refl; fails = λ le. ap (λ (n : ℕ). ltb max_array_len n) (sym (word_in_front 12 bytes more (omega arith))) },
-         (record { need = refl; fault = refl; fails = λ le. ap (λ (n : ℕ). ltb max_message_len n) (sym (whole_in_front bytes more le)) }, tt))))))
+checks_grown bytes more = (
+  record { need = refl; fault = refl; fails = λ le. ap (λ (b : ℕ). is_none (order_of b)) (sym (get_or_append_left bytes more 0 0 (omega arith))) },
+  (
+    record { need = refl; fault = refl; fails = λ le. ap (λ (b : ℕ). is_none (kind_of b)) (sym (get_or_append_left bytes more 0 1 (omega arith))) },
+    (
+      record { need = refl; fault = refl; fails = λ le. ap (λ (b : ℕ). not (eqb b 1)) (sym (get_or_append_left bytes more 0 3 (omega arith))) },
+      (
+        record { need = refl; fault = refl; fails = λ le. ap (λ (n : ℕ). eqb n 0) (sym (word_in_front 8 bytes more (omega arith))) },
+        (
+          record { need = refl; fault = refl; fails = λ le. ap (λ (n : ℕ). ltb max_array_len n) (sym (word_in_front 12 bytes more (omega arith))) },
+          (record { need = refl; fault = refl; fails = λ le. ap (λ (n : ℕ). ltb max_message_len n) (sym (whole_in_front bytes more le)) }, tt),
+        ),
+      ),
+    ),
+  ),
+)
 
 checks_rise : (bytes : List ℕ) → AreRising (checks bytes)
-checks_rise bytes =
-    ((omega arith, (omega arith, (omega arith, (omega arith, (omega arith, tt))))),
-     ((omega arith, (omega arith, (omega arith, (omega arith, tt)))),
-      ((omega arith, (omega arith, (omega arith, tt))),
-       ((omega arith, (omega arith, tt)),
-        ((omega arith, tt), (tt, tt))))))
+checks_rise bytes = (
+  (omega arith, (omega arith, (omega arith, (omega arith, (omega arith, tt))))),
+  (
+    (omega arith, (omega arith, (omega arith, (omega arith, tt)))),
+    (
+      (omega arith, (omega arith, (omega arith, tt))),
+      (
+        (omega arith, (omega arith, tt)),
+        ((omega arith, tt), (tt, tt)),
+      ),
+    ),
+  ),
+)
 
 fixed_stays : (bytes more : List ℕ) (fault : MsgError) → framing bytes ≡ Err fault → framing (bytes ++ more) ≡ Err fault
 fixed_stays bytes more fault e = go (first_failing (length bytes) (checks bytes)) refl e

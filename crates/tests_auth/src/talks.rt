@@ -55,7 +55,10 @@ fn eighth_rejection(rt: HostRuntime) -> Result<(), Fail> {
     assert!(rt; zero.taken == 1 && zero.answer.is_empty());
     for _ in 0..7 {
         let fed = auth.feed(b"AUTH X\r\n")?;
-        assert_eq!(rt; fed.answer.as_slice(), b"REJECTED EXTERNAL ANONYMOUS\r\n".as_slice());
+        assert_eq!(rt;
+            fed.answer.as_slice(),
+            b"REJECTED EXTERNAL ANONYMOUS\r\n".as_slice()
+        );
     }
     assert!(rt; auth.feed(b"AUTH X\r\n").is_err());
     assert!(rt; auth.feed(b"AUTH ANONYMOUS\r\n").is_err());
@@ -80,9 +83,11 @@ fn long_lines(rt: HostRuntime) -> Result<(), Fail> {
 fn data_for_external(rt: HostRuntime) -> Result<(), Fail> {
     let mut auth = server();
     let mut answers = Vec::new(rt.alloc());
-    let talk = b"\0AUTH EXTERNAL\r\nDATA 3130\r\nCANCEL\r\nAUTH ANONYMOUS 6\r\nAUTH ANONYMOUS \r\nBEGIN x\r\n";
+    let talk =
+        b"\0AUTH EXTERNAL\r\nDATA 3130\r\nCANCEL\r\nAUTH ANONYMOUS 6\r\nAUTH ANONYMOUS \r\nBEGIN x\r\n";
     assert_eq!(rt; feed_all(&mut auth, talk, &mut answers)?, 0);
-    let wanted = b"DATA\r\nOK 0123456789abcdef0123456789abcdef\r\nREJECTED EXTERNAL ANONYMOUS\r\nREJECTED EXTERNAL ANONYMOUS\r\nOK 0123456789abcdef0123456789abcdef\r\nERROR\r\n";
+    let wanted =
+        b"DATA\r\nOK 0123456789abcdef0123456789abcdef\r\nREJECTED EXTERNAL ANONYMOUS\r\nREJECTED EXTERNAL ANONYMOUS\r\nOK 0123456789abcdef0123456789abcdef\r\nERROR\r\n";
     assert_eq!(rt; answers.as_slice(), wanted.as_slice());
     Ok(())
 }

@@ -4,7 +4,8 @@ use std::alloc::Global;
 use std::test::Fail;
 
 // A signal with path `/a`, interface `a.b` and member `c`, in little-endian order.
-const SIGNAL: &str = "6c04000100000000010000002a00000001016f00020000002f610000000000000201730003000000612e62000000000003017300010000006300000000000000";
+const SIGNAL: &str =
+    "6c04000100000000010000002a00000001016f00020000002f610000000000000201730003000000612e62000000000003017300010000006300000000000000";
 
 fn signal(alloc: Global) -> Result<Vec<u8>, Fail> {
     let bytes = hex::decode(alloc, SIGNAL)?;
