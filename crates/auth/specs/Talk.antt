@@ -1,0 +1,116 @@
+-- A talk: what a server has answered to the bytes of a client, and where it stands (D-Bus Specification, "Authentication Protocol").
+use Rattle.std.specs.Prelude.{ℕ, ◌+◌, ◌==◌, nat_lt, nat_le, List, [], ◌∷◌, ◌++◌, length, if◌then◌else◌}
+use Rattle.auth.specs.declared.stage.Stage.{Stage}
+use Rattle.auth.specs.declared.stage.Stage.TheVariants.{Opening, Start, Begun, Failed}
+use Rattle.auth.specs.declared.stage.Reply.{Reply}
+use Rattle.auth.specs.declared.stage.Reply.TheVariants.{Rejected}
+use Rattle.auth.specs.declared.stage.Row.{Row}
+use Rattle.auth.specs.Lines.{Pieces, pieces_of, through_line}
+use Rattle.auth.specs.Commands.{command_of}
+use Rattle.auth.specs.Stages.{is_over, row_of, reply_bytes}
+
+-- how many bytes a line may have, its CR LF among them
+abbrev pub max_line_len : ℕ
+max_line_len = 1024
+
+-- how many rejections are sent
+abbrev pub max_rejections : ℕ
+max_rejections = 7
+
+-- Where a talk stands: the server's GUID, the stage, how many rejections were sent, and what is there of the next line.
+pub record Standing : Type 0 where
+  pub guid : List ℕ
+  pub stage : Stage
+  pub rejections : ℕ
+  pub line : List ℕ
+
+-- where bytes lead, and the answers to them
+pub record Talked : Type 0 where
+  pub standing : Standing
+  pub answers : List ℕ
+
+-- before the first byte
+abbrev pub opening : List ℕ → Standing
+opening guid = record { guid = guid; stage = Opening; rejections = 0; line = [] }
+
+abbrev pub at_stage : Standing → Stage → Standing
+at_stage s stage = record { guid = s.guid; stage = stage; rejections = s.rejections; line = [] }
+
+abbrev pub silent : Standing → Talked
+silent s = record { standing = s; answers = [] }
+
+abbrev pub refused : Standing → Talked
+refused s = silent (at_stage s Failed)
+
+-- one rejection more, of which the eighth isn't sent
+abbrev pub rejected : Standing → Stage → Talked
+rejected s stage =
+    if nat_lt s.rejections max_rejections
+    then record { standing = record { guid = s.guid; stage = stage; rejections = s.rejections + 1; line = [] }; answers = reply_bytes s.guid Rejected }
+    else refused s
+
+abbrev pub answered : Standing → Row → Talked
+answered s row = by_reply row.reply
+  where
+    by_reply : Reply → Talked
+    by_reply Rejected = rejected s row.stage
+    by_reply reply = record { standing = at_stage s row.stage; answers = reply_bytes s.guid reply }
+
+-- a line is answered by its row, unless it is too long; once the talk is over there are no lines
+abbrev pub hear : Standing → List ℕ → Talked
+hear s line =
+    if is_over s.stage then silent s
+    else if nat_lt max_line_len (length line + 2) then refused s
+    else answered s (row_of s.stage (command_of line))
+
+-- the rest waits for its line end, unless it is a whole line's length already
+abbrev pub wait : Standing → List ℕ → Talked
+wait s rest =
+    if is_over s.stage then silent s
+    else if nat_le max_line_len (length rest) then refused s
+    else silent (record { guid = s.guid; stage = s.stage; rejections = s.rejections; line = rest })
+
+-- what follows some answers
+abbrev pub after : List ℕ → Talked → Talked
+after answers talked = record { standing = talked.standing; answers = answers ++ talked.answers }
+
+-- the lines in turn, and the rest
+abbrev pub by_pieces : Standing → List ℕ → List (List ℕ) → Talked
+by_pieces s rest [] = wait s rest
+by_pieces s line (next ∷ later) = after (hear s line).answers (by_pieces (hear s line).standing next later)
+
+abbrev pub talk_in : Standing → Pieces → Talked
+talk_in s pieces = by_pieces s pieces.first pieces.later
+
+-- what is there of a line, and the bytes after it
+abbrev pub by_lines : Standing → List ℕ → Talked
+by_lines s bytes = talk_in s (pieces_of (s.line ++ bytes))
+
+abbrev pub started : Standing → Standing
+started s = record { guid = s.guid; stage = Start; rejections = s.rejections; line = s.line }
+
+-- the first byte is zero, and after it lines come
+abbrev pub opened : Standing → List ℕ → Talked
+opened s [] = silent s
+opened s (first ∷ bytes) = if first == 0 then by_lines (started s) bytes else refused s
+
+-- where bytes lead from where a talk stands
+abbrev pub talk : Standing → List ℕ → Talked
+talk s bytes = at s.stage
+  where
+    at : Stage → Talked
+    at Opening = opened s bytes
+    at Begun = silent s
+    at Failed = silent s
+    at stage = by_lines s bytes
+
+-- how many bytes are taken at once: those through the next line end, all where none is there, none once messages began
+abbrev pub taken_of : Standing → List ℕ → ℕ
+taken_of s bytes = at s.stage bytes
+  where
+    at : Stage → List ℕ → ℕ
+    at Opening [] = 0
+    at Opening (first ∷ bytes) = through_line s.line bytes + 1
+    at Begun bytes = 0
+    at Failed bytes = 0
+    at stage bytes = through_line s.line bytes

@@ -1,0 +1,11 @@
+//! The server's side of a D-Bus authentication talk. The layers above use that the answers of `Auth::feed` are those of
+//! `talk`, however the client's bytes are cut, and that messages begin exactly after BEGIN.
+#![tactic(auto)]
+
+mod command;
+mod line;
+mod server;
+mod stage;
+
+pub use server::{Auth, AuthError, Fed, in_two_cuts};
+pub use stage::Stage;
