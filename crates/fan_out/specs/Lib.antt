@@ -1,0 +1,4 @@
+pub mod Pieces
+pub mod Answers
+pub mod Marks
+pub mod Marking
