@@ -17,7 +17,7 @@ pub(crate) struct Marks {
 impl Marks {
     /// None.
     pub(crate) fn new() -> Marks
-        ensures { result.places ≡ replicate 256 false }
+        ensures { result.places ≡ replicate MAX_RECIPIENTS false }
     {
         Marks {
             places: [false; MAX_RECIPIENTS],
@@ -25,14 +25,14 @@ impl Marks {
     }
 
     pub(crate) fn has(&self, place: usize) -> bool
-        requires { place < 256 }
+        requires { place < MAX_RECIPIENTS }
         ensures { slice_get self.now.places place ≡ Some result }
     {
         self.places[place]
     }
 
     pub(crate) fn add(&mut self, place: usize)
-        requires { place < 256 }
+        requires { place < MAX_RECIPIENTS }
         ensures { self.new.places ≡ slice_set self.old.places place true }
     {
         self.places[place] = true;
@@ -40,7 +40,7 @@ impl Marks {
 
     /// The numbers of the connections that are marked.
     pub(crate) fn numbers<M>(&self, connections: &[Connection<M>]) -> ArrayVec<u64, MAX_RECIPIENTS>
-        requires { length connections.now ≤ 256 }
+        requires { length connections.now ≤ MAX_RECIPIENTS }
         ensures { result.items ≡ marked_numbers (numbers_of connections.now) self.now.places }
     {
         let mut numbers = ArrayVec::new();

@@ -3,6 +3,7 @@
 ghost use Rattle.std.specs.Prelude.{◌≡◌, ◌+◌, ◌<◌, ℕ};
 ghost use Rattle.std.specs.Option.{ForSome};
 ghost use Rattle.summary.specs.declared.edition.Edition.TheVariants.{One, Two};
+ghost use Rattle.program_table.specs.Answers.{max_entries};
 ghost use Rattle.fan_out.specs.Answers.{IsImage, HasVerdict, IsAnswer};
 
 use crate::tally::Tally;
@@ -21,7 +22,7 @@ fn run_over<'a>(
     tally: &mut Tally,
 ) -> u32
     requires image { ForSome image.old (IsImage edition view.now owned.now) }
-    requires room { tally.old.runs < 16384 }
+    requires room { tally.old.runs < max_entries }
     ensures image { ForSome image.new (IsImage edition view.now owned.now) }
     ensures verdict { HasVerdict edition view.now owned.now program.now result }
     ensures counted { tally.new.runs ≡ tally.old.runs + 1 }
@@ -73,7 +74,7 @@ impl<'v, 'a> Programs<'v, 'a> {
 
     /// The verdict of a program on the image of an edition.
     fn verdict(&mut self, edition: Edition, program: &Verified) -> u32
-        requires { self.old.tally.runs < 16384 }
+        requires { self.old.tally.runs < max_entries }
         ensures view { self.new.view.now ≡ self.old.view.now }
         ensures owned { self.new.owned ≡ self.old.owned }
         ensures verdict { HasVerdict edition self.old.view.now self.old.owned program.now result }
@@ -102,7 +103,7 @@ impl<'v, 'a> Programs<'v, 'a> {
 
     /// Whether a filter's program has a verdict other than 0.
     pub(crate) fn matches(&mut self, filter: &Filter) -> bool
-        requires { self.old.tally.runs < 16384 }
+        requires { self.old.tally.runs < max_entries }
         ensures view { self.new.view.now ≡ self.old.view.now }
         ensures owned { self.new.owned ≡ self.old.owned }
         ensures answer { IsAnswer self.old.view.now self.old.owned filter.now result }

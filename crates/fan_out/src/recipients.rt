@@ -3,6 +3,7 @@
 ghost use Rattle.std.specs.Prelude.{◌≡◌, ℕ, ◌+◌, ◌<◌, ◌≤◌, Option, length};
 ghost use Rattle.message_view.specs.Message.{Message};
 ghost use Rattle.message_view.specs.Valid.{Valid};
+ghost use Rattle.program_table.specs.Answers.{max_entries};
 ghost use Rattle.program_table.specs.IsState.{IsState};
 ghost use Rattle.program_table.specs.Candidates.{candidates};
 ghost use Rattle.fan_out.specs.Marks.{mark_count};
@@ -34,7 +35,7 @@ fn consider<M: Mailbox>(
     marks: &mut Marks,
 )
     requires state { IsState state.now }
-    requires room { programs.old.tally.runs < 16384 }
+    requires room { programs.old.tally.runs < max_entries }
     ensures view { programs.new.view.now ≡ programs.old.view.now }
     ensures owned { programs.new.owned ≡ programs.old.owned }
     ensures considered { Considers state.now piece.part piece.of programs.old.view.now programs.old.owned entry.now marks.old.places marks.new.places programs.old.tally.runs programs.new.tally.runs }
@@ -61,7 +62,7 @@ fn consider_all<M: Mailbox>(
     mut programs: Programs<'_, '_>,
 ) -> Found
     requires state { IsState state.now }
-    requires few { length offered ≤ 16384 }
+    requires few { length offered ≤ max_entries }
     requires none_run { programs.tally.runs ≡ 0 }
     ensures few { result.runs ≤ length offered.entry }
     ensures enough { mark_count result.marks.places ≤ result.runs }

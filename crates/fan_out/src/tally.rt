@@ -1,5 +1,6 @@
 ghost use Rattle.std.specs.Prelude.{◌≡◌, ◌+◌, ◌<◌, ℕ};
 ghost use Rattle.bpf_code.specs.Steps.{Ends};
+ghost use Rattle.program_table.specs.Answers.{max_entries};
 
 use bpf_machine::run;
 use bpf_verify::Verified;
@@ -20,7 +21,7 @@ impl Tally {
 
     /// Runs a program over an image, and gives its verdict.
     pub(crate) fn run(&mut self, program: &Verified, image: &Image<'_>) -> u32
-        requires { self.old.runs < 16384 }
+        requires { self.old.runs < max_entries }
         ensures counted { self.new.runs ≡ self.old.runs + 1 }
         ensures ends { (steps : ℕ) × Ends program.now image.now result steps }
     {
