@@ -5,3 +5,4 @@ mod SlotSets
 mod Deciding
 mod Offering
 mod Finding
+mod Joining

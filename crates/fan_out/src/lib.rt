@@ -3,11 +3,18 @@
 //! in whichever order.
 #![tactic(auto)]
 
+mod error;
+mod gate;
+mod many;
 mod marks;
 mod piece;
 mod programs;
 mod recipients;
 mod selection;
 mod tally;
+mod workers;
 
+pub use error::FanError;
+pub use gate::Gate;
+pub use many::{MAX_WORKERS, select_many};
 pub use selection::{Counted, MAX_RECIPIENTS, select, select_counted, select_piece};

@@ -1,6 +1,7 @@
 ghost use Rattle.std.specs.Prelude.{◌≡◌, ◌<◌, ◌≤◌, ◌⊎◌, ◌↔◌, ℕ, Some, true, false, length, replicate, slice_get, slice_set};
 ghost use Rattle.program_table.specs.Connections.{numbers_of};
 ghost use Rattle.fan_out.specs.Marks.{marked_numbers};
+ghost use Rattle.fan_out.specs.Joining.{AreBoth};
 
 use arrayvec::ArrayVec;
 use program_table::Connection;
@@ -12,6 +13,7 @@ pub const MAX_RECIPIENTS: usize = 256;
 #[derive(Drop)]
 pub(crate) struct Marks {
     pub(crate) places: [bool; MAX_RECIPIENTS],
+    ghost size: { length places ≡ 256 },
 }
 
 impl Marks {
@@ -36,6 +38,17 @@ impl Marks {
         ensures { self.new.places ≡ slice_set self.old.places place true }
     {
         self.places[place] = true;
+    }
+
+    /// Marks what the other marks, too.
+    pub(crate) fn join(&mut self, other: &Marks)
+        ensures { AreBoth self.new.places self.old.places other.now.places }
+    {
+        for place in 0..MAX_RECIPIENTS {
+            if other.has(place) {
+                self.add(place);
+            }
+        }
     }
 
     /// The numbers of the connections that are marked.
