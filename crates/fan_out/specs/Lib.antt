@@ -1,0 +1,6 @@
+pub mod Pieces
+pub mod Answers
+pub mod Marks
+pub mod Marking
+pub mod Joining
+pub mod Errors

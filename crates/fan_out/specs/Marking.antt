@@ -1,0 +1,68 @@
+-- Inner: the search for recipients, entry by entry.
+use Rattle.std.specs.Prelude.{◌≡◌, ◌⊎◌, ◌↔◌, ℕ, ◌+◌, ◌≤◌, Bool, IsTrue, true, false, List, Option, Some, Contains, length, slice_get, slice_set, if◌then◌else◌}
+use Rattle.message_view.specs.Message.{Message}
+use Rattle.message_view.specs.Valid.{Valid}
+use Rattle.entry_table.specs.declared.entry.Entry.{Entry}
+use Rattle.program_table.specs.Connections.{numbers_of, is_connected}
+use Rattle.program_table.specs.State.{State}
+use Rattle.program_table.specs.Recipients.{FilterMatches, IsRecipient}
+use Rattle.fan_out.specs.Pieces.{IsInPiece}
+use Rattle.fan_out.specs.Answers.{IsAnswer}
+use Rattle.fan_out.specs.Marks.{IsMarked, mark_count}
+
+-- nothing was run
+pub record IsPassedOver (before after : List Bool) (runs later : ℕ) : Type 0 where
+  pub kept : after ≡ before
+  pub none_run : later ≡ runs
+
+-- the entry's program was run, and its connection is marked where it matches
+pub record IsAsked (numbers : List ℕ) (part of : ℕ) (bytes words : List ℕ) (e : Entry) (before after : List Bool) (runs later : ℕ) : Type 0 where
+  pub inside : IsInPiece part of e.connection
+  pub place : ℕ
+  pub stands : slice_get numbers place ≡ Some e.connection
+  pub unmarked : slice_get before place ≡ Some false
+  pub answer : Bool
+  pub answered : IsAnswer bytes words e.filter answer
+  pub marked : after ≡ (if answer then slice_set before place true else before)
+  pub one_run : later ≡ runs + 1
+
+module _ {M : Type 0} where
+  -- an entry of another piece, of no connection, or of a connection that is marked already is passed over
+  abbrev pub Considers : State M → ℕ → ℕ → List ℕ → List ℕ → Entry → List Bool → List Bool → ℕ → ℕ → Type 0
+  Considers s part of bytes words e before after runs later =
+      (IsPassedOver before after runs later
+      × ((IsInPiece part of e.connection → ⊥)
+      ⊎ ((is_connected e.connection s.connections ≡ false)
+      ⊎ IsMarked (numbers_of s.connections) before e.connection)))
+      ⊎ IsAsked (numbers_of s.connections) part of bytes words e before after runs later
+
+  -- one of the entries is of this connection, and matches
+  abbrev pub MatchesAmong : State M → Option ℕ → Message → List Entry → ℕ → Type 0
+  MatchesAmong s sender m entries n =
+      (e : Entry) × Contains entries e × (e.connection ≡ n) × FilterMatches s.registrations sender m e.filter
+
+  -- each entry is of a connection, and its program tells whether it matches
+  pub record AreDecided (s : State M) (sender : Option ℕ) (m : Message) (bytes words : List ℕ) (entries : List Entry) : Type 0 where
+    pub connected : (e : Entry) → Contains entries e → is_connected e.connection s.connections ≡ true
+    pub decided : (e : Entry) → Contains entries e → (answer : Bool) → IsAnswer bytes words e.filter answer → (IsTrue answer ↔ FilterMatches s.registrations sender m e.filter)
+
+  -- exactly the connections of the piece with an entry that matches are marked
+  pub record AreMarked (s : State M) (sender : Option ℕ) (m : Message) (part of : ℕ) (entries : List Entry) (marks : List Bool) : Type 0 where
+    pub exact : (n : ℕ) → IsMarked (numbers_of s.connections) marks n ↔ (MatchesAmong s sender m entries n × IsInPiece part of n)
+
+  -- the marks of the entries so far, of all that a message is offered to
+  pub record AreMarkedSoFar (s : State M) (part of : ℕ) (bytes words : List ℕ) (all left : List Entry) (marks : List Bool) (runs : ℕ) : Type 0 where
+    pub rest : (e : Entry) → Contains left e → Contains all e
+    pub few : runs + length left ≤ length all
+    pub enough : mark_count marks ≤ runs
+    pub exact :
+        (sender : Option ℕ) (m : Message)
+        → Valid bytes m
+        → AreDecided s sender m bytes words all
+        → (n : ℕ)
+        → (IsMarked (numbers_of s.connections) marks n ⊎ (MatchesAmong s sender m left n × IsInPiece part of n))
+        ↔ (MatchesAmong s sender m all n × IsInPiece part of n)
+
+  -- exactly the recipients of the piece are marked
+  pub record AreMarkedRecipients (s : State M) (sender : Option ℕ) (m : Message) (part of : ℕ) (marks : List Bool) : Type 0 where
+    pub exact : (n : ℕ) → IsMarked (numbers_of s.connections) marks n ↔ (IsRecipient s sender m n × IsInPiece part of n)

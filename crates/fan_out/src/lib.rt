@@ -1,0 +1,20 @@
+//! Who gets a broadcast: the connections with an entry that matches it. The layers above use that the answers of
+//! `select` and `select_piece` are exactly the recipients of the state, by rising number, whatever entries were asked and
+//! in whichever order.
+#![tactic(auto)]
+
+mod error;
+mod gate;
+mod many;
+mod marks;
+mod piece;
+mod programs;
+mod recipients;
+mod selection;
+mod tally;
+mod workers;
+
+pub use error::FanError;
+pub use gate::Gate;
+pub use many::{MAX_WORKERS, select_many};
+pub use selection::{Counted, MAX_RECIPIENTS, select, select_counted, select_piece};

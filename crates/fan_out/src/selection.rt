@@ -1,0 +1,65 @@
+ghost use Rattle.std.specs.Prelude.{◌≡◌, ◌<◌, ◌≤◌, length};
+ghost use Rattle.message_view.specs.Message.{Message};
+ghost use Rattle.message_view.specs.Valid.{Valid};
+ghost use Rattle.program_table.specs.Recipients.{AreRecipients};
+ghost use Rattle.program_table.specs.Candidates.{candidates};
+ghost use Rattle.fan_out.specs.Pieces.{ArePieceRecipients};
+
+pub use crate::marks::MAX_RECIPIENTS;
+use crate::piece::Piece;
+use crate::recipients::find_recipients;
+use arrayvec::ArrayVec;
+use message_view::View;
+use program_table::{BusState, Mailbox};
+
+/// The recipients of a broadcast, by rising number. Without a sender it is the bus's own. No memory is taken.
+pub fn select<'a, M: Mailbox>(
+    state: &'a BusState<M>,
+    sender: Option<u64>,
+    view: &View<'a>,
+) -> ArrayVec<u64, MAX_RECIPIENTS>
+    ensures { (m : Message) → Valid view.now m → AreRecipients state.now sender m result.items }
+{
+    select_counted(state, sender, view).recipients
+}
+
+/// Recipients, and how many programs were run to find them.
+#[derive(Drop)]
+pub struct Counted {
+    pub recipients: ArrayVec<u64, MAX_RECIPIENTS>,
+    pub runs: u32,
+}
+
+/// As `select`, with the count of the programs that were run.
+pub fn select_counted<'a, M: Mailbox>(
+    state: &'a BusState<M>,
+    sender: Option<u64>,
+    view: &View<'a>,
+) -> Counted
+    ensures recipients { (m : Message) → Valid view.now m → AreRecipients state.now sender m result.recipients.items }
+    // Each recipient took a run, and only entries that the message may match by their member and interface were run.
+    ensures least { length result.recipients.items ≤ result.runs }
+    ensures most { (m : Message) → Valid view.now m → result.runs ≤ length (candidates state.now m) }
+{
+    let found = find_recipients(state, sender, view, Piece { part: 1, of: 1 });
+    Counted {
+        recipients: found.marks.numbers(state.connections()),
+        runs: found.runs,
+    }
+}
+
+/// The recipients among the connections whose number leaves `part` - 1 when divided by `of`.
+pub fn select_piece<'a, M: Mailbox>(
+    state: &'a BusState<M>,
+    sender: Option<u64>,
+    view: &View<'a>,
+    part: u32,
+    of: u32,
+) -> ArrayVec<u64, MAX_RECIPIENTS>
+    requires from { 0 < part }
+    requires within { part ≤ of }
+    ensures { (m : Message) → Valid view.now m → ArePieceRecipients state.now sender m part of result.items }
+{
+    let found = find_recipients(state, sender, view, Piece { part, of });
+    found.marks.numbers(state.connections())
+}

@@ -1,0 +1,31 @@
+ghost use Rattle.std.specs.Prelude.{◌≡◌, ◌+◌, ◌<◌, ℕ};
+ghost use Rattle.bpf_code.specs.Steps.{Ends};
+ghost use Rattle.program_table.specs.Answers.{max_entries};
+
+use bpf_machine::run;
+use bpf_verify::Verified;
+use summary::Image;
+
+/// Runs programs, and counts how many.
+#[derive(Drop)]
+pub(crate) struct Tally {
+    pub(crate) runs: u32,
+}
+
+impl Tally {
+    pub(crate) fn new() -> Tally
+        ensures { result.runs ≡ 0 }
+    {
+        Tally { runs: 0 }
+    }
+
+    /// Runs a program over an image, and gives its verdict.
+    pub(crate) fn run(&mut self, program: &Verified, image: &Image<'_>) -> u32
+        requires { self.old.runs < max_entries }
+        ensures counted { self.new.runs ≡ self.old.runs + 1 }
+        ensures ends { (steps : ℕ) × Ends program.now image.now result steps }
+    {
+        self.runs += 1;
+        run(program, image).verdict
+    }
+}
