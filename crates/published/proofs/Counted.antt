@@ -28,9 +28,6 @@ swapped m n = grind (arith, nat_tests)
 not_below : (m n : ℕ) → m < n → (n == m) ≡ false
 not_below m n h = grind (arith, nat_tests)
 
-not_above : (m n : ℕ) → n ≤ m → (n == (m + 1)) ≡ false
-not_above m n h = grind (arith, nat_tests)
-
 same : (m n : ℕ) → (m == n) ≡ true → m ≡ n
 same m n e = grind (arith, nat_tests)
 

@@ -1,4 +1,4 @@
-// The writer of the published state, as it lies under the bus's lock.
+// The writer of the published state.
 
 ghost use Rattle.std.specs.Prelude.{◌≡◌, ◌<◌, ◌^◌, ◌++◌, ◌∷◌, [], List, true, false, fold, drop, length, if◌then◌else◌, MatchResult, MatchOption, IfOk, IfErr, IfSome, Err};
 ghost use mathlib.Core.List.{IsPrefix};
@@ -54,7 +54,7 @@ type ShownWriter<J, M> = Writer<
 >;
 
 /// The writer, with the history that it has published and whether the bus has ended.
-pub struct Control<J: Naming, M: Mailbox, R: Wait + Drop>
+pub struct Publisher<J: Naming, M: Mailbox, R: Wait + Drop>
 where
     Published: Protocol<Shown<J, M>, LinkedList<Command<M>>>,
     Shown<J, M>: Absorb<Entry<J, M>, State = LinkedList<Command<M>>>,
@@ -67,7 +67,7 @@ where
     has_ended: bool,
 }
 
-impl<J: Naming, M: Mailbox, R: Wait + Drop> Model for Control<J, M, R>
+impl<J: Naming, M: Mailbox, R: Wait + Drop> Model for Publisher<J, M, R>
 where
     Published: Protocol<Shown<J, M>, LinkedList<Command<M>>>,
     Shown<J, M>: Absorb<Entry<J, M>, State = LinkedList<Command<M>>>,
@@ -137,17 +137,17 @@ fn write_blank<J: Naming, M: Mailbox, R: Wait>(
     }
 }
 
-impl<J: Naming, M: Mailbox, R: Wait + Drop> Control<J, M, R> {
+impl<J: Naming, M: Mailbox, R: Wait + Drop> Publisher<J, M, R> {
     /// An opened history and the opening state, with room for this many readers.
     pub fn new(
         rt: R,
         alloc: Global,
         opened: Opened<M>,
         readers: usize,
-    ) -> Result<Control<J, M, R>, AllocError>
+    ) -> Result<Publisher<J, M, R>, AllocError>
         requires name { opened ≡ J.book }
         requires readers { (0 < readers) × (readers < 2 ^ 32) }
-        ensures { IfOk result (λ control. control ≡ nothing_published) }
+        ensures { IfOk result (λ publisher. publisher ≡ nothing_published) }
     {
         let (book, front) = opened.named::<J>();
         let first = Shown::new(alloc, front.again())?;
@@ -155,7 +155,7 @@ impl<J: Naming, M: Mailbox, R: Wait + Drop> Control<J, M, R> {
         // The log never has more than two entries, and after these two it has room for them.
         let writer = write_blank(Writer::new(alloc, first, second, readers)?, &rt)?;
         let writer = write_blank(writer, &rt)?;
-        Ok(Control {
+        Ok(Publisher {
             writer,
             rt,
             book,
@@ -268,7 +268,7 @@ impl<J: Naming, M: Mailbox, R: Wait + Drop> Control<J, M, R> {
     }
 }
 
-impl<J: Naming, M: Mailbox, R: Wait + Drop> Drop for Control<J, M, R>
+impl<J: Naming, M: Mailbox, R: Wait + Drop> Drop for Publisher<J, M, R>
 where
     Published: Protocol<Shown<J, M>, LinkedList<Command<M>>>,
     Shown<J, M>: Absorb<Entry<J, M>, State = LinkedList<Command<M>>>,

@@ -2,7 +2,7 @@ use Rattle.std.proofs.Common.{ap, ◌∙◌}
 use Rattle.program_table.specs.Connections.{commands_of}
 use Rattle.program_table.specs.State.{State}
 use Rattle.published.proofs.Counted.{commands-owned}
-use Rattle.published.proofs.control.Control.commands_of.Goals as goal
+use Rattle.published.proofs.publisher.Publisher.commands_of.Goals as goal
 
 pub returns : goal.returns
 returns g c =

@@ -3,7 +3,7 @@ use Rattle.std.specs.Prelude.{MatchResult}
 use mathlib.Core.List.{IsPrefix}
 use Rattle.left_right.specs.Sides.{view}
 use Rattle.program_table.specs.declared.command.Command.{Command}
-use Rattle.published.proofs.control.write.Goals as goal
+use Rattle.published.proofs.publisher.write.Goals as goal
 
 matched : {X E : Type 0} (r : Result X E) (P P' : X → Type 0) (Q Q' : E → Type 0) → ((x : X) → P x → P' x) → ((e : E) → Q e → Q' e) → MatchResult r P Q → MatchResult r P' Q'
 matched (Ok x) P P' Q Q' f g m = f x m

@@ -5,7 +5,7 @@ use Rattle.program_table.specs.State.{State}
 use Rattle.program_table.specs.Does.{is_accepted, reply_to}
 use Rattle.program_table.specs.History.{after}
 use Rattle.published.proofs.Refused.{accepted, refused}
-use Rattle.published.proofs.control.Control.publish.Goals as goal
+use Rattle.published.proofs.publisher.Publisher.publish.Goals as goal
 
 pub returns-in-Refused-clause-history : goal.returns-in-Refused-clause-history
 returns-in-Refused-clause-history g c =

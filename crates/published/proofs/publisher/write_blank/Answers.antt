@@ -2,7 +2,7 @@ use Rattle.std.proofs.Common.{List, sym, ◌∙◌, subst}
 use mathlib.Core.List.{IsPrefix}
 use Rattle.program_table.specs.declared.command.Command.{Command}
 use Rattle.published.proofs.Fronts.{prefix_self}
-use Rattle.published.proofs.control.write_blank.Goals as goal
+use Rattle.published.proofs.publisher.write_blank.Goals as goal
 
 pub write-writer-requires-clause-begins : goal.write-writer-requires-clause-begins
 write-writer-requires-clause-begins g c =
