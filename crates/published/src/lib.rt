@@ -9,6 +9,7 @@ mod publisher;
 mod shown;
 mod sight;
 
-pub use history::{Front, Naming, Opened};
+pub use history::{Front, Law, Naming, Opened};
 pub use publisher::{PublishError, Publisher};
+pub use shown::{Entry, Published, Shown};
 pub use sight::{Sight, Visit};

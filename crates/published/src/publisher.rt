@@ -220,6 +220,13 @@ impl<J: Naming, M: Mailbox, R: Wait + Drop> Publisher<J, M, R> {
         }
     }
 
+    /// The published history.
+    pub fn front(&self) -> Front<J, M>
+        ensures { result ≡ self.now.history }
+    {
+        self.writer.published().front()
+    }
+
     /// The published state.
     pub fn state(&self) -> &BusState<M>
         ensures state { result.now ≡ after self.now.history }
@@ -232,7 +239,7 @@ impl<J: Naming, M: Mailbox, R: Wait + Drop> Publisher<J, M, R> {
     pub fn commands(&self) -> u64
         ensures { result ≡ length self.now.history }
     {
-        self.writer.published().front().len()
+        self.front().len()
     }
 
     /// How many commands of a connection were accepted, its Connect included; 0 where it isn't connected.
@@ -246,7 +253,7 @@ impl<J: Naming, M: Mailbox, R: Wait + Drop> Publisher<J, M, R> {
     pub fn tell(&self, seen: &Front<J, M>) -> Option<Front<J, M>>
         ensures { MatchOption result (length self.now.history < length seen.now) (λ told. (told ≡ self.now.history) × IsPrefix seen.now told) }
     {
-        let told = self.writer.published().front();
+        let told = self.front();
         if seen.len() > told.len() {
             return None;
         }
