@@ -1,0 +1,11 @@
+use Rattle.published.proofs.Views.{admits, forks, merges}
+use Rattle.published.proofs.publisher.Publisher.sight.Goals as goal
+
+pub reader-requires : goal.reader-requires
+reader-requires g c = admits
+
+pub tell-note-requires : goal.tell-note-requires
+tell-note-requires g c = forks _ _
+
+pub learn-requires-clause-rule : goal.learn-requires-clause-rule
+learn-requires-clause-rule g c = merges _ _ _ _

@@ -1,0 +1,3 @@
+pub mod HistoryRule
+pub mod Publishing
+pub mod Publication

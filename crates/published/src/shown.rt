@@ -1,0 +1,188 @@
+// What is published, and the rule over it and over what each reader has seen.
+
+ghost use Rattle.std.specs.Prelude.{◌≡◌, ◌++◌, ◌∷◌, [], true, IfOk, IfSome};
+ghost use Rattle.program_table.specs.Does.{is_accepted};
+ghost use Rattle.program_table.specs.History.{after, IsHistory};
+
+use crate::history::{Book, Front, Naming};
+use atomic_table::{Join, Split};
+use crossbeam_utils::rule::{Outcome, Protocol};
+use left_right::Absorb;
+use program_table::{BusState, Command, Mailbox};
+use std::alloc::{AllocError, Global};
+use std::collections::LinkedList;
+use std::marker::Model;
+
+/// The state with the history that it comes of. Contracts see it as the history.
+#[derive(Drop)]
+pub struct Shown<J: Naming, M: Mailbox> {
+    state: BusState<M>,
+    front: Front<J, M>,
+}
+
+impl<J: Naming, M: Mailbox> Model for Shown<J, M> {
+    ghost use Rattle.std.specs.Prelude.{◌≡◌, List};
+    ghost use Rattle.program_table.specs.declared.command.Command.{Command};
+    ghost use Rattle.program_table.specs.History.{after};
+
+    ghost Value = { List (Command M) };
+
+    ghost view = { λ s. s.front };
+
+    ghost invariant = { λ s. s.state ≡ after s.front };
+}
+
+impl<J: Naming, M: Mailbox> Shown<J, M> {
+    /// The opening state.
+    pub fn new(alloc: Global, front: Front<J, M>) -> Result<Shown<J, M>, AllocError>
+        requires { front ≡ [] }
+        ensures { IfOk result (λ shown. shown ≡ []) }
+    {
+        Ok(Shown {
+            state: BusState::new(alloc)?,
+            front,
+        })
+    }
+
+    /// The history.
+    pub fn front(&self) -> Front<J, M>
+        ensures copy { result ≡ self.now }
+        ensures history { IsHistory result }
+    {
+        self.front.again()
+    }
+
+    // The history as it is.
+    fn hold(&self, front: &Front<J, M>) -> Result<(), AllocError>
+        ensures { IfOk result (λ _. front.now ≡ self.now) }
+    {
+        if self.front.len() != front.len() {
+            return Err(AllocError);
+        }
+        self.front.begins(front);
+        Ok(())
+    }
+
+    /// The state after the history.
+    pub fn state(&self) -> &BusState<M>
+        ensures state { result.now ≡ after self.now }
+        ensures history { IsHistory self.now }
+    {
+        let _ = self.front.len();
+        &self.state
+    }
+}
+
+/// A history that is to be published, with its last command. One without a command changes nothing: it makes room for
+/// others in the writer's log. Contracts see it as the history.
+#[derive(Drop)]
+pub struct Entry<J: Naming, M: Mailbox> {
+    command: Option<Command<M>>,
+    front: Front<J, M>,
+}
+
+impl<J: Naming, M: Mailbox> Model for Entry<J, M> {
+    ghost use Rattle.std.specs.Prelude.{List};
+    ghost use Rattle.program_table.specs.declared.command.Command.{Command};
+    ghost use Rattle.published.specs.Publishing.{EndsWith};
+
+    ghost Value = { List (Command M) };
+
+    ghost view = { λ e. e.front };
+
+    ghost invariant = { λ e. EndsWith e.front e.command };
+}
+
+impl<J: Naming, M: Mailbox> Entry<J, M> {
+    /// The history as it is.
+    pub fn blank(front: Front<J, M>) -> Entry<J, M>
+        ensures { result ≡ front }
+    {
+        Entry {
+            command: None,
+            front,
+        }
+    }
+
+    /// The command becomes part of the history here. None where the history is longer than `front`.
+    pub fn new(
+        mut front: Front<J, M>,
+        book: &Book<J, M>,
+        command: Command<M>,
+    ) -> Option<Entry<J, M>>
+        requires { is_accepted (after front) command ≡ true }
+        ensures { IfSome result (λ entry. entry ≡ front ++ command ∷ []) }
+    {
+        if !front.add(book, &command) {
+            return None;
+        }
+        Some(Entry {
+            command: Some(command),
+            front,
+        })
+    }
+}
+
+impl<J: Naming, M: Mailbox> Absorb<Entry<J, M>> for Shown<J, M> {
+    type State = LinkedList<Command<M>>;
+
+    ghost state = { λ shown. shown };
+
+    ghost applied = { λ history entry. entry };
+
+    // An entry that isn't the next one is refused. None such is published.
+    fn absorb_first(
+        &mut self,
+        entry: &Entry<J, M>,
+        _other: &Shown<J, M>,
+    ) -> Result<(), AllocError> {
+        let Some(command) = &entry.command else {
+            return self.hold(&entry.front);
+        };
+        if self.front.len() == u64::MAX || self.front.len() + 1 != entry.front.len() {
+            return Err(AllocError);
+        }
+        self.front.begins(&entry.front);
+        self.state.apply(command)?;
+        self.front = entry.front.again();
+        Ok(())
+    }
+}
+
+/// The rule: each view begins the published history.
+pub struct Published;
+
+impl<J: Naming, M: Mailbox> Protocol<Shown<J, M>, LinkedList<Command<M>>> for Published {
+    ghost use Rattle.published.specs.Publishing.{Keeps};
+    ghost use Rattle.std.specs.Prelude.{[]};
+
+    ghost holds = { Keeps };
+
+    ghost first = { [] };
+}
+
+/// A step after which the published history is seen.
+pub struct Sees;
+
+impl<J: Naming, M: Mailbox> Outcome<Shown<J, M>, LinkedList<Command<M>>> for Sees {
+    ghost use Rattle.published.specs.Publishing.{Shows};
+
+    ghost then = { Shows };
+}
+
+/// How the writer tells all that it has published, and a reader takes it over.
+pub struct Notes;
+
+impl<M: Mailbox> Split<LinkedList<Command<M>>> for Notes {
+    ghost left = { λ history. history };
+
+    ghost right = { λ history. history };
+}
+
+impl<M: Mailbox> Join<LinkedList<Command<M>>> for Notes {
+    ghost use Rattle.std.specs.Prelude.{[]};
+
+    ghost both = { λ seen told. told };
+
+    ghost spent = { [] };
+}

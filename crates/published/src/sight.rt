@@ -1,0 +1,172 @@
+// What reads the published state, with the history that it has seen.
+
+ghost use Rattle.std.specs.Prelude.{◌≡◌, ◌⊎◌, false, MatchResult};
+ghost use mathlib.Core.List.{IsPrefix};
+ghost use Rattle.left_right.specs.Sides.{view};
+ghost use Rattle.program_table.specs.History.{after, IsHistory};
+
+use crate::history::{Front, Naming};
+use crate::shown::{Published, Sees, Shown};
+use crossbeam_utils::rule::Protocol;
+use left_right::reader::{Reader, Reading};
+use program_table::{BusState, Command, Mailbox};
+use std::alloc::Global;
+use std::collections::LinkedList;
+use std::marker::Model;
+
+pub(crate) type ShownReader<J, M> = Reader<Shown<J, M>, LinkedList<Command<M>>, Published, Global>;
+
+type ShownReading<J, M> = Reading<Shown<J, M>, LinkedList<Command<M>>, Published, Global>;
+
+/// A reader of the published state, with what was seen through it. Contracts see it as the history that was seen.
+#[derive(Drop)]
+pub struct Sight<J: Naming, M: Mailbox>
+where
+    Published: Protocol<Shown<J, M>, LinkedList<Command<M>>>,
+{
+    reader: ShownReader<J, M>,
+    front: Front<J, M>,
+    // More was told than the reader has entered.
+    is_ahead: bool,
+}
+
+impl<J: Naming, M: Mailbox> Model for Sight<J, M>
+where
+    Published: Protocol<Shown<J, M>, LinkedList<Command<M>>>,
+{
+    ghost use Rattle.std.specs.Prelude.{◌≡◌, false, List};
+    ghost use Rattle.left_right.specs.Sides.{view as entered};
+    ghost use Rattle.program_table.specs.declared.command.Command.{Command};
+
+    ghost Value = { List (Command M) };
+
+    ghost view = { λ s. s.front };
+
+    ghost invariant = { λ s. s.is_ahead ≡ false → entered s.reader.place ≡ s.front };
+}
+
+impl<J: Naming, M: Mailbox> Sight<J, M> {
+    /// A reader that was told this history.
+    pub(crate) fn new(reader: ShownReader<J, M>, front: Front<J, M>) -> Sight<J, M>
+        requires { view reader.place ≡ front }
+        ensures { result ≡ front }
+    {
+        Sight {
+            reader,
+            front,
+            is_ahead: false,
+        }
+    }
+
+    /// What was seen.
+    pub fn seen(&self) -> &Front<J, M>
+        ensures { result.now ≡ self.now }
+    {
+        &self.front
+    }
+
+    /// Has then seen this history, which begins with what was seen.
+    pub fn take_over(&mut self, told: Front<J, M>)
+        requires { IsPrefix self.old told }
+        ensures { self.new ≡ told }
+    {
+        self.front = told;
+        self.is_ahead = true;
+    }
+
+    /// Takes over a told history: the longer of the two is then seen, and one of them begins the other.
+    pub fn learn(&mut self, told: &Front<J, M>)
+        ensures one { (self.new ≡ self.old) ⊎ (self.new ≡ told.now) }
+        ensures this { IsPrefix self.old self.new }
+        ensures that { IsPrefix told.now self.new }
+    {
+        if self.front.len() < told.len() {
+            self.front.begins(told);
+            self.front = told.again();
+            self.is_ahead = true;
+        } else {
+            told.begins(&self.front);
+        }
+    }
+
+    /// Enters the published state: the history that it comes of begins with what was seen, and is seen then. The reader
+    /// comes back, with what it had seen, where the bus is gone.
+    pub fn enter(self) -> Result<Visit<J, M>, Sight<J, M>>
+        ensures { MatchResult result (λ visit. IsPrefix self visit) (λ sight. sight ≡ self) }
+    {
+        let Self {
+            reader,
+            front: seen,
+            is_ahead,
+        } = self;
+        match reader.enter_as::<Sees>() {
+            Ok(reading) => {
+                let front = reading.get().front();
+                if is_ahead {
+                    // No history that was told is longer than the one that is published.
+                    if seen.len() > front.len() {
+                        return Err(Sight {
+                            reader: reading.leave(),
+                            front: seen,
+                            is_ahead,
+                        });
+                    }
+                    seen.begins(&front);
+                }
+                Ok(Visit { reading, front })
+            }
+            Err(reader) => Err(Sight {
+                reader,
+                front: seen,
+                is_ahead,
+            }),
+        }
+    }
+}
+
+/// A reader in the published state. Contracts see it as the history that the state comes of. The writer waits until it
+/// has left.
+pub struct Visit<J: Naming, M: Mailbox>
+where
+    Published: Protocol<Shown<J, M>, LinkedList<Command<M>>>,
+{
+    reading: ShownReading<J, M>,
+    front: Front<J, M>,
+}
+
+impl<J: Naming, M: Mailbox> Model for Visit<J, M>
+where
+    Published: Protocol<Shown<J, M>, LinkedList<Command<M>>>,
+{
+    ghost use Rattle.std.specs.Prelude.{◌≡◌, List};
+    ghost use Rattle.left_right.specs.Sides.{view as entered};
+    ghost use Rattle.program_table.specs.declared.command.Command.{Command};
+
+    ghost Value = { List (Command M) };
+
+    ghost view = { λ v. v.front };
+
+    ghost invariant = { λ v. (v.reading.part.value ≡ v.front) × (entered v.reading.place ≡ v.front) };
+}
+
+impl<J: Naming, M: Mailbox> Visit<J, M> {
+    /// The state.
+    pub fn state(&self) -> &BusState<M>
+        ensures state { result.now ≡ after self.now }
+        ensures history { IsHistory self.now }
+    {
+        self.reading.get().state()
+    }
+
+    /// Leaves the state, of which the reader has then seen the history.
+    pub fn leave(self) -> Sight<J, M>
+        ensures { result ≡ self }
+    {
+        let Self { reading, front } = self;
+        Sight {
+            reader: reading.leave(),
+            front,
+            is_ahead: false,
+        }
+    }
+}

@@ -1,0 +1,66 @@
+ghost use Rattle.std.specs.Prelude.{◌≡◌};
+
+use owners::WellKnown;
+use program_table::{Command, Refusal, Reply};
+use published::{Naming, Opened, Publisher};
+use std::alloc::Global;
+use std::marker::Brand;
+use std::process::Abort;
+use std::sync::{Mutex, Wait};
+use std::test::Fail;
+
+#[test]
+fn one_history(rt: HostRuntime) -> Result<(), Fail> {
+    told_and_entered::<Brand, _>(&rt, rt.alloc(), Opened::<()>::new())
+}
+
+fn told_and_entered<J: Naming, R: Wait + Abort>(
+    rt: &R,
+    alloc: Global,
+    opened: Opened<()>,
+) -> Result<(), Fail>
+    requires { opened ≡ J.book }
+{
+    let bus = Mutex::new(Publisher::<J, (), &R>::new(rt, alloc, opened, 2)?);
+    let mut publisher = bus.lock(rt);
+    let Some(mut first) = publisher.sight() else {
+        return Err(Fail::from("the first reader was wanted"));
+    };
+    let Some(mut second) = publisher.sight() else {
+        return Err(Fail::from("the second reader was wanted"));
+    };
+    assert!(rt; publisher.sight().is_none());
+    assert!(rt; first.seen().is_empty());
+    // A command that is refused isn't published.
+    assert_eq!(rt;
+        publisher.publish(Command::Close(1))?,
+        Reply::Refused(Refusal::Closed)
+    );
+    assert_eq!(rt; publisher.commands(), 0);
+    assert_eq!(rt;
+        publisher.publish(Command::Connect(()))?,
+        Reply::Connected(1)
+    );
+    let name = WellKnown::read("com.example.A")?;
+    let _ = publisher.publish(Command::Request(1, name, 0))?;
+    assert_eq!(rt; publisher.commands(), 2);
+    assert_eq!(rt; publisher.commands_of(1), 2);
+    assert_eq!(rt; publisher.commands_of(2), 0);
+    assert_eq!(rt; publisher.state().owner_of("com.example.A"), Some(1));
+    // One reader enters, another one is told.
+    let Ok(visit) = first.enter() else {
+        return Err(Fail::from("the published state was wanted"));
+    };
+    let owner = visit.state().owner_of("com.example.A");
+    first = visit.leave();
+    assert_eq!(rt; owner, Some(1));
+    assert_eq!(rt; first.seen().len(), 2);
+    let Some(told) = publisher.tell(second.seen()) else {
+        return Err(Fail::from("the history was wanted"));
+    };
+    second.learn(&told);
+    assert_eq!(rt; second.seen().len(), 2);
+    first.learn(&told);
+    assert_eq!(rt; first.seen().len(), 2);
+    Ok(())
+}
