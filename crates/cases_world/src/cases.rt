@@ -3,7 +3,7 @@
 use crate::case_lines::CaseLine;
 use crate::player::Player;
 use crate::problem::Problem;
-use std::alloc::Global;
+use std::alloc::{AllocError, Global};
 use std::fs;
 use std::process::ExitCode;
 use std::rt::Runtime;
@@ -39,12 +39,20 @@ struct Case<'a> {
     misses: bool,
 }
 
+/// A file of cases that is played: the case under way, and those before it.
+#[derive(Drop)]
+struct Playing<'a> {
+    file: &'static str,
+    case: Option<Case<'a>>,
+    tally: Tally,
+}
+
 /// Plays the files of cases, prints the events whose answer isn't the wanted one, and last how many cases there were.
 pub(crate) fn judge_files<R: Runtime<A = Global>>(rt: &R) -> Result<ExitCode, Problem> {
     let mut tally = Tally::default();
     for file in FILES {
         let bytes = fs::read(rt, file)?;
-        judge(rt, file, bytes.as_slice(), &mut tally)?;
+        tally = judge(rt, file, bytes.as_slice(), tally)?;
     }
     let cases = tally.cases;
     let wrong = tally.wrong;
@@ -52,42 +60,77 @@ pub(crate) fn judge_files<R: Runtime<A = Global>>(rt: &R) -> Result<ExitCode, Pr
     Ok(ExitCode::from(u8::from(wrong != 0)))
 }
 
-/// Plays the cases of a file.
+/// Plays the cases of a file after others.
 fn judge<R: Runtime<A = Global>>(
     rt: &R,
     file: &'static str,
     bytes: &[u8],
-    tally: &mut Tally,
-) -> Result<(), Problem> {
-    let lines: Vec<&[u8]> = bytes.split(|byte| *byte == b'\n').collect(rt.alloc())?;
-    let mut case: Option<Case<'_>> = None;
+    tally: Tally,
+) -> Result<Tally, Problem> {
+    let lines = lines_of(rt.alloc(), bytes)?;
+    let mut playing = Playing {
+        file,
+        case: None,
+        tally,
+    };
     for (index, line) in lines.iter().enumerate() {
-        let number = index + 1;
-        match read_line(rt.alloc(), file, number, line)? {
-            CaseLine::PassedOver => {}
-            CaseLine::Name(name) => {
-                tally.add(case.as_ref());
-                case = Some(Case::new(rt.alloc(), name)?);
-            }
+        playing.play_line(rt, index + 1, line)?;
+    }
+    Ok(playing.end())
+}
+
+fn lines_of(alloc: Global, bytes: &[u8]) -> Result<Vec<&[u8]>, AllocError> {
+    bytes.split(|byte| *byte == b'\n').collect(alloc)
+}
+
+impl<'a> Playing<'a> {
+    /// Plays the line of this number, from 1.
+    fn play_line<R: Runtime<A = Global>>(
+        &mut self,
+        rt: &R,
+        number: usize,
+        line: &'a [u8],
+    ) -> Result<(), Problem> {
+        match read_line(rt.alloc(), self.file, number, line)? {
+            CaseLine::PassedOver => Ok(()),
+            CaseLine::Name(name) => self.begin(rt.alloc(), name),
             CaseLine::Event {
                 words,
                 event,
                 wanted,
-            } => match &mut case {
-                Some(case) => {
-                    if let Some(came) = case.play(&event, wanted)? {
-                        let name = case.name;
-                        println!(rt;
-                            "{file}:{number} {name}: {words}: wanted {wanted}, came {came}"
-                        )?;
-                    }
-                }
-                None => return Err(Problem::CaseLine(file, number)),
-            },
+            } => self.play(rt, number, words, &event, wanted),
         }
     }
-    tally.add(case.as_ref());
-    Ok(())
+
+    fn begin(&mut self, alloc: Global, name: &'a str) -> Result<(), Problem> {
+        self.tally = self.tally.with(self.case.as_ref());
+        self.case = Some(Case::new(alloc, name)?);
+        Ok(())
+    }
+
+    fn play<R: Runtime<A = Global>>(
+        &mut self,
+        rt: &R,
+        number: usize,
+        words: &str,
+        event: &TextEvent<'_>,
+        wanted: &str,
+    ) -> Result<(), Problem> {
+        let file = self.file;
+        let Some(case) = &mut self.case else {
+            return Err(Problem::CaseLine(file, number));
+        };
+        let Some(came) = case.play(event, wanted)? else {
+            return Ok(());
+        };
+        let name = case.name;
+        println!(rt; "{file}:{number} {name}: {words}: wanted {wanted}, came {came}")?;
+        Ok(())
+    }
+
+    fn end(self) -> Tally {
+        self.tally.with(self.case.as_ref())
+    }
 }
 
 fn read_line<'a>(
@@ -124,13 +167,14 @@ impl<'a> Case<'a> {
 }
 
 impl Tally {
-    /// The case that was under way has ended.
-    fn add(&mut self, case: Option<&Case<'_>>) {
-        if let Some(case) = case {
-            self.cases = self.cases.saturating_add(1);
-            if case.misses {
-                self.wrong = self.wrong.saturating_add(1);
-            }
+    /// The same after one more case, if there is one.
+    fn with(self, case: Option<&Case<'_>>) -> Tally {
+        match case {
+            Some(case) => Tally {
+                cases: self.cases.saturating_add(1),
+                wrong: self.wrong.saturating_add(usize::from(case.misses)),
+            },
+            None => self,
         }
     }
 }
