@@ -1,0 +1,57 @@
+// The events of a list, played one after the other.
+
+use crate::answers::text_of;
+use crate::events::{Places, Stop, event_of};
+use std::alloc::{AllocError, Global};
+use world::{Event, World};
+use world_text::{TextAnswer, TextEvent};
+
+/// A world, and where the events of the list stand among its own.
+#[derive(Drop)]
+pub(crate) struct Player {
+    alloc: Global,
+    world: World,
+    places: Places,
+}
+
+impl Player {
+    pub(crate) fn new(alloc: Global) -> Result<Player, AllocError> {
+        Ok(Player {
+            alloc,
+            world: World::new(alloc)?,
+            places: Places::new(alloc),
+        })
+    }
+
+    /// Plays the next event of the list: its answer as text. What stands before the world is answered without it.
+    pub(crate) fn play(&mut self, event: &TextEvent<'_>) -> Result<String, AllocError> {
+        match event_of(self.alloc, &self.world, &self.places, event) {
+            Ok(event) => {
+                self.places.add(Some(self.world.events()))?;
+                self.run(event)
+            }
+            Err(Stop::Answered(answer)) => {
+                self.places.add(None)?;
+                answer.to_string(self.alloc)
+            }
+            Err(Stop::NoMemory) => Err(AllocError),
+        }
+    }
+
+    /// Plays an event of the world.
+    fn run(&mut self, event: Event) -> Result<String, AllocError> {
+        let mut answers = Vec::new(self.alloc);
+        // No list is so long that this many events were played.
+        if self.world.events() == u64::MAX {
+            return Err(AllocError);
+        }
+        if self.world.run(&[event], &mut answers).is_err() {
+            return Err(AllocError);
+        }
+        let answer = match answers.as_slice().first() {
+            Some(answer) => text_of(answer),
+            None => TextAnswer::Begun,
+        };
+        answer.to_string(self.alloc)
+    }
+}

@@ -1,0 +1,5 @@
+mod Elements
+mod Growing
+mod Keeping
+mod Next
+mod Doing

@@ -1,0 +1,71 @@
+// Jobs: broadcasts that began and have not ended.
+
+ghost use Rattle.std.specs.Prelude.{◌≡◌, ◌≤◌, true, false, length, MatchOption};
+ghost use Rattle.world.specs.Jobs.{in_part};
+ghost use Rattle.world.specs.OpenJobs.{opened, is_free_in, with_part};
+
+use arrayvec::ArrayVec;
+use std::marker::Model;
+
+/// How many parts the recipients of a job are divided into.
+const PARTS: usize = 16;
+
+/// The recipients of a broadcast, and which of their parts were asked for.
+#[derive(Drop)]
+pub(crate) struct Job {
+    recipients: ArrayVec<u64, 256>,
+    given: [bool; PARTS],
+}
+
+impl Model for Job {
+    ghost use Rattle.world.specs.OpenJobs.{OpenJob};
+
+    ghost Value = { OpenJob };
+
+    ghost view = { λ job. record { recipients = job.recipients.items; given = job.given } };
+}
+
+impl Job {
+    pub(crate) fn new(recipients: ArrayVec<u64, 256>) -> Job
+        ensures { result ≡ opened recipients.items }
+    {
+        Job {
+            recipients,
+            given: [false; PARTS],
+        }
+    }
+
+    /// The recipients in a part, from 1, which was not asked for before.
+    pub(crate) fn take_part(&mut self, part: u32) -> Option<ArrayVec<u64, 256>>
+        ensures { MatchOption result ((is_free_in self.old part ≡ false) × (self.new ≡ self.old)) (λ numbers. (is_free_in self.old part ≡ true) × (self.new ≡ with_part part self.old) × (numbers.items ≡ in_part part self.old.recipients)) }
+    {
+        let index = (part as usize).checked_sub(1)?;
+        if index >= PARTS || self.given[index] {
+            return None;
+        }
+        self.given[index] = true;
+        Some(in_part(self.recipients.as_slice(), part))
+    }
+
+    /// All recipients.
+    pub(crate) fn into_recipients(self) -> ArrayVec<u64, 256>
+        ensures { result.items ≡ self.recipients }
+    {
+        self.recipients
+    }
+}
+
+/// The numbers that leave `part - 1` when divided by the number of parts.
+fn in_part(numbers: &[u64], part: u32) -> ArrayVec<u64, 256>
+    requires few { length numbers.now ≤ 256 }
+    requires part { 1 ≤ part }
+    ensures { result.items ≡ in_part part numbers.now }
+{
+    let mut found = ArrayVec::new();
+    for number in numbers {
+        if *number % PARTS as u64 == u64::from(part - 1) {
+            found.push(*number);
+        }
+    }
+    found
+}
