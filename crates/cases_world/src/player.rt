@@ -2,9 +2,16 @@
 
 use crate::answers::text_of;
 use crate::events::{Places, Stop, event_of};
+use entry_table::IndexKey;
 use std::alloc::{AllocError, Global};
 use world::{Event, World};
 use world_text::{TextAnswer, TextEvent};
+
+/// The lists are no hostile ones: any key of the index serves.
+const KEY: IndexKey = IndexKey {
+    first: 1,
+    second: 2,
+};
 
 /// A world, and where the events of the list stand among its own.
 #[derive(Drop)]
@@ -18,7 +25,7 @@ impl Player {
     pub(crate) fn new(alloc: Global) -> Result<Player, AllocError> {
         Ok(Player {
             alloc,
-            world: World::new(alloc)?,
+            world: World::new(alloc, KEY)?,
             places: Places::new(alloc),
         })
     }

@@ -14,6 +14,7 @@ use crate::shown::{Entry, Notes, Published, Sees, Shown};
 use crate::sight::Sight;
 use core::mem::replace_with;
 use crossbeam_utils::rule::Protocol;
+use entry_table::IndexKey;
 use left_right::Absorb;
 use left_right::writer::Writer;
 use logbook::Rule;
@@ -138,10 +139,12 @@ fn write_blank<J: Naming, M: Mailbox, R: Wait>(
 }
 
 impl<J: Naming, M: Mailbox, R: Wait + Drop> Publisher<J, M, R> {
-    /// An opened history and the opening state, with room for this many readers.
+    /// An opened history and the opening state, with room for this many readers. The key is that of the state's index of
+    /// entries.
     pub fn new(
         rt: R,
         alloc: Global,
+        key: IndexKey,
         opened: Opened<M>,
         readers: usize,
     ) -> Result<Publisher<J, M, R>, AllocError>
@@ -150,8 +153,8 @@ impl<J: Naming, M: Mailbox, R: Wait + Drop> Publisher<J, M, R> {
         ensures { IfOk result (λ publisher. publisher ≡ nothing_published) }
     {
         let (book, front) = opened.named::<J>();
-        let first = Shown::new(alloc, front.again())?;
-        let second = Shown::new(alloc, front)?;
+        let first = Shown::new(alloc, key, front.again())?;
+        let second = Shown::new(alloc, key, front)?;
         // The log never has more than two entries, and after these two it has room for them.
         let writer = write_blank(Writer::new(alloc, first, second, readers)?, &rt)?;
         let writer = write_blank(writer, &rt)?;

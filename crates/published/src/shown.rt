@@ -7,6 +7,7 @@ ghost use Rattle.program_table.specs.History.{after, IsHistory};
 use crate::history::{Book, Front, Naming};
 use atomic_table::{Join, Split};
 use crossbeam_utils::rule::{Outcome, Protocol};
+use entry_table::IndexKey;
 use left_right::Absorb;
 use program_table::{BusState, Command, Mailbox};
 use std::alloc::{AllocError, Global};
@@ -33,13 +34,13 @@ impl<J: Naming, M: Mailbox> Model for Shown<J, M> {
 }
 
 impl<J: Naming, M: Mailbox> Shown<J, M> {
-    /// The opening state.
-    pub fn new(alloc: Global, front: Front<J, M>) -> Result<Shown<J, M>, AllocError>
+    /// The opening state. The key is that of its index of entries.
+    pub fn new(alloc: Global, key: IndexKey, front: Front<J, M>) -> Result<Shown<J, M>, AllocError>
         requires { front ≡ [] }
         ensures { IfOk result (λ shown. shown ≡ []) }
     {
         Ok(Shown {
-            state: BusState::new(alloc)?,
+            state: BusState::new(alloc, key)?,
             front,
         })
     }

@@ -1,6 +1,6 @@
 // Workers run at once.
 
-use crate::state::S1;
+use crate::state::{KEY, S1};
 use fan_out::{Gate, select_many};
 use message_view::View;
 use program_table::BusState;
@@ -41,7 +41,7 @@ impl Gate for SecondFirst {
 
 #[test]
 fn workers_at_once(rt: HostRuntime) -> Result<(), Fail> {
-    let state: BusState<()> = BusState::new(rt.alloc())?;
+    let state: BusState<()> = BusState::new(rt.alloc(), KEY)?;
     let view = View::read(&S1)?;
     let gate = SecondFirst {
         second_done: AtomicBool::new(false),

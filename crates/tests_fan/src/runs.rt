@@ -1,6 +1,6 @@
 // How many programs are run.
 
-use crate::state::{M7, accepted, compiled};
+use crate::state::{KEY, M7, accepted, compiled};
 use fan_out::select_counted;
 use match_rule::Rule;
 use message_view::View;
@@ -11,7 +11,7 @@ use std::test::Fail;
 /// 250 connections with four rules each, of the members `m0` to `m999` in order, and an empty rule of the first one.
 fn subscribed(rt: &HostRuntime) -> Result<BusState<()>, Fail> {
     let alloc = rt.alloc();
-    let mut state = BusState::new(alloc)?;
+    let mut state = BusState::new(alloc, KEY)?;
     for connection in 1..251u64 {
         accepted(&mut state, Command::Connect(()))?;
         for number in 0..4 {

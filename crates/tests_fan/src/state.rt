@@ -1,11 +1,16 @@
 // Commands of the tests, and the messages that are broadcast.
 
-use entry_table::RuleProgram;
+use entry_table::{IndexKey, RuleProgram};
 use fan_out::Gate;
 use match_rule::Rule;
 use program_table::{BusState, Command, Reply};
 use std::alloc::Global;
 use std::test::Fail;
+
+pub(crate) const KEY: IndexKey = IndexKey {
+    first: 1,
+    second: 2,
+};
 
 /// A signal of the path `/a`, the interface `a.b` and the member `c`.
 pub(crate) const S1: [u8; 64] = [

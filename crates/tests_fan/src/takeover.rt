@@ -1,6 +1,6 @@
 // A name changes its owner: who gets the broadcasts, found by one thread and by workers.
 
-use crate::state::{Open, S1, accepted, compiled};
+use crate::state::{KEY, Open, S1, accepted, compiled};
 use fan_out::{FanError, select, select_many, select_piece};
 use message_view::View;
 use owners::WellKnown;
@@ -27,7 +27,7 @@ fn expect(
 #[test]
 fn takeover_and_close(rt: HostRuntime) -> Result<(), Fail> {
     let alloc = rt.alloc();
-    let mut state = BusState::new(alloc)?;
+    let mut state = BusState::new(alloc, KEY)?;
     for _ in 0..3 {
         accepted(&mut state, Command::Connect(()))?;
     }
@@ -46,7 +46,7 @@ fn takeover_and_close(rt: HostRuntime) -> Result<(), Fail> {
 
 #[test]
 fn numbers_of_workers(rt: HostRuntime) -> Result<(), Fail> {
-    let state: BusState<()> = BusState::new(rt.alloc())?;
+    let state: BusState<()> = BusState::new(rt.alloc(), KEY)?;
     let view = View::read(&S1)?;
     for workers in [0, 17] {
         let found = select_many(&rt, &state, None, &view, workers, &Open);
@@ -61,7 +61,7 @@ fn numbers_of_workers(rt: HostRuntime) -> Result<(), Fail> {
 #[test]
 fn pieces_by_remainders(rt: HostRuntime) -> Result<(), Fail> {
     let alloc = rt.alloc();
-    let mut state = BusState::new(alloc)?;
+    let mut state = BusState::new(alloc, KEY)?;
     for connection in 1..4u64 {
         accepted(&mut state, Command::Connect(()))?;
         accepted(&mut state, Command::AddRule(connection, compiled(alloc, "")?))?;

@@ -1,5 +1,6 @@
 ghost use Rattle.std.specs.Prelude.{◌≡◌};
 
+use entry_table::IndexKey;
 use owners::WellKnown;
 use program_table::{Command, Refusal, Reply};
 use published::{Naming, Opened, Publisher};
@@ -8,6 +9,11 @@ use std::marker::Brand;
 use std::process::Abort;
 use std::sync::{Mutex, Wait};
 use std::test::Fail;
+
+const KEY: IndexKey = IndexKey {
+    first: 1,
+    second: 2,
+};
 
 #[test]
 fn one_history(rt: HostRuntime) -> Result<(), Fail> {
@@ -21,7 +27,7 @@ fn told_and_entered<J: Naming, R: Wait + Abort>(
 ) -> Result<(), Fail>
     requires { opened ≡ J.book }
 {
-    let bus = Mutex::new(Publisher::<J, (), &R>::new(rt, alloc, opened, 2)?);
+    let bus = Mutex::new(Publisher::<J, (), &R>::new(rt, alloc, KEY, opened, 2)?);
     let mut publisher = bus.lock(rt);
     let Some(mut first) = publisher.sight() else {
         return Err(Fail::from("the first reader was wanted"));

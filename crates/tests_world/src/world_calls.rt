@@ -4,7 +4,7 @@ ghost use Rattle.std.specs.Prelude.{IfOk};
 ghost use Rattle.rule_compile.specs.Compiled.{IsSlotOf};
 
 use arrayvec::ArrayVec;
-use entry_table::RuleProgram;
+use entry_table::{IndexKey, RuleProgram};
 use match_rule::Rule;
 use message_view::MsgError;
 use owners::{Change, NameReply, Named, WellKnown};
@@ -13,6 +13,11 @@ use std::alloc::{AllocError, Global};
 use std::process::Abort;
 use std::test::Fail;
 use world::{Answer, Event, World};
+
+const KEY: IndexKey = IndexKey {
+    first: 1,
+    second: 2,
+};
 
 /// A signal with path /a, interface a.b and member c.
 const S1: &[u8; 64] = b"l\x04\0\x01\0\0\0\0\x01\0\0\0\x2a\0\0\0\
@@ -104,7 +109,7 @@ fn core_answers(alloc: Global, name: &WellKnown) -> Result<Vec<Answer>, AllocErr
 #[test]
 fn core_jobs(rt: HostRuntime) -> Result<(), Fail> {
     let name = WellKnown::read("com.example.A")?;
-    let mut world = World::new(rt.alloc())?;
+    let mut world = World::new(rt.alloc(), KEY)?;
     assert_eq!(rt; world.events(), 0);
     let program = sender_rule(rt.alloc(), &world)?;
     let events = core_events(rt.alloc(), program, &name)?;
@@ -118,7 +123,7 @@ fn core_jobs(rt: HostRuntime) -> Result<(), Fail> {
 
 #[test]
 fn questions_change_nothing(rt: HostRuntime) -> Result<(), Fail> {
-    let world = World::new(rt.alloc())?;
+    let world = World::new(rt.alloc(), KEY)?;
     assert_eq!(rt; world.slot_next("com.example.A"), Some(0));
     assert_eq!(rt; world.answer(&Command::Connect(())), Reply::Connected(1));
     assert_eq!(rt;

@@ -3,6 +3,7 @@
 use crate::answer::Answer;
 use crate::event::Event;
 use crate::jobs::Jobs;
+use entry_table::IndexKey;
 use fan_out::select;
 use message_view::View;
 use program_table::{BusState, Command, Reply};
@@ -33,13 +34,13 @@ impl World {
     ghost use Rattle.world.specs.IsWorld.{IsWorld, AreDone};
     ghost use Rattle.world.specs.Steps.{IsNext, BeginStep};
 
-    /// Nothing has happened.
-    pub fn new(alloc: Global) -> Result<World, AllocError>
+    /// Nothing has happened. The key is that of the state's index of entries.
+    pub fn new(alloc: Global, key: IndexKey) -> Result<World, AllocError>
         ensures { IfOk result (λ world. IsWorld [] world) }
     {
         Ok(World {
             events: 0,
-            state: BusState::new(alloc)?,
+            state: BusState::new(alloc, key)?,
             jobs: Jobs::new(alloc),
         })
     }
