@@ -13,6 +13,7 @@ use std::thread::yield_now;
 const TURNS: u32 = 10_000_000;
 
 /// A gate that holds the first piece until the second is done.
+#[derive(Drop)]
 struct SecondFirst {
     second_done: AtomicBool,
     given_up: AtomicBool,

@@ -5,12 +5,12 @@ use fan_out::select_counted;
 use match_rule::Rule;
 use message_view::View;
 use program_table::{BusState, Command};
+use std::alloc::Global;
 use std::process::Abort;
 use std::test::Fail;
 
 /// 250 connections with four rules each, of the members `m0` to `m999` in order, and an empty rule of the first one.
-fn subscribed(rt: &HostRuntime) -> Result<BusState<()>, Fail> {
-    let alloc = rt.alloc();
+fn subscribed(alloc: Global) -> Result<BusState<()>, Fail> {
     let mut state = BusState::new(alloc, KEY)?;
     for connection in 1..251u64 {
         accepted(&mut state, Command::Connect(()))?;
@@ -27,7 +27,7 @@ fn subscribed(rt: &HostRuntime) -> Result<BusState<()>, Fail> {
 
 #[test]
 fn index_runs(rt: HostRuntime) -> Result<(), Fail> {
-    let mut state = subscribed(&rt)?;
+    let mut state = subscribed(rt.alloc())?;
     let view = View::read(&M7)?;
     let counted = select_counted(&state, None, &view);
     assert_eq!(rt; counted.recipients.as_slice(), [1, 2].as_slice());

@@ -6,11 +6,13 @@ use message_view::View;
 use owners::WellKnown;
 use program_table::{BusState, Command};
 use std::process::Abort;
+use std::sync::Wait;
 use std::test::Fail;
+use std::thread::Threads;
 
 /// Whether a broadcast of the sender goes to these connections.
-fn expect(
-    rt: &HostRuntime,
+fn expect<R: Abort + Threads + Wait>(
+    rt: &R,
     state: &BusState<()>,
     sender: u64,
     wanted: &[u64],
@@ -64,11 +66,23 @@ fn pieces_by_remainders(rt: HostRuntime) -> Result<(), Fail> {
     let mut state = BusState::new(alloc, KEY)?;
     for connection in 1..4u64 {
         accepted(&mut state, Command::Connect(()))?;
-        accepted(&mut state, Command::AddRule(connection, compiled(alloc, "")?))?;
+        accepted(
+            &mut state,
+            Command::AddRule(connection, compiled(alloc, "")?),
+        )?;
     }
     let view = View::read(&S1)?;
-    assert_eq!(rt; select_piece(&state, None, &view, 1, 2).as_slice(), [2].as_slice());
-    assert_eq!(rt; select_piece(&state, None, &view, 2, 2).as_slice(), [1, 3].as_slice());
-    assert_eq!(rt; select_piece(&state, None, &view, 4, 16).as_slice(), [3].as_slice());
+    assert_eq!(rt;
+        select_piece(&state, None, &view, 1, 2).as_slice(),
+        [2].as_slice()
+    );
+    assert_eq!(rt;
+        select_piece(&state, None, &view, 2, 2).as_slice(),
+        [1, 3].as_slice()
+    );
+    assert_eq!(rt;
+        select_piece(&state, None, &view, 4, 16).as_slice(),
+        [3].as_slice()
+    );
     Ok(())
 }
