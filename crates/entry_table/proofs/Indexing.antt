@@ -1,10 +1,10 @@
 -- What an index keeps when an entry is put or taken.
-use Rattle.std.proofs.Common.{◌≡◌, ◌≢◌, ℕ, ◌<◌, ◌≤◌, ◌+◌, ◌-◌, ◌%◌, Bool, true, false, not, ◌||◌, ◌&&◌, List, [], ◌∷◌, length, get_or, refl, sym, ap, ◌∙◌, subst, eqb, ltb, inl, inr, arith, get_or-set_same, get_or-set_other}
-use Rattle.std.proofs.Math.ListN.{set, replicate}
+use Rattle.std.proofs.Common.{◌≡◌, ◌≢◌, ℕ, ◌<◌, ◌+◌, ◌-◌, Bool, true, false, ◌&&◌, List, [], ◌∷◌, length, get_or, refl, sym, ap, ◌∙◌, subst, ltb, inl, inr, arith, get_or-set_same, get_or-set_other}
+use Rattle.std.proofs.Math.ListN.{set}
 use Rattle.std.proofs.Math.Nat.{mod-lt}
 use Rattle.std.proofs.lemmas.List.{length-set, length-replicate, get_or-replicate}
-use Rattle.std.proofs.lemmas.Bool.{cases_eq, lt-ltb, ltb-false}
-use Rattle.std.specs.Prelude.{Some, slice_index}
+use Rattle.std.proofs.lemmas.Bool.{cases_eq, lt-ltb}
+use Rattle.std.specs.Prelude.{Some}
 use Rattle.place_lists.specs.PlaceLists.{PlaceLists, places_in, has_place, without, AreOnce}
 use Rattle.place_lists.proofs.Places.{AreOnce-without}
 use Rattle.entry_table.specs.declared.entry.Entry.{Entry}

@@ -1,11 +1,10 @@
 -- Lists of places by a key of the entries: what a push and a removal do to them, and what a search in one finds.
-use Rattle.std.proofs.Common.{◌≡◌, ◌≢◌, ℕ, ◌<◌, ◌≤◌, ◌+◌, Bool, true, false, not, ◌||◌, ◌&&◌, cond, List, [], ◌∷◌, map, length, get_or, refl, sym, ap, ◌∙◌, subst, eqb, inl, inr, arith, get_or-set_same, get_or-set_other}
-use Rattle.std.proofs.Math.ListN.{set, replicate}
+use Rattle.std.proofs.Common.{◌≡◌, ◌≢◌, ℕ, ◌<◌, ◌≤◌, ◌+◌, true, false, not, List, [], ◌∷◌, length, refl, sym, ap, ◌∙◌, subst, eqb, inl, inr, arith, get_or-set_same, get_or-set_other}
 use Rattle.std.proofs.lemmas.List.{length-set, length-replicate, get_or-replicate}
-use Rattle.std.proofs.lemmas.Bool.{eqb-true, eqb-false, ne_eqb, eq-eqb, or_parts, or_from, or_left, or_right, cases_eq, cases_Bool, false≢true, cond-true, cond-false, not_from_true, not_from_false}
-use Rattle.std.specs.Prelude.{Option, Some, None, filter, find, option_map}
+use Rattle.std.proofs.lemmas.Bool.{eqb-true, ne_eqb, eq-eqb, or_parts, or_from, or_left, or_right, cases_eq, cases_Bool, cond-true, cond-false, not_from_true, not_from_false}
+use Rattle.std.specs.Prelude.{Option, Some, filter, find, option_map}
 use Rattle.place_lists.specs.PlaceLists.{PlaceLists, places_in, has_place, without, AreOnce, IsFree, empty_lists}
-use Rattle.place_lists.proofs.Places.{Out-from_test, without-out, without-cons, without-here}
+use Rattle.place_lists.proofs.Places.{Out-from_test, without-out}
 use Rattle.entry_table.specs.declared.entry.Entry.{Entry}
 use Rattle.entry_table.specs.PlacedEntries.{Placed, places_of, entry_at, but_at, room}
 use Rattle.entry_table.specs.IndexLists.{keyed, IsKeyed, put_in, taken_from}

@@ -4,6 +4,7 @@ use entry_table::{IndexKey, RuleProgram};
 use match_rule::Rule;
 use owners::WellKnown;
 use program_table::{BusState, Command, Refusal, Reply};
+use std::alloc::Global;
 use std::process::Abort;
 use std::test::Fail;
 
@@ -12,16 +13,19 @@ const KEY: IndexKey = IndexKey {
     second: 2,
 };
 
+fn member_program(alloc: Global) -> Result<RuleProgram, Fail> {
+    let rule = Rule::read(alloc, "member='c'")?;
+    if rule.sender_name().is_some() {
+        return Err(Fail::from("a rule without a sender was wanted"));
+    }
+    Ok(RuleProgram::compile(alloc, rule, None)?)
+}
+
 #[test]
 fn answers_before_anyone_connects(rt: HostRuntime) -> Result<(), Fail> {
     let state: BusState<()> = BusState::new(rt.alloc(), KEY)?;
     assert_eq!(rt; state.answer(&Command::Connect(())), Reply::Connected(1));
-    let rule = Rule::read(rt.alloc(), "member='c'")?;
-    let slot = match rule.sender_name() {
-        Some(_) => Some(0),
-        None => None,
-    };
-    let program = RuleProgram::compile(rt.alloc(), rule, slot)?;
+    let program = member_program(rt.alloc())?;
     assert_eq!(rt;
         state.answer(&Command::AddRule(1, program)),
         Reply::Refused(Refusal::Closed)

@@ -1,10 +1,7 @@
 use Rattle.std.proofs.Common.{ap, ◌∙◌, ℕ, List}
-use Rattle.std.specs.Prelude.{replicate}
 use Rattle.place_lists.specs.PlaceLists.{PlaceLists, empty_lists}
-use Rattle.entry_table.specs.declared.index.Index.{Index}
 use Rattle.entry_table.specs.PlacedEntries.{room}
 use Rattle.entry_table.specs.IndexLists.{connection_lists}
-use Rattle.entry_table.specs.TextKeys.{hash_lists}
 use Rattle.entry_table.proofs.index.Index.new.Goals as goal
 
 pub returns : goal.returns

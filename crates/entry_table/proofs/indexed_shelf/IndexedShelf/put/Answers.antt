@@ -1,4 +1,4 @@
-use Rattle.std.proofs.Common.{subst, sym, ap, ◌∙◌, arith, List, ◌∷◌, length}
+use Rattle.std.proofs.Common.{subst, sym, ap, ◌∙◌, arith, List, length}
 use Rattle.entry_table.specs.declared.index.Index.{Index}
 use Rattle.entry_table.specs.declared.index.Standing.{Standing}
 use Rattle.entry_table.specs.PlacedEntries.{Placed}

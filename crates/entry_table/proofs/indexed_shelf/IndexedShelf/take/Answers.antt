@@ -1,4 +1,4 @@
-use Rattle.std.proofs.Common.{subst, sym, ap, ◌∙◌, List}
+use Rattle.std.proofs.Common.{subst, sym, ap, ◌∙◌}
 use Rattle.entry_table.specs.declared.index.Index.{Index}
 use Rattle.entry_table.specs.declared.index.Standing.{Standing}
 use Rattle.entry_table.specs.IndexLists.{IsIndexed, Stands, standing_of, without_place}

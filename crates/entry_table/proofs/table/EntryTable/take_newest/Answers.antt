@@ -1,6 +1,5 @@
-use Rattle.std.proofs.Common.{◌≡◌, ◌+◌, ◌-◌, List, length, subst, sym, ap, ◌∙◌, true, false, arith}
-use Rattle.std.specs.Prelude.{Some, find, filter}
-use Rattle.entry_table.specs.declared.entry.Entry.{Entry}
+use Rattle.std.proofs.Common.{◌≡◌, ◌+◌, ◌-◌, List, length, subst, sym, ap, ◌∙◌, arith}
+use Rattle.std.specs.Prelude.{find, filter}
 use Rattle.entry_table.specs.Entries.{Entries, is_of}
 use Rattle.entry_table.specs.PlacedEntries.{Placed}
 use Rattle.entry_table.specs.Searching.{entries_of, IsTable}
