@@ -1,5 +1,5 @@
 -- Events done one after the other.
-use Rattle.std.proofs.Common.{◌≡◌, ℕ, ◌+◌, List, [], ◌∷◌, ◌++◌, length, Option, option_to_list, append_assoc, append-nil, length-append, refl, sym, ap, subst, ◌∙◌, arith}
+use Rattle.std.proofs.Common.{◌≡◌, ◌+◌, List, [], ◌∷◌, ◌++◌, length, Option, option_to_list, append_assoc, append-nil, length-append, refl, sym, ap, subst, ◌∙◌, arith}
 use Rattle.world.specs.declared.event.Event.{Event}
 use Rattle.world.specs.declared.answer.Answer.{Answer}
 use Rattle.world.specs.Answers.{AreAnswers}

@@ -1,16 +1,15 @@
 -- What is kept of jobs is what the events so far say, from one event to the next.
-use Rattle.std.proofs.Common.{◌≡◌, ◌≢◌, ℕ, ◌+◌, ◌-◌, ◌<◌, ◌≤◌, ◌⊎◌, ⊎_elim, Bool, true, false, ◌||◌, ◌&&◌, ◌==◌, not, nat_le, set, List, [], ◌∷◌, ◌++◌, length, replicate, Option, Some, None, slice_get, slice_index_or, get_or, refl, sym, ap, subst, ◌∙◌, arith, le-leb, leb-true, eq-eqb, ne_eqb, true≢false, le_of_eq}
+use Rattle.std.proofs.Common.{◌≡◌, ℕ, ◌+◌, ◌-◌, ◌<◌, ◌≤◌, ⊎_elim, Bool, true, false, ◌||◌, ◌&&◌, not, nat_le, set, List, [], ◌∷◌, ◌++◌, length, replicate, Option, Some, None, slice_get, slice_index_or, refl, sym, ap, subst, ◌∙◌, arith, le-leb, leb-true, eq-eqb, ne_eqb, true≢false, le_of_eq}
 use Rattle.std.specs.List.{list_any}
 use Rattle.std.proofs.lemmas.Bool.{cases_eq, and_parts, and_from, and_right, or_right, not_from_false}
 use Rattle.std.proofs.lemmas.List.{drop_all, take_at, length-replicate, get_or-replicate}
 use Rattle.std.proofs.lemmas.Option.{slice_get-get_or, slice_get_within, get_or_from_slice_get}
 use Rattle.message_view.specs.Message.{Message}
-use Rattle.message_view.specs.Valid.{Valid}
 use Rattle.program_table.specs.Recipients.{AreRecipients}
 use Rattle.world.specs.declared.event.Event.{Event}
-use Rattle.world.specs.declared.event.Event.TheVariants.{Begin, Piece, End}
+use Rattle.world.specs.declared.event.Event.TheVariants.{Piece, End}
 use Rattle.world.specs.Histories.{state_after}
-use Rattle.world.specs.Jobs.{parts, events_before, events_since, Begins, is_end_of, is_piece_of, is_free, IsOpen, IsClosed, AreRecipientsOf}
+use Rattle.world.specs.Jobs.{parts, events_since, Begins, is_end_of, is_piece_of, is_free, IsOpen, IsClosed, AreRecipientsOf}
 use Rattle.world.specs.OpenJobs.{OpenJob, opened, is_free_in, with_part}
 use Rattle.world.specs.IsWorld.{IsKept}
 use Rattle.world.proofs.Elements.{or_false, slice_get_end, slice_get-set_same, slice_get-set_other}

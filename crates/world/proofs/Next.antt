@@ -1,24 +1,21 @@
 -- One event: the world after it, and its answer, are what the definitions say.
-use Rattle.std.proofs.Common.{◌≡◌, ◌≢◌, ℕ, ◌+◌, ◌⊎◌, inl, inr, ⊎_elim, Bool, true, false, cond, IsSomeAnd, List, [], ◌∷◌, ◌++◌, length, Option, Some, None, Err, refl, sym, ap, subst, ◌∙◌, arith, eq-eqb, ne_eqb, ◌==◌}
+use Rattle.std.proofs.Common.{◌≡◌, ◌≢◌, ℕ, ◌+◌, ◌⊎◌, inl, inr, ⊎_elim, false, IsSomeAnd, List, [], ◌∷◌, ◌++◌, length, Option, Some, None, refl, sym, ap, subst, ◌∙◌, eq-eqb, ne_eqb, ◌==◌}
 use Rattle.std.proofs.lemmas.Bool.{cases_eq, and_left, cond-true, cond-false}
 use Rattle.message_view.specs.Message.{Message}
-use Rattle.message_view.specs.Valid.{Valid}
 use Rattle.program_table.specs.State.{State}
 use Rattle.program_table.specs.Recipients.{AreRecipients}
-use Rattle.program_table.specs.declared.command.Command.{Command as BusCommand}
-use Rattle.program_table.specs.declared.command.Reply.{Reply as BusReply}
-use Rattle.program_table.specs.Does.{Does, reply_to, next_of}
+use Rattle.program_table.specs.Does.{reply_to, next_of}
 use Rattle.world.specs.declared.event.Event.{Event}
 use Rattle.world.specs.declared.event.Event.TheVariants.{Command, Begin, Piece, End}
 use Rattle.world.specs.declared.answer.Answer.{Answer}
 use Rattle.world.specs.declared.answer.Answer.TheVariants.{Reply, Fault, Ignored, Recipients}
 use Rattle.world.specs.Histories.{commands_of, state_after}
-use Rattle.world.specs.Jobs.{parts, Begins, is_end_of, is_piece_of, is_free, IsClosed, AreRecipientsOf, AreRecipientsIn}
-use Rattle.world.specs.Answers.{IsAnswered, IsPieceAnswer, IsEndAnswer}
-use Rattle.world.specs.OpenJobs.{OpenJob, opened, job_of, is_free_in, with_part, SetsJob, SameJobs, LacksPart, HasPart}
+use Rattle.world.specs.Jobs.{Begins, is_end_of, is_piece_of, is_free, IsClosed, AreRecipientsOf, AreRecipientsIn}
+use Rattle.world.specs.Answers.{IsAnswered}
+use Rattle.world.specs.OpenJobs.{OpenJob, opened, job_of, with_part, SetsJob, SameJobs, LacksPart, HasPart}
 use Rattle.world.specs.WorldState.{WorldState}
 use Rattle.world.specs.IsWorld.{IsKept, IsWorld}
-use Rattle.world.specs.Steps.{BeginsJob, Step, IsNext}
+use Rattle.world.specs.Steps.{Step, IsNext}
 use Rattle.world.proofs.Growing.{length_end, state_end, state_stays, closed_end}
 use Rattle.world.proofs.Keeping.{kept_end, free_kept, opened_end, ended_end, piece_end, piece_stays}
 
