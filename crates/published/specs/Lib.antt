@@ -1,3 +1,4 @@
 pub mod HistoryRule
 pub mod Publishing
 pub mod Publication
+pub mod ErrorName

@@ -1,11 +1,12 @@
 // The writer of the published state.
 
-ghost use Rattle.std.specs.Prelude.{◌≡◌, ◌<◌, ◌^◌, ◌++◌, ◌∷◌, [], List, true, false, fold, drop, length, if◌then◌else◌, MatchResult, MatchOption, IfOk, IfErr, IfSome, Err};
+ghost use Rattle.std.specs.Prelude.{◌≡◌, ◌↔◌, ◌<◌, ◌^◌, ◌++◌, ◌∷◌, [], List, true, false, fold, drop, length, if◌then◌else◌, MatchResult, MatchOption, IfOk, IfErr, IfSome, Err};
 ghost use mathlib.Core.List.{IsPrefix};
 ghost use Rattle.left_right.specs.Sides.{view};
 ghost use Rattle.program_table.specs.Connections.{is_connected};
 ghost use Rattle.program_table.specs.Does.{is_accepted, reply_to};
 ghost use Rattle.program_table.specs.History.{after, own_commands, IsHistory};
+ghost use Rattle.published.specs.ErrorName.{publish_error_name};
 ghost use Rattle.published.specs.Publication.{Publication, nothing_published, with_next};
 ghost use Rattle.published.specs.Publishing.{Continues};
 
@@ -35,12 +36,26 @@ pub enum PublishError {
     Ended,
 }
 
-impl fmt::Display for PublishError {
-    fn fmt<W: fmt::Write>(&self, f: &mut fmt::Formatter<W>) -> fmt::Result {
-        f.write_str(match self {
+impl PublishError {
+    /// The error's name, which is also what `{}` prints.
+    pub fn name(self) -> &'static str
+        ensures { result.now ≡ publish_error_name self }
+    {
+        match self {
             PublishError::NoMemory => "NoMemory",
             PublishError::Ended => "Ended",
-        })
+        }
+    }
+}
+
+impl fmt::Display for PublishError {
+    ghost use Rattle.std.specs.Prelude.{Some};
+
+    ghost output = { λ error. Some (publish_error_name error) };
+
+    fn fmt<W: fmt::Write>(&self, f: &mut fmt::Formatter<W>) -> fmt::Result {
+        let name = self.name();
+        f.write_str(name)
     }
 }
 
@@ -203,7 +218,7 @@ impl<J: Naming, M: Mailbox, R: Wait + Drop> Publisher<J, M, R> {
         ensures history { MatchResult result (λ _. self.new.history ≡ with_next self.old.history command) (λ _. self.new.history ≡ self.old.history) }
         ensures goes_on { IfOk result (λ _. (self.old.has_ended ≡ false) × (self.new.has_ended ≡ false)) }
         ensures ends { IfErr result (λ _. self.new.has_ended ≡ true) }
-        ensures ended { self.old.has_ended ≡ true → result ≡ Err PublishError.Ended }
+        ensures ended { (result ≡ Err PublishError.Ended) ↔ (self.old.has_ended ≡ true) }
     {
         if self.has_ended {
             return Err(PublishError::Ended);
@@ -213,9 +228,10 @@ impl<J: Naming, M: Mailbox, R: Wait + Drop> Publisher<J, M, R> {
             return Ok(reply);
         }
         let front = self.writer.published().front();
+        // The history isn't longer than what is published, since this call alone adds to it.
         let Some(entry) = Entry::new(front, &self.book, command) else {
             self.has_ended = true;
-            return Err(PublishError::Ended);
+            return Err(PublishError::NoMemory);
         };
         match self.publish_entry(entry) {
             Ok(()) => Ok(reply),
