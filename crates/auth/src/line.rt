@@ -2,7 +2,7 @@
 
 ghost use Rattle.std.specs.Prelude.{◌≡◌, ◌==◌, ◌&&◌, ◌+◌, ◌-◌, ◌<◌, ◌≤◌, ◌++◌, [], ◌∷◌, ℕ, List, length, take, drop};
 ghost use Rattle.auth.specs.Lines.{lf, pieces_of, whole_piece};
-ghost use Rattle.auth.specs.Added.{ends_in_cr, Added};
+ghost use Rattle.auth.specs.LineStates.{ends_in_cr, LineIs};
 
 use arrayvec::ArrayVec;
 
@@ -26,7 +26,7 @@ pub(crate) fn add(line: &mut ArrayVec<u8, MAX_LINE_LEN>, bytes: &[u8]) -> (usize
     requires room { length line.old.items < 1024 }
     ensures taken { result.0 ≤ length bytes.now }
     ensures line { line.new.items ≡ line.old.items ++ take result.0 bytes.now }
-    ensures state { Added result.1 line.new.items result.0 (length bytes.now) }
+    ensures state { LineIs result.1 line.new.items result.0 (length bytes.now) }
 {
     for (i, byte) in bytes.iter().enumerate() {
         let ends = is_line_end(line.as_slice(), *byte);
