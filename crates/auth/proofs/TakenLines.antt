@@ -8,11 +8,11 @@ use Rattle.auth.specs.declared.stage.Stage.{Stage}
 use Rattle.auth.specs.declared.stage.Stage.TheVariants.{Failed}
 use Rattle.auth.specs.declared.stage.Reply.{Reply}
 use Rattle.auth.specs.declared.stage.Reply.TheVariants.{Rejected}
-use Rattle.auth.specs.Lines.{pieces_of, whole_piece, len_through, through_line}
+use Rattle.auth.specs.Lines.{max_line_len, pieces_of, whole_piece, len_through, through_line}
 use Rattle.auth.specs.Commands.{command_of}
-use Rattle.auth.specs.Stages.{is_over, row_of, reply_bytes}
+use Rattle.auth.specs.Stages.{max_rejections, is_over, row_of, reply_bytes}
 use Rattle.auth.specs.LineStates.{ended_piece}
-use Rattle.auth.specs.Talk.{Standing, Outcome, max_rejections, at_stage, no_answer, refusal, row_answer, hear, wait, after, by_pieces, talk_in, by_lines}
+use Rattle.auth.specs.Talk.{Standing, Outcome, at_stage, no_answer, refusal, row_answer, hear, wait, after, by_pieces, talk_in, by_lines}
 use Rattle.auth.proofs.LineEnds.{continued, pieces_of-append, first_len}
 use Rattle.auth.proofs.Talks.{over_stays, with_line, lines_in_cuts}
 
@@ -27,7 +27,7 @@ row_answer_line s Rejected stage = go (nat_lt s.rejections max_rejections)
 row_answer_line s _ stage = refl
 
 hear_line : (s : Standing) (line : List ℕ) → is_over s.stage ≡ false → (hear s line).standing.line ≡ []
-hear_line s line on = rw on (go (nat_lt 1024 (length line + 2)))
+hear_line s line on = rw on (go (nat_lt max_line_len (length line + 2)))
   where
     go : (long : Bool) → (cond long (refusal s) (row_answer s (row_of s.stage (command_of line)))).standing.line ≡ []
     go true = refl
@@ -67,9 +67,9 @@ open_len line bytes longer n t all open_line =
     let whole : line ++ bytes ≡ longer = sym (t.is ∙ ap (λ (k : ℕ). line ++ take k bytes) all ∙ ap (λ (x : List ℕ). line ++ x) (take-length bytes)) in
     all ∙ sym (ap (len_through (length line) (length bytes)) (ap pieces_of whole ∙ open_line))
 
-pub open_talk : (s : Standing) (bytes longer : List ℕ) (n : ℕ) → Takes s.line bytes longer n → is_over s.stage ≡ false → pieces_of longer ≡ whole_piece longer → length longer < 1024 → by_lines s (take n bytes) ≡ no_answer (with_line s longer)
+pub open_talk : (s : Standing) (bytes longer : List ℕ) (n : ℕ) → Takes s.line bytes longer n → is_over s.stage ≡ false → pieces_of longer ≡ whole_piece longer → length longer < max_line_len → by_lines s (take n bytes) ≡ no_answer (with_line s longer)
 open_talk s bytes longer n t on open_line short =
-    let test : nat_le 1024 (length longer) ≡ false = grind (arith, nat_tests) in
+    let test : nat_le max_line_len (length longer) ≡ false = grind (arith, nat_tests) in
     let waits : wait s longer ≡ no_answer (with_line s longer) = rw (on, test) refl in
     ap (λ (x : List ℕ). talk_in s (pieces_of x)) (sym t.is) ∙ ap (talk_in s) open_line ∙ waits
 
@@ -96,9 +96,9 @@ full_len line bytes longer n t open_line =
     go first [] long within = within
     go first (next ∷ later) long within = omega arith
 
-pub full_talk : (s : Standing) (bytes longer : List ℕ) (n : ℕ) → Takes s.line bytes longer n → is_over s.stage ≡ false → pieces_of longer ≡ whole_piece longer → length longer ≡ 1024 → by_lines s (take (through_line s.line bytes) bytes) ≡ refusal s
+pub full_talk : (s : Standing) (bytes longer : List ℕ) (n : ℕ) → Takes s.line bytes longer n → is_over s.stage ≡ false → pieces_of longer ≡ whole_piece longer → length longer ≡ max_line_len → by_lines s (take (through_line s.line bytes) bytes) ≡ refusal s
 full_talk s bytes longer n t on open_line full =
-    let test : nat_le 1024 (length longer) ≡ true = grind (arith, nat_tests) in
+    let test : nat_le max_line_len (length longer) ≡ true = grind (arith, nat_tests) in
     let waits : wait s longer ≡ refusal s = rw (on, test) refl in
     let front : by_lines s (take n bytes) ≡ refusal s = ap (λ (x : List ℕ). talk_in s (pieces_of x)) (sym t.is) ∙ ap (talk_in s) open_line ∙ waits in
     let m : ℕ = through_line s.line bytes - n in
@@ -121,7 +121,7 @@ ended_fed s bytes longer text n answer t on two ends text_is gives =
     ∙ gives
 
 -- what bytes without a line end come to
-pub open_fed : (s : Standing) (bytes longer : List ℕ) (n : ℕ) → Takes s.line bytes longer n → is_over s.stage ≡ false → n ≡ length bytes → pieces_of longer ≡ whole_piece longer → length longer < 1024
+pub open_fed : (s : Standing) (bytes longer : List ℕ) (n : ℕ) → Takes s.line bytes longer n → is_over s.stage ≡ false → n ≡ length bytes → pieces_of longer ≡ whole_piece longer → length longer < max_line_len
     → by_lines s (take (through_line s.line bytes) bytes) ≡ no_answer (with_line s longer)
 open_fed s bytes longer n t on all open_line short =
     ap (λ (k : ℕ). by_lines s (take k bytes)) (sym (open_len s.line bytes longer n t all open_line)) ∙ open_talk s bytes longer n t on open_line short

@@ -8,10 +8,10 @@ use Rattle.auth.specs.declared.stage.Stage.{Stage}
 use Rattle.auth.specs.declared.stage.Stage.TheVariants.{Opening, Start, Data, Ready, Begun, Failed}
 use Rattle.auth.specs.declared.stage.Reply.{Reply}
 use Rattle.auth.specs.declared.stage.Reply.TheVariants.{Nothing, Rejected}
-use Rattle.auth.specs.Lines.{Pieces, pieces_of, whole_piece}
+use Rattle.auth.specs.Lines.{max_line_len, Pieces, pieces_of, whole_piece}
 use Rattle.auth.specs.Commands.{command_of}
-use Rattle.auth.specs.Stages.{is_over, start_row, data_row, ready_row, row_of, reply_bytes}
-use Rattle.auth.specs.Talk.{Standing, Outcome, max_rejections, at_stage, no_answer, refusal, row_answer, hear, wait, after, by_pieces, talk_in, by_lines, start_of, talk}
+use Rattle.auth.specs.Stages.{max_rejections, is_over, start_row, data_row, ready_row, row_of, reply_bytes}
+use Rattle.auth.specs.Talk.{Standing, Outcome, at_stage, no_answer, refusal, row_answer, hear, wait, after, by_pieces, talk_in, by_lines, start_of, talk}
 use Rattle.auth.proofs.LineEnds.{continued, pieces_of-append, LastIsOpen, last_open, first_len, first_whole}
 
 -- ---- a talk that is over
@@ -31,27 +31,27 @@ line_aside s line piece [] on = rw on refl
 line_aside s line piece (next ∷ later) on = rw on refl
 
 -- a line that is too long already, and what comes after it
-long_refused : (s : Standing) (pieces : Pieces) → is_over s.stage ≡ false → 1023 ≤ length pieces.first → (pieces.later ≡ [] → 1024 ≤ length pieces.first) → talk_in s pieces ≡ refusal s
+long_refused : (s : Standing) (pieces : Pieces) → is_over s.stage ≡ false → max_line_len ≤ length pieces.first + 1 → (pieces.later ≡ [] → max_line_len ≤ length pieces.first) → talk_in s pieces ≡ refusal s
 long_refused s pieces on long alone = go pieces.later alone
   where
-    go : (later : List (List ℕ)) → (later ≡ [] → 1024 ≤ length pieces.first) → by_pieces s pieces.first later ≡ refusal s
-    go [] alone = let len : 1024 ≤ length pieces.first = alone refl in let test : nat_le 1024 (length pieces.first) ≡ true = grind (arith, nat_tests) in rw (on, test) refl
+    go : (later : List (List ℕ)) → (later ≡ [] → max_line_len ≤ length pieces.first) → by_pieces s pieces.first later ≡ refusal s
+    go [] alone = let len : max_line_len ≤ length pieces.first = alone refl in let test : nat_le max_line_len (length pieces.first) ≡ true = grind (arith, nat_tests) in rw (on, test) refl
     go (next ∷ later) alone =
-        let test : nat_lt 1024 (length pieces.first + 2) ≡ true = grind (arith, nat_tests) in
+        let test : nat_lt max_line_len (length pieces.first + 2) ≡ true = grind (arith, nat_tests) in
         rw (on, test) (over_stays (at_stage s Failed) next later refl)
 
 -- a rest without a line end, and the bytes after it
 rest_goes_on : (s : Standing) (rest bytes : List ℕ) → pieces_of rest ≡ whole_piece rest → talk_in s (pieces_of (rest ++ bytes)) ≡ after (wait s rest).answers (by_lines (wait s rest).standing bytes)
-rest_goes_on s rest bytes is = go (is_over s.stage) refl (nat_le 1024 (length rest)) refl
+rest_goes_on s rest bytes is = go (is_over s.stage) refl (nat_le max_line_len (length rest)) refl
   where
-    go : (over : Bool) → is_over s.stage ≡ over → (long : Bool) → nat_le 1024 (length rest) ≡ long → talk_in s (pieces_of (rest ++ bytes)) ≡ after (wait s rest).answers (by_lines (wait s rest).standing bytes)
+    go : (over : Bool) → is_over s.stage ≡ over → (long : Bool) → nat_le max_line_len (length rest) ≡ long → talk_in s (pieces_of (rest ++ bytes)) ≡ after (wait s rest).answers (by_lines (wait s rest).standing bytes)
     go true over long l =
         rw over (over_stays s (pieces_of (rest ++ bytes)).first (pieces_of (rest ++ bytes)).later over ∙ sym (over_stays s (pieces_of (s.line ++ bytes)).first (pieces_of (s.line ++ bytes)).later over))
     go false on true long =
-        let len : 1024 ≤ length rest = grind (arith, nat_tests) in
+        let len : max_line_len ≤ length rest = grind (arith, nat_tests) in
         let first : length rest ≤ length (pieces_of (rest ++ bytes)).first + 1 = first_len rest bytes is in
-        let one : 1023 ≤ length (pieces_of (rest ++ bytes)).first = omega arith in
-        let alone : (pieces_of (rest ++ bytes)).later ≡ [] → 1024 ≤ length (pieces_of (rest ++ bytes)).first =
+        let one : max_line_len ≤ length (pieces_of (rest ++ bytes)).first + 1 = omega arith in
+        let alone : (pieces_of (rest ++ bytes)).later ≡ [] → max_line_len ≤ length (pieces_of (rest ++ bytes)).first =
         λ none. omega (arith, ap (λ (x : List ℕ). length x) (first_whole (rest ++ bytes) none), length-append rest bytes) in
         rw (on, long) (long_refused s (pieces_of (rest ++ bytes)) on one alone ∙ sym (over_stays (at_stage s Failed) (pieces_of bytes).first (pieces_of bytes).later refl))
     go false on false short = rw (on, short) (line_aside s rest (pieces_of (rest ++ bytes)).first (pieces_of (rest ++ bytes)).later on)
@@ -107,7 +107,7 @@ row_answer_opened s Rejected stage is = go (nat_lt s.rejections max_rejections)
 row_answer_opened s _ stage is = is
 
 hear_opened : (s : Standing) (line : List ℕ) → is_opening s.stage ≡ false → is_opening (hear s line).standing.stage ≡ false
-hear_opened s line is = go (is_over s.stage) (nat_lt 1024 (length line + 2))
+hear_opened s line is = go (is_over s.stage) (nat_lt max_line_len (length line + 2))
   where
     go : (over long : Bool) → is_opening (cond over (no_answer s) (cond long (refusal s) (row_answer s (row_of s.stage (command_of line))))).standing.stage ≡ false
     go true long = is
@@ -115,7 +115,7 @@ hear_opened s line is = go (is_over s.stage) (nat_lt 1024 (length line + 2))
     go false false = row_answer_opened s (row_of s.stage (command_of line)).reply (row_of s.stage (command_of line)).stage (row_opened s.stage (command_of line) is)
 
 wait_opened : (s : Standing) (rest : List ℕ) → is_opening s.stage ≡ false → is_opening (wait s rest).standing.stage ≡ false
-wait_opened s rest is = go (is_over s.stage) (nat_le 1024 (length rest))
+wait_opened s rest is = go (is_over s.stage) (nat_le max_line_len (length rest))
   where
     go : (over long : Bool) → is_opening (cond over (no_answer s) (cond long (refusal s) (no_answer (with_line s rest)))).standing.stage ≡ false
     go true long = is

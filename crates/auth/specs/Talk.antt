@@ -5,17 +5,9 @@ use Rattle.auth.specs.declared.stage.Stage.TheVariants.{Opening, Start, Begun, F
 use Rattle.auth.specs.declared.stage.Reply.{Reply}
 use Rattle.auth.specs.declared.stage.Reply.TheVariants.{Rejected}
 use Rattle.auth.specs.declared.stage.Row.{Row}
-use Rattle.auth.specs.Lines.{Pieces, pieces_of, through_line}
+use Rattle.auth.specs.Lines.{max_line_len, Pieces, pieces_of, through_line}
 use Rattle.auth.specs.Commands.{command_of}
-use Rattle.auth.specs.Stages.{is_over, row_of, reply_bytes}
-
--- how many bytes a line may have, its CR LF among them
-abbrev pub max_line_len : ℕ
-max_line_len = 1024
-
--- how many rejections are sent
-abbrev pub max_rejections : ℕ
-max_rejections = 7
+use Rattle.auth.specs.Stages.{max_rejections, is_over, row_of, reply_bytes}
 
 -- Where a talk stands: the server's GUID, the stage, how many rejections were sent, and what is there of the next line.
 pub record Standing : Type 0 where

@@ -1,6 +1,6 @@
 // The server's side of a talk.
 
-ghost use Rattle.std.specs.Prelude.{◌≡◌, ◌≢◌, ◌<◌, ◌≤◌, ◌↔◌, ◌++◌, false, List, ℕ, [], take, length, IsTrue, IsErr, IfOk};
+ghost use Rattle.std.specs.Prelude.{◌≡◌, ◌+◌, ◌≢◌, ◌<◌, ◌≤◌, ◌↔◌, ◌++◌, false, List, ℕ, [], take, length, IsTrue, IsErr, IfOk};
 ghost use Rattle.auth.specs.Talk.{Standing, opening, hear, by_lines, talk, taken_of, after};
 ghost use Rattle.auth.specs.Lines.{through_line};
 ghost use Rattle.auth.specs.Feeding.{answer_in};
@@ -75,11 +75,11 @@ struct LineAnswer {
 
 fn answer_line(guid: &[u8; 32], stage: Stage, rejections: u8, line: &[u8]) -> LineAnswer
     requires goes_on { is_over stage ≡ false }
-    requires short { length line.now ≤ 1022 }
-    requires sent { rejections ≤ 7 }
+    requires short { length line.now + 2 ≤ MAX_LINE_LEN }
+    requires sent { rejections ≤ MAX_REJECTIONS }
     ensures answer { hear (record { guid = guid.now; stage = stage; rejections = rejections; line = [] }) line.now
         ≡ record { standing = record { guid = guid.now; stage = result.stage; rejections = result.rejections; line = [] }; answers = result.answer.items } }
-    ensures sent { result.rejections ≤ 7 }
+    ensures sent { result.rejections ≤ MAX_REJECTIONS }
     ensures refusal { result.stage ≡ Stage.Failed → result.answer.items ≡ [] }
 {
     let row = Row::of(stage, Command::of(line));
