@@ -8,37 +8,37 @@ use Rattle.auth.specs.declared.stage.Stage.{Stage}
 use Rattle.auth.specs.declared.stage.Stage.TheVariants.{Failed}
 use Rattle.auth.specs.declared.stage.Reply.{Reply}
 use Rattle.auth.specs.declared.stage.Reply.TheVariants.{Rejected}
-use Rattle.auth.specs.Lines.{pieces_of, whole_piece, len_through, through_line}
+use Rattle.auth.specs.Lines.{max_line_len, pieces_of, whole_piece, len_through, through_line}
 use Rattle.auth.specs.Commands.{command_of}
-use Rattle.auth.specs.Stages.{is_over, row_of, reply_bytes}
-use Rattle.auth.specs.Added.{ended_piece}
-use Rattle.auth.specs.Talk.{Standing, Talked, max_rejections, at_stage, silent, refused, answered, hear, wait, after, by_pieces, talk_in, by_lines}
+use Rattle.auth.specs.Stages.{max_rejections, is_over, row_of, reply_bytes}
+use Rattle.auth.specs.LineStates.{ended_piece}
+use Rattle.auth.specs.Talk.{Standing, Outcome, at_stage, no_answer, refusal, row_answer, hear, wait, after, by_pieces, talk_in, by_lines}
 use Rattle.auth.proofs.LineEnds.{continued, pieces_of-append, first_len}
 use Rattle.auth.proofs.Talks.{over_stays, with_line, lines_in_cuts}
 
 -- ---- nothing is there of a line after an answer
 
-answered_line : (s : Standing) (reply : Reply) (stage : Stage) → (answered s (record { reply = reply; stage = stage })).standing.line ≡ []
-answered_line s Rejected stage = go (nat_lt s.rejections max_rejections)
+row_answer_line : (s : Standing) (reply : Reply) (stage : Stage) → (row_answer s (record { reply = reply; stage = stage })).standing.line ≡ []
+row_answer_line s Rejected stage = go (nat_lt s.rejections max_rejections)
   where
-    go : (t : Bool) → (cond t (record { standing = record { guid = s.guid; stage = stage; rejections = s.rejections + 1; line = [] }; answers = reply_bytes s.guid Rejected }) (refused s)).standing.line ≡ []
+    go : (t : Bool) → (cond t (record { standing = record { guid = s.guid; stage = stage; rejections = s.rejections + 1; line = [] }; answers = reply_bytes s.guid Rejected }) (refusal s)).standing.line ≡ []
     go true = refl
     go false = refl
-answered_line s _ stage = refl
+row_answer_line s _ stage = refl
 
 hear_line : (s : Standing) (line : List ℕ) → is_over s.stage ≡ false → (hear s line).standing.line ≡ []
-hear_line s line on = rw on (go (nat_lt 1024 (length line + 2)))
+hear_line s line on = rw on (go (nat_lt max_line_len (length line + 2)))
   where
-    go : (long : Bool) → (cond long (refused s) (answered s (row_of s.stage (command_of line)))).standing.line ≡ []
+    go : (long : Bool) → (cond long (refusal s) (row_answer s (row_of s.stage (command_of line)))).standing.line ≡ []
     go true = refl
-    go false = answered_line s (row_of s.stage (command_of line)).reply (row_of s.stage (command_of line)).stage
+    go false = row_answer_line s (row_of s.stage (command_of line)).reply (row_of s.stage (command_of line)).stage
 
-wait_none : (s : Standing) → s.line ≡ [] → wait s [] ≡ silent s
+wait_none : (s : Standing) → s.line ≡ [] → wait s [] ≡ no_answer s
 wait_none s none = go (is_over s.stage)
   where
-    go : (over : Bool) → cond over (silent s) (silent (with_line s [])) ≡ silent s
+    go : (over : Bool) → cond over (no_answer s) (no_answer (with_line s [])) ≡ no_answer s
     go true = refl
-    go false = ap (λ (x : List ℕ). silent (with_line s x)) (sym none)
+    go false = ap (λ (x : List ℕ). no_answer (with_line s x)) (sym none)
 
 -- an ended line, and nothing after it
 heard : (s : Standing) (line : List ℕ) → is_over s.stage ≡ false → by_pieces s line ([] ∷ []) ≡ hear s line
@@ -67,10 +67,10 @@ open_len line bytes longer n t all open_line =
     let whole : line ++ bytes ≡ longer = sym (t.is ∙ ap (λ (k : ℕ). line ++ take k bytes) all ∙ ap (λ (x : List ℕ). line ++ x) (take-length bytes)) in
     all ∙ sym (ap (len_through (length line) (length bytes)) (ap pieces_of whole ∙ open_line))
 
-pub open_talk : (s : Standing) (bytes longer : List ℕ) (n : ℕ) → Takes s.line bytes longer n → is_over s.stage ≡ false → pieces_of longer ≡ whole_piece longer → length longer < 1024 → by_lines s (take n bytes) ≡ silent (with_line s longer)
+pub open_talk : (s : Standing) (bytes longer : List ℕ) (n : ℕ) → Takes s.line bytes longer n → is_over s.stage ≡ false → pieces_of longer ≡ whole_piece longer → length longer < max_line_len → by_lines s (take n bytes) ≡ no_answer (with_line s longer)
 open_talk s bytes longer n t on open_line short =
-    let test : nat_le 1024 (length longer) ≡ false = grind (arith, nat_tests) in
-    let waits : wait s longer ≡ silent (with_line s longer) = rw (on, test) refl in
+    let test : nat_le max_line_len (length longer) ≡ false = grind (arith, nat_tests) in
+    let waits : wait s longer ≡ no_answer (with_line s longer) = rw (on, test) refl in
     ap (λ (x : List ℕ). talk_in s (pieces_of x)) (sym t.is) ∙ ap (talk_in s) open_line ∙ waits
 
 pub ended_len : (line bytes longer : List ℕ) (n : ℕ) → Takes line bytes longer n → 2 ≤ length longer → pieces_of longer ≡ ended_piece longer → n ≡ through_line line bytes
@@ -96,32 +96,32 @@ full_len line bytes longer n t open_line =
     go first [] long within = within
     go first (next ∷ later) long within = omega arith
 
-pub full_talk : (s : Standing) (bytes longer : List ℕ) (n : ℕ) → Takes s.line bytes longer n → is_over s.stage ≡ false → pieces_of longer ≡ whole_piece longer → length longer ≡ 1024 → by_lines s (take (through_line s.line bytes) bytes) ≡ refused s
+pub full_talk : (s : Standing) (bytes longer : List ℕ) (n : ℕ) → Takes s.line bytes longer n → is_over s.stage ≡ false → pieces_of longer ≡ whole_piece longer → length longer ≡ max_line_len → by_lines s (take (through_line s.line bytes) bytes) ≡ refusal s
 full_talk s bytes longer n t on open_line full =
-    let test : nat_le 1024 (length longer) ≡ true = grind (arith, nat_tests) in
-    let waits : wait s longer ≡ refused s = rw (on, test) refl in
-    let front : by_lines s (take n bytes) ≡ refused s = ap (λ (x : List ℕ). talk_in s (pieces_of x)) (sym t.is) ∙ ap (talk_in s) open_line ∙ waits in
+    let test : nat_le max_line_len (length longer) ≡ true = grind (arith, nat_tests) in
+    let waits : wait s longer ≡ refusal s = rw (on, test) refl in
+    let front : by_lines s (take n bytes) ≡ refusal s = ap (λ (x : List ℕ). talk_in s (pieces_of x)) (sym t.is) ∙ ap (talk_in s) open_line ∙ waits in
     let m : ℕ = through_line s.line bytes - n in
     let sum : through_line s.line bytes ≡ n + m = let le : n ≤ through_line s.line bytes = full_len s.line bytes longer n t open_line in omega arith in
     let cut : take (through_line s.line bytes) bytes ≡ take n bytes ++ take m (drop n bytes) = ap (λ (k : ℕ). take k bytes) sum ∙ take-add n m bytes in
     ap (by_lines s) cut
     ∙ lines_in_cuts s (take n bytes) (take m (drop n bytes))
-    ∙ ap (λ (x : Talked). after x.answers (by_lines x.standing (take m (drop n bytes)))) front
+    ∙ ap (λ (x : Outcome). after x.answers (by_lines x.standing (take m (drop n bytes)))) front
     ∙ over_stays (at_stage s Failed) (pieces_of (take m (drop n bytes))).first (pieces_of (take m (drop n bytes))).later refl
 
 -- what a whole line comes to
-pub ended_fed : (s : Standing) (bytes longer text : List ℕ) (n : ℕ) (answer : Talked) → Takes s.line bytes longer n → is_over s.stage ≡ false → 2 ≤ length longer → pieces_of longer ≡ ended_piece longer
+pub ended_fed : (s : Standing) (bytes longer text : List ℕ) (n : ℕ) (answer : Outcome) → Takes s.line bytes longer n → is_over s.stage ≡ false → 2 ≤ length longer → pieces_of longer ≡ ended_piece longer
     → text ≡ take (length longer - 2) longer → hear (with_line s []) text ≡ answer → by_lines s (take (through_line s.line bytes) bytes) ≡ answer
-ended_fed s bytes longer text n answer t on two ends text_is answered =
+ended_fed s bytes longer text n answer t on two ends text_is gives =
     let aside : hear s text ≡ hear (with_line s []) text = rw on refl in
     ap (λ (k : ℕ). by_lines s (take k bytes)) (sym (ended_len s.line bytes longer n t two ends))
     ∙ ended_talk s bytes longer n t on ends
     ∙ ap (hear s) (sym text_is)
     ∙ aside
-    ∙ answered
+    ∙ gives
 
 -- what bytes without a line end come to
-pub open_fed : (s : Standing) (bytes longer : List ℕ) (n : ℕ) → Takes s.line bytes longer n → is_over s.stage ≡ false → n ≡ length bytes → pieces_of longer ≡ whole_piece longer → length longer < 1024
-    → by_lines s (take (through_line s.line bytes) bytes) ≡ silent (with_line s longer)
+pub open_fed : (s : Standing) (bytes longer : List ℕ) (n : ℕ) → Takes s.line bytes longer n → is_over s.stage ≡ false → n ≡ length bytes → pieces_of longer ≡ whole_piece longer → length longer < max_line_len
+    → by_lines s (take (through_line s.line bytes) bytes) ≡ no_answer (with_line s longer)
 open_fed s bytes longer n t on all open_line short =
     ap (λ (k : ℕ). by_lines s (take k bytes)) (sym (open_len s.line bytes longer n t all open_line)) ∙ open_talk s bytes longer n t on open_line short

@@ -8,15 +8,15 @@ use Rattle.auth.specs.declared.stage.Stage.{Stage}
 use Rattle.auth.specs.declared.stage.Stage.TheVariants.{Opening, Start, Data, Ready, Begun, Failed}
 use Rattle.auth.specs.declared.stage.Reply.{Reply}
 use Rattle.auth.specs.declared.stage.Reply.TheVariants.{Nothing, Rejected}
-use Rattle.auth.specs.Lines.{Pieces, pieces_of, whole_piece}
+use Rattle.auth.specs.Lines.{max_line_len, Pieces, pieces_of, whole_piece}
 use Rattle.auth.specs.Commands.{command_of}
-use Rattle.auth.specs.Stages.{is_over, start_row, data_row, ready_row, row_of, reply_bytes}
-use Rattle.auth.specs.Talk.{Standing, Talked, max_rejections, at_stage, silent, refused, answered, hear, wait, after, by_pieces, talk_in, by_lines, started, talk}
+use Rattle.auth.specs.Stages.{max_rejections, is_over, start_row, data_row, ready_row, row_of, reply_bytes}
+use Rattle.auth.specs.Talk.{Standing, Outcome, at_stage, no_answer, refusal, row_answer, hear, wait, after, by_pieces, talk_in, by_lines, start_of, talk}
 use Rattle.auth.proofs.LineEnds.{continued, pieces_of-append, LastIsOpen, last_open, first_len, first_whole}
 
 -- ---- a talk that is over
 
-pub over_stays : (s : Standing) (piece : List ℕ) (later : List (List ℕ)) → is_over s.stage ≡ true → by_pieces s piece later ≡ silent s
+pub over_stays : (s : Standing) (piece : List ℕ) (later : List (List ℕ)) → is_over s.stage ≡ true → by_pieces s piece later ≡ no_answer s
 over_stays s piece [] over = rw over refl
 over_stays s piece (next ∷ later) over = rw over (over_stays s next later over)
 
@@ -31,32 +31,32 @@ line_aside s line piece [] on = rw on refl
 line_aside s line piece (next ∷ later) on = rw on refl
 
 -- a line that is too long already, and what comes after it
-long_refused : (s : Standing) (pieces : Pieces) → is_over s.stage ≡ false → 1023 ≤ length pieces.first → (pieces.later ≡ [] → 1024 ≤ length pieces.first) → talk_in s pieces ≡ refused s
+long_refused : (s : Standing) (pieces : Pieces) → is_over s.stage ≡ false → max_line_len ≤ length pieces.first + 1 → (pieces.later ≡ [] → max_line_len ≤ length pieces.first) → talk_in s pieces ≡ refusal s
 long_refused s pieces on long alone = go pieces.later alone
   where
-    go : (later : List (List ℕ)) → (later ≡ [] → 1024 ≤ length pieces.first) → by_pieces s pieces.first later ≡ refused s
-    go [] alone = let len : 1024 ≤ length pieces.first = alone refl in let test : nat_le 1024 (length pieces.first) ≡ true = grind (arith, nat_tests) in rw (on, test) refl
+    go : (later : List (List ℕ)) → (later ≡ [] → max_line_len ≤ length pieces.first) → by_pieces s pieces.first later ≡ refusal s
+    go [] alone = let len : max_line_len ≤ length pieces.first = alone refl in let test : nat_le max_line_len (length pieces.first) ≡ true = grind (arith, nat_tests) in rw (on, test) refl
     go (next ∷ later) alone =
-        let test : nat_lt 1024 (length pieces.first + 2) ≡ true = grind (arith, nat_tests) in
+        let test : nat_lt max_line_len (length pieces.first + 2) ≡ true = grind (arith, nat_tests) in
         rw (on, test) (over_stays (at_stage s Failed) next later refl)
 
 -- a rest without a line end, and the bytes after it
 rest_goes_on : (s : Standing) (rest bytes : List ℕ) → pieces_of rest ≡ whole_piece rest → talk_in s (pieces_of (rest ++ bytes)) ≡ after (wait s rest).answers (by_lines (wait s rest).standing bytes)
-rest_goes_on s rest bytes is = go (is_over s.stage) refl (nat_le 1024 (length rest)) refl
+rest_goes_on s rest bytes is = go (is_over s.stage) refl (nat_le max_line_len (length rest)) refl
   where
-    go : (over : Bool) → is_over s.stage ≡ over → (long : Bool) → nat_le 1024 (length rest) ≡ long → talk_in s (pieces_of (rest ++ bytes)) ≡ after (wait s rest).answers (by_lines (wait s rest).standing bytes)
+    go : (over : Bool) → is_over s.stage ≡ over → (long : Bool) → nat_le max_line_len (length rest) ≡ long → talk_in s (pieces_of (rest ++ bytes)) ≡ after (wait s rest).answers (by_lines (wait s rest).standing bytes)
     go true over long l =
         rw over (over_stays s (pieces_of (rest ++ bytes)).first (pieces_of (rest ++ bytes)).later over ∙ sym (over_stays s (pieces_of (s.line ++ bytes)).first (pieces_of (s.line ++ bytes)).later over))
     go false on true long =
-        let len : 1024 ≤ length rest = grind (arith, nat_tests) in
+        let len : max_line_len ≤ length rest = grind (arith, nat_tests) in
         let first : length rest ≤ length (pieces_of (rest ++ bytes)).first + 1 = first_len rest bytes is in
-        let one : 1023 ≤ length (pieces_of (rest ++ bytes)).first = omega arith in
-        let alone : (pieces_of (rest ++ bytes)).later ≡ [] → 1024 ≤ length (pieces_of (rest ++ bytes)).first =
+        let one : max_line_len ≤ length (pieces_of (rest ++ bytes)).first + 1 = omega arith in
+        let alone : (pieces_of (rest ++ bytes)).later ≡ [] → max_line_len ≤ length (pieces_of (rest ++ bytes)).first =
         λ none. omega (arith, ap (λ (x : List ℕ). length x) (first_whole (rest ++ bytes) none), length-append rest bytes) in
         rw (on, long) (long_refused s (pieces_of (rest ++ bytes)) on one alone ∙ sym (over_stays (at_stage s Failed) (pieces_of bytes).first (pieces_of bytes).later refl))
     go false on false short = rw (on, short) (line_aside s rest (pieces_of (rest ++ bytes)).first (pieces_of (rest ++ bytes)).later on)
 
-after_after : (front back : List ℕ) (t : Talked) → after front (after back t) ≡ after (front ++ back) t
+after_after : (front back : List ℕ) (t : Outcome) → after front (after back t) ≡ after (front ++ back) t
 after_after front back t = ap (λ (x : List ℕ). record { standing = t.standing; answers = x }) (sym (append_assoc front back t.answers))
 
 pieces_go_on : (s : Standing) (piece : List ℕ) (later : List (List ℕ)) (bytes : List ℕ) → LastIsOpen piece later
@@ -98,26 +98,26 @@ row_opened Ready command is = ready_opened command
 row_opened Begun command is = refl
 row_opened Failed command is = refl
 
-answered_opened : (s : Standing) (reply : Reply) (stage : Stage) → is_opening stage ≡ false → is_opening (answered s (record { reply = reply; stage = stage })).standing.stage ≡ false
-answered_opened s Rejected stage is = go (nat_lt s.rejections max_rejections)
+row_answer_opened : (s : Standing) (reply : Reply) (stage : Stage) → is_opening stage ≡ false → is_opening (row_answer s (record { reply = reply; stage = stage })).standing.stage ≡ false
+row_answer_opened s Rejected stage is = go (nat_lt s.rejections max_rejections)
   where
-    go : (t : Bool) → is_opening (cond t (record { standing = record { guid = s.guid; stage = stage; rejections = s.rejections + 1; line = [] }; answers = reply_bytes s.guid Rejected }) (refused s)).standing.stage ≡ false
+    go : (t : Bool) → is_opening (cond t (record { standing = record { guid = s.guid; stage = stage; rejections = s.rejections + 1; line = [] }; answers = reply_bytes s.guid Rejected }) (refusal s)).standing.stage ≡ false
     go true = is
     go false = refl
-answered_opened s _ stage is = is
+row_answer_opened s _ stage is = is
 
 hear_opened : (s : Standing) (line : List ℕ) → is_opening s.stage ≡ false → is_opening (hear s line).standing.stage ≡ false
-hear_opened s line is = go (is_over s.stage) (nat_lt 1024 (length line + 2))
+hear_opened s line is = go (is_over s.stage) (nat_lt max_line_len (length line + 2))
   where
-    go : (over long : Bool) → is_opening (cond over (silent s) (cond long (refused s) (answered s (row_of s.stage (command_of line))))).standing.stage ≡ false
+    go : (over long : Bool) → is_opening (cond over (no_answer s) (cond long (refusal s) (row_answer s (row_of s.stage (command_of line))))).standing.stage ≡ false
     go true long = is
     go false true = refl
-    go false false = answered_opened s (row_of s.stage (command_of line)).reply (row_of s.stage (command_of line)).stage (row_opened s.stage (command_of line) is)
+    go false false = row_answer_opened s (row_of s.stage (command_of line)).reply (row_of s.stage (command_of line)).stage (row_opened s.stage (command_of line) is)
 
 wait_opened : (s : Standing) (rest : List ℕ) → is_opening s.stage ≡ false → is_opening (wait s rest).standing.stage ≡ false
-wait_opened s rest is = go (is_over s.stage) (nat_le 1024 (length rest))
+wait_opened s rest is = go (is_over s.stage) (nat_le max_line_len (length rest))
   where
-    go : (over long : Bool) → is_opening (cond over (silent s) (cond long (refused s) (silent (with_line s rest)))).standing.stage ≡ false
+    go : (over long : Bool) → is_opening (cond over (no_answer s) (cond long (refusal s) (no_answer (with_line s rest)))).standing.stage ≡ false
     go true long = is
     go false true = refl
     go false false = is
@@ -151,8 +151,8 @@ opening_cuts : (s : Standing) (front back : List ℕ) → s.stage ≡ Opening �
 opening_cuts s [] back at = rw at refl
 opening_cuts s (first ∷ front) back at = rw at (go (first == 0))
   where
-    go : (zero_first : Bool) → cond zero_first (by_lines (started s) (front ++ back)) (refused s) ≡ after (cond zero_first (by_lines (started s) front) (refused s)).answers (talk (cond zero_first (by_lines (started s) front) (refused s)).standing back)
-    go true = lines_then_talk (started s) front back refl
+    go : (zero_first : Bool) → cond zero_first (by_lines (start_of s) (front ++ back)) (refusal s) ≡ after (cond zero_first (by_lines (start_of s) front) (refusal s)).answers (talk (cond zero_first (by_lines (start_of s) front) (refusal s)).standing back)
+    go true = lines_then_talk (start_of s) front back refl
     go false = refl
 
 pub in_cuts : (s : Standing) (front back : List ℕ) → talk s (front ++ back) ≡ after (talk s front).answers (talk (talk s front).standing back)
@@ -162,7 +162,7 @@ in_cuts s front back = go s.stage refl
     by_line_talk is =
         let whole : by_lines s (front ++ back) ≡ talk s (front ++ back) = lines_talk s (front ++ back) is in
         let part : by_lines s front ≡ talk s front = lines_talk s front is in
-        sym whole ∙ lines_then_talk s front back is ∙ ap (λ (x : Talked). after x.answers (talk x.standing back)) part
+        sym whole ∙ lines_then_talk s front back is ∙ ap (λ (x : Outcome). after x.answers (talk x.standing back)) part
 
     go : (stage : Stage) → s.stage ≡ stage → Cuts s front back
     go Opening at = opening_cuts s front back at

@@ -3,5 +3,5 @@ pub mod Commands
 pub mod Stages
 pub mod Talk
 pub mod Feeding
-pub mod Added
+pub mod LineStates
 pub mod Kept

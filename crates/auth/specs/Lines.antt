@@ -7,6 +7,10 @@ cr = 13
 abbrev pub lf : ℕ
 lf = 10
 
+-- how many bytes a line may have, its CR LF among them
+abbrev pub max_line_len : ℕ
+max_line_len = 1024
+
 -- What stands between the line ends: the first piece, and a further one after each line end. All but the last are lines.
 pub record Pieces : Type 0 where
   pub first : List ℕ

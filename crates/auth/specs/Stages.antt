@@ -8,6 +8,10 @@ use Rattle.auth.specs.declared.stage.Reply.{Reply}
 use Rattle.auth.specs.declared.stage.Reply.TheVariants.{Nothing, Challenge, Accepted, Rejected, Unclear}
 use Rattle.auth.specs.declared.stage.Row.{Row}
 
+-- how many rejections are sent
+abbrev pub max_rejections : ℕ
+max_rejections = 7
+
 -- messages began, or the client was refused
 abbrev pub is_over : Stage → Bool
 is_over Begun = true

@@ -5,17 +5,9 @@ use Rattle.auth.specs.declared.stage.Stage.TheVariants.{Opening, Start, Begun, F
 use Rattle.auth.specs.declared.stage.Reply.{Reply}
 use Rattle.auth.specs.declared.stage.Reply.TheVariants.{Rejected}
 use Rattle.auth.specs.declared.stage.Row.{Row}
-use Rattle.auth.specs.Lines.{Pieces, pieces_of, through_line}
+use Rattle.auth.specs.Lines.{max_line_len, Pieces, pieces_of, through_line}
 use Rattle.auth.specs.Commands.{command_of}
-use Rattle.auth.specs.Stages.{is_over, row_of, reply_bytes}
-
--- how many bytes a line may have, its CR LF among them
-abbrev pub max_line_len : ℕ
-max_line_len = 1024
-
--- how many rejections are sent
-abbrev pub max_rejections : ℕ
-max_rejections = 7
+use Rattle.auth.specs.Stages.{max_rejections, is_over, row_of, reply_bytes}
 
 -- Where a talk stands: the server's GUID, the stage, how many rejections were sent, and what is there of the next line.
 pub record Standing : Type 0 where
@@ -25,7 +17,7 @@ pub record Standing : Type 0 where
   pub line : List ℕ
 
 -- where bytes lead, and the answers to them
-pub record Talked : Type 0 where
+pub record Outcome : Type 0 where
   pub standing : Standing
   pub answers : List ℕ
 
@@ -33,75 +25,78 @@ pub record Talked : Type 0 where
 abbrev pub opening : List ℕ → Standing
 opening guid = record { guid = guid; stage = Opening; rejections = 0; line = [] }
 
+-- at a stage, with nothing there of the next line
 abbrev pub at_stage : Standing → Stage → Standing
 at_stage s stage = record { guid = s.guid; stage = stage; rejections = s.rejections; line = [] }
 
-abbrev pub silent : Standing → Talked
-silent s = record { standing = s; answers = [] }
+abbrev pub no_answer : Standing → Outcome
+no_answer s = record { standing = s; answers = [] }
 
-abbrev pub refused : Standing → Talked
-refused s = silent (at_stage s Failed)
+-- the talk ends here
+abbrev pub refusal : Standing → Outcome
+refusal s = no_answer (at_stage s Failed)
 
 -- one rejection more, of which the eighth isn't sent
-abbrev pub rejected : Standing → Stage → Talked
-rejected s stage =
+abbrev pub rejection : Standing → Stage → Outcome
+rejection s stage =
     if nat_lt s.rejections max_rejections
     then record { standing = record { guid = s.guid; stage = stage; rejections = s.rejections + 1; line = [] }; answers = reply_bytes s.guid Rejected }
-    else refused s
+    else refusal s
 
-abbrev pub answered : Standing → Row → Talked
-answered s row = by_reply row.reply
+-- a row's answer is sent, if it isn't one rejection too many
+abbrev pub row_answer : Standing → Row → Outcome
+row_answer s row = by_reply row.reply
   where
-    by_reply : Reply → Talked
-    by_reply Rejected = rejected s row.stage
+    by_reply : Reply → Outcome
+    by_reply Rejected = rejection s row.stage
     by_reply reply = record { standing = at_stage s row.stage; answers = reply_bytes s.guid reply }
 
--- a line is answered by its row, unless it is too long; once the talk is over there are no lines
-abbrev pub hear : Standing → List ℕ → Talked
+-- a line has the answer of its row, unless it is too long; once the talk is over there are no lines
+abbrev pub hear : Standing → List ℕ → Outcome
 hear s line =
-    if is_over s.stage then silent s
-    else if nat_lt max_line_len (length line + 2) then refused s
-    else answered s (row_of s.stage (command_of line))
+    if is_over s.stage then no_answer s
+    else if nat_lt max_line_len (length line + 2) then refusal s
+    else row_answer s (row_of s.stage (command_of line))
 
 -- the rest waits for its line end, unless it is a whole line's length already
-abbrev pub wait : Standing → List ℕ → Talked
+abbrev pub wait : Standing → List ℕ → Outcome
 wait s rest =
-    if is_over s.stage then silent s
-    else if nat_le max_line_len (length rest) then refused s
-    else silent (record { guid = s.guid; stage = s.stage; rejections = s.rejections; line = rest })
+    if is_over s.stage then no_answer s
+    else if nat_le max_line_len (length rest) then refusal s
+    else no_answer (record { guid = s.guid; stage = s.stage; rejections = s.rejections; line = rest })
 
 -- what follows some answers
-abbrev pub after : List ℕ → Talked → Talked
-after answers talked = record { standing = talked.standing; answers = answers ++ talked.answers }
+abbrev pub after : List ℕ → Outcome → Outcome
+after answers later = record { standing = later.standing; answers = answers ++ later.answers }
 
 -- the lines in turn, and the rest
-abbrev pub by_pieces : Standing → List ℕ → List (List ℕ) → Talked
+abbrev pub by_pieces : Standing → List ℕ → List (List ℕ) → Outcome
 by_pieces s rest [] = wait s rest
 by_pieces s line (next ∷ later) = after (hear s line).answers (by_pieces (hear s line).standing next later)
 
-abbrev pub talk_in : Standing → Pieces → Talked
+abbrev pub talk_in : Standing → Pieces → Outcome
 talk_in s pieces = by_pieces s pieces.first pieces.later
 
 -- what is there of a line, and the bytes after it
-abbrev pub by_lines : Standing → List ℕ → Talked
+abbrev pub by_lines : Standing → List ℕ → Outcome
 by_lines s bytes = talk_in s (pieces_of (s.line ++ bytes))
 
-abbrev pub started : Standing → Standing
-started s = record { guid = s.guid; stage = Start; rejections = s.rejections; line = s.line }
+abbrev pub start_of : Standing → Standing
+start_of s = record { guid = s.guid; stage = Start; rejections = s.rejections; line = s.line }
 
 -- the first byte is zero, and after it lines come
-abbrev pub opened : Standing → List ℕ → Talked
-opened s [] = silent s
-opened s (first ∷ bytes) = if first == 0 then by_lines (started s) bytes else refused s
+abbrev pub opening_talk : Standing → List ℕ → Outcome
+opening_talk s [] = no_answer s
+opening_talk s (first ∷ bytes) = if first == 0 then by_lines (start_of s) bytes else refusal s
 
 -- where bytes lead from where a talk stands
-abbrev pub talk : Standing → List ℕ → Talked
+abbrev pub talk : Standing → List ℕ → Outcome
 talk s bytes = at s.stage
   where
-    at : Stage → Talked
-    at Opening = opened s bytes
-    at Begun = silent s
-    at Failed = silent s
+    at : Stage → Outcome
+    at Opening = opening_talk s bytes
+    at Begun = no_answer s
+    at Failed = no_answer s
     at stage = by_lines s bytes
 
 -- how many bytes are taken at once: those through the next line end, all where none is there, none once messages began

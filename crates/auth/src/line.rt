@@ -2,7 +2,7 @@
 
 ghost use Rattle.std.specs.Prelude.{◌≡◌, ◌==◌, ◌&&◌, ◌+◌, ◌-◌, ◌<◌, ◌≤◌, ◌++◌, [], ◌∷◌, ℕ, List, length, take, drop};
 ghost use Rattle.auth.specs.Lines.{lf, pieces_of, whole_piece};
-ghost use Rattle.auth.specs.Added.{ends_in_cr, Added};
+ghost use Rattle.auth.specs.LineStates.{ends_in_cr, LineIs};
 
 use arrayvec::ArrayVec;
 
@@ -23,10 +23,10 @@ pub(crate) enum LineState {
 /// Adds bytes to a line, through its end where it is among them. It gives how many bytes were taken.
 pub(crate) fn add(line: &mut ArrayVec<u8, MAX_LINE_LEN>, bytes: &[u8]) -> (usize, LineState)
     requires open_line { pieces_of line.old.items ≡ whole_piece line.old.items }
-    requires room { length line.old.items < 1024 }
+    requires room { length line.old.items < MAX_LINE_LEN }
     ensures taken { result.0 ≤ length bytes.now }
     ensures line { line.new.items ≡ line.old.items ++ take result.0 bytes.now }
-    ensures state { Added result.1 line.new.items result.0 (length bytes.now) }
+    ensures state { LineIs result.1 line.new.items result.0 (length bytes.now) }
 {
     for (i, byte) in bytes.iter().enumerate() {
         let ends = is_line_end(line.as_slice(), *byte);

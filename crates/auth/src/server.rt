@@ -1,6 +1,6 @@
 // The server's side of a talk.
 
-ghost use Rattle.std.specs.Prelude.{◌≡◌, ◌≢◌, ◌<◌, ◌≤◌, ◌↔◌, ◌++◌, false, List, ℕ, [], take, length, IsTrue, IsErr, IfOk};
+ghost use Rattle.std.specs.Prelude.{◌≡◌, ◌+◌, ◌≢◌, ◌<◌, ◌≤◌, ◌↔◌, ◌++◌, false, List, ℕ, [], take, length, IsTrue, IsErr, IfOk};
 ghost use Rattle.auth.specs.Talk.{Standing, opening, hear, by_lines, talk, taken_of, after};
 ghost use Rattle.auth.specs.Lines.{through_line};
 ghost use Rattle.auth.specs.Feeding.{answer_in};
@@ -23,8 +23,12 @@ const MAX_REJECTIONS: u8 = 7;
 pub struct AuthError;
 
 impl fmt::Display for AuthError {
+    ghost use Rattle.std.specs.Prelude.{Some, codes};
+
+    ghost output = { λ error. Some (codes "Auth") };
+
     fn fmt<W: fmt::Write>(&self, f: &mut fmt::Formatter<W>) -> fmt::Result {
-        f.write_str("Auth")
+        write!(f, "Auth")
     }
 }
 
@@ -63,37 +67,37 @@ impl Model for Auth {
 
 /// Where a line leads, and the answer to it.
 #[derive(Drop)]
-struct Answered {
+struct LineAnswer {
     stage: Stage,
     rejections: u8,
     answer: ArrayVec<u8, 64>,
 }
 
-fn answer_line(guid: &[u8; 32], stage: Stage, rejections: u8, line: &[u8]) -> Answered
+fn answer_line(guid: &[u8; 32], stage: Stage, rejections: u8, line: &[u8]) -> LineAnswer
     requires goes_on { is_over stage ≡ false }
-    requires short { length line.now ≤ 1022 }
-    requires sent { rejections ≤ 7 }
-    ensures talked { hear (record { guid = guid.now; stage = stage; rejections = rejections; line = [] }) line.now
+    requires short { length line.now + 2 ≤ MAX_LINE_LEN }
+    requires sent { rejections ≤ MAX_REJECTIONS }
+    ensures answer { hear (record { guid = guid.now; stage = stage; rejections = rejections; line = [] }) line.now
         ≡ record { standing = record { guid = guid.now; stage = result.stage; rejections = result.rejections; line = [] }; answers = result.answer.items } }
-    ensures sent { result.rejections ≤ 7 }
-    ensures refused { result.stage ≡ Stage.Failed → result.answer.items ≡ [] }
+    ensures sent { result.rejections ≤ MAX_REJECTIONS }
+    ensures refusal { result.stage ≡ Stage.Failed → result.answer.items ≡ [] }
 {
     let row = Row::of(stage, Command::of(line));
     if row.reply != Reply::Rejected {
-        return Answered {
+        return LineAnswer {
             stage: row.stage,
             rejections,
             answer: row.reply.bytes(guid),
         };
     }
     if rejections == MAX_REJECTIONS {
-        return Answered {
+        return LineAnswer {
             stage: Stage::Failed,
             rejections,
             answer: ArrayVec::new(),
         };
     }
-    Answered {
+    LineAnswer {
         stage: row.stage,
         rejections: rejections + 1,
         answer: Reply::Rejected.bytes(guid),
@@ -124,7 +128,7 @@ impl Auth {
         ensures taken { IfOk result (λ fed. fed.taken ≡ taken_of self.old bytes.now) }
         ensures talk { talk self.old (take (taken_of self.old bytes.now) bytes.now) ≡ record { standing = self.new; answers = answer_in result } }
         ensures begun { IfOk result (λ fed. IsTrue fed.begun ↔ (self.new.stage ≡ Stage.Begun)) }
-        ensures refused { IsErr result ↔ (self.new.stage ≡ Stage.Failed) }
+        ensures failed { IsErr result ↔ (self.new.stage ≡ Stage.Failed) }
     {
         match self.stage {
             Stage::Failed => Err(AuthError),
@@ -144,7 +148,7 @@ impl Auth {
         ensures taken { IfOk result (λ fed. fed.taken ≡ taken_of self.old bytes.now) }
         ensures talk { talk self.old (take (taken_of self.old bytes.now) bytes.now) ≡ record { standing = self.new; answers = answer_in result } }
         ensures begun { IfOk result (λ fed. IsTrue fed.begun ↔ (self.new.stage ≡ Stage.Begun)) }
-        ensures refused { IsErr result ↔ (self.new.stage ≡ Stage.Failed) }
+        ensures failed { IsErr result ↔ (self.new.stage ≡ Stage.Failed) }
     {
         let Some((first, rest)) = bytes.split_first() else {
             return Ok(Fed {
@@ -182,7 +186,7 @@ impl Auth {
         ensures taken { IfOk result (λ fed. fed.taken ≡ through_line self.old.line bytes.now) }
         ensures talk { by_lines self.old (take (through_line self.old.line bytes.now) bytes.now) ≡ record { standing = self.new; answers = answer_in result } }
         ensures begun { IfOk result (λ fed. IsTrue fed.begun ↔ (self.new.stage ≡ Stage.Begun)) }
-        ensures refused { IsErr result ↔ (self.new.stage ≡ Stage.Failed) }
+        ensures failed { IsErr result ↔ (self.new.stage ≡ Stage.Failed) }
     {
         let (taken, state) = add(&mut self.line, bytes);
         match state {
@@ -198,12 +202,12 @@ impl Auth {
             }
             LineState::Ended => {
                 let text = without_end(self.line.as_slice());
-                let answered = answer_line(&self.guid, self.stage, self.rejections, text);
-                let Answered {
+                let line_answer = answer_line(&self.guid, self.stage, self.rejections, text);
+                let LineAnswer {
                     stage,
                     rejections,
                     answer,
-                } = answered;
+                } = line_answer;
                 self.stage = stage;
                 self.rejections = rejections;
                 self.line.clear();

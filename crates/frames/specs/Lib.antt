@@ -1,1 +1,2 @@
 pub mod Stream
+pub mod Errors

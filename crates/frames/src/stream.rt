@@ -1,6 +1,6 @@
 // A stream that comes in cuts.
 
-ghost use Rattle.std.specs.Prelude.{◌≡◌, ◌++◌, ◌≤◌, ℕ, List, [], None, Some, Err, length, drop, IfOk, IfErr, IfSome, IfNone, IsOk, OnOk, OnErr};
+ghost use Rattle.std.specs.Prelude.{◌≡◌, ◌==◌, ◌++◌, ◌≤◌, ℕ, List, [], None, Some, Err, length, drop, IfOk, IfErr, IfSome, IfNone, IsOk, OnOk, OnErr};
 ghost use Rattle.message_value.specs.declared.fault.MsgError.{MsgError};
 ghost use Rattle.frames.specs.Stream.{IsMessage, BeginsWithMessage, IsUnfinished, IsFault};
 
@@ -35,6 +35,13 @@ impl Frames {
             unread: BytesMut::new(alloc),
             fault: None,
         }
+    }
+
+    /// Whether no byte of a further message is there: a stream may end here.
+    pub fn is_empty(&self) -> bool
+        ensures { result ≡ (length self.now.unread == 0) }
+    {
+        self.unread.is_empty()
     }
 
     /// Adds the stream's next bytes.

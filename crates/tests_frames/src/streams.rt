@@ -22,6 +22,7 @@ fn byte_by_byte(rt: HostRuntime) -> Result<(), Fail> {
     }
     let message = frames.next()?.ok_or("no message")?;
     assert_eq!(rt; message.as_slice(), signal.as_slice());
+    assert!(rt; frames.is_empty());
     for byte in signal.as_slice().iter().take(40) {
         frames.feed(&[*byte])?;
         assert!(rt; frames.next()?.is_none());

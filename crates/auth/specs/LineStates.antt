@@ -2,7 +2,7 @@
 use Rattle.std.specs.Prelude.{◌≡◌, ℕ, ◌-◌, ◌<◌, ◌≤◌, ◌==◌, Bool, List, [], ◌∷◌, length, take, slice_index}
 use Rattle.auth.specs.declared.line.LineState.{LineState}
 use Rattle.auth.specs.declared.line.LineState.TheVariants.{Open, Ended, Full}
-use Rattle.auth.specs.Lines.{cr, Pieces, pieces_of, whole_piece}
+use Rattle.auth.specs.Lines.{cr, max_line_len, Pieces, pieces_of, whole_piece}
 
 abbrev pub ends_in_cr : List ℕ → Bool
 ends_in_cr line = slice_index line (length line - 1) == cr
@@ -12,7 +12,7 @@ abbrev pub ended_piece : List ℕ → Pieces
 ended_piece line = record { first = take (length line - 2) line; later = [] ∷ [] }
 
 -- what a line is to which so many of all bytes were added
-abbrev pub Added : LineState → List ℕ → ℕ → ℕ → Type 0
-Added Open line taken all = (taken ≡ all) × (pieces_of line ≡ whole_piece line) × (length line < 1024)
-Added Ended line taken all = (pieces_of line ≡ ended_piece line) × (2 ≤ length line) × (length line ≤ 1024)
-Added Full line taken all = (pieces_of line ≡ whole_piece line) × (length line ≡ 1024)
+abbrev pub LineIs : LineState → List ℕ → ℕ → ℕ → Type 0
+LineIs Open line taken all = (taken ≡ all) × (pieces_of line ≡ whole_piece line) × (length line < max_line_len)
+LineIs Ended line taken all = (pieces_of line ≡ ended_piece line) × (2 ≤ length line) × (length line ≤ max_line_len)
+LineIs Full line taken all = (pieces_of line ≡ whole_piece line) × (length line ≡ max_line_len)
