@@ -1,0 +1,3 @@
+pub mod SenderView
+pub mod Stops
+pub mod Puts
