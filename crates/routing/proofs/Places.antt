@@ -1,5 +1,5 @@
 -- From the place of a stop to the stop.
-use Rattle.std.proofs.Common.{ℕ, ◌≡◌, ◌<◌, ◌≤◌, ◌==◌, ◌⊎◌, Option, Some, None, IsSome, IsSomeAnd, Bool, true, false, true≢false, cond, List, length, set, get_or, position, slice_get, nat_lt, refl, sym, ap, ◌∙◌, subst, arith, eq-eqb, ne_eqb, eqb-true, lt-ltb, ⊎_elim}
+use Rattle.std.proofs.Common.{ℕ, ◌≡◌, ◌<◌, ◌≤◌, ◌==◌, Option, Some, None, IsSome, IsSomeAnd, Bool, true, false, true≢false, cond, List, length, set, get_or, position, slice_get, nat_lt, refl, sym, ap, ◌∙◌, subst, arith, eq-eqb, eqb-true, lt-ltb, ⊎_elim}
 use Rattle.std.proofs.lemmas.Bool.{ltb-true}
 use Rattle.std.proofs.lemmas.Option.{cond_some, slice_get-get_or, slice_get_cases}
 use Rattle.std.proofs.lemmas.List.Folds.{find_at, find-set, find_past}

@@ -1,13 +1,12 @@
 -- What taken seats and puts leave of a sender's stops.
-use Rattle.std.proofs.Common.{ℕ, ◌≡◌, ◌+◌, ◌<◌, ◌≤◌, ◌==◌, ◌&&◌, ◌⊎◌, not, Bool, true, false, true≢false, cond, List, [], ◌∷◌, map, refl, sym, ap, ◌∙◌, subst, arith, inl, inr, eq-eqb, Option, Some, None, IfSome}
+use Rattle.std.proofs.Common.{ℕ, ◌≡◌, ◌+◌, ◌≤◌, ◌==◌, ◌&&◌, ◌⊎◌, not, Bool, true, false, true≢false, cond, List, map, refl, sym, ap, ◌∙◌, subst, arith, inl, inr, eq-eqb, Option, Some, None, IfSome}
 use Rattle.outbox.specs.declared.rule.SeatView.{SeatView}
 use Rattle.outbox.specs.Seated.{OutboxId}
-use Rattle.outbox.specs.Counts.{Rises}
-use Rattle.outbox.specs.Views.{Follows, blank, after_put}
+use Rattle.outbox.specs.Views.{Follows, after_put}
 use Rattle.routing.specs.SenderView.{StopView, SenderView}
 use Rattle.routing.specs.declared.recipient.Recipient.{Recipient}
 use Rattle.routing.specs.Stops.{number_of, stop_at, last_count, outbox_id, knows_shut, last_at, outbox_at, shut_at, Fits, AllFit, is_in, is_put, Lists, Keeps, Routed, Unrouted}
-use Rattle.routing.specs.Puts.{TakenAt, SeatsTaken, PutThere, PutAt, RoutedAt, PutTo}
+use Rattle.routing.specs.Puts.{TakenAt, SeatsTaken, PutAt, RoutedAt, PutTo}
 use Rattle.routing.proofs.Puts.{put_once}
 
 -- the last count after a put, or after its refusal

@@ -106,7 +106,11 @@ pub(crate) fn take_seats(stops: &mut Vec<Stop>, recipients: &[Recipient]) -> Res
 }
 
 /// As many shares of the bytes.
-pub(crate) fn shares_of(alloc: Global, bytes: &Bytes, count: usize) -> Result<Vec<Bytes>, AllocError>
+pub(crate) fn shares_of(
+    alloc: Global,
+    bytes: &Bytes,
+    count: usize,
+) -> Result<Vec<Bytes>, AllocError>
     ensures { IfOk result (λ v. length v.items ≡ count) }
 {
     let mut shares = Vec::with_capacity(alloc, count)?;

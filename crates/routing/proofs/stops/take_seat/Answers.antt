@@ -1,4 +1,4 @@
-use Rattle.std.proofs.Common.{◌≡◌, List, ◌++◌, ◌∷◌, [], ◌∙◌, sym, subst}
+use Rattle.std.proofs.Common.{List, ◌∷◌, [], ◌∙◌, sym, subst}
 use Rattle.routing.specs.SenderView.{StopView}
 use Rattle.routing.specs.Puts.{HasStop, SeatsTaken}
 use Rattle.routing.proofs.Places.{has_place}

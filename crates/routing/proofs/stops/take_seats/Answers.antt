@@ -14,8 +14,7 @@ pub loop-recipient-preserved : goal.loop-recipient-preserved
 loop-recipient-preserved c =
     let taken : Recipient → Type 0 = λ r. SeatsTaken (r ∷ []) c.loop-recipient.stops.items c.take_seat.new.stops.items in
     let has : Recipient → Type 0 = λ r. HasStop r.number c.take_seat.new.stops.items in
-    let there = subst taken c.recipient-item.is c.take_seat.ensures.taken in
-    (
+    let there = subst taken c.recipient-item.is c.take_seat.ensures.taken in (
       next_taken c.args.recipients.now c.loop-recipient.recipient-index c.recipient-item.result c.args.stops.now.items c.loop-recipient.stops.items _ c.loop-recipient-test.true there c.loop-recipient.invariant.0,
       next_has c.args.recipients.now c.loop-recipient.recipient-index c.recipient-item.result c.loop-recipient.stops.items _ c.loop-recipient-test.true there (subst has c.recipient-item.is c.in_ok-take_seat.ensures.has) c.loop-recipient.invariant.1,
     )

@@ -1,4 +1,4 @@
-use Rattle.std.proofs.Common.{◌≡◌, ◌+◌, ◌∙◌, Some, List, map, refl, rules, subst, sym}
+use Rattle.std.proofs.Common.{◌+◌, Some, List, map, refl, rules, subst, sym}
 use Rattle.std.proofs.lemmas.List.{with_items_is, places}
 use Rattle.routing.specs.SenderView.{StopView, SenderView}
 use Rattle.routing.specs.Stops.{number_of, Keeps, Routed}
