@@ -13,4 +13,3 @@ pub use error::RouteError;
 pub use gate::Gate;
 pub use recipient::Recipient;
 pub use sender::{Sender, Sent};
-pub use stops::Stop;

@@ -17,7 +17,7 @@ use std::sync::Wait;
 
 /// A seat at a recipient's outbox.
 #[derive(Drop)]
-pub struct Stop {
+pub(crate) struct Stop {
     recipient: u64,
     outbox: Outbox,
     seat: Seat,

@@ -1,6 +1,6 @@
 use bytes::Bytes;
 use outbox::{Item, Outbox, ROOM};
-use routing::{Gate, Recipient, RouteError, Sender, Sent};
+use routing::{Gate, Recipient, Sender, Sent};
 use std::alloc::{AllocError, Global};
 use std::cell::Cell;
 use std::sync::Wait;
@@ -177,18 +177,5 @@ fn gate_is_called_round_the_puts(rt: HostRuntime) -> Result<(), Fail> {
     assert_eq!(rt; refused.len(), 0);
     assert_eq!(rt; calls.seen.get(), 12);
     assert_eq!(rt; take_all(&rt, alloc, &outbox)?.len(), 1);
-    Ok(())
-}
-
-#[test]
-fn names_of_errors(rt: HostRuntime) -> Result<(), Fail> {
-    assert_eq!(rt;
-        RouteError::NoMemory.to_string(rt.alloc())?.as_str(),
-        "NoMemory"
-    );
-    assert_eq!(rt;
-        RouteError::Counts.to_string(rt.alloc())?.as_str(),
-        "Counts"
-    );
     Ok(())
 }
