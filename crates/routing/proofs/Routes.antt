@@ -1,0 +1,196 @@
+-- What taken seats and puts leave of a sender's stops.
+use Rattle.std.proofs.Common.{ℕ, ◌≡◌, ◌+◌, ◌≤◌, ◌==◌, ◌&&◌, ◌⊎◌, not, Bool, true, false, true≢false, cond, List, map, refl, sym, ap, ◌∙◌, subst, arith, inl, inr, eq-eqb, Option, Some, None, IfSome}
+use Rattle.outbox.specs.declared.rule.SeatView.{SeatView}
+use Rattle.outbox.specs.Seated.{OutboxId}
+use Rattle.outbox.specs.Views.{Follows, after_put}
+use Rattle.routing.specs.SenderView.{StopView, SenderView}
+use Rattle.routing.specs.declared.recipient.Recipient.{Recipient}
+use Rattle.routing.specs.Stops.{number_of, stop_at, last_count, outbox_id, knows_shut, last_at, outbox_at, shut_at, Fits, AllFit, is_in, is_put, Lists, Keeps, Routed, Unrouted}
+use Rattle.routing.specs.Puts.{TakenAt, SeatsTaken, PutAt, RoutedAt, PutTo}
+use Rattle.routing.proofs.Puts.{put_once}
+
+-- the last count after a put, or after its refusal
+last_after : Option (ℕ × ℕ) → Bool → ℕ → ℕ
+last_after None put last = last
+last_after (Some m) put last = cond put m.1 last
+
+taken_last : (recipients : List Recipient) (n : ℕ) (o p : Option StopView) → TakenAt recipients n o p → last_count p ≡ last_count o
+taken_last recipients n (Some s) p h = ap last_count h
+taken_last recipients n None None h = refl
+taken_last recipients n None (Some t) h = ap (λ (v : SeatView). v.last) h.1
+
+taken_stay : (recipients : List Recipient) (n : ℕ) (o p : Option StopView) (outbox : OutboxId) → TakenAt recipients n o p → outbox_id o ≡ Some outbox → outbox_id p ≡ Some outbox
+taken_stay recipients n (Some s) p outbox h e = ap outbox_id h ∙ e
+taken_stay recipients n None p outbox h e = absurd (cc)
+
+taken_theirs : (recipients : List Recipient) (n : ℕ) (o p : Option StopView) (outbox : OutboxId) → TakenAt recipients n o p → outbox_id p ≡ Some outbox → (outbox_id o ≡ Some outbox) ⊎ Lists recipients n outbox
+taken_theirs recipients n (Some s) p outbox h e = inl (sym (ap outbox_id h) ∙ e)
+taken_theirs recipients n None None outbox h e = absurd (cc)
+taken_theirs recipients n None (Some t) outbox h e =
+    let is : t.outbox ≡ outbox = cc in
+    let P : OutboxId → Type 0 = λ x. Lists recipients n x in inr (subst P is h.0)
+
+taken_shut : (recipients : List Recipient) (n : ℕ) (o p : Option StopView) → TakenAt recipients n o p → knows_shut o ≡ true → knows_shut p ≡ true
+taken_shut recipients n (Some s) p h e = ap knows_shut h ∙ e
+taken_shut recipients n None p h e = absurd (true≢false (sym e))
+
+taken_fits : (recipients : List Recipient) (n origin count : ℕ) (o p : Option StopView) → TakenAt recipients n o p → Fits origin count o → Fits origin count p
+taken_fits recipients n origin count (Some s) p h f = let P : Option StopView → Type 0 = λ x. Fits origin count x in subst P (sym h) f
+taken_fits recipients n origin count None None h f = tt
+taken_fits recipients n origin count None (Some t) h f =
+    let P : SeatView → Type 0 = λ v. IfSome v.origin (λ o. o ≡ origin) × (v.last ≤ count) in subst P (sym h.1) (tt, omega arith)
+
+view_last : (v w : SeatView) (origin count : ℕ) (put : Bool) → w ≡ cond put (after_put v (Some (origin, count))) v → w.last ≡ cond put count v.last
+view_last v w origin count true e = ap (λ (u : SeatView). u.last) e
+view_last v w origin count false e = ap (λ (u : SeatView). u.last) e
+
+view_same : (v w : SeatView) (put : Bool) → w ≡ cond put (after_put v None) v → w ≡ v
+view_same v w true e = e
+view_same v w false e = e
+
+-- the last counts after a broadcast
+routed_last : (origin count : ℕ) (r f : Bool) (o p : Option StopView) → RoutedAt (Some (origin, count)) r f o p → last_count p ≡ cond (r && not f) count (last_count o)
+routed_last origin count false f o p h = ap last_count h.1
+routed_last origin count true f o p h =
+    ap last_count h.3 ∙ view_last h.0.seat.view h.1.seat.view origin count (not f) h.4.view ∙ ap (λ x. cond (not f) count (last_count x)) (sym h.2)
+
+-- the last counts after a message that isn't a broadcast
+sent_last : (r f : Bool) (o p : Option StopView) → RoutedAt None r f o p → last_count p ≡ last_count o
+sent_last false f o p h = ap last_count h.1
+sent_last true f o p h = ap last_count h.3 ∙ ap (λ (v : SeatView). v.last) (view_same h.0.seat.view h.1.seat.view (not f) h.4.view) ∙ ap last_count (sym h.2)
+
+routed_outbox : (mark : Option (ℕ × ℕ)) (r f : Bool) (o p : Option StopView) → RoutedAt mark r f o p → outbox_id p ≡ outbox_id o
+routed_outbox mark false f o p h = ap outbox_id h.1
+routed_outbox mark true f o p h = ap outbox_id h.3 ∙ ap Some h.4.outbox ∙ ap outbox_id (sym h.2)
+
+not_false : (f : Bool) → not f ≡ false → f ≡ true
+not_false true e = refl
+not_false false e = absurd (true≢false e)
+
+routed_shut : (mark : Option (ℕ × ℕ)) (r f : Bool) (o p : Option StopView) → RoutedAt mark r f o p → knows_shut o ≡ true → knows_shut p ≡ true
+routed_shut mark false f o p h e = ap knows_shut h.1 ∙ e
+routed_shut mark true f o p h e = ap knows_shut h.3 ∙ (h.4.shut (ap knows_shut (sym h.2) ∙ e)).1
+
+pub routed_again : (mark : Option (ℕ × ℕ)) (r f : Bool) (o p : Option StopView) → RoutedAt mark r f o p → r ≡ true → knows_shut o ≡ true → f ≡ true
+routed_again mark false f o p h is e = absurd (true≢false (sym is))
+routed_again mark true f o p h is e = not_false f (h.4.shut (ap knows_shut (sym h.2) ∙ e)).0
+
+pub routed_listed : (mark : Option (ℕ × ℕ)) (r f : Bool) (o p : Option StopView) → RoutedAt mark r f o p → f ≡ true → (r ≡ true) × (knows_shut p ≡ true)
+routed_listed mark false f o p h is = absurd (true≢false (sym is ∙ h.0))
+routed_listed mark true f o p h is = (refl, ap knows_shut h.3 ∙ h.4.full (ap not is))
+
+view_fits : (v w : SeatView) (origin count : ℕ) (put : Bool) → w ≡ cond put (after_put v (Some (origin, count + 1))) v → IfSome v.origin (λ o. o ≡ origin) × (v.last ≤ count) → IfSome w.origin (λ o. o ≡ origin) × (w.last ≤ count + 1)
+view_fits v w origin count true e f = let P : SeatView → Type 0 = λ u. IfSome u.origin (λ o. o ≡ origin) × (u.last ≤ count + 1) in subst P (sym e) (refl, omega arith)
+view_fits v w origin count false e f =
+    let le = f.1 in let P : SeatView → Type 0 = λ u. IfSome u.origin (λ o. o ≡ origin) × (u.last ≤ count + 1) in subst P (sym e) (f.0, omega (arith, le))
+
+fits_more : (origin count : ℕ) (o : Option StopView) → Fits origin count o → Fits origin (count + 1) o
+fits_more origin count None f = tt
+fits_more origin count (Some s) f = let le = f.1 in (f.0, omega (arith, le))
+
+routed_fits : (origin count : ℕ) (r f : Bool) (o p : Option StopView) → RoutedAt (Some (origin, count + 1)) r f o p → Fits origin count o → Fits origin (count + 1) p
+routed_fits origin count false f o p h fits = let P : Option StopView → Type 0 = λ x. Fits origin (count + 1) x in subst P (sym h.1) (fits_more origin count o fits)
+routed_fits origin count true f o p h fits =
+    let P : Option StopView → Type 0 = λ x. Fits origin (count + 1) x in
+    let Q : Option StopView → Type 0 = λ x. Fits origin count x in
+    subst P (sym h.3) (view_fits h.0.seat.view h.1.seat.view origin count (not f) h.4.view (subst Q h.2 fits))
+
+sent_fits : (origin count : ℕ) (r f : Bool) (o p : Option StopView) → RoutedAt None r f o p → Fits origin count o → Fits origin count p
+sent_fits origin count false f o p h fits = let P : Option StopView → Type 0 = λ x. Fits origin count x in subst P (sym h.1) fits
+sent_fits origin count true f o p h fits =
+    let P : Option StopView → Type 0 = λ x. Fits origin count x in
+    let Q : SeatView → Type 0 = λ v. IfSome v.origin (λ o. o ≡ origin) × (v.last ≤ count) in
+    subst P (sym h.3) (subst Q (sym (view_same h.0.seat.view h.1.seat.view (not f) h.4.view)) (subst P h.2 fits))
+
+fits_follows : (origin count : ℕ) (o : Option StopView) → Fits origin count o → IfSome o (λ s. Follows s.seat.view (Some (origin, count + 1)))
+fits_follows origin count None f = tt
+fits_follows origin count (Some s) f = let le = f.1 in (f.0, omega (arith, le))
+
+-- taken seats keep what a sender knows of its stops
+pub still_fit : (recipients : List Recipient) (origin count : ℕ) (old new : List StopView) → AllFit origin count old → SeatsTaken recipients old new → AllFit origin count new
+still_fit recipients origin count old new fits taken n = taken_fits recipients n origin count (stop_at n old) (stop_at n new) (taken n) (fits n)
+
+-- so the next broadcast may be put at each
+pub all_follow : (recipients : List Recipient) (origin count : ℕ) (old new : List StopView) → AllFit origin count old → SeatsTaken recipients old new → (n : ℕ) → IfSome (stop_at n new) (λ s. Follows s.seat.view (Some (origin, count + 1)))
+all_follow recipients origin count old new fits taken n = fits_follows origin count (stop_at n new) (still_fit recipients origin count old new fits taken n)
+
+pub routed_fit : (recipients : List Recipient) (numbers refused : List ℕ) (origin count : ℕ) (old mid new : List StopView) → AllFit origin count old → SeatsTaken recipients old mid → PutTo (Some (origin, count + 1)) numbers refused mid new → AllFit origin (count + 1) new
+routed_fit recipients numbers refused origin count old mid new fits taken put n =
+    routed_fits origin count (is_in n numbers) (is_in n refused) (stop_at n mid) (stop_at n new) (put.each n) (still_fit recipients origin count old mid fits taken n)
+
+pub sent_fit : (recipients : List Recipient) (m : ℕ) (put : Bool) (origin count : ℕ) (old mid new : List StopView) → AllFit origin count old → SeatsTaken recipients old mid → PutAt m None put mid new → AllFit origin count new
+sent_fit recipients m put origin count old mid new fits taken now n =
+    sent_fits origin count (m == n) ((m == n) && not put) (stop_at n mid) (stop_at n new) (put_once None m put mid new now n) (still_fit recipients origin count old mid fits taken n)
+
+-- seats alone were taken
+pub taken_keeps : (recipients : List Recipient) (old new : SenderView) → new.origin ≡ old.origin → SeatsTaken recipients old.stops new.stops → Keeps recipients old new
+taken_keeps recipients old new is taken = record {
+  origin_is = is;
+  stay = λ n outbox e. taken_stay recipients n (stop_at n old.stops) (stop_at n new.stops) outbox (taken n) e;
+  theirs = λ n outbox e. taken_theirs recipients n (stop_at n old.stops) (stop_at n new.stops) outbox (taken n) e;
+  shut = λ n e. taken_shut recipients n (stop_at n old.stops) (stop_at n new.stops) (taken n) e;
+}
+
+pub taken_unrouted : (recipients : List Recipient) (old new : SenderView) → new.count ≡ old.count → SeatsTaken recipients old.stops new.stops → Unrouted old new
+taken_unrouted recipients old new is taken = record {
+  count_is = is;
+  lasts = λ n. taken_last recipients n (stop_at n old.stops) (stop_at n new.stops) (taken n);
+}
+
+-- a put keeps what a sender keeps
+each_keeps : (recipients : List Recipient) (mark : Option (ℕ × ℕ)) (r f : ℕ → Bool) (old new : SenderView) (mid : List StopView) → new.origin ≡ old.origin → SeatsTaken recipients old.stops mid
+    → ((n : ℕ) → RoutedAt mark (r n) (f n) (stop_at n mid) (stop_at n new.stops)) → Keeps recipients old new
+each_keeps recipients mark r f old new mid is taken each = record {
+  origin_is = is;
+  stay = λ n outbox e. same n ∙ taken_stay recipients n (stop_at n old.stops) (stop_at n mid) outbox (taken n) e;
+  theirs = λ n outbox e. taken_theirs recipients n (stop_at n old.stops) (stop_at n mid) outbox (taken n) (sym (same n) ∙ e);
+  shut = λ n e. routed_shut mark (r n) (f n) (stop_at n mid) (stop_at n new.stops) (each n) (taken_shut recipients n (stop_at n old.stops) (stop_at n mid) (taken n) e);
+}
+  where
+    same : (n : ℕ) → outbox_at n new.stops ≡ outbox_at n mid
+    same n = routed_outbox mark (r n) (f n) (stop_at n mid) (stop_at n new.stops) (each n)
+
+pub routed_keeps : (recipients : List Recipient) (mark : Option (ℕ × ℕ)) (numbers refused : List ℕ) (old new : SenderView) (mid : List StopView) → new.origin ≡ old.origin → SeatsTaken recipients old.stops mid
+    → PutTo mark numbers refused mid new.stops → Keeps recipients old new
+routed_keeps recipients mark numbers refused old new mid is taken put = each_keeps recipients mark (λ n. is_in n numbers) (λ n. is_in n refused) old new mid is taken put.each
+
+pub sent_keeps : (recipients : List Recipient) (m : ℕ) (put : Bool) (old new : SenderView) (mid : List StopView) → new.origin ≡ old.origin → SeatsTaken recipients old.stops mid → PutAt m None put mid new.stops → Keeps recipients old new
+sent_keeps recipients m put old new mid is taken now = each_keeps recipients None (λ n. m == n) (λ n. (m == n) && not put) old new mid is taken (put_once None m put mid new.stops now)
+
+pub sent_unrouted : (recipients : List Recipient) (m : ℕ) (put : Bool) (old new : SenderView) (mid : List StopView) → new.count ≡ old.count → SeatsTaken recipients old.stops mid → PutAt m None put mid new.stops → Unrouted old new
+sent_unrouted recipients m put old new mid is taken now = record {
+  count_is = is;
+  lasts = λ n.
+      sent_last (m == n) ((m == n) && not put) (stop_at n mid) (stop_at n new.stops) (put_once None m put mid new.stops now n)
+      ∙ taken_last recipients n (stop_at n old.stops) (stop_at n mid) (taken n);
+}
+
+pub routed : (recipients : List Recipient) (refused : List ℕ) (origin : ℕ) (old new : SenderView) (mid : List StopView) → new.count ≡ old.count + 1 → SeatsTaken recipients old.stops mid
+    → PutTo (Some (origin, old.count + 1)) (map number_of recipients) refused mid new.stops → Routed recipients refused old new
+routed recipients refused origin old new mid is taken put = record {
+  count_is = is;
+  lasts = λ n.
+      routed_last origin (old.count + 1) (is_in n numbers) (is_in n refused) (stop_at n mid) (stop_at n new.stops) (put.each n)
+      ∙ ap (λ l. cond (is_put n numbers refused) (old.count + 1) l) (taken_last recipients n (stop_at n old.stops) (stop_at n mid) (taken n))
+      ∙ ap (λ c. cond (is_put n numbers refused) c (last_at n old.stops)) (sym is);
+  rising = put.rising;
+  listed = λ n e. routed_listed mark (is_in n numbers) (is_in n refused) (stop_at n mid) (stop_at n new.stops) (put.each n) e;
+  again = λ n e shut.
+      routed_again mark (is_in n numbers) (is_in n refused) (stop_at n mid) (stop_at n new.stops) (put.each n) e
+      (taken_shut recipients n (stop_at n old.stops) (stop_at n mid) (taken n) shut);
+}
+  where
+    numbers : List ℕ
+    numbers = map number_of recipients
+
+    mark : Option (ℕ × ℕ)
+    mark = Some (origin, old.count + 1)
+
+-- an outbox that refuses a message is shut, and one that is known to be shut refuses it
+pub sent_full : (m : ℕ) (mid new : List StopView) → PutAt m None false mid new → shut_at m new ≡ true
+sent_full m mid new now = (routed_listed None (m == m) ((m == m) && true) (stop_at m mid) (stop_at m new) (put_once None m false mid new now m) (ap (λ b. b && true) (eq-eqb m m refl))).1
+
+pub sent_shut : (recipients : List Recipient) (m : ℕ) (put : Bool) (old mid new : List StopView) → SeatsTaken recipients old mid → PutAt m None put mid new → shut_at m old ≡ true → put ≡ false
+sent_shut recipients m put old mid new taken now e =
+    let was : now.before.seat.knows_shut ≡ true = ap knows_shut (sym now.was) ∙ taken_shut recipients m (stop_at m old) (stop_at m mid) (taken m) e in
+    (now.change.shut was).0
