@@ -36,7 +36,14 @@ fn connect(state: &mut BusState<()>) -> Option<u64> {
 
 /// The state of a bus to which connections came until all rules were given; of no rules one with a connection alone.
 pub(crate) fn state_of(alloc: Global, rules: Rules<'_>) -> Option<BusState<()>> {
-    let mut state = BusState::new(alloc, IndexKey { first: 1, second: 2 }).ok()?;
+    let mut state = BusState::new(
+        alloc,
+        IndexKey {
+            first: 1,
+            second: 2,
+        },
+    )
+    .ok()?;
     let mut connection = connect(&mut state)?;
     if rules.lines.is_empty() {
         return Some(state);
