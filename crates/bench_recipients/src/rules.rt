@@ -48,14 +48,14 @@ pub(crate) fn state_of(alloc: Global, rules: Rules<'_>) -> Option<BusState<()>> 
     if rules.lines.is_empty() {
         return Some(state);
     }
-    let mut given = 0;
+    let mut left = rules.of_each;
     for line in rules.lines.split('\n') {
-        if given == rules.of_each {
+        if left == 0 {
             connection = connect(&mut state)?;
-            given = 0;
+            left = rules.of_each;
         }
         add_rule(alloc, &mut state, connection, line)?;
-        given += 1;
+        left = left.saturating_sub(1);
     }
     Some(state)
 }
