@@ -12,4 +12,5 @@ mod Sound
 mod Removing
 mod Freeing
 mod Gone
-mod OwnCounts
+pub mod OwnCounts
+mod SlotNumbers

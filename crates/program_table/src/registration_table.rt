@@ -33,13 +33,13 @@ impl Model for RegistrationTable {
 }
 
 impl RegistrationTable {
-    ghost use Rattle.std.specs.Prelude.{◌≡◌, ℕ, true, Ok, IfOk, Some, option_map, is_ok};
+    ghost use Rattle.std.specs.Prelude.{◌≡◌, ◌<◌, ℕ, true, Ok, IfOk, IfSome, Some, option_map, is_ok};
     ghost use Rattle.message_view.specs.Message.{Message};
     ghost use Rattle.message_view.specs.Valid.{Valid};
     ghost use Rattle.match_rule.specs.RuleTree.{sender_name_of};
     ghost use Rattle.summary.specs.Sets.{has_slot, IsSet};
     ghost use Rattle.owners.specs.Queues.{owner_of};
-    ghost use Rattle.owners.specs.Registry.{next_name, least_of};
+    ghost use Rattle.owners.specs.Registry.{max_names, next_name, least_of};
     ghost use Rattle.entry_table.specs.declared.entry.Filter.TheVariants as filters;
     ghost use Rattle.entry_table.specs.OfferedEntries.{AreOffered};
     ghost use Rattle.program_table.specs.SlotNames.{slot_next};
@@ -255,7 +255,8 @@ impl RegistrationTable {
 
     /// The slot that a name has, or gets when it needs one.
     pub(crate) fn slot_next(&self, name: &str) -> Option<u16>
-        ensures { result ≡ slot_next name.now self.now.slots }
+        ensures slot { result ≡ slot_next name.now self.now.slots }
+        ensures small { IfSome result (λ slot. slot < max_names) }
     {
         self.names.slot_next(name)
     }

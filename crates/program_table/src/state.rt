@@ -34,12 +34,12 @@ impl<M: Mailbox> Model for BusState<M> {
 }
 
 impl<M: Mailbox> BusState<M> {
-    ghost use Rattle.std.specs.Prelude.{◌≡◌, ◌<◌, ℕ, true, false, None, IfOk, IfErr, MatchResult, MatchOption, option_map, option_copied, slice_get};
+    ghost use Rattle.std.specs.Prelude.{◌≡◌, ◌<◌, ℕ, true, false, None, IfOk, IfErr, IfSome, MatchResult, MatchOption, option_map, option_copied, slice_get};
     ghost use Rattle.message_view.specs.Message.{Message};
     ghost use Rattle.message_view.specs.Valid.{Valid};
     ghost use Rattle.summary.specs.Sets.{has_slot, IsSet};
     ghost use Rattle.owners.specs.Queues.{owner_of};
-    ghost use Rattle.owners.specs.Registry.{next_name};
+    ghost use Rattle.owners.specs.Registry.{max_names, next_name};
     ghost use Rattle.entry_table.specs.OfferedEntries.{AreOffered};
     ghost use Rattle.program_table.specs.Connections.{numbers_of, mailbox_of, commands_of, is_connected};
     ghost use Rattle.program_table.specs.SlotNames.{slot_next};
@@ -278,7 +278,8 @@ impl<M: Mailbox> BusState<M> {
 
     /// The slot that a name has, or gets when it needs one; None where all are used.
     pub fn slot_next(&self, name: &str) -> Option<u16>
-        ensures { result ≡ slot_next name.now self.now.registrations.slots }
+        ensures slot { result ≡ slot_next name.now self.now.registrations.slots }
+        ensures small { IfSome result (λ slot. slot < max_names) }
     {
         self.registrations.slot_next(name)
     }
