@@ -28,5 +28,5 @@ pub slot_below : (name : List ℕ) (names : Registry) (o : Option ℕ) → o ≡
 slot_below name names o e is =
     subst (λ (x : Option ℕ). IfSome x (λ slot. slot < max_names)) (sym e)
     (either_below max_names (slot_of name names.slots) (first_free names.slots)
-        (below (length names.slots) max_names (slot_of name names.slots) is.slots (position_below (is_held_by name) 0 names.slots))
-        (below (length names.slots) max_names (first_free names.slots) is.slots (position_below is_none 0 names.slots)))
+    (below (length names.slots) max_names (slot_of name names.slots) is.slots (position_below (is_held_by name) 0 names.slots))
+    (below (length names.slots) max_names (first_free names.slots) is.slots (position_below is_none 0 names.slots)))

@@ -1,6 +1,4 @@
-use Rattle.std.proofs.Common.{◌≡◌, ◌<◌, ◌∙◌, List, Option, length, ap, sym}
-use Rattle.std.specs.Prelude.{IfSome}
-use Rattle.owners.specs.Registry.{max_names}
+use Rattle.std.proofs.Common.{◌∙◌, ap}
 use Rattle.program_table.specs.SlotNames.{slot_next}
 use Rattle.program_table.specs.Registrations.{Registrations}
 use Rattle.program_table.proofs.Kept.{next_kept}
