@@ -1,0 +1,3 @@
+pub mod Errors
+pub mod Passes
+pub mod Calls
