@@ -43,10 +43,10 @@ module _ {M : Type 0} where
       let e : commands_of v.connection (after l).connections ≡ v.took = ap (λ (n : ℕ). commands_of n (after l).connections) (sym h.at) ∙ h.counts ∙ h.was in
       counted v.connection v.took l h.legal (h.taken.some (λ (z : v.connection ≡ 0). h.there (h.at ∙ z))) e
 
-  begins_all : (v w : PassState M) (told : List (Command M)) (before : Publication M) → IsTold v w told before → IsPrefix v.seen before.history
+  pub begins_all : (v w : PassState M) (told : List (Command M)) (before : Publication M) → IsTold v w told before → IsPrefix v.seen before.history
   begins_all v w told before t = subst (λ (l : List (Command M)). IsPrefix v.seen l) t.told_is t.begins
 
-  seen_all : (v w : PassState M) (told : List (Command M)) (before : Publication M) → IsTold v w told before → w.seen ≡ before.history
+  pub seen_all : (v w : PassState M) (told : List (Command M)) (before : Publication M) → IsTold v w told before → w.seen ≡ before.history
   seen_all v w told before t = ap (λ (p : PassState M). p.seen) t.same ∙ t.told_is
 
   -- a refused command
@@ -56,15 +56,17 @@ module _ {M : Type 0} where
   turned_down v w told before next connection took command refusal error t h said more is =
       let l = before.history in
       let off : is_accepted (after l) command ≡ false = refused (after l) command refusal said in
-      let pre : IsPrefix v.seen l = begins_all v w told before t in
-      (record {
-        begins = pre;
-        refusal = refusal;
-        replies = said;
-        error_is = is;
-        published = more ∙ ap (λ (b : Bool). if b then l ++ command ∷ [] else l) off;
-        seen = t.same ∙ ap (λ (k : List (Command M)). let p : PassState M = record v { seen = k } in p) t.told_is;
-      }, keeps v w l pre h.taken.own (own_count v before connection took h) (seen_all v w told before t) (ap (λ (p : PassState M). p.took) t.same))
+      let pre : IsPrefix v.seen l = begins_all v w told before t in (
+        record {
+          begins = pre;
+          refusal = refusal;
+          replies = said;
+          error_is = is;
+          published = more ∙ ap (λ (b : Bool). if b then l ++ command ∷ [] else l) off;
+          seen = t.same ∙ ap (λ (k : List (Command M)). let p : PassState M = record v { seen = k } in p) t.told_is;
+        },
+        keeps v w l pre h.taken.own (own_count v before connection took h) (seen_all v w told before t) (ap (λ (p : PassState M). p.took) t.same),
+      )
 
   -- the command is accepted, and is of the pass's connection
   pub record IsGained (v : PassState M) (before next : Publication M) (command : Command M) : Type 0 where
@@ -100,7 +102,7 @@ module _ {M : Type 0} where
       let n = own_count v before connection took h in
       let k : w.took ≡ v.took = ap (λ (p : PassState M). p.took) t.same in
       let e : own_commands connection front ≡ own_commands v.connection l ++ command ∷ [] =
-          ap (λ (c : ℕ). own_commands c front) h.at ∙ ap (own_commands v.connection) (is ∙ a.more) ∙ own-push l v.connection command a.of_connection in
+      ap (λ (c : ℕ). own_commands c front) h.at ∙ ap (own_commands v.connection) (is ∙ a.more) ∙ own-push l v.connection command a.of_connection in
       omega (arith, n, k, ap length e, length-append (own_commands v.connection l) (command ∷ []))
 
   pub finished : (v w x : PassState M) (told front : List (Command M)) (before next : Publication M) (connection took : ℕ) (command : Command M) (reply : Reply) → IsTold v w told before

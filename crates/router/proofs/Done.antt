@@ -1,6 +1,6 @@
 -- One more command of a pass, and none.
-use Rattle.std.proofs.Common.{◌≡◌, ◌≢◌, ℕ, ◌+◌, ◌^◌, ◌<◌, ◌≤◌, ◌==◌, Bool, true, false, List, [], ◌∷◌, ◌++◌, length, refl, sym, ap, ◌∙◌, subst, arith, length-append}
-use Rattle.std.specs.Prelude.{if◌then◌else◌}
+use Rattle.std.proofs.Common.{◌≡◌, ◌≢◌, ℕ, ◌+◌, ◌^◌, ◌<◌, ◌≤◌, ◌==◌, Bool, true, false, List, [], ◌∷◌, ◌++◌, length, Option, Some, None, refl, sym, ap, ◌∙◌, subst, arith, length-append}
+use Rattle.std.specs.Prelude.{if◌then◌else◌, MatchOption}
 use mathlib.Core.List.{IsPrefix}
 use Rattle.program_table.specs.declared.command.Command.{Command}
 use Rattle.program_table.specs.declared.command.Reply.{Reply}
@@ -9,6 +9,7 @@ use Rattle.program_table.specs.Does.{is_accepted, reply_to}
 use Rattle.program_table.specs.History.{after, own_commands, own_from, is_command_of, IsHistory}
 use Rattle.published.specs.Publication.{Publication}
 use Rattle.published.proofs.Counted.{commands-owned}
+use Rattle.published.proofs.Fronts.{prefix_self}
 use Rattle.router.specs.Passes.{PassState, HasTaken}
 use Rattle.router.specs.Calls.{IsDone, KeepsOwn}
 use Rattle.router.proofs.Owned.{own-push, own_grows, own_same}
@@ -63,3 +64,8 @@ module _ {M : Type 0} where
         some = λ (z : w.connection ≢ 0). let k : 0 < v.took = h.some (λ (y : v.connection ≡ 0). z (same ∙ y)) in omega (arith, k, took);
         own = omega (arith, was, more, e, took);
       }
+
+-- what is seen after a visit, or where there was none
+pub seen_more : {A C : Type 0} (o : Option A) (seen next : List C) (P : A → Type 0) → MatchOption o (next ≡ seen) (λ x. IsPrefix seen next × P x) → IsPrefix seen next
+seen_more None seen next P h = subst (λ l. IsPrefix seen l) (sym h) (prefix_self seen)
+seen_more (Some x) seen next P h = h.0

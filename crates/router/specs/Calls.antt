@@ -70,3 +70,27 @@ module _ {M : Type 0} where
   abbrev pub Answers : Bool → PassState M → Publication M → Command M → Result Reply BusError → PassState M → Publication M → Type 0
   Answers closes v before command (Ok reply) w next = IsDone v before command reply w next × (w.connection ≡ v.connection) × (w.is_closed ≡ closes)
   Answers closes v before command (Err error) w next = (IsRefused v before command error w next × KeepsOwn v w) ⊎ IsClosed v before error w next
+
+  -- the same of a call through the bus, for what was published when it had the lock
+  abbrev pub AnswersOnce : Bool → PassState M → Command M → Result Reply BusError → PassState M → Type 0
+  AnswersOnce closes v command result w = (before : Publication M) × (next : Publication M) × Answers closes v before command result w next
+
+  -- why a Connect is Closed, whatever the state says
+  pub data IsPast (v : PassState M) (before next : Publication M) : Type 0 where
+    -- the pass was connected already
+    connected : v.connection ≢ 0 → IsPast v before next
+    -- its close was accepted
+    closed : v.is_closed ≡ true → IsPast v before next
+    -- the bus has ended
+    ended : next.has_ended ≡ true → IsPast v before next
+    -- fewer commands are published than it has seen
+    fewer : length before.history < length v.seen → IsPast v before next
+
+  -- the call that makes the pass's connection
+  abbrev pub Connects : PassState M → Publication M → M → Result Reply BusError → PassState M → Publication M → Type 0
+  Connects v before mailbox (Ok reply) w next = IsDone v before (Connect mailbox) reply w next × (reply ≡ Connected w.connection) × (w.is_closed ≡ false)
+  Connects v before mailbox (Err error) w next =
+      IsRefused v before (Connect mailbox) error w next ⊎ (IsStopped v before w next × (((error ≡ errors.Closed) × IsPast v before next) ⊎ (error ≡ errors.NoMemory)))
+
+  abbrev pub ConnectsOnce : PassState M → M → Result Reply BusError → PassState M → Type 0
+  ConnectsOnce v mailbox result w = (before : Publication M) × (next : Publication M) × Connects v before mailbox result w next

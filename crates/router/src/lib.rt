@@ -3,11 +3,15 @@
 //! those that were accepted of it, each once and in order.
 #![tactic(auto)]
 
+mod bus;
 mod calls;
 mod control;
 mod error;
 mod pass;
+mod reading;
 
+pub use bus::Bus;
 pub use control::Control;
 pub use error::BusError;
 pub use pass::Pass;
+pub use reading::Source;

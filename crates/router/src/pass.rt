@@ -1,11 +1,22 @@
 // What one user of the bus has seen and done.
 
-ghost use Rattle.std.specs.Prelude.{◌≡◌, ◌≢◌, ◌⊎◌, ◌+◌, ◌≤◌, ◌<◌, ◌^◌, true, length};
+ghost use Rattle.std.specs.Prelude.{◌≡◌, ◌≢◌, ◌⊎◌, ◌+◌, ◌≤◌, ◌<◌, ◌^◌, true, length, MatchOption, MatchResult};
 ghost use mathlib.Core.List.{IsPrefix};
-ghost use Rattle.program_table.specs.History.{own_commands};
+ghost use Rattle.message_view.specs.Message.{Message};
+ghost use Rattle.message_view.specs.Valid.{Valid};
+ghost use Rattle.owners.specs.Queues.{owner_of};
+ghost use Rattle.program_table.specs.History.{after, own_commands};
+ghost use Rattle.program_table.specs.Recipients.{AreRecipients};
 ghost use Rattle.router.specs.Passes.{PassState, HasTaken, new_pass};
 
+use crate::error::BusError;
+use crate::reading::{found_owner, found_recipients};
+use arrayvec::ArrayVec;
+use core::mem::replace_with;
 use crossbeam_utils::rule::Protocol;
+use fan_out::MAX_RECIPIENTS;
+use message_view::View;
+use owners::WellKnown;
 use program_table::{Command, Mailbox};
 use published::{Front, Naming, Published, Shown, Sight};
 use std::collections::LinkedList;
@@ -128,5 +139,43 @@ impl<J: Naming, M: Mailbox> Pass<J, M> {
             took: _,
         } = self;
         sight
+    }
+
+    // Enters the published state for the recipients.
+    pub(crate) fn look_for_recipients(
+        &mut self,
+        sender: Option<u64>,
+        view: &View<'_>,
+    ) -> Result<ArrayVec<u64, MAX_RECIPIENTS>, BusError>
+        ensures found { MatchResult result
+            (λ found. IsPrefix self.old.seen self.new.seen × ((m : Message) → Valid view.now m → AreRecipients (after self.new.seen) sender m found.items))
+            (λ error. (error ≡ BusError.Closed) × (self.new.seen ≡ self.old.seen)) }
+        ensures same { self.new ≡ record self.old { seen = self.new.seen } }
+    {
+        let found = replace_with(
+            &mut self.sight,
+            (sender, view),
+            |sight, asked| -> (Sight<J, M>, Option<ArrayVec<u64, MAX_RECIPIENTS>>)
+                ensures { MatchOption result.1 (result.0 ≡ sight) (λ found. IsPrefix sight result.0 × ((m : Message) → Valid asked.entry.1.now m → AreRecipients (after result.0) asked.entry.0 m found.items)) }
+            { found_recipients(sight, asked.0, asked.1) },
+        );
+        found.ok_or(BusError::Closed)
+    }
+
+    // Enters the published state for a name's owner.
+    pub(crate) fn look_for_owner(&mut self, name: &WellKnown) -> Result<Option<u64>, BusError>
+        ensures found { MatchResult result
+            (λ found. IsPrefix self.old.seen self.new.seen × (found ≡ owner_of name.now (after self.new.seen).registrations.claims))
+            (λ error. (error ≡ BusError.Closed) × (self.new.seen ≡ self.old.seen)) }
+        ensures same { self.new ≡ record self.old { seen = self.new.seen } }
+    {
+        let found = replace_with(
+            &mut self.sight,
+            name,
+            |sight, asked| -> (Sight<J, M>, Option<Option<u64>>)
+                ensures { MatchOption result.1 (result.0 ≡ sight) (λ found. IsPrefix sight result.0 × (found ≡ owner_of asked.entry.now (after result.0).registrations.claims)) }
+            { found_owner(sight, asked) },
+        );
+        found.ok_or(BusError::Closed)
     }
 }

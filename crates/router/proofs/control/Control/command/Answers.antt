@@ -64,8 +64,7 @@ returns g c =
     } in
     let said = c.in-Ok.ensures.reply ∙ ap (λ (p : Publication g.row.M.Denot). reply_to (after p.history) c.args.command) c.self.view_is in
     let more = c.in-Ok.ensures.history ∙ ap (λ (p : Publication g.row.M.Denot). with_next p.history c.args.command) c.self.view_is in
-    let gain : IsGained v b c.publish.new.self c.args.command = gained v b c.publish.new.self c.args.command (λ refusal e. c.in_default.not-Refused refusal (said ∙ e)) more (c.requires (after b.history)) in
-    (
+    let gain : IsGained v b c.publish.new.self c.args.command = gained v b c.publish.new.self c.args.command (λ refusal e. c.in_default.not-Refused refusal (said ∙ e)) more (c.requires (after b.history)) in (
       finished v c.tell.new.pass c.count_in.new.self c.in_ok-tell.field-0 c.front.result b c.publish.new.self c.connection-connection.result c.took-took.result c.args.command c.in-Ok.reply told count gain c.front.ensures said c.count_in.ensures,
       ap (λ (p : PassState g.row.M.Denot). p.connection) c.count_in.ensures ∙ c.connection-connection.ensures,
       ap (λ (p : PassState g.row.M.Denot). p.is_closed) c.count_in.ensures ∙ ap (λ (p : PassState g.row.M.Denot). p.is_closed) c.in_ok-tell.ensures.2 ∙ sym c.if-is_closed.ensures,
