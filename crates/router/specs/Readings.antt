@@ -3,7 +3,7 @@ use Rattle.std.specs.Prelude.{◌≡◌, ◌⊎◌, ℕ, false, List, Result, Ok
 use Rattle.bpf_code.specs.declared.instruction.Ins.{Ins}
 use Rattle.bpf_verify.specs.declared.error.VerifyError.{VerifyError}
 use Rattle.bpf_verify.specs.Fault.{IsFault}
-use Rattle.bpf_code.specs.WellFormed.{WellFormed}
+use Rattle.bpf_code.specs.Program.{WellFormed}
 use Rattle.match_rule.specs.declared.fault.RuleError.{RuleError}
 use Rattle.match_rule.specs.declared.fault.RuleError.TheVariants as faults
 use Rattle.match_rule.specs.Grammar.{ReadsAs}

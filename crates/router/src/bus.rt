@@ -6,16 +6,19 @@ ghost use Rattle.program_table.specs.declared.command.Command.TheVariants.{Detac
 ghost use Rattle.published.specs.Publication.{Publication};
 ghost use Rattle.router.specs.Passes.{PassState};
 ghost use Rattle.router.specs.Calls.{AnswersOnce, ConnectsOnce};
+ghost use Rattle.router.specs.Readings.{RemovesMatchOnce, AttachesOnce};
 
 use crate::control::Control;
 use crate::error::BusError;
 use crate::pass::Pass;
+use bpf_code::Ins;
 use entry_table::IndexKey;
 use owners::WellKnown;
 use program_table::{Mailbox, Reply};
 use published::{Front, Naming, Opened};
 use std::alloc::Global;
 use std::sync::{Mutex, Wait};
+use summary::Edition;
 
 /// A bus, which threads share. Each call takes its lock.
 #[derive(Drop)]
@@ -68,6 +71,33 @@ impl<J: Naming, M: Mailbox, R: Wait + Drop> Bus<J, M, R> {
         ensures { ConnectsOnce pass.old mailbox result pass.new }
     {
         self.control.lock(rt).connect(pass, mailbox)
+    }
+
+    /// Takes away the oldest entry with an equal rule (RemoveMatch).
+    pub fn remove_match(
+        &self,
+        rt: &impl Wait,
+        alloc: Global,
+        pass: &mut Pass<J, M>,
+        text: &str,
+    ) -> Result<Reply, BusError>
+        ensures { RemovesMatchOnce text.now pass.old result pass.new }
+    {
+        self.control.lock(rt).remove_match(alloc, pass, text)
+    }
+
+    /// Attaches a program that reads images of this edition.
+    pub fn attach(
+        &self,
+        rt: &impl Wait,
+        alloc: Global,
+        pass: &mut Pass<J, M>,
+        edition: Edition,
+        program: Vec<Ins>,
+    ) -> Result<Reply, BusError>
+        ensures { AttachesOnce edition program.items pass.old result pass.new }
+    {
+        self.control.lock(rt).attach(alloc, pass, edition, program)
     }
 
     /// Asks for a name (RequestName).

@@ -2,6 +2,7 @@
 
 ghost use Rattle.std.specs.Prelude.{◌≡◌};
 ghost use Rattle.router.specs.Errors.{error_of};
+ghost use Rattle.router.specs.Readings.{rule_error};
 
 use bpf_verify::VerifyError;
 use match_rule::RuleError;
@@ -54,6 +55,16 @@ impl BusError {
             Refusal::NoAttachment => BusError::NoAttachment,
             Refusal::Closed => BusError::Closed,
             Refusal::Stale => BusError::Closed,
+        }
+    }
+
+    /// The error of a text that isn't read.
+    pub(crate) fn of_text(fault: RuleError) -> BusError
+        ensures { result ≡ rule_error fault }
+    {
+        match fault {
+            RuleError::NoMemory => BusError::NoMemory,
+            fault => BusError::Rule(fault),
         }
     }
 }

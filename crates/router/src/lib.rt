@@ -9,6 +9,7 @@ mod control;
 mod error;
 mod pass;
 mod reading;
+mod texts;
 
 pub use bus::Bus;
 pub use control::Control;
