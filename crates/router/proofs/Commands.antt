@@ -1,5 +1,5 @@
 -- What a command of a pass's connection comes to.
-use Rattle.std.proofs.Common.{◌≡◌, ℕ, ◌+◌, ◌^◌, ◌<◌, ◌≤◌, Bool, true, false, List, [], ◌∷◌, ◌++◌, length, refl, sym, ap, ◌∙◌, subst, arith, length-append}
+use Rattle.std.proofs.Common.{◌≡◌, ℕ, ◌+◌, ◌^◌, ◌<◌, ◌≤◌, Bool, true, false, List, [], ◌∷◌, ◌++◌, length, sym, ap, ◌∙◌, subst, arith, length-append}
 use Rattle.std.specs.Prelude.{if◌then◌else◌}
 use mathlib.Core.List.{IsPrefix}
 use Rattle.program_table.specs.declared.command.Command.{Command}
@@ -7,7 +7,6 @@ use Rattle.program_table.specs.declared.command.Reply.{Reply}
 use Rattle.program_table.specs.declared.command.Reply.TheVariants.{Refused}
 use Rattle.program_table.specs.declared.refusal.Refusal.{Refusal}
 use Rattle.program_table.specs.Connections.{commands_of}
-use Rattle.program_table.specs.State.{State}
 use Rattle.program_table.specs.Does.{is_accepted, reply_to}
 use Rattle.program_table.specs.History.{after, own_commands, is_command_of, IsHistory}
 use Rattle.published.specs.Publication.{Publication, with_next}

@@ -1,12 +1,12 @@
 -- One more command of a pass, and none.
-use Rattle.std.proofs.Common.{◌≡◌, ◌≢◌, ℕ, ◌+◌, ◌^◌, ◌<◌, ◌≤◌, ◌==◌, Bool, true, false, List, [], ◌∷◌, ◌++◌, length, Option, Some, None, refl, sym, ap, ◌∙◌, subst, arith, length-append}
+use Rattle.std.proofs.Common.{◌≡◌, ◌≢◌, ℕ, ◌+◌, ◌<◌, ◌≤◌, Bool, true, false, List, [], ◌∷◌, ◌++◌, length, Option, Some, None, refl, sym, ap, ◌∙◌, subst, arith, length-append}
 use Rattle.std.specs.Prelude.{if◌then◌else◌, MatchOption}
 use mathlib.Core.List.{IsPrefix}
 use Rattle.program_table.specs.declared.command.Command.{Command}
 use Rattle.program_table.specs.declared.command.Reply.{Reply}
 use Rattle.program_table.specs.Connections.{is_connected, commands_of}
 use Rattle.program_table.specs.Does.{is_accepted, reply_to}
-use Rattle.program_table.specs.History.{after, own_commands, own_from, is_command_of, IsHistory}
+use Rattle.program_table.specs.History.{after, own_commands, is_command_of, IsHistory}
 use Rattle.published.specs.Publication.{Publication}
 use Rattle.published.proofs.Counted.{commands-owned}
 use Rattle.published.proofs.Fronts.{prefix_self}

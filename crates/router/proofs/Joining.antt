@@ -1,8 +1,7 @@
 -- What the Connect of a pass comes to.
 use Rattle.std.proofs.Common.{◌≡◌, ℕ, ◌+◌, ◌==◌, ◌^◌, ◌<◌, ◌≤◌, ◌⊎◌, ⊎_elim, inl, inr, Bool, true, false, List, [], ◌∷◌, ◌++◌, length, refl, sym, ap, ◌∙◌, subst, arith, length-append}
-use Rattle.std.specs.Prelude.{Result, Ok, Err, nat_le, if◌then◌else◌}
+use Rattle.std.specs.Prelude.{Ok, Err, nat_le, if◌then◌else◌}
 use Rattle.std.proofs.lemmas.Bool.Decides.{nat_tests}
-use mathlib.Core.List.{IsPrefix}
 use Rattle.program_table.specs.declared.command.Command.{Command}
 use Rattle.program_table.specs.declared.command.Command.TheVariants.{Connect}
 use Rattle.program_table.specs.declared.command.Reply.{Reply}
@@ -23,7 +22,7 @@ use Rattle.router.specs.Passes.{PassState, HasTaken}
 use Rattle.router.specs.Calls.{IsDone, IsRefused}
 use Rattle.router.proofs.Owned.{own-push}
 use Rattle.router.proofs.Done.{done}
-use Rattle.router.proofs.Commands.{IsTold, IsGained, begins_all, seen_all}
+use Rattle.router.proofs.Commands.{IsTold, begins_all}
 
 same_number : (m n : ℕ) → m ≡ n → (m == n) ≡ true
 same_number m n e = grind (arith, nat_tests)

@@ -1,5 +1,5 @@
 -- What the calls of a pass do, under the lock of the bus.
-use Rattle.std.specs.Prelude.{◌≡◌, ◌≢◌, ◌⊎◌, ℕ, ◌+◌, ◌<◌, Bool, true, false, List, [], ◌∷◌, ◌++◌, length, Result, Ok, Err}
+use Rattle.std.specs.Prelude.{◌≡◌, ◌≢◌, ◌⊎◌, ◌+◌, ◌<◌, Bool, true, false, [], ◌∷◌, ◌++◌, length, Result, Ok, Err}
 use mathlib.Core.List.{IsPrefix}
 use Rattle.program_table.specs.declared.command.Command.{Command}
 use Rattle.program_table.specs.declared.command.Command.TheVariants.{Connect}

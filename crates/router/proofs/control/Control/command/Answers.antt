@@ -1,5 +1,4 @@
-use Rattle.std.proofs.Common.{◌≡◌, ℕ, ◌++◌, ◌∷◌, Bool, true, false, List, sym, ap, ◌∙◌, subst, inl, refl}
-use Rattle.program_table.specs.declared.command.Command.{Command}
+use Rattle.std.proofs.Common.{sym, ap, ◌∙◌, inl}
 use Rattle.program_table.specs.Connections.{commands_of}
 use Rattle.program_table.specs.State.{State}
 use Rattle.program_table.specs.Does.{reply_to}

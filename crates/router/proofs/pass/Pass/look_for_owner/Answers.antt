@@ -1,4 +1,4 @@
-use Rattle.std.proofs.Common.{◌≡◌, refl}
+use Rattle.std.proofs.Common.{refl}
 use Rattle.router.specs.Passes.{PassState}
 use Rattle.router.proofs.Done.{still_taken, seen_more}
 use Rattle.router.proofs.pass.Pass.look_for_owner.Goals as goal
