@@ -1,5 +1,6 @@
 pub mod Fronts
 pub mod Histories
+pub mod Connected
 pub mod Counted
 pub mod Refused
 pub mod Adding

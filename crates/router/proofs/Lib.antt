@@ -1,0 +1,4 @@
+pub mod Owned
+pub mod Done
+pub mod Commands
+pub mod Joining

@@ -1,0 +1,4 @@
+pub mod Errors
+pub mod Passes
+pub mod Calls
+pub mod Readings

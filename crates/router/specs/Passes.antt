@@ -1,0 +1,30 @@
+-- What a pass has seen and done.
+use Rattle.std.specs.Prelude.{◌≡◌, ◌≢◌, ℕ, ◌≤◌, ◌<◌, Bool, false, List, length, Option, Some, None}
+use Rattle.program_table.specs.declared.command.Command.{Command}
+use Rattle.program_table.specs.History.{own_commands}
+use Rattle.router.specs.declared.reading.Source.{Source}
+use Rattle.router.specs.declared.reading.Source.TheVariants.{Own, Bus}
+
+-- the history that it has seen; the connection that its connect made, 0 before that; whether its close was accepted; and
+-- how many of its calls were accepted
+pub record PassState (M : Type 0) : Type 0 where
+  pub seen : List (Command M)
+  pub connection : ℕ
+  pub is_closed : Bool
+  pub took : ℕ
+
+module _ {M : Type 0} where
+  -- a pass that has seen this, and did nothing
+  abbrev pub new_pass : List (Command M) → PassState M
+  new_pass seen = record { seen = seen; connection = 0; is_closed = false; took = 0 }
+
+  -- Inner: as many commands of its connection as it took were seen, its connect among them
+  pub record HasTaken (v : PassState M) : Type 0 where
+    pub none : v.connection ≡ 0 → v.took ≡ 0
+    pub some : v.connection ≢ 0 → 0 < v.took
+    pub own : v.took ≤ length (own_commands v.connection v.seen)
+
+-- the sender of the message that a pass asks for. None is the bus.
+abbrev pub sender_of : Source → ℕ → Option ℕ
+sender_of Own connection = Some connection
+sender_of Bus connection = None

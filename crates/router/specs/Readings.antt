@@ -1,0 +1,55 @@
+-- The calls that are given a text or a program.
+use Rattle.std.specs.Prelude.{◌≡◌, ◌⊎◌, ℕ, false, List, Result, Err}
+use Rattle.bpf_code.specs.declared.instruction.Ins.{Ins}
+use Rattle.bpf_verify.specs.declared.error.VerifyError.{VerifyError}
+use Rattle.bpf_verify.specs.Fault.{IsFault}
+use Rattle.bpf_code.specs.Program.{WellFormed}
+use Rattle.match_rule.specs.declared.fault.RuleError.{RuleError}
+use Rattle.match_rule.specs.declared.fault.RuleError.TheVariants as faults
+use Rattle.match_rule.specs.Grammar.{ReadsAs}
+use Rattle.match_rule.specs.Reading.{rule_at}
+use Rattle.match_rule.specs.RuleTree.{RuleTree}
+use Rattle.summary.specs.declared.edition.Edition.{Edition}
+use Rattle.program_table.specs.declared.command.Command.TheVariants.{RemoveRule, Attach}
+use Rattle.program_table.specs.declared.command.Reply.{Reply}
+use Rattle.published.specs.Publication.{Publication}
+use Rattle.router.specs.declared.error.BusError.{BusError}
+use Rattle.router.specs.declared.error.BusError.TheVariants as errors
+use Rattle.router.specs.Passes.{PassState}
+use Rattle.router.specs.Calls.{Answers}
+
+-- the error of a text that isn't read
+abbrev pub rule_error : RuleError → BusError
+rule_error faults.NoMemory = errors.NoMemory
+rule_error fault = errors.Rule fault
+
+module _ {M : Type 0} where
+  -- the text isn't read: it is no rule, or memory was refused. Nothing was done.
+  pub record IsUnread (text : List ℕ) (v : PassState M) (before : Publication M) (result : Result Reply BusError) (w : PassState M) (next : Publication M) : Type 0 where
+    pub fault : RuleError
+    pub why : (fault ≡ faults.NoMemory) ⊎ (rule_at text ≡ Err fault)
+    pub answers : result ≡ Err (rule_error fault)
+    pub same : w ≡ v
+    pub published : next ≡ before
+
+  -- RemoveMatch: the text reads as a rule, which is to go
+  abbrev pub RemovesMatch : List ℕ → PassState M → Publication M → Result Reply BusError → PassState M → Publication M → Type 0
+  RemovesMatch text v before result w next =
+      ((rule : RuleTree) × ReadsAs text rule × Answers false v before (RemoveRule v.connection rule) result w next) ⊎ IsUnread text v before result w next
+
+  abbrev pub RemovesMatchOnce : List ℕ → PassState M → Result Reply BusError → PassState M → Type 0
+  RemovesMatchOnce text v result w = (before : Publication M) × (next : Publication M) × RemovesMatch text v before result w next
+
+  -- the program isn't taken: it isn't well formed, or memory was refused. Nothing was done.
+  pub record IsUntaken (program : List Ins) (v : PassState M) (before : Publication M) (result : Result Reply BusError) (w : PassState M) (next : Publication M) : Type 0 where
+    pub why : ((fault : VerifyError) × IsFault program fault × (result ≡ Err (errors.Program fault))) ⊎ (result ≡ Err errors.NoMemory)
+    pub same : w ≡ v
+    pub published : next ≡ before
+
+  -- a well-formed program is to be attached
+  abbrev pub Attaches : Edition → List Ins → PassState M → Publication M → Result Reply BusError → PassState M → Publication M → Type 0
+  Attaches edition program v before result w next =
+      (WellFormed program × Answers false v before (Attach v.connection (record { edition = edition; program = program })) result w next) ⊎ IsUntaken program v before result w next
+
+  abbrev pub AttachesOnce : Edition → List Ins → PassState M → Result Reply BusError → PassState M → Type 0
+  AttachesOnce edition program v result w = (before : Publication M) × (next : Publication M) × Attaches edition program v before result w next

@@ -1,0 +1,148 @@
+// The bus as threads share it.
+
+ghost use Rattle.std.specs.Prelude.{◌≡◌, ◌⊎◌, MatchResult, IfErr, false, true};
+ghost use mathlib.Core.List.{IsPrefix};
+ghost use Rattle.program_table.specs.declared.command.Command.TheVariants.{Detach, Request, Release, DropOne, Close};
+ghost use Rattle.published.specs.Publication.{Publication};
+ghost use Rattle.router.specs.Passes.{PassState};
+ghost use Rattle.router.specs.Calls.{AnswersOnce, ConnectsOnce};
+ghost use Rattle.router.specs.Readings.{RemovesMatchOnce, AttachesOnce};
+
+use crate::control::Control;
+use crate::error::BusError;
+use crate::pass::Pass;
+use bpf_code::Ins;
+use entry_table::IndexKey;
+use owners::WellKnown;
+use program_table::{Mailbox, Reply};
+use published::{Front, Naming, Opened};
+use std::alloc::Global;
+use std::sync::{Mutex, Wait};
+use summary::Edition;
+
+/// A bus, which threads share. Each call takes its lock.
+#[derive(Drop)]
+pub struct Bus<J: Naming, M: Mailbox, R: Wait + Drop> {
+    control: Mutex<Control<J, M, R>>,
+}
+
+impl<J: Naming, M: Mailbox, R: Wait + Drop> Bus<J, M, R> {
+    /// A bus to which nobody is connected. The key is that of its index of entries.
+    pub fn new(
+        rt: R,
+        alloc: Global,
+        key: IndexKey,
+        opened: Opened<M>,
+    ) -> Result<Bus<J, M, R>, BusError>
+        requires { opened ≡ J.book }
+        ensures { IfErr result (λ error. error ≡ BusError.NoMemory) }
+    {
+        match Control::new(rt, alloc, key, opened) {
+            Ok(control) => Ok(Bus {
+                control: Mutex::new(control),
+            }),
+            Err(_) => Err(BusError::NoMemory),
+        }
+    }
+
+    /// A new pass, which has no connection.
+    pub fn pass(&self, rt: &impl Wait) -> Result<Pass<J, M>, BusError>
+        ensures { MatchResult result (λ pass. (pass.connection ≡ 0) × (pass.is_closed ≡ false) × (pass.took ≡ 0)) (λ error. error ≡ BusError.Busy) }
+    {
+        self.control.lock(rt).pass()
+    }
+
+    /// Tells the published history, which begins with what the pass had seen, and is seen then.
+    pub fn tell(&self, rt: &impl Wait, pass: &mut Pass<J, M>) -> Result<Front<J, M>, BusError>
+        ensures { MatchResult result
+            (λ told. IsPrefix pass.old.seen told × (pass.new ≡ record pass.old { seen = told }))
+            (λ error. (error ≡ BusError.Closed) × (pass.new ≡ pass.old)) }
+    {
+        self.control.lock(rt).tell(pass)
+    }
+
+    /// Makes the connection of a pass that has none yet, whose messages go to the mailbox.
+    pub fn connect(
+        &self,
+        rt: &impl Wait,
+        pass: &mut Pass<J, M>,
+        mailbox: M,
+    ) -> Result<Reply, BusError>
+        ensures { ConnectsOnce pass.old mailbox result pass.new }
+    {
+        self.control.lock(rt).connect(pass, mailbox)
+    }
+
+    /// Takes away the oldest entry with an equal rule (RemoveMatch).
+    pub fn remove_match(
+        &self,
+        rt: &impl Wait,
+        alloc: Global,
+        pass: &mut Pass<J, M>,
+        text: &str,
+    ) -> Result<Reply, BusError>
+        ensures { RemovesMatchOnce text.now pass.old result pass.new }
+    {
+        self.control.lock(rt).remove_match(alloc, pass, text)
+    }
+
+    /// Attaches a program that reads images of this edition.
+    pub fn attach(
+        &self,
+        rt: &impl Wait,
+        alloc: Global,
+        pass: &mut Pass<J, M>,
+        edition: Edition,
+        program: Vec<Ins>,
+    ) -> Result<Reply, BusError>
+        ensures { AttachesOnce edition program.items pass.old result pass.new }
+    {
+        self.control.lock(rt).attach(alloc, pass, edition, program)
+    }
+
+    /// Asks for a name (RequestName).
+    pub fn request_name(
+        &self,
+        rt: &impl Wait,
+        pass: &mut Pass<J, M>,
+        name: &WellKnown,
+        flags: u32,
+    ) -> Result<Reply, BusError>
+        ensures { AnswersOnce false pass.old (Request pass.old.connection name.now flags) result pass.new }
+    {
+        self.control.lock(rt).request_name(pass, name, flags)
+    }
+
+    /// Gives up a claim on a name (ReleaseName).
+    pub fn release_name(
+        &self,
+        rt: &impl Wait,
+        pass: &mut Pass<J, M>,
+        name: &WellKnown,
+    ) -> Result<Reply, BusError>
+        ensures { AnswersOnce false pass.old (Release pass.old.connection name.now) result pass.new }
+    {
+        self.control.lock(rt).release_name(pass, name)
+    }
+
+    /// Takes away the attached program of this id.
+    pub fn detach(&self, rt: &impl Wait, pass: &mut Pass<J, M>, id: u32) -> Result<Reply, BusError>
+        ensures { AnswersOnce false pass.old (Detach pass.old.connection id) result pass.new }
+    {
+        self.control.lock(rt).detach(pass, id)
+    }
+
+    /// Gives up the claim on the least of the connection's names in byte order.
+    pub fn drop_name(&self, rt: &impl Wait, pass: &mut Pass<J, M>) -> Result<Reply, BusError>
+        ensures { AnswersOnce false pass.old (DropOne pass.old.connection) result pass.new }
+    {
+        self.control.lock(rt).drop_name(pass)
+    }
+
+    /// Closes the connection, with its entries and claims.
+    pub fn close(&self, rt: &impl Wait, pass: &mut Pass<J, M>) -> Result<Reply, BusError>
+        ensures { AnswersOnce true pass.old (Close pass.old.connection) result pass.new }
+    {
+        self.control.lock(rt).close(pass)
+    }
+}

@@ -1,0 +1,18 @@
+//! The bus as its users share it: passes, and the calls that each pass makes. The layers above use that each call's reply
+//! is the table's after one history, which begins with all that its pass had seen, and that a pass's own commands are
+//! those that were accepted of it, each once and in order.
+#![tactic(auto)]
+
+mod bus;
+mod calls;
+mod control;
+mod error;
+mod pass;
+mod reading;
+mod texts;
+
+pub use bus::Bus;
+pub use control::Control;
+pub use error::BusError;
+pub use pass::Pass;
+pub use reading::Source;

@@ -1,0 +1,181 @@
+// What one user of the bus has seen and done.
+
+ghost use Rattle.std.specs.Prelude.{◌≡◌, ◌≢◌, ◌⊎◌, ◌+◌, ◌≤◌, ◌<◌, ◌^◌, true, length, MatchOption, MatchResult};
+ghost use mathlib.Core.List.{IsPrefix};
+ghost use Rattle.message_view.specs.Message.{Message};
+ghost use Rattle.message_view.specs.Valid.{Valid};
+ghost use Rattle.owners.specs.Queues.{owner_of};
+ghost use Rattle.program_table.specs.History.{after, own_commands};
+ghost use Rattle.program_table.specs.Recipients.{AreRecipients};
+ghost use Rattle.router.specs.Passes.{PassState, HasTaken, new_pass};
+
+use crate::error::BusError;
+use crate::reading::{found_owner, found_recipients};
+use arrayvec::ArrayVec;
+use core::mem::replace_with;
+use crossbeam_utils::rule::Protocol;
+use fan_out::MAX_RECIPIENTS;
+use message_view::View;
+use owners::WellKnown;
+use program_table::{Command, Mailbox};
+use published::{Front, Naming, Published, Shown, Sight};
+use std::collections::LinkedList;
+use std::marker::Model;
+
+/// One user of the bus: what it has seen of the history, its connection, and how many of its calls were accepted.
+#[derive(Drop)]
+pub struct Pass<J: Naming, M: Mailbox>
+where
+    Published: Protocol<Shown<J, M>, LinkedList<Command<M>>>,
+{
+    sight: Sight<J, M>,
+    // 0: none.
+    connection: u64,
+    is_closed: bool,
+    took: u64,
+}
+
+impl<J: Naming, M: Mailbox> Model for Pass<J, M>
+where
+    Published: Protocol<Shown<J, M>, LinkedList<Command<M>>>,
+{
+    ghost use Rattle.router.specs.Passes.{PassState, HasTaken};
+
+    ghost Value = { PassState M };
+
+    ghost view = { λ p. record { seen = p.sight; connection = p.connection; is_closed = p.is_closed; took = p.took } };
+
+    ghost invariant = { λ p. HasTaken (record { seen = p.sight; connection = p.connection; is_closed = p.is_closed; took = p.took }) };
+}
+
+impl<J: Naming, M: Mailbox> Pass<J, M> {
+    /// A pass that did nothing.
+    pub(crate) fn new(sight: Sight<J, M>) -> Pass<J, M>
+        ensures { result ≡ new_pass sight }
+    {
+        Pass {
+            sight,
+            connection: 0,
+            is_closed: false,
+            took: 0,
+        }
+    }
+
+    /// What was seen.
+    pub fn seen(&self) -> &Front<J, M>
+        ensures { result.now ≡ self.now.seen }
+    {
+        self.sight.seen()
+    }
+
+    /// The number of the connection that the pass's `connect` made, 0 before that.
+    pub fn connection(&self) -> u64
+        ensures { result ≡ self.now.connection }
+    {
+        self.connection
+    }
+
+    /// Whether the pass's `close` was accepted.
+    pub fn is_closed(&self) -> bool
+        ensures { result ≡ self.now.is_closed }
+    {
+        self.is_closed
+    }
+
+    /// How many of the pass's calls were accepted.
+    pub fn took(&self) -> u64
+        ensures took { result ≡ self.now.took }
+        ensures own { HasTaken self.now }
+    {
+        self.took
+    }
+
+    /// Takes over a told history: the longer of the two is then seen, and one of them begins the other.
+    pub fn learn(&mut self, told: &Front<J, M>)
+        ensures one { (self.new.seen ≡ self.old.seen) ⊎ (self.new.seen ≡ told.now) }
+        ensures this { IsPrefix self.old.seen self.new.seen }
+        ensures that { IsPrefix told.now self.new.seen }
+        ensures same { self.new ≡ record self.old { seen = self.new.seen } }
+    {
+        self.sight.learn(told);
+    }
+
+    /// Has then seen this history, which begins with what was seen.
+    pub(crate) fn take_over(&mut self, told: Front<J, M>)
+        requires { IsPrefix self.old.seen told }
+        ensures { self.new ≡ record self.old { seen = told } }
+    {
+        self.sight.take_over(told);
+    }
+
+    /// Has then seen this history, in which one more command of the connection was accepted.
+    pub(crate) fn count_in(&mut self, told: Front<J, M>, connection: u64)
+        requires begins { IsPrefix self.old.seen told }
+        requires room { self.old.took + 1 < 2 ^ 64 }
+        requires number { connection ≢ 0 }
+        requires own { self.old.took + 1 ≤ length (own_commands connection told) }
+        ensures { self.new ≡ record self.old { seen = told; connection = connection; took = self.old.took + 1 } }
+    {
+        self.sight.take_over(told);
+        self.connection = connection;
+        self.took += 1;
+    }
+
+    /// Its connection was closed.
+    pub(crate) fn close(&mut self)
+        ensures { self.new ≡ record self.old { is_closed = true } }
+    {
+        self.is_closed = true;
+    }
+
+    /// The reader, with what it has seen.
+    pub(crate) fn into_sight(self) -> Sight<J, M>
+        ensures { result ≡ self.seen }
+    {
+        let Self {
+            sight,
+            connection: _,
+            is_closed: _,
+            took: _,
+        } = self;
+        sight
+    }
+
+    // Enters the published state for the recipients.
+    pub(crate) fn look_for_recipients(
+        &mut self,
+        sender: Option<u64>,
+        view: &View<'_>,
+    ) -> Result<ArrayVec<u64, MAX_RECIPIENTS>, BusError>
+        ensures found { MatchResult result
+            (λ found. IsPrefix self.old.seen self.new.seen × ((m : Message) → Valid view.now m → AreRecipients (after self.new.seen) sender m found.items))
+            (λ error. (error ≡ BusError.Closed) × (self.new.seen ≡ self.old.seen)) }
+        ensures same { self.new ≡ record self.old { seen = self.new.seen } }
+    {
+        let found = replace_with(
+            &mut self.sight,
+            (sender, view),
+            |sight, asked| -> (Sight<J, M>, Option<ArrayVec<u64, MAX_RECIPIENTS>>)
+                ensures { MatchOption result.1 (result.0 ≡ sight) (λ found. IsPrefix sight result.0 × ((m : Message) → Valid asked.entry.1.now m → AreRecipients (after result.0) asked.entry.0 m found.items)) }
+            { found_recipients(sight, asked.0, asked.1) },
+        );
+        found.ok_or(BusError::Closed)
+    }
+
+    // Enters the published state for a name's owner.
+    pub(crate) fn look_for_owner(&mut self, name: &WellKnown) -> Result<Option<u64>, BusError>
+        ensures found { MatchResult result
+            (λ found. IsPrefix self.old.seen self.new.seen × (found ≡ owner_of name.now (after self.new.seen).registrations.claims))
+            (λ error. (error ≡ BusError.Closed) × (self.new.seen ≡ self.old.seen)) }
+        ensures same { self.new ≡ record self.old { seen = self.new.seen } }
+    {
+        let found = replace_with(
+            &mut self.sight,
+            name,
+            |sight, asked| -> (Sight<J, M>, Option<Option<u64>>)
+                ensures { MatchOption result.1 (result.0 ≡ sight) (λ found. IsPrefix sight result.0 × (found ≡ owner_of asked.entry.now (after result.0).registrations.claims)) }
+            { found_owner(sight, asked) },
+        );
+        found.ok_or(BusError::Closed)
+    }
+}
