@@ -13,6 +13,11 @@ const KEY: IndexKey = IndexKey {
     second: 2,
 };
 
+/// Does a command. It promises nothing, so that a test's body carries none of the command's clauses.
+fn done(state: &mut BusState<()>, command: &Command<()>) -> Result<Reply, Fail> {
+    Ok(state.apply(command)?)
+}
+
 fn member_program(alloc: Global) -> Result<RuleProgram, Fail> {
     let rule = Rule::read(alloc, "member='c'")?;
     if rule.sender_name().is_some() {
@@ -44,17 +49,17 @@ fn answers_before_anyone_connects(rt: HostRuntime) -> Result<(), Fail> {
 #[test]
 fn each_command_is_done(rt: HostRuntime) -> Result<(), Fail> {
     let mut state: BusState<()> = BusState::new(rt.alloc(), KEY)?;
-    assert_eq!(rt; state.apply(&Command::Connect(()))?, Reply::Connected(1));
-    assert_eq!(rt; state.apply(&Command::Connect(()))?, Reply::Connected(2));
+    assert_eq!(rt; done(&mut state, &Command::Connect(()))?, Reply::Connected(1));
+    assert_eq!(rt; done(&mut state, &Command::Connect(()))?, Reply::Connected(2));
     let name = WellKnown::read("com.example.A")?;
-    let _ = state.apply(&Command::Request(1, name.copy(), 1))?;
+    let _ = done(&mut state, &Command::Request(1, name.copy(), 1))?;
     assert_eq!(rt; state.owner_of("com.example.A"), Some(1));
-    let _ = state.apply(&Command::Request(2, name.copy(), 2))?;
+    let _ = done(&mut state, &Command::Request(2, name.copy(), 2))?;
     assert_eq!(rt; state.owner_of("com.example.A"), Some(2));
-    assert_eq!(rt; state.apply(&Command::Close(2))?, Reply::Done);
+    assert_eq!(rt; done(&mut state, &Command::Close(2))?, Reply::Done);
     assert_eq!(rt; state.owner_of("com.example.A"), Some(1));
     assert_eq!(rt;
-        state.apply(&Command::DropOne(2))?,
+        done(&mut state, &Command::DropOne(2))?,
         Reply::Refused(Refusal::Closed)
     );
     assert_eq!(rt; state.commands(), 5);
@@ -65,7 +70,7 @@ fn each_command_is_done(rt: HostRuntime) -> Result<(), Fail> {
 #[test]
 fn stale_slot(rt: HostRuntime) -> Result<(), Fail> {
     let mut state: BusState<()> = BusState::new(rt.alloc(), KEY)?;
-    let _ = state.apply(&Command::Connect(()))?;
+    let _ = done(&mut state, &Command::Connect(()))?;
     let rule = Rule::read(rt.alloc(), "sender='com.example.A'")?;
     let slot = match rule.sender_name() {
         Some(_) => Some(1),
@@ -73,7 +78,7 @@ fn stale_slot(rt: HostRuntime) -> Result<(), Fail> {
     };
     let program = RuleProgram::compile(rt.alloc(), rule, slot)?;
     assert_eq!(rt;
-        state.apply(&Command::AddRule(1, program))?,
+        done(&mut state, &Command::AddRule(1, program))?,
         Reply::Refused(Refusal::Stale)
     );
     assert_eq!(rt; state.slot_next("com.example.A"), Some(0));
@@ -84,7 +89,7 @@ fn stale_slot(rt: HostRuntime) -> Result<(), Fail> {
 #[test]
 fn places_of_connections(rt: HostRuntime) -> Result<(), Fail> {
     let mut state: BusState<()> = BusState::new(rt.alloc(), KEY)?;
-    let _ = state.apply(&Command::Connect(()))?;
+    let _ = done(&mut state, &Command::Connect(()))?;
     assert_eq!(rt; state.place_of(1), Some(0));
     assert!(rt; state.mailbox_of(1).is_some());
     assert_eq!(rt; state.place_of(2), None);
@@ -94,9 +99,9 @@ fn places_of_connections(rt: HostRuntime) -> Result<(), Fail> {
 #[test]
 fn names_that_are_owned(rt: HostRuntime) -> Result<(), Fail> {
     let mut state: BusState<()> = BusState::new(rt.alloc(), KEY)?;
-    let _ = state.apply(&Command::Connect(()))?;
+    let _ = done(&mut state, &Command::Connect(()))?;
     let name = WellKnown::read("com.example.A")?;
-    let _ = state.apply(&Command::Request(1, name.copy(), 0))?;
+    let _ = done(&mut state, &Command::Request(1, name.copy(), 0))?;
     assert!(rt; state.next_name(None).is_some_and(|least| least == name));
     assert!(rt; state.slots_of(Some(1)).contains(0));
     Ok(())
