@@ -1,13 +1,13 @@
 // What one user of the bus has seen and done.
 
-ghost use Rattle.std.specs.Prelude.{◌≡◌, ◌≢◌, ◌⊎◌, ◌+◌, ◌≤◌, ◌<◌, ◌^◌, true, length, MatchOption, MatchResult};
+ghost use Rattle.std.specs.Prelude.{◌≡◌, ◌≢◌, ◌⊎◌, ◌+◌, ◌≤◌, ◌<◌, ◌^◌, [], true, length, MatchOption, MatchResult};
 ghost use mathlib.Core.List.{IsPrefix};
 ghost use Rattle.message_view.specs.Message.{Message};
 ghost use Rattle.message_view.specs.Valid.{Valid};
 ghost use Rattle.owners.specs.Queues.{owner_of};
 ghost use Rattle.program_table.specs.History.{after, own_commands};
 ghost use Rattle.program_table.specs.Recipients.{AreRecipients};
-ghost use Rattle.router.specs.Passes.{PassState, HasTaken, new_pass};
+ghost use Rattle.router.specs.Passes.{PassState, HasTaken, new_pass, sending};
 
 use crate::error::BusError;
 use crate::reading::{found_owner, found_recipients};
@@ -19,6 +19,8 @@ use message_view::View;
 use owners::WellKnown;
 use program_table::{Command, Mailbox};
 use published::{Front, Naming, Published, Shown, Sight};
+use routing::Sender;
+use std::alloc::Global;
 use std::collections::LinkedList;
 use std::marker::Model;
 
@@ -33,19 +35,21 @@ where
     connection: u64,
     is_closed: bool,
     took: u64,
+    // What its messages are sent by, from the first one on.
+    sender: Option<Sender<M>>,
 }
 
 impl<J: Naming, M: Mailbox> Model for Pass<J, M>
 where
     Published: Protocol<Shown<J, M>, LinkedList<Command<M>>>,
 {
-    ghost use Rattle.router.specs.Passes.{PassState, HasTaken};
+    ghost use Rattle.router.specs.Passes.{PassState, HasTaken, SendsFor, count_in, stops_in};
 
     ghost Value = { PassState M };
 
-    ghost view = { λ p. record { seen = p.sight; connection = p.connection; is_closed = p.is_closed; took = p.took } };
+    ghost view = { λ p. record { seen = p.sight; connection = p.connection; is_closed = p.is_closed; took = p.took; count = count_in p.sender; stops = stops_in p.sender } };
 
-    ghost invariant = { λ p. HasTaken (record { seen = p.sight; connection = p.connection; is_closed = p.is_closed; took = p.took }) };
+    ghost invariant = { λ p. HasTaken (record { seen = p.sight; connection = p.connection; is_closed = p.is_closed; took = p.took; count = count_in p.sender; stops = stops_in p.sender }) × SendsFor p.connection p.sender };
 }
 
 impl<J: Naming, M: Mailbox> Pass<J, M> {
@@ -58,6 +62,7 @@ impl<J: Naming, M: Mailbox> Pass<J, M> {
             connection: 0,
             is_closed: false,
             took: 0,
+            sender: None,
         }
     }
 
@@ -113,6 +118,7 @@ impl<J: Naming, M: Mailbox> Pass<J, M> {
         requires begins { IsPrefix self.old.seen told }
         requires room { self.old.took + 1 < 2 ^ 64 }
         requires number { connection ≢ 0 }
+        requires same { (self.old.connection ≡ 0) ⊎ (connection ≡ self.old.connection) }
         requires own { self.old.took + 1 ≤ length (own_commands connection told) }
         ensures { self.new ≡ record self.old { seen = told; connection = connection; took = self.old.took + 1 } }
     {
@@ -128,6 +134,27 @@ impl<J: Naming, M: Mailbox> Pass<J, M> {
         self.is_closed = true;
     }
 
+    /// What its messages are sent by. The pass has sent nothing then, until it is put back.
+    pub(crate) fn take_sender(&mut self, alloc: Global) -> Sender<M>
+        requires { self.old.connection ≢ 0 }
+        ensures sender { result ≡ sending self.old }
+        ensures same { self.new ≡ record self.old { count = 0; stops = [] } }
+    {
+        match self.sender.take() {
+            Some(sender) => sender,
+            None => Sender::new(alloc, self.connection),
+        }
+    }
+
+    /// Sends by this from now on.
+    pub(crate) fn put_back(&mut self, sender: Sender<M>)
+        requires number { self.old.connection ≢ 0 }
+        requires origin { sender.origin ≡ self.old.connection }
+        ensures { self.new ≡ record self.old { count = sender.count; stops = sender.stops } }
+    {
+        self.sender = Some(sender);
+    }
+
     /// The reader, with what it has seen.
     pub(crate) fn into_sight(self) -> Sight<J, M>
         ensures { result ≡ self.seen }
@@ -137,6 +164,7 @@ impl<J: Naming, M: Mailbox> Pass<J, M> {
             connection: _,
             is_closed: _,
             took: _,
+            sender: _,
         } = self;
         sight
     }

@@ -2,7 +2,6 @@
 use Rattle.std.specs.Prelude.{ℕ, ◌≡◌, ◌⊎◌, ◌≤◌, ◌+◌, ◌==◌, ◌&&◌, Bool, true, false, not, cond, Option, Some, None, IsSome, IfSome, List, [], ◌∷◌, find}
 use Rattle.std.specs.List.{list_any}
 use Rattle.outbox.specs.Seated.{OutboxId}
-use Rattle.outbox.specs.Counts.{Rises}
 use Rattle.routing.specs.SenderView.{RecipientView, StopView, SenderView}
 
 abbrev pub number_of : RecipientView → ℕ
@@ -62,6 +61,11 @@ is_in n xs = list_any (λ x. x == n) xs
 abbrev pub is_put : ℕ → List ℕ → List ℕ → Bool
 is_put n recipients refused = is_in n recipients && not (is_in n refused)
 
+-- each number is above the one before it, and the first is at least n
+abbrev pub RisesFrom : ℕ → List ℕ → Type 0
+RisesFrom n [] = Unit {0}
+RisesFrom n (x ∷ xs) = (n ≤ x) × RisesFrom (x + 1) xs
+
 -- the recipient with this number has this outbox
 abbrev pub Lists : List RecipientView → ℕ → OutboxId → Type 0
 Lists [] n outbox = ⊥
@@ -79,7 +83,7 @@ pub record Keeps (newcomers : List RecipientView) (old new : SenderView) : Type 
 pub record Routed (recipients refused : List ℕ) (old new : SenderView) : Type 0 where
   pub count_is : new.count ≡ old.count + 1
   pub lasts : (n : ℕ) → last_at n new.stops ≡ cond (is_put n recipients refused) new.count (last_at n old.stops)
-  pub rising : Rises 0 refused
+  pub rising : RisesFrom 0 refused
   pub listed : (n : ℕ) → is_in n refused ≡ true → (is_in n recipients ≡ true) × (shut_at n new.stops ≡ true)
   pub again : (n : ℕ) → is_in n recipients ≡ true → shut_at n old.stops ≡ true → is_in n refused ≡ true
 

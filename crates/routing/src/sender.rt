@@ -1,8 +1,7 @@
 // Senders.
 
 ghost use Rattle.std.specs.Prelude.{◌≡◌, ◌≤◌, [], ◌↔◌, true, IfOk, OnOk, OnErr, filter, is_some, length, map};
-ghost use Rattle.outbox.specs.Counts.{Rises};
-ghost use Rattle.routing.specs.Stops.{number_of, is_in, stop_at, shut_at, HasStop, AllHave, AllFit, Keeps, Routed, Unrouted};
+ghost use Rattle.routing.specs.Stops.{RisesFrom, number_of, is_in, stop_at, shut_at, HasStop, AllHave, AllFit, Keeps, Routed, Unrouted};
 
 use crate::carrier::Carrier;
 use crate::error::RouteError;
@@ -86,7 +85,7 @@ impl<C: Carrier> Sender<C> {
         bytes: &Bytes,
     ) -> Result<ArrayVec<u64, 256>, RouteError>
         requires few { length recipients.now ≤ 256 }
-        requires rising { Rises 0 recipients.now }
+        requires rising { RisesFrom 0 recipients.now }
         requires seats { AllHave recipients.now self.old.stops }
         ensures ok { IfOk result (λ refused. Routed recipients.now refused.items self.old self.new) }
         ensures keeps { Keeps [] self.old self.new }
@@ -107,7 +106,7 @@ impl<C: Carrier> Sender<C> {
         gate: &G,
     ) -> Result<ArrayVec<u64, 256>, RouteError>
         requires few { length recipients.now ≤ 256 }
-        requires rising { Rises 0 recipients.now }
+        requires rising { RisesFrom 0 recipients.now }
         requires seats { AllHave recipients.now self.old.stops }
         ensures ok { IfOk result (λ refused. Routed recipients.now refused.items self.old self.new) }
         ensures keeps { Keeps [] self.old self.new }

@@ -2,9 +2,8 @@
 
 ghost use Rattle.std.specs.Prelude.{◌≡◌, ◌<◌, ◌≤◌, ◌++◌, ◌∷◌, [], ℕ, cond, Some, IfOk, OnOk, IfSome, IsSomeAnd, filter, length, map, position};
 ghost use Rattle.outbox.specs.Views.{Follows, blank};
-ghost use Rattle.outbox.specs.Counts.{Rises};
 ghost use Rattle.routing.specs.SenderView.{StopView, RecipientView};
-ghost use Rattle.routing.specs.Stops.{is_for, is_in, stop_at, number_of, HasStop, AllHave};
+ghost use Rattle.routing.specs.Stops.{RisesFrom, is_for, is_in, stop_at, number_of, HasStop, AllHave};
 ghost use Rattle.routing.specs.Puts.{PutThere, PutAt, PutTo, SeatsTaken};
 
 use crate::carrier::Carrier;
@@ -170,7 +169,7 @@ pub(crate) fn put_all<C, R: Wait>(
     mut shares: Vec<Bytes>,
 ) -> ArrayVec<u64, 256>
     requires has { AllHave recipients.now stops.old }
-    requires rising { Rises 0 recipients.now }
+    requires rising { RisesFrom 0 recipients.now }
     requires shares { length shares.items ≡ length recipients.now }
     requires few { length recipients.now ≤ 256 }
     requires follows { (n : ℕ) → IfSome (stop_at n stops.old) (λ s. Follows s.seat.view (Some mark)) }
