@@ -1,15 +1,14 @@
 -- Broadcasts of a pass.
-use Rattle.std.specs.Prelude.{◌≡◌, ◌⊎◌, ◌+◌, ℕ, Bool, true, cond, List, Option, Some, Result, Ok, Err, option_map}
+use Rattle.std.specs.Prelude.{◌≡◌, ◌⊎◌, ◌+◌, ℕ, Bool, true, cond, List, Option, Some}
 use mathlib.Core.List.{IsPrefix}
 use Rattle.message_view.specs.Message.{Message}
 use Rattle.message_view.specs.Valid.{Valid}
-use Rattle.outbox.specs.Counts.{Rises}
 use Rattle.outbox.specs.Seated.{OutboxId}
 use Rattle.program_table.specs.State.{State}
 use Rattle.program_table.specs.Connections.{is_connected, mailbox_of}
 use Rattle.program_table.specs.History.{after}
 use Rattle.program_table.specs.Recipients.{AreRecipients}
-use Rattle.routing.specs.Stops.{last_at, outbox_at, shut_at, is_in, is_put, AllFit}
+use Rattle.routing.specs.Stops.{RisesFrom, last_at, outbox_at, shut_at, is_in, is_put, AllFit}
 use Rattle.router.specs.declared.error.BusError.{BusError}
 use Rattle.router.specs.declared.error.BusError.TheVariants as errors
 use Rattle.router.specs.declared.reading.Source.{Source}
@@ -52,7 +51,7 @@ module _ {M : Type 0} where
     pub are : (m : Message) → Valid bytes m → AreRecipients (after w.seen) (sender_of source v.connection) m recipients
     pub count_is : w.count ≡ v.count + 1
     pub lasts : (n : ℕ) → is_there n w ≡ true → last_at n w.stops ≡ cond (is_put n recipients refused) w.count (last_at n v.stops)
-    pub rising : Rises 0 refused
+    pub rising : RisesFrom 0 refused
     pub listed : (n : ℕ) → is_in n refused ≡ true → (is_in n recipients ≡ true) × (shut_at n w.stops ≡ true)
     pub again : (n : ℕ) → is_in n recipients ≡ true → shut_at n v.stops ≡ true → is_in n refused ≡ true
 
@@ -62,9 +61,7 @@ module _ {M : Type 0} where
     pub count_is : w.count ≡ v.count
     pub lasts : (n : ℕ) → is_there n w ≡ true → last_at n w.stops ≡ last_at n v.stops
 
-  -- A broadcast is routed, or nothing was put: where the pass is closed or the bus is gone it is as it was.
-  abbrev pub Routes : (M → OutboxId) → Source → List ℕ → PassState M → Result (List ℕ) BusError → PassState M → Type 0
-  Routes outbox_of source bytes v (Ok refused) w = HasRouted outbox_of source bytes v refused w
-  Routes outbox_of source bytes v (Err error) w =
-      ((error ≡ errors.Closed) × (w ≡ v))
-      ⊎ (((error ≡ errors.NoMemory) ⊎ ((error ≡ errors.Counts) × (v.count ≡ max_count))) × HasNotRouted outbox_of v w)
+  -- Nothing was put: where the pass is closed or the bus is gone it is as it was.
+  abbrev pub IsUnrouted : (M → OutboxId) → BusError → PassState M → PassState M → Type 0
+  IsUnrouted outbox_of error v w =
+      ((error ≡ errors.Closed) × (w ≡ v)) ⊎ (((error ≡ errors.NoMemory) ⊎ ((error ≡ errors.Counts) × (v.count ≡ max_count))) × HasNotRouted outbox_of v w)

@@ -8,8 +8,10 @@ mod calls;
 mod control;
 mod error;
 mod letterbox;
+mod mailboxes;
 mod pass;
 mod reading;
+mod routes;
 mod texts;
 
 pub use bus::Bus;

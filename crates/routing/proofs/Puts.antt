@@ -30,7 +30,7 @@ end_snoc : (n : ℕ) (xs : List ℕ) (m : ℕ) → end_of n (xs ++ m ∷ []) ≡
 end_snoc n [] m = refl
 end_snoc n (x ∷ xs) m = end_snoc (x + 1) xs m
 
-in_snoc : (n m : ℕ) (xs : List ℕ) → is_in n (xs ++ m ∷ []) ≡ (is_in n xs || (m == n))
+pub in_snoc : (n m : ℕ) (xs : List ℕ) → is_in n (xs ++ m ∷ []) ≡ (is_in n xs || (m == n))
 in_snoc n m [] = pick (m == n)
   where
     pick : (b : Bool) → (b || false) ≡ b

@@ -46,7 +46,7 @@ impl<C> Model for Sender<C> {
     ghost invariant = { λ s. AllFit s.origin s.count s.stops.items };
 }
 
-impl<C: Carrier> Sender<C> {
+impl<C> Sender<C> {
     /// A sender that has put nothing. It takes no memory.
     pub fn new(alloc: Global, origin: u64) -> Sender<C>
         ensures { (result.origin ≡ origin) × (result.count ≡ 0) × (result.stops ≡ []) }
@@ -57,7 +57,9 @@ impl<C: Carrier> Sender<C> {
             stops: Vec::new(alloc),
         }
     }
+}
 
+impl<C: Carrier> Sender<C> {
     /// Whether it has a seat at this recipient's outbox.
     pub fn has(&self, recipient: u64) -> bool
         ensures { result ≡ is_some (stop_at recipient self.now.stops) }
