@@ -1,4 +1,6 @@
 pub mod Errors
 pub mod Passes
+pub mod Routes
+pub mod Found
 pub mod Calls
 pub mod Readings

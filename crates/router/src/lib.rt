@@ -7,12 +7,16 @@ mod bus;
 mod calls;
 mod control;
 mod error;
+mod letterbox;
+mod mailboxes;
 mod pass;
 mod reading;
+mod routes;
 mod texts;
 
 pub use bus::Bus;
 pub use control::Control;
 pub use error::BusError;
+pub use letterbox::Letterbox;
 pub use pass::Pass;
 pub use reading::Source;
