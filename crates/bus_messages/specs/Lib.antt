@@ -1,0 +1,4 @@
+pub mod ErrorNames
+pub mod UniqueNames
+pub mod Bodies
+pub mod Sent

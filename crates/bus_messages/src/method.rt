@@ -1,0 +1,103 @@
+// The methods of the bus.
+
+/// A method of the bus.
+#[derive(Clone, Copy, Debug, PartialEq, Eq)]
+pub(crate) enum Method {
+    Hello,
+    AddMatch,
+    RemoveMatch,
+    RequestName,
+    ReleaseName,
+    GetNameOwner,
+    NameHasOwner,
+    ListNames,
+    Ping,
+    Attach,
+    AttachEdition,
+    Detach,
+    StartServiceByName,
+    ListActivatableNames,
+    ListQueuedOwners,
+    GetId,
+    GetConnectionUnixUser,
+    GetConnectionUnixProcessId,
+    GetConnectionCredentials,
+    GetMachineId,
+    Introspect,
+    Get,
+    GetAll,
+}
+
+/// What a method is called, and the signatures of its arguments and of its answer.
+#[derive(Clone, Copy)]
+pub(crate) struct Row {
+    pub(crate) method: Method,
+    pub(crate) interface: &'static str,
+    pub(crate) member: &'static str,
+    pub(crate) takes: &'static str,
+    pub(crate) gives: &'static str,
+}
+
+pub(crate) const BUS: &str = "org.freedesktop.DBus";
+
+const PEER: &str = "org.freedesktop.DBus.Peer";
+
+const PROGRAMS: &str = "org.example.ProgramBus1";
+
+const INTROSPECTABLE: &str = "org.freedesktop.DBus.Introspectable";
+
+const PROPERTIES: &str = "org.freedesktop.DBus.Properties";
+
+/// The interfaces of the bus, in the order in which Introspect gives them.
+pub(crate) static INTERFACES: [&str; 5] = [BUS, PEER, PROGRAMS, INTROSPECTABLE, PROPERTIES];
+
+macro_rules! rows {
+    ($($method:ident $interface:ident $member:literal ($takes:literal) -> $gives:literal;)*) => {
+        [$(Row {
+            method: Method::$method,
+            interface: $interface,
+            member: $member,
+            takes: $takes,
+            gives: $gives,
+        }),*]
+    };
+}
+
+/// Every method. A call that names no interface is of the first row with its member.
+pub(crate) static ROWS: [Row; 23] = rows! {
+    Hello BUS "Hello" ("") -> "s";
+    AddMatch BUS "AddMatch" ("s") -> "";
+    RemoveMatch BUS "RemoveMatch" ("s") -> "";
+    RequestName BUS "RequestName" ("su") -> "u";
+    ReleaseName BUS "ReleaseName" ("s") -> "u";
+    GetNameOwner BUS "GetNameOwner" ("s") -> "s";
+    NameHasOwner BUS "NameHasOwner" ("s") -> "b";
+    ListNames BUS "ListNames" ("") -> "as";
+    Ping PEER "Ping" ("") -> "";
+    Attach PROGRAMS "Attach" ("a(qyyu)") -> "u";
+    AttachEdition PROGRAMS "AttachEdition" ("ua(qyyu)") -> "u";
+    Detach PROGRAMS "Detach" ("u") -> "";
+    StartServiceByName BUS "StartServiceByName" ("su") -> "u";
+    ListActivatableNames BUS "ListActivatableNames" ("") -> "as";
+    ListQueuedOwners BUS "ListQueuedOwners" ("s") -> "as";
+    GetId BUS "GetId" ("") -> "s";
+    GetConnectionUnixUser BUS "GetConnectionUnixUser" ("s") -> "u";
+    GetConnectionUnixProcessId BUS "GetConnectionUnixProcessID" ("s") -> "u";
+    GetConnectionCredentials BUS "GetConnectionCredentials" ("s") -> "a{sv}";
+    GetMachineId PEER "GetMachineId" ("") -> "s";
+    Introspect INTROSPECTABLE "Introspect" ("") -> "s";
+    Get PROPERTIES "Get" ("ss") -> "v";
+    GetAll PROPERTIES "GetAll" ("s") -> "a{sv}";
+};
+
+impl Row {
+    /// Whether a call of this member is a call of this method, where it names this interface or none.
+    fn is_called(&self, interface: Option<&str>, member: &str) -> bool {
+        self.member == member && interface.is_none_or(|interface| self.interface == interface)
+    }
+
+    /// The row of the method that a call is of.
+    pub(crate) fn of(interface: Option<&str>, member: &str) -> Option<&'static Row> {
+        ROWS.iter().find(|row| row.is_called(interface, member))
+    }
+}
