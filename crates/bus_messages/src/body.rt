@@ -16,7 +16,7 @@ const EMPTY_LIST: &[u8] = b"\x02as\0\0\0\0\0";
 
 /// The bus's properties Features and Interfaces, both empty arrays of strings: 48 bytes of entries.
 const BUS_PROPERTIES: &[u8] =
-    b"\x30\0\0\0\0\0\0\0\x08\0\0\0Features\0\x02as\0\0\0\0\0\0\0\x0a\0\0\0Interfaces\0\x02as\0\0\0\0\0\0";
+    b"\x30\0\0\0\0\0\0\0\x08\0\0\0Features\0\x02as\0\0\0\0\0\0\0\0\x0a\0\0\0Interfaces\0\x02as\0\0\0\0\0\0";
 
 /// The arguments of an answer or a signal of the bus.
 #[derive(Clone, Copy)]

@@ -1,6 +1,6 @@
 // Unique connection names.
 
-ghost use Rattle.std.specs.Prelude.{◌≡◌, ◌≢◌, ◌++◌, ◌<◌, ◌^◌, ℕ, Some, codes, MatchOption};
+ghost use Rattle.std.specs.Prelude.{◌≡◌, ◌≢◌, ◌++◌, ◌<◌, ◌^◌, ℕ, List, Some, codes, decimal, MatchOption};
 ghost use Rattle.bus_messages.specs.UniqueNames.{unique_name};
 
 use arrayvec::ArrayString;
@@ -31,6 +31,23 @@ impl Model for UniqueName {
     ghost invariant = { λ name. name.text.bytes ≡ unique_name name.number };
 }
 
+/// What comes after the prefix of a text.
+fn digits_of(text: &str) -> Option<&str>
+    ensures { MatchOption result ((digits : List ℕ) → text.now ≢ codes ":1." ++ digits) (λ digits. text.now ≡ codes ":1." ++ digits.now) }
+{
+    text.strip_prefix(PREFIX)
+}
+
+/// The number that some digits write, if it has at most 64 bits.
+fn number_in(digits: &str) -> Option<u64>
+    ensures { (n : ℕ) → n < 2 ^ 64 → digits.now ≡ decimal n → result ≡ Some n }
+{
+    match u64::from_str_radix(digits, 10) {
+        Ok(number) => Some(number),
+        Err(_) => None,
+    }
+}
+
 impl UniqueName {
     /// The name of a connection.
     pub fn new(number: u64) -> UniqueName
@@ -53,8 +70,8 @@ impl UniqueName {
     pub fn number_of(text: &str) -> Option<u64>
         ensures { MatchOption result ((n : ℕ) → n < 2 ^ 64 → text.now ≢ unique_name n) (λ n. text.now ≡ unique_name n) }
     {
-        let digits = text.strip_prefix(PREFIX)?;
-        let number: u64 = digits.parse().ok()?;
+        let digits = digits_of(text)?;
+        let number = number_in(digits)?;
         let name = UniqueName::new(number);
         if name.as_str() == text {
             Some(number)
