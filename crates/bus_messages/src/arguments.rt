@@ -1,5 +1,12 @@
 // The arguments of a call, read one after the other.
 
+ghost use Rattle.std.specs.Prelude.{◌≡◌, ◌⊎◌, Some, None, IfErr, MatchResult};
+ghost use Rattle.message_view.specs.Message.{Message};
+ghost use Rattle.message_view.specs.Spelling.{arguments_of};
+ghost use Rattle.message_view.specs.Valid.{Valid};
+ghost use Rattle.bus_messages.specs.declared.call.CallError.TheVariants.{InvalidArgs, BadEdition, NoMemory};
+ghost use Rattle.bus_messages.specs.Calls.{first_text};
+
 use crate::call::CallError;
 use bpf_code::Ins;
 use message_value::{Arg, Args, Order, padding};
@@ -62,7 +69,9 @@ fn instructions(alloc: Global, order: Order, bytes: &[u8]) -> Result<Vec<Ins>, A
 }
 
 impl<'a> Arguments<'a> {
-    pub(crate) fn of(view: &View<'a>) -> Arguments<'a> {
+    pub(crate) fn of(view: &View<'a>) -> Arguments<'a>
+        ensures { (m : Message) → Valid view.now m → result.left ≡ arguments_of m }
+    {
         Arguments {
             message: view.raw(),
             order: view.order(),
@@ -70,14 +79,18 @@ impl<'a> Arguments<'a> {
         }
     }
 
-    pub(crate) fn text(&mut self) -> Result<&'a str, CallError> {
+    pub(crate) fn text(&mut self) -> Result<&'a str, CallError>
+        ensures { MatchResult result (λ text. first_text self.old.left ≡ Some text.now) (λ error. (error ≡ InvalidArgs) × (first_text self.old.left ≡ None)) }
+    {
         match self.left.next() {
             Some(arg) => arg.text.ok_or(CallError::InvalidArgs),
             None => Err(CallError::InvalidArgs),
         }
     }
 
-    pub(crate) fn number(&mut self) -> Result<u32, CallError> {
+    pub(crate) fn number(&mut self) -> Result<u32, CallError>
+        ensures { IfErr result (λ error. error ≡ InvalidArgs) }
+    {
         match self.left.next() {
             Some(arg) => word_at(self.message, self.order, arg.place as usize)
                 .ok_or(CallError::InvalidArgs),
@@ -85,7 +98,9 @@ impl<'a> Arguments<'a> {
         }
     }
 
-    pub(crate) fn edition(&mut self) -> Result<Edition, CallError> {
+    pub(crate) fn edition(&mut self) -> Result<Edition, CallError>
+        ensures { IfErr result (λ error. (error ≡ InvalidArgs) ⊎ (error ≡ BadEdition)) }
+    {
         match self.number()? {
             1 => Ok(Edition::One),
             2 => Ok(Edition::Two),
@@ -93,7 +108,9 @@ impl<'a> Arguments<'a> {
         }
     }
 
-    pub(crate) fn program(&mut self, alloc: Global) -> Result<Vec<Ins>, CallError> {
+    pub(crate) fn program(&mut self, alloc: Global) -> Result<Vec<Ins>, CallError>
+        ensures { IfErr result (λ error. (error ≡ InvalidArgs) ⊎ (error ≡ NoMemory)) }
+    {
         let array = self.left.next().ok_or(CallError::InvalidArgs)?;
         let bytes = elements(self.message, &array).ok_or(CallError::InvalidArgs)?;
         let program = instructions(alloc, self.order, bytes)?;

@@ -1,5 +1,12 @@
 // The calls that the bus answers itself.
 
+ghost use Rattle.std.specs.Prelude.{◌≡◌, Ok, Err, IfOk, IfErr};
+ghost use Rattle.message_view.specs.Message.{Message};
+ghost use Rattle.message_view.specs.Valid.{Valid};
+ghost use Rattle.bus_messages.specs.declared.call.Call.TheVariants.{Get, GetAll};
+ghost use Rattle.bus_messages.specs.declared.call.CallError.TheVariants.{InvalidArgs};
+ghost use Rattle.bus_messages.specs.Calls.{Understands, IsReadAs};
+
 use crate::arguments::Arguments;
 use crate::error_name::ErrorName;
 use crate::method::{BUS, Method, Row};
@@ -86,7 +93,10 @@ impl From<AllocError> for CallError {
 }
 
 /// A property of the bus, by its interface and its name.
-fn property<'a>(interface: &str, name: &str) -> Result<Call<'a>, CallError> {
+fn property<'a>(interface: &str, name: &str) -> Result<Call<'a>, CallError>
+    ensures ok { IfOk result (λ call. call ≡ Get) }
+    ensures err { IfErr result (λ error. error ≡ InvalidArgs) }
+{
     if interface == BUS && (name == "Features" || name == "Interfaces") {
         Ok(Call::Get)
     } else {
@@ -95,7 +105,10 @@ fn property<'a>(interface: &str, name: &str) -> Result<Call<'a>, CallError> {
 }
 
 /// All properties of an interface.
-fn properties<'a>(interface: &str) -> Result<Call<'a>, CallError> {
+fn properties<'a>(interface: &str) -> Result<Call<'a>, CallError>
+    ensures ok { IfOk result (λ call. call ≡ GetAll) }
+    ensures err { IfErr result (λ error. error ≡ InvalidArgs) }
+{
     if interface == BUS {
         Ok(Call::GetAll)
     } else {
@@ -109,7 +122,9 @@ impl<'a> Call<'a> {
         alloc: Global,
         method: Method,
         arguments: &mut Arguments<'a>,
-    ) -> Result<Call<'a>, CallError> {
+    ) -> Result<Call<'a>, CallError>
+        ensures { Understands method arguments.old.left result }
+    {
         match method {
             Method::Hello => Ok(Call::Hello),
             Method::AddMatch => Ok(Call::AddMatch(arguments.text()?)),
@@ -150,7 +165,9 @@ impl<'a> Call<'a> {
     ///
     /// `UnknownMethod` where the bus has no method of the interface and the member, `InvalidArgs` where the body has
     /// another signature than the method takes, `BadEdition` where a summary's edition isn't 1 or 2, and `NoMemory`.
-    pub fn read(alloc: Global, view: &View<'a>) -> Result<Call<'a>, CallError> {
+    pub fn read(alloc: Global, view: &View<'a>) -> Result<Call<'a>, CallError>
+        ensures { (m : Message) → Valid view.now m → IsReadAs m result }
+    {
         let member = view.member().ok_or(CallError::UnknownMethod)?;
         let row = Row::of(view.interface(), member).ok_or(CallError::UnknownMethod)?;
         if view.signature() != row.takes.as_bytes() {

@@ -1,6 +1,6 @@
 // What Introspect answers.
 
-use crate::method::{BUS, INTERFACES, ROWS, Row};
+use crate::method::{BUS, INTERFACES, Row, rows};
 use signature::Signature;
 use std::alloc::{AllocError, Global};
 use std::str;
@@ -39,7 +39,7 @@ fn push_method(text: &mut String, row: &Row) -> Result<(), AllocError> {
 
 fn push_interface(text: &mut String, interface: &str) -> Result<(), AllocError> {
     push_between(text, "  <interface name=\"", interface, "\">\n")?;
-    for row in &ROWS {
+    for row in rows() {
         if row.interface == interface {
             push_method(text, row)?;
         }

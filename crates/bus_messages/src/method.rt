@@ -1,5 +1,10 @@
 // The methods of the bus.
 
+ghost use Rattle.std.specs.Prelude.{◌≡◌, map, option_map};
+ghost use Rattle.std.specs.List.{find};
+ghost use Rattle.bus_messages.specs.Methods.{methods, is_of, is_called, method_called};
+ghost use Rattle.bus_messages.specs.Rows.{shown};
+
 /// A method of the bus.
 #[derive(Clone, Copy, Debug, PartialEq, Eq)]
 pub(crate) enum Method {
@@ -63,8 +68,8 @@ macro_rules! rows {
     };
 }
 
-/// Every method. A call that names no interface is of the first row with its member.
-pub(crate) static ROWS: [Row; 23] = rows! {
+/// Each method. A call that names no interface is of the first row with its member.
+static ROWS: [Row; 23] = rows! {
     Hello BUS "Hello" ("") -> "s";
     AddMatch BUS "AddMatch" ("s") -> "";
     RemoveMatch BUS "RemoveMatch" ("s") -> "";
@@ -90,14 +95,43 @@ pub(crate) static ROWS: [Row; 23] = rows! {
     GetAll PROPERTIES "GetAll" ("s") -> "a{sv}";
 };
 
+/// Every method of the bus.
+pub(crate) fn rows() -> &'static [Row]
+    ensures { map shown result.now ≡ methods }
+{
+    &ROWS
+}
+
+/// Whether a call may be of an interface, where it names one or none.
+fn is_of(named: Option<&str>, interface: &str) -> bool
+    ensures { result ≡ is_of (option_map (λ name. name.now) named.entry) interface.now }
+{
+    match named {
+        Some(name) => interface == name,
+        None => true,
+    }
+}
+
 impl Row {
     /// Whether a call of this member is a call of this method, where it names this interface or none.
-    fn is_called(&self, interface: Option<&str>, member: &str) -> bool {
-        self.member == member && interface.is_none_or(|interface| self.interface == interface)
+    fn is_called(&self, interface: Option<&str>, member: &str) -> bool
+        ensures { result ≡ is_called (option_map (λ name. name.now) interface.entry) member.now (shown self.now) }
+    {
+        self.member == member && is_of(interface, self.interface)
     }
 
     /// The row of the method that a call is of.
-    pub(crate) fn of(interface: Option<&str>, member: &str) -> Option<&'static Row> {
-        ROWS.iter().find(|row| row.is_called(interface, member))
+    pub(crate) fn of(interface: Option<&str>, member: &str) -> Option<&'static Row>
+        ensures { option_map (λ row. shown row.now) result ≡ method_called (option_map (λ name. name.now) interface.entry) member.now }
+    {
+        let table = rows();
+        first_called(table, interface, member)
     }
+}
+
+/// The first row of the method that a call is of.
+fn first_called<'r>(rows: &'r [Row], interface: Option<&str>, member: &str) -> Option<&'r Row>
+    ensures { option_map (λ row. row.now) result ≡ find (λ row. is_called (option_map (λ name. name.now) interface.entry) member.now (shown row)) rows.entry.now }
+{
+    rows.iter().find(|row| row.is_called(interface, member))
 }
