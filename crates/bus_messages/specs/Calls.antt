@@ -1,9 +1,10 @@
 -- What the bus understands of a call (D-Bus Specification, "Message Bus Messages").
-use Rattle.std.specs.Prelude.{◌≡◌, ◌≢◌, ◌⊎◌, ℕ, Bool, true, false, List, [], ◌∷◌, Option, Some, None, Result, Ok, Err}
+use Rattle.std.specs.Prelude.{◌≡◌, ◌≢◌, ◌⊎◌, ℕ, Bool, true, false, ◌&&◌, ◌||◌, List, codes, Option, Some, None, Result, Ok, Err}
+use Rattle.std.specs.Str.{bytes_eq}
+use Rattle.bpf_code.specs.declared.instruction.Ins.{Ins}
 use Rattle.signature.specs.DataType.{spellings}
-use Rattle.message_value.specs.Arguments.{Argument}
 use Rattle.message_view.specs.Message.{Message, interface_of, member_of}
-use Rattle.message_view.specs.Spelling.{arguments_of}
+use Rattle.message_view.specs.Spelling.{message_bytes, arguments_of}
 use Rattle.summary.specs.declared.edition.Edition.{Edition}
 use Rattle.summary.specs.declared.edition.Edition.TheVariants.{One}
 use Rattle.bus_messages.specs.declared.call.Call.{Call}
@@ -12,89 +13,87 @@ use Rattle.bus_messages.specs.declared.call.CallError.{CallError}
 use Rattle.bus_messages.specs.declared.call.CallError.TheVariants.{UnknownMethod, InvalidArgs, BadEdition, NoMemory}
 use Rattle.bus_messages.specs.declared.method.Method.{Method}
 use Rattle.bus_messages.specs.declared.method.Method.TheVariants as names
-use Rattle.bus_messages.specs.Methods.{MethodRow, method_called}
-
--- the first argument, if it is a text
-abbrev pub first_text : List Argument → Option (List ℕ)
-first_text [] = None
-first_text (argument ∷ more) = argument.text
+use Rattle.bus_messages.specs.Arguments.{Given, later, first_text, first_number, first_program, edition_of}
+use Rattle.bus_messages.specs.Methods.{MethodRow, bus, method_called}
 
 -- a call of a method whose first argument is a text
-abbrev pub IsTextCall : Method → Method → List Argument → List ℕ → Type 0
-IsTextCall named method arguments text = (method ≡ named) × (first_text arguments ≡ Some text)
+abbrev pub IsTextCall : Method → Method → Given → List ℕ → Type 0
+IsTextCall named method given text = (method ≡ named) × (first_text given ≡ Some text)
 
--- the edition that an attachment is of
-abbrev pub IsAttach : Method → Edition → Type 0
-IsAttach method edition = ((method ≡ names.Attach) × (edition ≡ One)) ⊎ (method ≡ names.AttachEdition)
+-- a program is the argument of Attach, or comes after the edition that is the first argument of AttachEdition
+abbrev pub IsAttach : Method → Given → Edition → List Ins → Type 0
+IsAttach method given edition program =
+    ((method ≡ names.Attach) × (edition ≡ One) × (first_program given ≡ Some program))
+    ⊎ ((method ≡ names.AttachEdition) × (edition_of (first_number given) ≡ Ok edition) × (first_program (later given) ≡ Some program))
 
--- a call is of the method, and its text is the first argument
-abbrev pub IsCallOf : Call → Method → List Argument → Type 0
-IsCallOf calls.Hello method arguments = method ≡ names.Hello
-IsCallOf (calls.AddMatch rule) method arguments = IsTextCall names.AddMatch method arguments rule.now
-IsCallOf (calls.RemoveMatch rule) method arguments = IsTextCall names.RemoveMatch method arguments rule.now
-IsCallOf (calls.RequestName name flags) method arguments = IsTextCall names.RequestName method arguments name.now
-IsCallOf (calls.ReleaseName name) method arguments = IsTextCall names.ReleaseName method arguments name.now
-IsCallOf (calls.GetNameOwner name) method arguments = IsTextCall names.GetNameOwner method arguments name.now
-IsCallOf (calls.NameHasOwner name) method arguments = IsTextCall names.NameHasOwner method arguments name.now
-IsCallOf calls.ListNames method arguments = method ≡ names.ListNames
-IsCallOf calls.Ping method arguments = method ≡ names.Ping
-IsCallOf (calls.Attach edition program) method arguments = IsAttach method edition
-IsCallOf (calls.Detach id) method arguments = method ≡ names.Detach
-IsCallOf (calls.StartServiceByName name) method arguments = IsTextCall names.StartServiceByName method arguments name.now
-IsCallOf calls.ListActivatableNames method arguments = method ≡ names.ListActivatableNames
-IsCallOf (calls.ListQueuedOwners name) method arguments = IsTextCall names.ListQueuedOwners method arguments name.now
-IsCallOf calls.GetId method arguments = method ≡ names.GetId
-IsCallOf (calls.GetConnectionUnixUser name) method arguments = IsTextCall names.GetConnectionUnixUser method arguments name.now
-IsCallOf (calls.GetConnectionUnixProcessId name) method arguments = IsTextCall names.GetConnectionUnixProcessId method arguments name.now
-IsCallOf (calls.GetConnectionCredentials name) method arguments = IsTextCall names.GetConnectionCredentials method arguments name.now
-IsCallOf calls.GetMachineId method arguments = method ≡ names.GetMachineId
-IsCallOf calls.Introspect method arguments = method ≡ names.Introspect
-IsCallOf calls.Get method arguments = method ≡ names.Get
-IsCallOf calls.GetAll method arguments = method ≡ names.GetAll
+-- the properties that the bus has, by interface and name
+abbrev pub is_property : List ℕ → List ℕ → Bool
+is_property interface name = bytes_eq interface bus && (bytes_eq name (codes "Features") || bytes_eq name (codes "Interfaces"))
 
--- whether a method takes one text and no more
-abbrev pub takes_text : Method → Bool
-takes_text names.AddMatch = true
-takes_text names.RemoveMatch = true
-takes_text names.ReleaseName = true
-takes_text names.GetNameOwner = true
-takes_text names.NameHasOwner = true
-takes_text names.StartServiceByName = true
-takes_text names.ListQueuedOwners = true
-takes_text names.GetConnectionUnixUser = true
-takes_text names.GetConnectionUnixProcessId = true
-takes_text names.GetConnectionCredentials = true
-takes_text _ = false
+-- the first two arguments are texts that name a property of the bus
+abbrev pub NamesProperty : Given → Type 0
+NamesProperty given =
+    (interface : List ℕ) × (name : List ℕ) × (first_text given ≡ Some interface) × (first_text (later given) ≡ Some name) × (is_property interface name ≡ true)
 
--- whether a method takes no arguments
-abbrev pub takes_nothing : Method → Bool
-takes_nothing names.Hello = true
-takes_nothing names.ListNames = true
-takes_nothing names.Ping = true
-takes_nothing names.ListActivatableNames = true
-takes_nothing names.GetId = true
-takes_nothing names.GetMachineId = true
-takes_nothing names.Introspect = true
-takes_nothing _ = false
+-- a call is of the method, and its values are those of the arguments
+abbrev pub IsCallOf : Call → Method → Given → Type 0
+IsCallOf calls.Hello method given = method ≡ names.Hello
+IsCallOf (calls.AddMatch rule) method given = IsTextCall names.AddMatch method given rule.now
+IsCallOf (calls.RemoveMatch rule) method given = IsTextCall names.RemoveMatch method given rule.now
+IsCallOf (calls.RequestName name flags) method given = IsTextCall names.RequestName method given name.now × (first_number (later given) ≡ Some flags)
+IsCallOf (calls.ReleaseName name) method given = IsTextCall names.ReleaseName method given name.now
+IsCallOf (calls.GetNameOwner name) method given = IsTextCall names.GetNameOwner method given name.now
+IsCallOf (calls.NameHasOwner name) method given = IsTextCall names.NameHasOwner method given name.now
+IsCallOf calls.ListNames method given = method ≡ names.ListNames
+IsCallOf calls.Ping method given = method ≡ names.Ping
+IsCallOf (calls.Attach edition program) method given = IsAttach method given edition program.items
+IsCallOf (calls.Detach id) method given = (method ≡ names.Detach) × (first_number given ≡ Some id)
+IsCallOf (calls.StartServiceByName name) method given = IsTextCall names.StartServiceByName method given name.now
+IsCallOf calls.ListActivatableNames method given = method ≡ names.ListActivatableNames
+IsCallOf (calls.ListQueuedOwners name) method given = IsTextCall names.ListQueuedOwners method given name.now
+IsCallOf calls.GetId method given = method ≡ names.GetId
+IsCallOf (calls.GetConnectionUnixUser name) method given = IsTextCall names.GetConnectionUnixUser method given name.now
+IsCallOf (calls.GetConnectionUnixProcessId name) method given = IsTextCall names.GetConnectionUnixProcessId method given name.now
+IsCallOf (calls.GetConnectionCredentials name) method given = IsTextCall names.GetConnectionCredentials method given name.now
+IsCallOf calls.GetMachineId method given = method ≡ names.GetMachineId
+IsCallOf calls.Introspect method given = method ≡ names.Introspect
+IsCallOf calls.Get method given = (method ≡ names.Get) × NamesProperty given
+IsCallOf calls.GetAll method given = (method ≡ names.GetAll) × (first_text given ≡ Some bus)
+
+-- An argument that a method takes isn't where its type puts it, or names nothing that the bus has. A method that takes
+-- none lacks none.
+abbrev pub Lacks : Method → Given → Type 0
+Lacks names.Hello given = ⊥
+Lacks names.ListNames given = ⊥
+Lacks names.Ping given = ⊥
+Lacks names.ListActivatableNames given = ⊥
+Lacks names.GetId given = ⊥
+Lacks names.GetMachineId given = ⊥
+Lacks names.Introspect given = ⊥
+Lacks names.RequestName given = (first_text given ≡ None) ⊎ (first_number (later given) ≡ None)
+Lacks names.Attach given = first_program given ≡ None
+Lacks names.AttachEdition given = (first_number given ≡ None) ⊎ (first_program (later given) ≡ None)
+Lacks names.Detach given = first_number given ≡ None
+Lacks names.Get given = NamesProperty given → ⊥
+Lacks names.GetAll given = first_text given ≢ Some bus
+Lacks _ given = first_text given ≡ None
 
 abbrev pub takes_program : Method → Bool
 takes_program names.Attach = true
 takes_program names.AttachEdition = true
 takes_program _ = false
 
--- Why a call of a method is refused whose body has the method's signature: no edition has the number that it names; no
--- memory is left for its program; or an argument isn't what it should be, which is never so where no argument is
--- taken, and where one text is taken only where there is none.
-abbrev pub Refuses : CallError → Method → List Argument → Type 0
-Refuses UnknownMethod method arguments = ⊥
-Refuses BadEdition method arguments = method ≡ names.AttachEdition
-Refuses NoMemory method arguments = takes_program method ≡ true
-Refuses InvalidArgs method arguments = (takes_nothing method ≡ false) × (takes_text method ≡ true → first_text arguments ≡ None)
+-- why a call of a method is refused whose body has the method's signature
+abbrev pub Refuses : CallError → Method → Given → Type 0
+Refuses UnknownMethod method given = ⊥
+Refuses BadEdition method given = (method ≡ names.AttachEdition) × (edition_of (first_number given) ≡ Err BadEdition)
+Refuses NoMemory method given = takes_program method ≡ true
+Refuses InvalidArgs method given = Lacks method given
 
 -- what a call of a method is read as
-abbrev pub Understands : Method → List Argument → Result Call CallError → Type 0
-Understands method arguments (Ok call) = IsCallOf call method arguments
-Understands method arguments (Err error) = Refuses error method arguments
+abbrev pub Understands : Method → Given → Result Call CallError → Type 0
+Understands method given (Ok call) = IsCallOf call method given
+Understands method given (Err error) = Refuses error method given
 
 -- the method that a message calls
 abbrev pub row_called : Option (List ℕ) → Option (List ℕ) → Option MethodRow
@@ -102,14 +101,18 @@ row_called interface (Some member) = method_called interface member
 row_called interface None = None
 
 -- What a message is read as: of a method that isn't there, `UnknownMethod`; of another signature than the method's,
--- `InvalidArgs`; else as the method's arguments say.
-abbrev pub ReadsAs : Option MethodRow → List ℕ → List Argument → Result Call CallError → Type 0
-ReadsAs None signature arguments (Err UnknownMethod) = Unit {0}
-ReadsAs None signature arguments _ = ⊥
-ReadsAs (Some row) signature arguments (Ok call) = (signature ≡ row.takes) × IsCallOf call row.method arguments
-ReadsAs (Some row) signature arguments (Err InvalidArgs) = signature ≡ row.takes → Refuses InvalidArgs row.method arguments
-ReadsAs (Some row) signature arguments (Err error) = (signature ≡ row.takes) × Refuses error row.method arguments
+-- `InvalidArgs`; else as the method's given say.
+abbrev pub ReadsAs : Option MethodRow → List ℕ → Given → Result Call CallError → Type 0
+ReadsAs None signature given (Err UnknownMethod) = Unit {0}
+ReadsAs None signature given _ = ⊥
+ReadsAs (Some row) signature given (Ok call) = (signature ≡ row.takes) × IsCallOf call row.method given
+ReadsAs (Some row) signature given (Err InvalidArgs) = signature ≡ row.takes → Refuses InvalidArgs row.method given
+ReadsAs (Some row) signature given (Err error) = (signature ≡ row.takes) × Refuses error row.method given
+
+-- the arguments of a message
+abbrev pub given_by : Message → Given
+given_by m = record { message = message_bytes m; order = m.order; left = arguments_of m }
 
 -- what a message is read as, as a call of the bus
 abbrev pub IsReadAs : Message → Result Call CallError → Type 0
-IsReadAs m read = ReadsAs (row_called (interface_of m) (member_of m)) (spellings m.types) (arguments_of m) read
+IsReadAs m read = ReadsAs (row_called (interface_of m) (member_of m)) (spellings m.types) (given_by m) read

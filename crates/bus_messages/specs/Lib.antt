@@ -4,4 +4,5 @@ pub mod Bodies
 pub mod Sent
 pub mod Methods
 pub mod Rows
+pub mod Arguments
 pub mod Calls

@@ -1,11 +1,13 @@
 // The calls that the bus answers itself.
 
-ghost use Rattle.std.specs.Prelude.{◌≡◌, Ok, Err, IfOk, IfErr};
+ghost use Rattle.std.specs.Prelude.{◌≡◌, Ok, Err, if◌then◌else◌};
+ghost use Rattle.std.specs.Str.{bytes_eq};
 ghost use Rattle.message_view.specs.Message.{Message};
 ghost use Rattle.message_view.specs.Valid.{Valid};
 ghost use Rattle.bus_messages.specs.declared.call.Call.TheVariants.{Get, GetAll};
 ghost use Rattle.bus_messages.specs.declared.call.CallError.TheVariants.{InvalidArgs};
-ghost use Rattle.bus_messages.specs.Calls.{Understands, IsReadAs};
+ghost use Rattle.bus_messages.specs.Calls.{Understands, IsReadAs, is_property};
+ghost use Rattle.bus_messages.specs.Methods.{bus};
 
 use crate::arguments::Arguments;
 use crate::error_name::ErrorName;
@@ -94,8 +96,7 @@ impl From<AllocError> for CallError {
 
 /// A property of the bus, by its interface and its name.
 fn property<'a>(interface: &str, name: &str) -> Result<Call<'a>, CallError>
-    ensures ok { IfOk result (λ call. call ≡ Get) }
-    ensures err { IfErr result (λ error. error ≡ InvalidArgs) }
+    ensures { result ≡ (if is_property interface.now name.now then Ok Get else Err InvalidArgs) }
 {
     if interface == BUS && (name == "Features" || name == "Interfaces") {
         Ok(Call::Get)
@@ -106,8 +107,7 @@ fn property<'a>(interface: &str, name: &str) -> Result<Call<'a>, CallError>
 
 /// All properties of an interface.
 fn properties<'a>(interface: &str) -> Result<Call<'a>, CallError>
-    ensures ok { IfOk result (λ call. call ≡ GetAll) }
-    ensures err { IfErr result (λ error. error ≡ InvalidArgs) }
+    ensures { result ≡ (if bytes_eq interface.now bus then Ok GetAll else Err InvalidArgs) }
 {
     if interface == BUS {
         Ok(Call::GetAll)
@@ -123,7 +123,7 @@ impl<'a> Call<'a> {
         method: Method,
         arguments: &mut Arguments<'a>,
     ) -> Result<Call<'a>, CallError>
-        ensures { Understands method arguments.old.left result }
+        ensures { Understands method arguments.old result }
     {
         match method {
             Method::Hello => Ok(Call::Hello),
