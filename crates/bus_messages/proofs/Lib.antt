@@ -1,0 +1,2 @@
+pub mod CalledMethods
+pub mod TextArguments
