@@ -1,0 +1,13 @@
+//! A connection as all threads of a server see it: its outbox, and whoever writes what stands there to its socket. The
+//! server hands a `Mail` of each connection to the bus; the threads that put messages write them too.
+#![tactic(auto)]
+
+mod mail;
+mod member;
+mod post;
+mod unsent;
+mod writer;
+
+pub use mail::Mail;
+pub use member::Member;
+pub use post::{Arrival, BELL, Post};
