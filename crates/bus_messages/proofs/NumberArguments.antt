@@ -1,9 +1,9 @@
 -- The number that is read of a message whose first argument is one.
-use Rattle.std.proofs.Common.{◌≡◌, ℕ, ◌+◌, ◌*◌, ◌^◌, ◌<◌, List, [], ◌∷◌, ◌++◌, length, drop, Option, Some, None, refl, sym, ap, subst, ◌∙◌, arith}
-use Rattle.signature.specs.DataType.{DataTypes, basic, no_types, one_more}
+use Rattle.std.proofs.Common.{◌≡◌, ℕ, ◌+◌, ◌^◌, ◌<◌, List, [], ◌∷◌, ◌++◌, length, drop, Some, refl, sym, ap, subst, ◌∙◌, arith}
+use Rattle.signature.specs.DataType.{DataTypes, basic, one_more}
 use Rattle.message_value.specs.declared.order.Order.{Order}
 use Rattle.message_value.specs.Order.{word_of, word_bytes}
-use Rattle.message_value.specs.Value.{Value, Values, number, one_value}
+use Rattle.message_value.specs.Value.{Values, number, one_value}
 use Rattle.message_value.specs.Spelling.{padding, zeros, members_bytes}
 use Rattle.message_value.specs.Fits.{MembersFit}
 use Rattle.message_value.specs.Arguments.{arguments_from}
