@@ -1,8 +1,8 @@
 -- The text of a message whose signature is one text.
-use Rattle.std.proofs.Common.{◌≡◌, ◌≢◌, ℕ, List, [], ◌∷◌, length, lit≤, true, false, Option, Some, None, refl, sym, ap, subst, ◌∙◌, arith}
+use Rattle.std.proofs.Common.{◌≡◌, ◌≢◌, ℕ, List, [], ◌∷◌, length, lit≤, None, refl, sym, subst, ◌∙◌}
 use Rattle.signature.specs.DataType.{DataTypes, basic, no_types, one_more, spellings, SigText}
 use Rattle.message_value.specs.declared.order.Order.{Order}
-use Rattle.message_value.specs.Value.{Value, Values, number, text, elements, entries, members, of_type, no_values, one_value}
+use Rattle.message_value.specs.Value.{Values, number, text, elements, entries, members, of_type, no_values, one_value}
 use Rattle.message_value.specs.Fits.{MembersFit}
 use Rattle.message_value.specs.Arguments.{arguments_from}
 use Rattle.message_view.specs.Message.{Message}
