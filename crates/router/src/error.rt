@@ -1,10 +1,11 @@
 // Why a call of the bus is refused.
 
 ghost use Rattle.std.specs.Prelude.{◌≡◌};
-ghost use Rattle.router.specs.Errors.{error_of};
+ghost use Rattle.router.specs.Errors.{error_of, bus_error_number};
 ghost use Rattle.router.specs.Readings.{rule_error};
 
 use bpf_verify::VerifyError;
+use fan_out::FanError;
 use match_rule::RuleError;
 use program_table::Refusal;
 use std::error::Error;
@@ -39,9 +40,35 @@ pub enum BusError {
     TooLong,
     /// Each place of a reader is in use.
     Busy,
+    /// The workers gave no recipients.
+    Fan(FanError),
+    /// The last count of a broadcast was used.
+    Counts,
 }
 
 impl BusError {
+    /// The error's number, from 1.
+    pub fn number(self) -> u8
+        ensures { result ≡ bus_error_number self }
+    {
+        match self {
+            BusError::NoMemory => 1,
+            BusError::ConnectionsFull => 2,
+            BusError::EntriesFull => 3,
+            BusError::NamesFull => 4,
+            BusError::QueueFull => 5,
+            BusError::RuleNotFound => 6,
+            BusError::NoAttachment => 7,
+            BusError::Closed => 8,
+            BusError::Rule(_) => 9,
+            BusError::Program(_) => 10,
+            BusError::TooLong => 11,
+            BusError::Busy => 12,
+            BusError::Fan(_) => 13,
+            BusError::Counts => 14,
+        }
+    }
+
     /// The error of a command that the state refuses.
     pub(crate) fn of(refusal: Refusal) -> BusError
         ensures { result ≡ error_of refusal }
@@ -84,6 +111,8 @@ impl fmt::Display for BusError {
             BusError::Program(fault) => write!(f, "Program {fault}"),
             BusError::TooLong => f.write_str("TooLong"),
             BusError::Busy => f.write_str("Busy"),
+            BusError::Fan(fault) => write!(f, "Fan {fault}"),
+            BusError::Counts => f.write_str("Counts"),
         }
     }
 }
