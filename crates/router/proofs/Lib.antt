@@ -2,3 +2,5 @@ pub mod Owned
 pub mod Done
 pub mod Commands
 pub mod Joining
+pub mod Admitted
+pub mod Adding

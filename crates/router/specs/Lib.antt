@@ -1,4 +1,6 @@
 pub mod Errors
 pub mod Passes
 pub mod Calls
+pub mod Admission
 pub mod Readings
+pub mod Compiling

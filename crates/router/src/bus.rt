@@ -6,7 +6,7 @@ ghost use Rattle.program_table.specs.declared.command.Command.TheVariants.{Detac
 ghost use Rattle.published.specs.Publication.{Publication};
 ghost use Rattle.router.specs.Passes.{PassState};
 ghost use Rattle.router.specs.Calls.{AnswersOnce, ConnectsOnce};
-ghost use Rattle.router.specs.Readings.{RemovesMatchOnce, AttachesOnce};
+ghost use Rattle.router.specs.Readings.{AddsMatchOnce, RemovesMatchOnce, AttachesOnce};
 
 use crate::control::Control;
 use crate::error::BusError;
@@ -71,6 +71,19 @@ impl<J: Naming, M: Mailbox, R: Wait + Drop> Bus<J, M, R> {
         ensures { ConnectsOnce pass.old mailbox result pass.new }
     {
         self.control.lock(rt).connect(pass, mailbox)
+    }
+
+    /// Adds an entry with a rule (AddMatch).
+    pub fn add_match(
+        &self,
+        rt: &impl Wait,
+        alloc: Global,
+        pass: &mut Pass<J, M>,
+        text: &str,
+    ) -> Result<Reply, BusError>
+        ensures { AddsMatchOnce text.now pass.old result pass.new }
+    {
+        self.control.lock(rt).add_match(alloc, pass, text)
     }
 
     /// Takes away the oldest entry with an equal rule (RemoveMatch).
