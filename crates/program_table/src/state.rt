@@ -35,14 +35,14 @@ impl<M: Mailbox> Model for BusState<M> {
 }
 
 impl<M: Mailbox> BusState<M> {
-    ghost use Rattle.std.specs.Prelude.{◌≡◌, ◌<◌, ℕ, true, false, None, IfOk, IfErr, IfSome, MatchResult, MatchOption, option_map, option_copied, slice_get};
+    ghost use Rattle.std.specs.Prelude.{◌≡◌, ◌<◌, ◌≤◌, ℕ, length, true, false, None, IfOk, IfErr, IfSome, MatchResult, MatchOption, option_map, option_copied, slice_get};
     ghost use Rattle.message_view.specs.Message.{Message};
     ghost use Rattle.message_view.specs.Valid.{Valid};
     ghost use Rattle.summary.specs.Sets.{has_slot, IsSet};
     ghost use Rattle.owners.specs.Queues.{owner_of, queue_of};
     ghost use Rattle.owners.specs.Registry.{max_names, next_name};
     ghost use Rattle.entry_table.specs.OfferedEntries.{AreOffered};
-    ghost use Rattle.program_table.specs.Connections.{numbers_of, mailbox_of, commands_of, is_connected};
+    ghost use Rattle.program_table.specs.Connections.{max_connections, numbers_of, mailbox_of, commands_of, is_connected};
     ghost use Rattle.program_table.specs.SlotNames.{slot_next};
     ghost use Rattle.program_table.specs.State.{State, opening};
     ghost use Rattle.program_table.specs.Does.{Does, reply_to, max_commands, answer_of, is_accepted, is_sharing, row, connect_row, connected, changed, effect};
@@ -249,6 +249,15 @@ impl<M: Mailbox> BusState<M> {
         ensures { result.now ≡ self.now.connections }
     {
         self.connections.as_slice()
+    }
+
+    /// How many connections there are, at most 256.
+    pub fn connection_count(&self) -> usize
+        ensures count { result ≡ length self.now.connections }
+        ensures few { result ≤ max_connections }
+    {
+        let _ = self.connections.last();
+        self.connections.as_slice().len()
     }
 
     /// Where a connection stands in that list.

@@ -4,3 +4,4 @@ pub mod Commands
 pub mod Joining
 pub mod Admitted
 pub mod Adding
+pub mod NameOrder

@@ -4,3 +4,5 @@ pub mod Calls
 pub mod Admission
 pub mod Readings
 pub mod Compiling
+pub mod Asking
+pub mod Names

@@ -4,9 +4,12 @@
 #![tactic(auto)]
 
 mod bus;
+mod by_workers;
 mod calls;
 mod control;
 mod error;
+mod kept;
+mod listing;
 mod pass;
 mod reading;
 mod texts;
