@@ -4,3 +4,6 @@ pub mod Commands
 pub mod Joining
 pub mod Finding
 pub mod Sending
+pub mod Admitted
+pub mod Adding
+pub mod NameOrder

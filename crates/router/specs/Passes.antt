@@ -17,6 +17,10 @@ pub record PassState (M : Type 0) : Type 0 where
   pub count : ℕ
   pub stops : List StopView
 
+-- how many readers of passes that are over a bus keeps at most
+abbrev pub max_kept : ℕ
+max_kept = 256
+
 module _ {M : Type 0} where
   -- a pass that has seen this, and did nothing
   abbrev pub new_pass : List (Command M) → PassState M

@@ -1,13 +1,14 @@
 // Why a call of the bus is refused.
 
 ghost use Rattle.std.specs.Prelude.{◌≡◌};
-ghost use Rattle.router.specs.Errors.{error_of, bus_error_number};
+ghost use Rattle.router.specs.Errors.{error_of, bus_error_number, compile_error};
 ghost use Rattle.router.specs.Readings.{rule_error};
 
 use bpf_verify::VerifyError;
 use fan_out::FanError;
 use match_rule::RuleError;
 use program_table::Refusal;
+use rule_compile::CompileError;
 use std::error::Error;
 use std::fmt;
 
@@ -92,6 +93,16 @@ impl BusError {
         match fault {
             RuleError::NoMemory => BusError::NoMemory,
             fault => BusError::Rule(fault),
+        }
+    }
+
+    /// The error of a rule that isn't compiled.
+    pub(crate) fn of_compiling(error: CompileError) -> BusError
+        ensures { result ≡ compile_error error }
+    {
+        match error {
+            CompileError::TooLong => BusError::TooLong,
+            CompileError::NoMemory => BusError::NoMemory,
         }
     }
 }

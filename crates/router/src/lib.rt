@@ -4,10 +4,13 @@
 #![tactic(auto)]
 
 mod bus;
+mod by_workers;
 mod calls;
 mod control;
 mod error;
+mod kept;
 mod letterbox;
+mod listing;
 mod mailboxes;
 mod pass;
 mod reading;

@@ -4,19 +4,24 @@ ghost use Rattle.std.specs.Prelude.{◌≡◌, ◌≢◌, ◌⊎◌, ◌+◌, �
 ghost use mathlib.Core.List.{IsPrefix};
 ghost use Rattle.message_view.specs.Message.{Message};
 ghost use Rattle.message_view.specs.Valid.{Valid};
-ghost use Rattle.owners.specs.Queues.{owner_of};
+ghost use Rattle.owners.specs.Queues.{owner_of, queue_of};
+ghost use Rattle.program_table.specs.Connections.{numbers_of};
 ghost use Rattle.program_table.specs.History.{after, own_commands};
 ghost use Rattle.program_table.specs.Recipients.{AreRecipients};
 ghost use Rattle.router.specs.Passes.{PassState, HasTaken, new_pass, sending};
 ghost use Rattle.router.specs.Found.{IsFound};
+ghost use Rattle.router.specs.Names.{AreNames};
+ghost use Rattle.router.specs.Asking.{Tells, TellsByWorkers, AreFound};
 
+use crate::by_workers::found_by_workers;
 use crate::error::BusError;
+use crate::listing::{Names, found_names, found_queue};
 use crate::mailboxes::{Found, found_mailboxes};
 use crate::reading::{found_owner, found_recipients};
 use arrayvec::ArrayVec;
 use core::mem::replace_with;
 use crossbeam_utils::rule::Protocol;
-use fan_out::MAX_RECIPIENTS;
+use fan_out::{FanError, Gate, MAX_RECIPIENTS, MAX_WORKERS};
 use message_view::View;
 use owners::WellKnown;
 use program_table::{Command, Mailbox};
@@ -26,6 +31,7 @@ use std::alloc::{AllocError, Global};
 use std::collections::LinkedList;
 use std::marker::Model;
 use std::sync::Wait;
+use std::thread::Threads;
 
 /// One user of the bus: what it has seen of the history, its connection, and how many of its calls were accepted.
 #[derive(Drop)]
@@ -208,6 +214,78 @@ impl<J: Naming, M: Mailbox> Pass<J, M> {
             { found_owner(sight, asked) },
         );
         found.ok_or(BusError::Closed)
+    }
+
+    // Enters the published state for the connections and names.
+    pub(crate) fn look_for_names(&mut self, alloc: Global) -> Result<Names, BusError>
+        ensures found { Tells self.old.seen (λ s found. (found.0.items ≡ numbers_of s.connections) × AreNames s.registrations.claims found.1.items) result self.new.seen }
+        ensures same { self.new ≡ record self.old { seen = self.new.seen } }
+    {
+        let found = replace_with(
+            &mut self.sight,
+            alloc,
+            |sight, alloc| -> (Sight<J, M>, Option<Result<Names, AllocError>>)
+                ensures { MatchOption result.1 (result.0 ≡ sight) (λ found. IsPrefix sight result.0 × IfOk found (λ all. (all.0.items ≡ numbers_of (after result.0).connections) × AreNames (after result.0).registrations.claims all.1.items)) }
+            { found_names(sight, alloc) },
+        );
+        match found {
+            Some(Ok(found)) => Ok(found),
+            Some(Err(_)) => Err(BusError::NoMemory),
+            None => Err(BusError::Closed),
+        }
+    }
+
+    // Enters the published state for a name's queue.
+    pub(crate) fn look_for_queue(
+        &mut self,
+        alloc: Global,
+        name: &WellKnown,
+    ) -> Result<Vec<u64>, BusError>
+        ensures found { Tells self.old.seen (λ s found. found.items ≡ queue_of name.now s.registrations.claims) result self.new.seen }
+        ensures same { self.new ≡ record self.old { seen = self.new.seen } }
+    {
+        let found = replace_with(
+            &mut self.sight,
+            (alloc, name),
+            |sight, asked| -> (Sight<J, M>, Option<Result<Vec<u64>, AllocError>>)
+                ensures { MatchOption result.1 (result.0 ≡ sight) (λ found. IsPrefix sight result.0 × IfOk found (λ queue. queue.items ≡ queue_of asked.entry.1.now (after result.0).registrations.claims)) }
+            { found_queue(sight, asked.0, asked.1) },
+        );
+        match found {
+            Some(Ok(found)) => Ok(found),
+            Some(Err(_)) => Err(BusError::NoMemory),
+            None => Err(BusError::Closed),
+        }
+    }
+}
+
+impl<J: Naming, M: Mailbox + Sync> Pass<J, M> {
+    // Enters the published state for the recipients, which workers find.
+    pub(crate) fn let_workers_look<G: Gate, R: Threads + Wait>(
+        &mut self,
+        rt: &R,
+        sender: Option<u64>,
+        view: &View<'_>,
+        workers: u32,
+        gate: &G,
+    ) -> Result<ArrayVec<u64, MAX_RECIPIENTS>, BusError>
+        requires { (0 < workers) × (workers ≤ MAX_WORKERS) }
+        ensures found { TellsByWorkers self.old.seen sender view.now workers result self.new.seen }
+        ensures same { self.new ≡ record self.old { seen = self.new.seen } }
+    {
+        let found = replace_with(
+            &mut self.sight,
+            (rt, sender, view, workers, gate),
+            |sight, asked| -> (Sight<J, M>, Option<Result<ArrayVec<u64, MAX_RECIPIENTS>, FanError>>)
+                requires { (0 < asked.3) × (asked.3 ≤ MAX_WORKERS) }
+                ensures { MatchOption result.1 (result.0 ≡ sight) (λ found. IsPrefix sight result.0 × AreFound (after result.0) asked.entry.1 asked.entry.2.now found) }
+            { found_by_workers(asked.0, sight, asked.1, asked.2, asked.3, asked.4) },
+        );
+        match found {
+            Some(Ok(found)) => Ok(found),
+            Some(Err(error)) => Err(BusError::Fan(error)),
+            None => Err(BusError::Closed),
+        }
     }
 }
 
