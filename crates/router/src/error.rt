@@ -5,6 +5,7 @@ ghost use Rattle.router.specs.Errors.{error_of};
 ghost use Rattle.router.specs.Readings.{rule_error};
 
 use bpf_verify::VerifyError;
+use fan_out::FanError;
 use match_rule::RuleError;
 use program_table::Refusal;
 use std::error::Error;
@@ -39,6 +40,10 @@ pub enum BusError {
     TooLong,
     /// Each place of a reader is in use.
     Busy,
+    /// Workers gave no recipients.
+    Fan(FanError),
+    /// The count 18,446,744,073,709,551,615 was used: the pass sends no broadcast more.
+    Counts,
 }
 
 impl BusError {
@@ -84,6 +89,8 @@ impl fmt::Display for BusError {
             BusError::Program(fault) => write!(f, "Program {fault}"),
             BusError::TooLong => f.write_str("TooLong"),
             BusError::Busy => f.write_str("Busy"),
+            BusError::Fan(fault) => write!(f, "Fan {fault}"),
+            BusError::Counts => f.write_str("Counts"),
         }
     }
 }

@@ -7,12 +7,17 @@ mod bus;
 mod calls;
 mod control;
 mod error;
+mod letterbox;
 mod pass;
 mod reading;
+mod routes;
+mod stubs;
 mod texts;
 
 pub use bus::Bus;
 pub use control::Control;
 pub use error::BusError;
+pub use letterbox::Letterbox;
 pub use pass::Pass;
 pub use reading::Source;
+pub use routes::Sent;

@@ -1,0 +1,40 @@
+// Mailboxes that nothing writes out.
+
+use outbox::Outbox;
+use program_table::Mailbox;
+use routing::Carrier;
+use std::alloc::{AllocError, Global};
+use std::sync::Wait;
+
+/// A mailbox that is an outbox. What stands there waits until somebody takes it: nobody writes it out.
+#[derive(Drop)]
+pub struct Letterbox {
+    outbox: Outbox,
+}
+
+impl Letterbox {
+    /// A mailbox with an outbox of its own.
+    pub fn new(alloc: Global) -> Result<Letterbox, AllocError> {
+        Ok(Letterbox {
+            outbox: Outbox::new(alloc)?,
+        })
+    }
+}
+
+impl Mailbox for Letterbox {
+    fn share(&self) -> Result<Letterbox, AllocError> {
+        Ok(Letterbox {
+            outbox: self.outbox.share()?,
+        })
+    }
+}
+
+impl Carrier for Letterbox {
+    ghost outbox_of = { λ l. l.outbox };
+
+    fn outbox(&self) -> &Outbox {
+        &self.outbox
+    }
+
+    fn push_out<R: Wait>(&self, _rt: &R) {}
+}
