@@ -23,13 +23,11 @@ pub(crate) fn accept_all<J: Naming, R: Wait + Drop, W: Wait + Clock>(
         return;
     }
     for number in 1..=count.unwrap_or(u64::MAX) {
-        hub.places.take(rt);
         hub.entries.take(rt);
         let link = accept(rt, listener);
         let post = &posts[(number % posts.len() as u64) as usize];
         if post.hand_in(rt, Arrival { link }).is_err() {
             hub.entries.give_back(rt);
-            hub.places.give_back(rt);
         }
     }
 }

@@ -26,8 +26,6 @@ pub(crate) struct Hub<J: Naming, R: Wait + Drop> {
     pub(crate) bus: Bus<J, Mail, R>,
     pub(crate) identity: Identity,
     pub(crate) limits: Limits,
-    /// Places of connections.
-    pub(crate) places: Places,
     /// Places of connections that haven't been answered their Hello.
     pub(crate) entries: Places,
     // The ends of sessions for which there was no memory.
@@ -46,7 +44,6 @@ impl<J: Naming, R: Wait + Drop> Hub<J, R> {
             bus,
             identity,
             limits,
-            places: Places::new(limits.connections),
             entries: Places::new(limits.newcomers),
             rests: Mutex::new(rests),
         })

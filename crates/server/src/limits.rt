@@ -3,24 +3,22 @@
 use std::sync::{Condvar, Mutex, Wait};
 use std::time::Duration;
 
-/// The limits of a server.
+/// The limits of a server. How many connections there are after Hello is the bus's limit, which it tells a client; so at
+/// most these two numbers together are open at once.
 #[derive(Clone, Copy)]
 pub struct Limits {
-    /// How many connections are served at once.
-    pub connections: u32,
-    /// How many of them haven't been answered their Hello.
+    /// How many connections may be without Hello at once.
     pub newcomers: u32,
-    /// How long after its accept a connection may be without Hello.
+    /// How long after its accept a connection may be without it.
     pub patience: Duration,
     /// How many threads serve the connections.
     pub workers: usize,
 }
 
 impl Limits {
-    /// 256 connections, 64 of them without Hello, each for at most 30 seconds.
+    /// 64 connections without Hello at once, each for at most 30 seconds, and 1 to 16 workers.
     pub fn with_workers(workers: usize) -> Limits {
         Limits {
-            connections: 256,
             newcomers: 64,
             patience: Duration::from_secs(30),
             workers: workers.clamp(1, 16),

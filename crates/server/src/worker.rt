@@ -153,7 +153,6 @@ impl<'a, J: Naming, R: Wait + Drop> Worker<'a, J, R> {
             self.hub.retry_rests(rt, self.alloc);
             if self.welcome(rt, arrival.link).is_err() {
                 self.hub.entries.give_back(rt);
-                self.hub.places.give_back(rt);
             }
         }
     }
@@ -224,7 +223,7 @@ impl<'a, J: Naming, R: Wait + Drop> Worker<'a, J, R> {
         None
     }
 
-    /// Ends a connection, and gives its place back.
+    /// Ends a connection.
     fn end<W: Wait>(&mut self, rt: &W, key: usize) {
         let Some(connection) = self.connections.try_remove(key) else {
             return;
@@ -234,6 +233,5 @@ impl<'a, J: Naming, R: Wait + Drop> Worker<'a, J, R> {
             self.hub.entries.give_back(rt);
         }
         connection.end(rt, self.alloc, self.hub);
-        self.hub.places.give_back(rt);
     }
 }
