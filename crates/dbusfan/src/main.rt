@@ -1,15 +1,20 @@
-//! The program dbusfan: what the system gives to `tool` of the library below.
+//! The program dbusfan: what the system gives to `tool` and `serve` of the libraries below.
 #![tactic(auto)]
 
 mod streams;
 mod system;
 
+pub use dbusfan_serve::serve;
 pub use dbusfan_tool::tool;
 use dbusfan_tool::{Fault, Output, Writer};
 use std::alloc::Global;
 use std::io::Lock;
+use std::net::{Net, TcpListener, TcpStream};
 use std::process::ExitCode;
+use std::random::RandomSource;
 use std::rt::Runtime;
+use std::sync::Wait;
+use std::thread::Threads;
 use std::{env, io};
 use streams::Stream;
 use system::System;
@@ -27,14 +32,26 @@ fn main(rt: HostRuntime) -> ExitCode {
     ExitCode::from(status)
 }
 
-/// Gives the words behind the program's name to `tool`. An `Err` says that there are none to give.
-fn run<R: Runtime<A = Global>, E: Writer>(rt: &R, err: &mut Output<E>) -> io::Result<u8> {
+/// Gives the words after the program's name to `serve` or to `tool`. An `Err` says that there are none to give.
+fn run<R, E: Writer>(rt: &R, err: &mut Output<E>) -> io::Result<u8>
+where
+    R: Runtime<A = Global>
+        + Net<Listener = TcpListener, Stream = TcpStream>
+        + Threads
+        + Wait
+        + RandomSource
+        + Sync,
+{
     let alloc = rt.alloc();
     let args: Vec<String> = env::args(rt)?.collect(alloc)?;
     let words: Vec<&str> = args.iter().skip(1).map(|arg| arg.as_str()).collect(alloc)?;
+    let words = words.as_slice();
     let mut out = Output::new(Stream::new(io::writer(rt)));
+    if let Some((&"serve", options)) = words.split_first() {
+        return Ok(serve(rt, alloc, options, &mut out, err));
+    }
     let mut files = System::new(rt);
-    Ok(tool(alloc, words.as_slice(), &mut files, &mut out, err))
+    Ok(tool(alloc, words, &mut files, &mut out, err))
 }
 
 /// Words that aren't UTF-8 are no row of the command line; else memory was short.

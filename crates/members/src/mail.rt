@@ -1,9 +1,9 @@
 // Mailboxes of connections.
 
-ghost use Rattle.std.specs.Prelude.{◌≡◌, IfOk};
-
 use crate::member::Member;
 use outbox::Outbox;
+use program_table::Mailbox;
+use routing::Carrier;
 use std::alloc::AllocError;
 use std::marker::Model;
 use std::sync::{Arc, Wait};
@@ -28,22 +28,23 @@ impl Mail {
     pub fn new(member: Arc<Member>) -> Mail {
         Mail { member }
     }
+}
 
-    pub fn outbox(&self) -> &Outbox
-        ensures { result.now ≡ self.now }
-    {
+impl Mailbox for Mail {
+    fn share(&self) -> Result<Mail, AllocError> {
+        let member = Arc::try_clone(&self.member)?;
+        Ok(Mail { member })
+    }
+}
+
+impl Carrier for Mail {
+    ghost outbox_of = { λ mail. mail };
+
+    fn outbox(&self) -> &Outbox {
         self.member.outbox()
     }
 
-    pub fn push_out<R: Wait>(&self, rt: &R) {
+    fn push_out<R: Wait>(&self, rt: &R) {
         self.member.push_out(rt);
-    }
-
-    /// Another handle on the same connection.
-    pub fn share(&self) -> Result<Mail, AllocError>
-        ensures { IfOk result (λ m. m ≡ self.now) }
-    {
-        let member = Arc::try_clone(&self.member)?;
-        Ok(Mail { member })
     }
 }

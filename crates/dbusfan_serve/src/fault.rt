@@ -1,0 +1,53 @@
+// What `serve` is refused for.
+
+use dbusfan_tool::{Output, Writer};
+use std::io;
+use std::io::ErrorKind;
+
+/// What the command is refused for.
+#[derive(Clone, Copy, Debug, PartialEq, Eq)]
+pub enum Fault {
+    /// The words are no row of the command line.
+    Usage,
+    /// Standard output can't be written.
+    File,
+    /// The address can't be listened at.
+    Socket,
+    /// Memory or threads are refused.
+    Memory,
+}
+
+impl Fault {
+    /// The status that the program ends with.
+    pub fn status(self) -> u8 {
+        match self {
+            Fault::Usage => 3,
+            Fault::File | Fault::Socket => 4,
+            Fault::Memory => 5,
+        }
+    }
+
+    /// The line that says so.
+    fn line(self) -> &'static [u8] {
+        match self {
+            Fault::Usage => b"dbusfan: usage\n",
+            Fault::File => b"dbusfan: file\n",
+            Fault::Socket => b"dbusfan: socket\n",
+            Fault::Memory => b"dbusfan: memory\n",
+        }
+    }
+
+    /// Says so on standard error, as one line, and answers the status.
+    pub(crate) fn tell<E: Writer>(self, err: &mut Output<E>) -> u8 {
+        err.put(self.line());
+        self.status()
+    }
+
+    /// What an error means, where nothing but memory is asked of the system or else this fault is met.
+    pub(crate) fn of(error: &io::Error, other: Fault) -> Fault {
+        match error.kind() {
+            ErrorKind::OutOfMemory => Fault::Memory,
+            _ => other,
+        }
+    }
+}

@@ -1,0 +1,11 @@
+//! The command `serve` of dbusfan. The program above calls `serve`, which reads its words, listens, says where, and serves.
+#![tactic(auto)]
+
+mod entry;
+mod fault;
+mod machine;
+mod options;
+
+pub use entry::serve;
+pub use fault::Fault;
+pub use options::Options;

@@ -1,0 +1,164 @@
+// A connection of a worker.
+
+use crate::hub::Hub;
+use endpoints::Link;
+use members::{Mail, Member, Post};
+use mio::Token;
+use published::Naming;
+use sessions::{Session, SessionError, Step};
+use std::alloc::Global;
+use std::io;
+use std::io::ErrorKind;
+use std::sync::{Arc, Wait};
+use std::time::{Clock, Duration, Instant};
+
+/// How many messages are treated before what they put is written. It lies well below what an outbox holds.
+const MESSAGES: u32 = 32;
+
+/// How many reads one connection gets before the others have their turn.
+const READS: u32 = 4;
+
+/// What becomes of a connection after its turn.
+#[derive(Clone, Copy, PartialEq, Eq)]
+pub(crate) enum Turn {
+    /// It waits for the poll.
+    Waits,
+    /// More may be there to read.
+    Again,
+    Ends,
+}
+
+/// A connection, which one worker owns.
+#[derive(Drop)]
+pub(crate) struct Connection<J: Naming> {
+    session: Session<J, Mail>,
+    member: Arc<Member>,
+    link: Arc<Link>,
+    begun: Instant,
+    /// Whether its Hello was answered, and its place among the newcomers given back.
+    pub(crate) is_in: bool,
+}
+
+impl<J: Naming> Connection<J> {
+    /// A connection that has just been accepted.
+    pub(crate) fn new<R: Wait + Drop>(
+        alloc: Global,
+        hub: &Hub<J, R>,
+        link: Link,
+        post: Arc<Post>,
+        token: Token,
+        begun: Instant,
+    ) -> io::Result<Connection<J>> {
+        link.set_nonblocking()?;
+        let link = Arc::new(alloc, link)?;
+        let member = Member::new(alloc, Arc::try_clone(&link)?, post, token)?;
+        let member = Arc::new(alloc, member)?;
+        let mail = Mail::new(Arc::try_clone(&member)?);
+        let mut session = Session::new(alloc, hub.identity.guid, mail);
+        if let Some(machine) = hub.identity.machine {
+            session.set_machine_id(machine);
+        }
+        Ok(Connection {
+            session,
+            member,
+            link,
+            begun,
+            is_in: false,
+        })
+    }
+
+    pub(crate) fn link(&self) -> &Link {
+        &self.link
+    }
+
+    /// Whether it has been without Hello for too long.
+    pub(crate) fn is_late<R: Clock>(&self, rt: &R, patience: Duration) -> bool {
+        !self.is_in && self.begun.elapsed(rt).is_ok_and(|waited| waited > patience)
+    }
+
+    /// Whether its Hello was answered.
+    pub(crate) fn is_connected(&self) -> bool {
+        self.session.is_connected()
+    }
+
+    /// The poll told of room to write.
+    pub(crate) fn has_room<W: Wait>(&self, rt: &W) {
+        self.member.has_room(rt);
+    }
+
+    /// Reads into the block and treats what came, as far as it goes in one turn.
+    pub(crate) fn read<W: Wait, R: Wait + Drop>(
+        &mut self,
+        rt: &W,
+        alloc: Global,
+        hub: &Hub<J, R>,
+        block: &mut [u8],
+    ) -> Turn {
+        for _ in 0..READS {
+            match self.link.receive(block) {
+                Ok(0) => return Turn::Ends,
+                Ok(count) => {
+                    if self.treat(rt, alloc, hub, &block[..count]).is_err() {
+                        return Turn::Ends;
+                    }
+                }
+                Err(error) => match error.kind() {
+                    ErrorKind::Interrupted => {}
+                    ErrorKind::WouldBlock => return Turn::Waits,
+                    _ => return Turn::Ends,
+                },
+            }
+        }
+        Turn::Again
+    }
+
+    /// Treats the lines and messages that are whole now. What they put is written after every few of them, also before an
+    /// error.
+    fn treat<W: Wait, R: Wait + Drop>(
+        &mut self,
+        rt: &W,
+        alloc: Global,
+        hub: &Hub<J, R>,
+        bytes: &[u8],
+    ) -> Result<(), SessionError> {
+        self.session.feed(bytes)?;
+        for _ in rt.forever() {
+            let treated = self.treat_some(rt, alloc, hub);
+            self.session.push_out(rt);
+            if treated? == Step::Waits {
+                return Ok(());
+            }
+        }
+        unreachable!()
+    }
+
+    fn treat_some<W: Wait, R: Wait + Drop>(
+        &mut self,
+        rt: &W,
+        alloc: Global,
+        hub: &Hub<J, R>,
+    ) -> Result<Step, SessionError> {
+        for _ in 0..MESSAGES {
+            if self.session.step(rt, alloc, &hub.bus)? == Step::Waits {
+                return Ok(Step::Waits);
+            }
+        }
+        Ok(Step::Done)
+    }
+
+    /// Ends it: what its socket still takes is written, and the socket is closed.
+    pub(crate) fn end<W: Wait, R: Wait + Drop>(self, rt: &W, alloc: Global, hub: &Hub<J, R>) {
+        let Connection {
+            session,
+            member,
+            link,
+            begun: _,
+            is_in: _,
+        } = self;
+        if let Some(rest) = session.end(rt, alloc, &hub.bus) {
+            hub.keep_rest(rt, rest);
+        }
+        member.end(rt);
+        link.shut();
+    }
+}

@@ -1,0 +1,69 @@
+// What the workers share.
+
+use crate::limits::{Limits, Places};
+use members::Mail;
+use published::Naming;
+use router::Bus;
+use sessions::Rest;
+use std::alloc::{AllocError, Global};
+use std::sync::{Mutex, Wait};
+
+/// How many sessions' ends may wait for memory.
+const RESTS: usize = 256;
+
+/// Who the bus says it is.
+#[derive(Clone, Copy)]
+pub struct Identity {
+    /// The GUID of the server, as hexadecimal digits.
+    pub guid: [u8; 32],
+    /// The machine's id, as hexadecimal digits.
+    pub machine: Option<[u8; 32]>,
+}
+
+/// The bus, and what the workers share beside it.
+#[derive(Drop)]
+pub(crate) struct Hub<J: Naming, R: Wait + Drop> {
+    pub(crate) bus: Bus<J, Mail, R>,
+    pub(crate) identity: Identity,
+    pub(crate) limits: Limits,
+    /// Places of connections that haven't been answered their Hello.
+    pub(crate) entries: Places,
+    // The ends of sessions for which there was no memory.
+    rests: Mutex<Vec<Rest<J, Mail>>>,
+}
+
+impl<J: Naming, R: Wait + Drop> Hub<J, R> {
+    pub(crate) fn new(
+        alloc: Global,
+        bus: Bus<J, Mail, R>,
+        identity: Identity,
+        limits: Limits,
+    ) -> Result<Hub<J, R>, AllocError> {
+        let rests = Vec::with_capacity(alloc, RESTS)?;
+        Ok(Hub {
+            bus,
+            identity,
+            limits,
+            entries: Places::new(limits.newcomers),
+            rests: Mutex::new(rests),
+        })
+    }
+
+    /// Keeps the end of a session, for which there was no memory, for the next call of `retry_rests`.
+    pub(crate) fn keep_rest<W: Wait>(&self, rt: &W, rest: Rest<J, Mail>) {
+        let _ = self.rests.lock(rt).push(rest);
+    }
+
+    /// Goes on with the ends of sessions for which there was no memory.
+    pub(crate) fn retry_rests<W: Wait>(&self, rt: &W, alloc: Global) {
+        for _ in 0..RESTS {
+            let Some(rest) = self.rests.lock(rt).pop() else {
+                return;
+            };
+            if let Some(rest) = rest.retry(rt, alloc, &self.bus) {
+                self.keep_rest(rt, rest);
+                return;
+            }
+        }
+    }
+}

@@ -1,0 +1,14 @@
+//! The bus on a listening socket: one thread that accepts, and a few workers, each of which waits at a poll of its own for
+//! its share of the connections. A session never waits for its client, and whoever puts a message writes it.
+#![tactic(auto)]
+
+mod accepting;
+mod connection;
+mod hub;
+mod limits;
+mod serving;
+mod worker;
+
+pub use hub::Identity;
+pub use limits::Limits;
+pub use serving::serve;

@@ -1,0 +1,111 @@
+// The server's threads.
+
+ghost use Rattle.std.specs.Prelude.{◌≡◌};
+
+use crate::accepting::accept_all;
+use crate::hub::{Hub, Identity};
+use crate::limits::Limits;
+use crate::worker::{Desk, work};
+use endpoints::Listener;
+use entry_table::IndexKey;
+use members::Mail;
+use published::{Naming, Opened};
+use router::Bus;
+use std::alloc::Global;
+use std::io;
+use std::io::ErrorKind;
+use std::marker::Brand;
+use std::net::Net;
+use std::sync::Wait;
+use std::thread;
+use std::thread::{Builder, Threads};
+use std::time::Clock;
+
+/// Serves as many connections as are asked for, or without end, on a bus of their own. It answers once all of them have
+/// ended, or where memory or threads are refused at the start.
+pub fn serve<R>(
+    rt: &R,
+    alloc: Global,
+    key: IndexKey,
+    identity: Identity,
+    limits: Limits,
+    listener: &Listener,
+    count: Option<u64>,
+) -> io::Result<()>
+where
+    R: Threads + Wait + Clock + Net + Sync,
+{
+    let opened = Opened::<Mail>::new();
+    let start = Start {
+        key,
+        identity,
+        limits,
+        count,
+    };
+    serve_on::<Brand, R>(rt, alloc, opened, start, listener)
+}
+
+/// What a server begins with.
+#[derive(Clone, Copy)]
+struct Start {
+    key: IndexKey,
+    identity: Identity,
+    limits: Limits,
+    count: Option<u64>,
+}
+
+fn serve_on<J: Naming + Send + Sync, R>(
+    rt: &R,
+    alloc: Global,
+    opened: Opened<Mail>,
+    start: Start,
+    listener: &Listener,
+) -> io::Result<()>
+where
+    R: Threads + Wait + Clock + Net + Sync,
+    requires { opened ≡ J.book }
+{
+    let Ok(bus) = Bus::<J, Mail, &R>::new(rt, alloc, start.key, opened) else {
+        return Err(ErrorKind::OutOfMemory.into());
+    };
+    let hub = Hub::new(alloc, bus, start.identity, start.limits)?;
+    run(rt, alloc, &hub, listener, start.count)
+}
+
+/// Starts the workers, accepts, and waits for the workers to end.
+fn run<J: Naming + Send + Sync, R>(
+    rt: &R,
+    alloc: Global,
+    hub: &Hub<J, &R>,
+    listener: &Listener,
+    count: Option<u64>,
+) -> io::Result<()>
+where
+    R: Threads + Wait + Clock + Net + Sync,
+{
+    let mut posts = Vec::with_capacity(alloc, hub.limits.workers)?;
+    thread::scope(thread::scope_env(), rt, |scope| {
+        for _ in 0..hub.limits.workers {
+            let Ok(desk) = Desk::new(rt, alloc) else {
+                continue;
+            };
+            let Ok(post) = desk.post() else {
+                continue;
+            };
+            let worker = move || work(rt, alloc, hub, desk);
+            if Builder::new().spawn_scoped(scope, worker).is_ok() {
+                if let Err(refused) = posts.push(post) {
+                    refused.value.finish();
+                }
+            }
+        }
+        accept_all(rt, listener, count, hub, posts.as_slice());
+        for post in posts.iter() {
+            post.finish();
+        }
+    });
+    if posts.is_empty() {
+        return Err(ErrorKind::OutOfMemory.into());
+    }
+    Ok(())
+}

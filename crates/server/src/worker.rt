@@ -1,0 +1,237 @@
+// What a worker does.
+
+use crate::connection::{Connection, Turn};
+use crate::hub::Hub;
+use endpoints::Link;
+use members::{BELL, Post};
+use mio::{Events, Poll, Token};
+use published::Naming;
+use slab::Slab;
+use std::alloc::{AllocError, Global};
+use std::net::Net;
+use std::sync::{Arc, Wait};
+use std::time::{Clock, Duration, Instant};
+use std::{io, mem, thread};
+
+/// How many bytes one read asks for.
+const BLOCK: usize = 65536;
+
+/// How many events one look at the poll gives.
+const EVENTS: usize = 256;
+
+/// How many milliseconds lie between two looks at the newcomers.
+const GLANCE: u64 = 500;
+
+/// How many milliseconds to wait where the poll fails.
+const PAUSE: u64 = 50;
+
+/// What a worker works with. It is made before the worker's thread is started.
+#[derive(Drop)]
+pub(crate) struct Desk {
+    poll: Poll,
+    events: Events,
+    post: Arc<Post>,
+    // Where all connections of the worker read to.
+    block: Vec<u8>,
+}
+
+impl Desk {
+    pub(crate) fn new<R: Net>(rt: &R, alloc: Global) -> io::Result<Desk> {
+        let poll = Poll::new(rt)?;
+        let events = Events::with_capacity(alloc, EVENTS)?;
+        let post = Arc::new(alloc, Post::new(alloc, &poll)?)?;
+        let block = vec![in alloc; 0; BLOCK]?;
+        Ok(Desk {
+            poll,
+            events,
+            post,
+            block,
+        })
+    }
+
+    /// The worker as others see it.
+    pub(crate) fn post(&self) -> Result<Arc<Post>, AllocError> {
+        Arc::try_clone(&self.post)
+    }
+}
+
+/// A worker, with its share of the connections.
+#[derive(Drop)]
+pub(crate) struct Worker<'a, J: Naming, R: Wait + Drop> {
+    alloc: Global,
+    hub: &'a Hub<J, R>,
+    post: Arc<Post>,
+    connections: Slab<Connection<J>>,
+    block: Vec<u8>,
+    // The keys of those that had more to read when their turn was over.
+    again: Vec<usize>,
+    // How many haven't been answered their Hello.
+    newcomers: u32,
+}
+
+/// Serves until no more connections come and all have ended.
+pub(crate) fn work<J: Naming, R: Wait + Drop, W: Wait + Clock>(
+    rt: &W,
+    alloc: Global,
+    hub: &Hub<J, R>,
+    desk: Desk,
+) {
+    let Desk {
+        mut poll,
+        mut events,
+        post,
+        block,
+    } = desk;
+    let mut worker = Worker::new(alloc, hub, post, block);
+    for _ in rt.forever() {
+        if poll.poll(&mut events, worker.patience()).is_err() {
+            thread::sleep(rt, Duration::from_millis(PAUSE));
+            events.clear();
+        }
+        worker.answer(rt, &events);
+        worker.go_on(rt);
+        worker.end_late_ones(rt);
+        if worker.is_done(rt) {
+            return;
+        }
+    }
+}
+
+impl<'a, J: Naming, R: Wait + Drop> Worker<'a, J, R> {
+    fn new(
+        alloc: Global,
+        hub: &'a Hub<J, R>,
+        post: Arc<Post>,
+        block: Vec<u8>,
+    ) -> Worker<'a, J, R> {
+        Worker {
+            alloc,
+            hub,
+            post,
+            connections: Slab::new(alloc),
+            block,
+            again: Vec::new(alloc),
+            newcomers: 0,
+        }
+    }
+
+    /// Does what the poll told of.
+    fn answer<W: Wait + Clock>(&mut self, rt: &W, events: &Events) {
+        for event in events.iter() {
+            if event.token() == BELL {
+                self.take_in(rt);
+            } else {
+                self.turn(rt, event.token().0, event.is_writable());
+            }
+        }
+    }
+
+    /// Whether no more connections come, and all have ended.
+    fn is_done<W: Wait + Clock>(&mut self, rt: &W) -> bool {
+        if !self.post.is_finished() {
+            return false;
+        }
+        // A connection may have come before the word that none comes.
+        self.take_in(rt);
+        self.connections.is_empty()
+    }
+
+    /// How long the poll may wait. An idle bus waits without a limit.
+    fn patience(&self) -> Option<Duration> {
+        if !self.again.is_empty() {
+            Some(Duration::from_millis(0))
+        } else if self.newcomers > 0 {
+            Some(Duration::from_millis(GLANCE))
+        } else {
+            None
+        }
+    }
+
+    /// Takes in the connections that were handed over. Where memory runs out, a connection is closed.
+    fn take_in<W: Wait + Clock>(&mut self, rt: &W) {
+        for arrival in self.post.take_arrivals(rt, self.alloc) {
+            self.hub.retry_rests(rt, self.alloc);
+            if self.welcome(rt, arrival.link).is_err() {
+                self.hub.entries.give_back(rt);
+            }
+        }
+    }
+
+    fn welcome<W: Clock>(&mut self, rt: &W, link: Link) -> io::Result<()> {
+        let begun = Instant::now(rt)?;
+        self.connections.reserve(1)?;
+        let token = Token(self.connections.vacant_key());
+        let post = Arc::try_clone(&self.post)?;
+        let connection = Connection::new(self.alloc, self.hub, link, post, token, begun)?;
+        self.post.register(connection.link(), token)?;
+        self.connections.insert_reserved(connection);
+        self.newcomers = self.newcomers.saturating_add(1);
+        Ok(())
+    }
+
+    /// Gives a connection its turn: it writes and reads as far as it goes.
+    fn turn<W: Wait>(&mut self, rt: &W, key: usize, has_room: bool) {
+        let Some(connection) = self.connections.get_mut(key) else {
+            return;
+        };
+        if has_room {
+            connection.has_room(rt);
+        }
+        let turn = connection.read(rt, self.alloc, self.hub, self.block.as_mut_slice());
+        if !connection.is_in && connection.is_connected() {
+            connection.is_in = true;
+            self.newcomers = self.newcomers.saturating_sub(1);
+            self.hub.entries.give_back(rt);
+        }
+        let goes_on = match turn {
+            Turn::Waits => true,
+            Turn::Again => self.again.push(key).is_ok(),
+            Turn::Ends => false,
+        };
+        if !goes_on {
+            self.end(rt, key);
+        }
+    }
+
+    /// Gives those that had more to read another turn.
+    fn go_on<W: Wait>(&mut self, rt: &W) {
+        for key in mem::replace(&mut self.again, Vec::new(self.alloc)) {
+            self.turn(rt, key, false);
+        }
+    }
+
+    /// Ends the connections that have been without Hello for too long.
+    fn end_late_ones<W: Wait + Clock>(&mut self, rt: &W) {
+        if self.newcomers == 0 {
+            return;
+        }
+        for _ in 0..EVENTS {
+            let Some(key) = self.late_one(rt) else {
+                return;
+            };
+            self.end(rt, key);
+        }
+    }
+
+    fn late_one<W: Clock>(&self, rt: &W) -> Option<usize> {
+        let patience = self.hub.limits.patience;
+        for (key, connection) in self.connections.iter() {
+            if connection.is_late(rt, patience) {
+                return Some(key);
+            }
+        }
+        None
+    }
+
+    /// Ends a connection.
+    fn end<W: Wait>(&mut self, rt: &W, key: usize) {
+        let Some(connection) = self.connections.try_remove(key) else {
+            return;
+        };
+        if !connection.is_in {
+            self.newcomers = self.newcomers.saturating_sub(1);
+            self.hub.entries.give_back(rt);
+        }
+        connection.end(rt, self.alloc, self.hub);
+    }
+}
