@@ -1,4 +1,4 @@
-//! The program dbusfan: what the system gives to `tool` of the library below.
+//! The program dbusfan: what the system gives to `tool` and `watch` of the libraries below.
 #![tactic(auto)]
 
 mod streams;
@@ -6,8 +6,10 @@ mod system;
 
 pub use dbusfan_tool::tool;
 use dbusfan_tool::{Fault, Output, Writer};
+pub use dbusfan_watch::watch;
 use std::alloc::Global;
 use std::io::Lock;
+use std::net::{Net, TcpListener, TcpStream};
 use std::process::ExitCode;
 use std::rt::Runtime;
 use std::{env, io};
@@ -27,14 +29,21 @@ fn main(rt: HostRuntime) -> ExitCode {
     ExitCode::from(status)
 }
 
-/// Gives the words behind the program's name to `tool`. An `Err` says that there are none to give.
-fn run<R: Runtime<A = Global>, E: Writer>(rt: &R, err: &mut Output<E>) -> io::Result<u8> {
+/// Gives the words after the program's name to `watch` or to `tool`. An `Err` says that there are none to give.
+fn run<R, E: Writer>(rt: &R, err: &mut Output<E>) -> io::Result<u8>
+where
+    R: Runtime<A = Global> + Net<Listener = TcpListener, Stream = TcpStream>,
+{
     let alloc = rt.alloc();
     let args: Vec<String> = env::args(rt)?.collect(alloc)?;
     let words: Vec<&str> = args.iter().skip(1).map(|arg| arg.as_str()).collect(alloc)?;
     let mut out = Output::new(Stream::new(io::writer(rt)));
     let mut files = System::new(rt);
-    Ok(tool(alloc, words.as_slice(), &mut files, &mut out, err))
+    let words = words.as_slice();
+    if let Some((&"watch", options)) = words.split_first() {
+        return Ok(watch(rt, options, &mut files, &mut out, err));
+    }
+    Ok(tool(alloc, words, &mut files, &mut out, err))
 }
 
 /// Words that aren't UTF-8 are no row of the command line; else memory was short.
