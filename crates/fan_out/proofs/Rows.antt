@@ -72,7 +72,7 @@ marked_at numbers marks place n true rising stands e = (place, stands, e)
 marked_at numbers marks place n false rising stands e = λ k there. subst (λ (j : ℕ). slice_get marks j ≡ Some false) (same_place numbers place k n rising stands there) e
 
 -- a number whose remainder isn't noted isn't marked
-pub unmarked_from : (numbers : List ℕ) (marks remainders : List Bool) (n : ℕ) → length numbers ≤ length marks → AreNoted numbers marks remainders → slice_get remainders (n % 64) ≡ Some false → IsUnmarked numbers marks n
+pub unmarked_from : (numbers : List ℕ) (marks remainders : List Bool) (n : ℕ) → length numbers ≤ length marks → AreNoted numbers marks remainders → slice_get remainders (n % 256) ≡ Some false → IsUnmarked numbers marks n
 unmarked_from numbers marks remainders n few noted unnoted k stands = go (get_or marks k false) (slice_get-get_or marks k false (omega (arith, few, slice_get_within numbers k n stands)))
   where
     go : (b : Bool) → slice_get marks k ≡ Some b → slice_get marks k ≡ Some false

@@ -22,7 +22,7 @@ AreInRows marks rows = (k : ℕ) → slice_get marks k ≡ Some true → slice_g
 -- the remainders of the numbers at marked places are noted
 abbrev pub AreNoted : List ℕ → List Bool → List Bool → Type 0
 AreNoted numbers marks remainders =
-    (k n : ℕ) → slice_get numbers k ≡ Some n → slice_get marks k ≡ Some true → slice_get remainders (n % 64) ≡ Some true
+    (k n : ℕ) → slice_get numbers k ≡ Some n → slice_get marks k ≡ Some true → slice_get remainders (n % 256) ≡ Some true
 
 -- the number stands at no marked place
 abbrev pub IsUnmarked : List ℕ → List Bool → ℕ → Type 0

@@ -17,7 +17,7 @@ const ROW: usize = 16;
 const ROWS: usize = 16;
 
 /// By how much numbers are divided for their remainders.
-const REMAINDERS: usize = 64;
+const REMAINDERS: usize = 256;
 
 /// Which connections are marked, by their places among the connections. So that few marks are found without a look at
 /// each place, rows with a mark are noted; and so that most connections without a mark are known without a search for
@@ -29,7 +29,7 @@ pub(crate) struct Marks {
     pub(crate) remainders: [bool; REMAINDERS],
     ghost size: { length places ≡ 256 },
     ghost row_count: { length rows ≡ 16 },
-    ghost remainder_count: { length remainders ≡ 64 },
+    ghost remainder_count: { length remainders ≡ 256 },
     ghost in_rows: { AreInRows places rows },
 }
 
@@ -63,14 +63,14 @@ impl Marks {
 
     /// Whether the number of a marked connection leaves the same remainder.
     pub(crate) fn has_remainder(&self, number: u64) -> bool
-        ensures { slice_get self.now.remainders (number % 64) ≡ Some result }
+        ensures { slice_get self.now.remainders (number % 256) ≡ Some result }
     {
         self.remainders[(number % REMAINDERS as u64) as usize]
     }
 
     pub(crate) fn add_remainder(&mut self, number: u64)
         ensures places { self.new.places ≡ self.old.places }
-        ensures remainders { self.new.remainders ≡ slice_set self.old.remainders (number % 64) true }
+        ensures remainders { self.new.remainders ≡ slice_set self.old.remainders (number % 256) true }
     {
         self.remainders[(number % REMAINDERS as u64) as usize] = true;
     }

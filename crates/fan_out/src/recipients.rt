@@ -137,15 +137,9 @@ fn consider_offered<'a, M: Mailbox>(
     found_where_it_holds();
     let _ = view.raw();
     let owned = state.slots_of(sender);
-    let two = Image::new(view, &owned, Edition::Two);
-    consider_all(
-        state,
-        piece,
-        first,
-        others,
-        Programs::new(view, &owned, &two),
-        marks,
-    )
+    let two = &Image::new(view, &owned, Edition::Two);
+    let programs = Programs::new(view, &owned, two);
+    consider_all(state, piece, first, others, programs, marks)
 }
 
 /// Marks the recipients of a message among the connections of a piece, and tells how many programs were run. Without a
