@@ -21,7 +21,13 @@ pub fn select<'a, M: Mailbox>(
     ensures { (m : Message) → Valid view.now m → AreRecipients state.now sender m result.items }
 {
     let mut recipients = ArrayVec::new();
-    list_recipients(state, sender, view, Piece { part: 1, of: 1 }, &mut recipients);
+    list_recipients(
+        state,
+        sender,
+        view,
+        Piece { part: 1, of: 1 },
+        &mut recipients,
+    );
     recipients
 }
 
@@ -44,7 +50,13 @@ pub fn select_counted<'a, M: Mailbox>(
     ensures most { (m : Message) → Valid view.now m → result.runs ≤ length (candidates state.now m) }
 {
     let mut recipients = ArrayVec::new();
-    let runs = list_recipients(state, sender, view, Piece { part: 1, of: 1 }, &mut recipients);
+    let runs = list_recipients(
+        state,
+        sender,
+        view,
+        Piece { part: 1, of: 1 },
+        &mut recipients,
+    );
     Counted { recipients, runs }
 }
 

@@ -19,9 +19,9 @@ loop-entry-init g c =
       owned = c.consider.ensures.owned;
       noted = c.consider.ensures.noted;
       so_far = rw c.into_iter-entry-iterator.ensures.into_iter_gives
-      (marks_more s c.args.piece.part c.args.piece.of view owned all c.args.others c.args.first.now c.args.marks.now.places c.consider.new.marks.places c.args.programs.tally.runs c.consider.new.programs.tally.runs
-      (marks_begin s c.args.piece.part c.args.piece.of view owned all 256 c.args.programs.tally.runs c.args.marks.now.places c.requires.none_marked c.requires.none_run)
-      c.consider.ensures.considered);
+          (marks_more s c.args.piece.part c.args.piece.of view owned all c.args.others c.args.first.now c.args.marks.now.places c.consider.new.marks.places c.args.programs.tally.runs c.consider.new.programs.tally.runs
+          (marks_begin s c.args.piece.part c.args.piece.of view owned all 256 c.args.programs.tally.runs c.args.marks.now.places c.requires.none_marked c.requires.none_run)
+          c.consider.ensures.considered);
     }
 
 pub consider-requires-in-loop-entry-clause-connected : goal.consider-requires-in-loop-entry-clause-connected

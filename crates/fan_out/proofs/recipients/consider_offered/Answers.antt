@@ -14,7 +14,7 @@ consider_all-requires-clause-connected g c =
 
 pub returns-clause-exact : goal.returns-clause-exact
 returns-clause-exact g c m valid =
-    let marked = rw (c.new.ensures.view, c.new.ensures.owned) at c.consider_all.ensures.exact in
+    let marked = rw (c.new-programs.ensures.view, c.new-programs.ensures.owned) at c.consider_all.ensures.exact in
     recipients_marked c.args.state.now c.args.sender m c.args.view.now c.slots_of-owned.result c.args.piece.part c.args.piece.of (c.args.first.now ∷ c.args.others) c.consider_all.new.marks.places
     c.requires.state c.slots_of-owned.ensures valid c.ends_in_one_way.ensures c.found_where_it_holds.ensures (c.requires.offered m valid)
     (marked c.args.sender m valid)
