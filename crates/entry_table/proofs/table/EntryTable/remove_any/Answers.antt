@@ -1,10 +1,12 @@
 use Rattle.std.proofs.Common.{◌≡◌, ◌+◌, ◌-◌, List, length, subst, sym, ap, ◌∙◌, arith}
-use Rattle.std.specs.Prelude.{find, filter}
-use Rattle.entry_table.specs.Entries.{Entries, is_of}
+use Rattle.std.specs.Prelude.{Contains, find, filter, ◌==◌}
+use Rattle.entry_table.specs.declared.entry.Entry.{Entry}
+use Rattle.entry_table.specs.Entries.{Entries, entries_but, is_of}
 use Rattle.entry_table.specs.PlacedEntries.{Placed}
 use Rattle.entry_table.specs.Searching.{entries_of, IsTable}
-use Rattle.entry_table.proofs.Finding.{first-theirs, none-theirs, has_place-entry, some_one, IsTable-but, length-but, length-entries_of, filter-but}
-use Rattle.entry_table.proofs.table.EntryTable.take_newest.Goals as goal
+use Rattle.entry_table.proofs.Finding.{first-theirs, none-theirs, has_place-entry, some_one, entries_of-but, IsTable-but, length-but, length-entries_of, filter-but}
+use Rattle.entry_table.proofs.Asking.{entry_among}
+use Rattle.entry_table.proofs.table.EntryTable.remove_any.Goals as goal
 
 pub take-entry-requires : goal.take-entry-requires
 take-entry-requires c =
@@ -40,3 +42,14 @@ pub returns-in-Some-clause-fewer : goal.returns-in-Some-clause-fewer
 returns-in-Some-clause-fewer c =
     let i = c.self.inside in
     omega (arith, length-but c.in-Some.place c.take-entry.result i.shelf c.of_connection.ensures.once c.take-entry.ensures.entry, length-entries_of i.shelf, length-entries_of c.take-entry.new.self, ap (λ (held : List Placed). length held) c.take-entry.ensures.rest, ap (λ (t : Entries). length t.entries) c.self.view_is)
+
+pub returns-in-Some-clause-among : goal.returns-in-Some-clause-among
+returns-in-Some-clause-among c =
+    subst (λ (t : Entries). Contains t.entries c.take-entry.result) c.self.view_is (entry_among c.in-Some.place c.take-entry.result c.self.inside.shelf c.take-entry.ensures.entry)
+
+pub returns-in-Some-clause-rest : goal.returns-in-Some-clause-rest
+returns-in-Some-clause-rest c =
+    let i = c.self.inside in
+    ap (λ (held : List Placed). record { entries = entries_of held; last = i.last }) c.take-entry.ensures.rest
+    ∙ ap (λ (es : List Entry). record { entries = es; last = i.last }) (entries_of-but c.in-Some.place c.take-entry.result i.shelf c.of_connection.ensures.once c.self.invariant.ids c.take-entry.ensures.entry)
+    ∙ ap (entries_but (λ (f : Entry). f.id == c.take-entry.result.id)) c.self.view_is
