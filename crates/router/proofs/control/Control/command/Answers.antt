@@ -1,4 +1,4 @@
-use Rattle.std.proofs.Common.{sym, ap, ◌∙◌, inl}
+use Rattle.std.proofs.Common.{sym, ap, ◌∙◌, inl, inr}
 use Rattle.program_table.specs.Connections.{commands_of}
 use Rattle.program_table.specs.State.{State}
 use Rattle.program_table.specs.Does.{reply_to}
@@ -45,6 +45,7 @@ count_in-requires g c =
       begins = goes_on v c.tell.new.pass c.in_ok-tell.field-0 c.front.result b c.publish.new.self c.args.command told gain c.front.ensures;
       room = room v c.tell.new.pass c.in_ok-tell.field-0 b c.publish.new.self c.connection-connection.result c.took-took.result c.args.command told count gain;
       number = c.if-connection-eq0.false;
+      same = inr (c.connection-connection.ensures ∙ sym (ap (λ (p : PassState g.row.M.Denot). p.connection) c.in_ok-tell.ensures.2));
       own = one_more v c.tell.new.pass c.in_ok-tell.field-0 c.front.result b c.publish.new.self c.connection-connection.result c.took-took.result c.args.command told count gain c.front.ensures;
     }
 
