@@ -1,4 +1,4 @@
-use Rattle.std.proofs.Common.{sym, ap, ◌∙◌, inl}
+use Rattle.std.proofs.Common.{sym, ap, ◌∙◌, inl, inr}
 use Rattle.program_table.specs.Does.{reply_to}
 use Rattle.program_table.specs.History.{after}
 use Rattle.published.specs.Publication.{Publication, with_next}
@@ -29,6 +29,7 @@ count_in-requires g c =
       begins = goes_on v v b.history c.front.result b c.publish.new.self c.args.command told gain c.front.ensures;
       room = room v v b.history b c.publish.new.self n v.took c.args.command told count gain;
       number = count.there;
+      same = inr c.connection-connection.ensures;
       own = one_more v v b.history c.front.result b c.publish.new.self n v.took c.args.command told count gain c.front.ensures;
     }
 
