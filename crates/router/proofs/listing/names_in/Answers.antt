@@ -1,4 +1,4 @@
-use Rattle.std.proofs.Common.{◌≡◌, ℕ, List, [], ◌++◌, Some, None, subst, rules}
+use Rattle.std.proofs.Common.{◌≡◌, ℕ, List, [], Some, None, subst, rules}
 use Rattle.std.proofs.lemmas.List.{append-nil}
 use Rattle.owners.specs.Registry.{next_name}
 use Rattle.router.specs.Names.{AreNames}
