@@ -24,6 +24,7 @@ least_has (x ∷ xs) n e = by (least_has xs n) (least xs) refl
     pick : (least xs ≡ Some n → Has n xs) → (b : Bool) (o : List ℕ) → least xs ≡ Some o → (if b then Some o else Some x) ≡ Some n → (x ≡ n) ⊎ Has n xs
     pick rest true o f k = inr (rest (f ∙ k))
     pick rest false o f k = inl (some_same x n k)
+
     by : (least xs ≡ Some n → Has n xs) → (o : Option (List ℕ)) → least xs ≡ o → (x ≡ n) ⊎ Has n xs
     by rest None f = inl (some_same x n (ap (lesser x) (sym f) ∙ e))
     by rest (Some o) f = pick rest (is_lt (slice_cmp nat_cmp o x)) o f (ap (lesser x) (sym f) ∙ e)

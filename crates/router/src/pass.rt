@@ -12,8 +12,8 @@ ghost use Rattle.router.specs.Passes.{PassState, HasTaken, new_pass};
 ghost use Rattle.router.specs.Names.{AreNames};
 ghost use Rattle.router.specs.Asking.{Tells, TellsByWorkers, AreFound};
 
-use crate::error::BusError;
 use crate::by_workers::found_by_workers;
+use crate::error::BusError;
 use crate::listing::{Names, found_names, found_queue};
 use crate::reading::{found_owner, found_recipients};
 use arrayvec::ArrayVec;
@@ -247,7 +247,10 @@ impl<J: Naming, M: Mailbox + Sync> Pass<J, M> {
         let found = replace_with(
             &mut self.sight,
             (rt, sender, view, workers, gate),
-            |sight, asked| -> (Sight<J, M>, Option<Result<ArrayVec<u64, MAX_RECIPIENTS>, FanError>>)
+            |sight, asked| -> (
+                Sight<J, M>,
+                Option<Result<ArrayVec<u64, MAX_RECIPIENTS>, FanError>>,
+            )
                 requires { (0 < asked.3) × (asked.3 ≤ MAX_WORKERS) }
                 ensures { MatchOption result.1 (result.0 ≡ sight) (λ found. IsPrefix sight result.0 × AreFound (after result.0) asked.entry.1 asked.entry.2.now found) }
             { found_by_workers(asked.0, sight, asked.1, asked.2, asked.3, asked.4) },
