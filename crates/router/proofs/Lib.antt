@@ -4,3 +4,4 @@ pub mod Commands
 pub mod Joining
 pub mod Finding
 pub mod Sending
+pub mod Delivering
