@@ -102,7 +102,7 @@ module _ {M : Type 0} where
   pub no_newcomers : (outbox_of : M → OutboxId) (s : State M) (stops : List StopView) → AreNewcomers outbox_of s [] stops []
   no_newcomers outbox_of s stops = record { all = λ n e. absurd (true≢false (sym e)); theirs = λ n outbox l. absurd l }
 
-  adds_more : (outbox_of : M → OutboxId) (s : State M) (front : List ℕ) (m : ℕ) (stops : List StopView) (old new : List RecipientView) → AreNewcomers outbox_of s front stops old → Adds outbox_of s m stops old new → AreNewcomers outbox_of s (front ++ m ∷ []) stops new
+  pub adds_more : (outbox_of : M → OutboxId) (s : State M) (front : List ℕ) (m : ℕ) (stops : List StopView) (old new : List RecipientView) → AreNewcomers outbox_of s front stops old → Adds outbox_of s m stops old new → AreNewcomers outbox_of s (front ++ m ∷ []) stops new
   adds_more outbox_of s front m stops old new h (inl (has, same)) = record {
     all = λ n e. each n (or_cases (is_in n front) (m == n) (sym (in_snoc n m front) ∙ e));
     theirs = λ n outbox l. h.theirs n outbox (let P : List RecipientView → Type 0 = λ x. Lists x n outbox in subst P same l);

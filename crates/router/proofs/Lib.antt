@@ -7,3 +7,4 @@ pub mod Sending
 pub mod Admitted
 pub mod Adding
 pub mod NameOrder
+pub mod Delivering

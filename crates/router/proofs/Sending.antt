@@ -6,6 +6,7 @@ use Rattle.outbox.specs.Seated.{OutboxId}
 use Rattle.message_view.specs.Message.{Message}
 use Rattle.message_view.specs.Valid.{Valid}
 use Rattle.program_table.specs.declared.command.Command.{Command}
+use Rattle.program_table.specs.Connections.{is_connected}
 use Rattle.program_table.specs.History.{after}
 use Rattle.program_table.specs.Recipients.{AreRecipients}
 use Rattle.routing.specs.SenderView.{RecipientView, StopView, SenderView}
@@ -114,23 +115,31 @@ module _ {M : Type 0} where
   put_together v p q w s e f h =
       h ∙ ap (λ (x : PassState M). record x { count = s.count; stops = s.stops }) (f ∙ ap (λ (x : PassState M). record x { seen = q.seen }) e)
 
-  sends_to : (outbox_of : M → OutboxId) (from : Option ℕ) (bytes : List ℕ) (v : PassState M) (l : List (Command M)) (new : SenderView) (recipients : List ℕ) (newcomers : List RecipientView) (connected : Option (List ℕ)) → IsPrefix v.seen l
-      → IsFound outbox_of (after l) from bytes v.stops recipients newcomers connected → KeepsThose connected newcomers (sending v) new → AllFit new.origin new.count new.stops
+  -- what was found to be there stays, and newcomers are connections
+  pub record Reaches (outbox_of : M → OutboxId) (l : List (Command M)) (newcomers : List RecipientView) (connected : Option (List ℕ)) : Type 0 where
+    pub stay : (n : ℕ) → is_connected n (after l).connections ≡ true → stays connected n ≡ true
+    pub theirs : (n : ℕ) (outbox : OutboxId) → Lists newcomers n outbox → IsOutboxOf outbox_of (after l) n outbox
+
+  pub found_reaches : (outbox_of : M → OutboxId) (from : Option ℕ) (bytes : List ℕ) (stops : List StopView) (l : List (Command M)) (recipients : List ℕ) (newcomers : List RecipientView) (connected : Option (List ℕ)) → IsFound outbox_of (after l) from bytes stops recipients newcomers connected → Reaches outbox_of l newcomers connected
+  found_reaches outbox_of from bytes stops l recipients newcomers connected found = record { stay = λ n there. stays-connected (after l) connected n found.there there; theirs = found.new.theirs }
+
+  sends_to : (outbox_of : M → OutboxId) (v : PassState M) (l : List (Command M)) (new : SenderView) (newcomers : List RecipientView) (connected : Option (List ℕ)) → IsPrefix v.seen l
+      → Reaches outbox_of l newcomers connected → KeepsThose connected newcomers (sending v) new → AllFit new.origin new.count new.stops
       → Sends outbox_of v (record v { seen = l; count = new.count; stops = new.stops })
-  sends_to outbox_of from bytes v l new recipients newcomers connected begins found k fits = record {
+  sends_to outbox_of v l new newcomers connected begins reaches k fits = record {
     begins = begins;
     same = refl;
     keeps = record {
-      stay = λ n outbox there e. k.stay n outbox (stays-connected (after l) connected n found.there there) e;
+      stay = λ n outbox there e. k.stay n outbox (reaches.stay n there) e;
       theirs = λ n outbox e. pick n outbox (k.theirs n outbox e);
-      shut = λ n there e. k.shut n (stays-connected (after l) connected n found.there there) e;
+      shut = λ n there e. k.shut n (reaches.stay n there) e;
       fits = let P : ℕ → Type 0 = λ o. AllFit o new.count new.stops in subst P k.origin_is fits;
     };
   }
     where
       pick : (n : ℕ) (outbox : OutboxId) → (outbox_at n v.stops ≡ Some outbox) ⊎ Lists newcomers n outbox → (outbox_at n v.stops ≡ Some outbox) ⊎ IsOutboxOf outbox_of (after l) n outbox
       pick n outbox (inl e) = inl e
-      pick n outbox (inr e) = inr (found.new.theirs n outbox e)
+      pick n outbox (inr e) = inr (reaches.theirs n outbox e)
 
   pub has_routed : (outbox_of : M → OutboxId) (source : Source) (bytes : List ℕ) (v w : PassState M) (l : List (Command M)) (new : SenderView) (recipients refused : List ℕ) (newcomers : List RecipientView) (connected : Option (List ℕ)) → w ≡ record v { seen = l; count = new.count; stops = new.stops } → IsPrefix v.seen l
       → IsFound outbox_of (after l) (sender_of source v.connection) bytes v.stops recipients newcomers connected → KeepsThose connected newcomers (sending v) new → AllFit new.origin new.count new.stops → RoutedThose connected recipients refused (sending v) new
@@ -138,7 +147,7 @@ module _ {M : Type 0} where
   has_routed outbox_of source bytes v w l new recipients refused newcomers connected is begins found k fits r =
       let P : PassState M → Type 0 = λ x. HasRouted outbox_of source bytes v refused x in
       subst P (sym is) (record {
-        sends = sends_to outbox_of (sender_of source v.connection) bytes v l new recipients newcomers connected begins found k fits;
+        sends = sends_to outbox_of v l new newcomers connected begins (found_reaches outbox_of (sender_of source v.connection) bytes v.stops l recipients newcomers connected found) k fits;
         recipients = recipients;
         are = found.are;
         count_is = r.count_is;
@@ -148,14 +157,14 @@ module _ {M : Type 0} where
         again = r.again;
       })
 
-  pub has_not_routed : (outbox_of : M → OutboxId) (from : Option ℕ) (bytes : List ℕ) (v w : PassState M) (l : List (Command M)) (new : SenderView) (recipients : List ℕ) (newcomers : List RecipientView) (connected : Option (List ℕ)) → w ≡ record v { seen = l; count = new.count; stops = new.stops } → IsPrefix v.seen l
-      → IsFound outbox_of (after l) from bytes v.stops recipients newcomers connected → KeepsThose connected newcomers (sending v) new → AllFit new.origin new.count new.stops → UnroutedThose connected (sending v) new → HasNotRouted outbox_of v w
-  has_not_routed outbox_of from bytes v w l new recipients newcomers connected is begins found k fits u =
+  pub has_not_routed : (outbox_of : M → OutboxId) (v w : PassState M) (l : List (Command M)) (new : SenderView) (newcomers : List RecipientView) (connected : Option (List ℕ)) → w ≡ record v { seen = l; count = new.count; stops = new.stops } → IsPrefix v.seen l
+      → Reaches outbox_of l newcomers connected → KeepsThose connected newcomers (sending v) new → AllFit new.origin new.count new.stops → UnroutedThose connected (sending v) new → HasNotRouted outbox_of v w
+  has_not_routed outbox_of v w l new newcomers connected is begins reaches k fits u =
       let P : PassState M → Type 0 = λ x. HasNotRouted outbox_of v x in
       subst P (sym is) (record {
-        sends = sends_to outbox_of from bytes v l new recipients newcomers connected begins found k fits;
+        sends = sends_to outbox_of v l new newcomers connected begins reaches k fits;
         count_is = u.count_is;
-        lasts = λ n there. u.lasts n (stays-connected (after l) connected n found.there there);
+        lasts = λ n there. u.lasts n (reaches.stay n there);
       })
 
   -- nothing was found for want of memory
@@ -175,10 +184,10 @@ module _ {M : Type 0} where
     pub seen : q ≡ record p { seen = q.seen }
     pub back : w ≡ record q { count = new.count; stops = new.stops }
 
-  turned : (v p q w : PassState M) (old new : SenderView) → Turn v p q w old new → w ≡ record v { seen = q.seen; count = new.count; stops = new.stops }
+  pub turned : (v p q w : PassState M) (old new : SenderView) → Turn v p q w old new → w ≡ record v { seen = q.seen; count = new.count; stops = new.stops }
   turned v p q w old new t = put_together v p q w new t.taken t.seen t.back
 
-  saw : (v p q w : PassState M) (old new : SenderView) → Turn v p q w old new → IsPrefix p.seen q.seen → IsPrefix v.seen q.seen
+  pub saw : (v p q w : PassState M) (old new : SenderView) → Turn v p q w old new → IsPrefix p.seen q.seen → IsPrefix v.seen q.seen
   saw v p q w old new t begins = let P : PassState M → Type 0 = λ x. IsPrefix x.seen q.seen in subst P t.taken begins
 
   -- what a broadcast came to
@@ -193,11 +202,10 @@ module _ {M : Type 0} where
       let R : SenderView → Type 0 = λ s. RoutedThose connected recipients (items a) s new in
       has_routed outbox_of source bytes v w q.seen new recipients (items a) newcomers connected (turned v p q w old new t) (saw v p q w old new t begins) (subst G is (subst F t.is found)) (subst K t.is k) fits (subst R t.is ok)
   answered outbox_of source from bytes v p q w old new recipients newcomers connected items (Err e) t is begins found k fits ok err =
-      let F : SenderView → Type 0 = λ s. IsFound outbox_of (after q.seen) from bytes s.stops recipients newcomers connected in
       let K : SenderView → Type 0 = λ s. KeepsThose connected newcomers s new in
       let W : SenderView → Type 0 = λ s. (e ≡ errors.NoMemory) ⊎ ((e ≡ errors.Counts) × (s.count ≡ max_count)) in
       let U : SenderView → Type 0 = λ s. UnroutedThose connected s new in
-      inr (subst W t.is err.0, has_not_routed outbox_of from bytes v w q.seen new recipients newcomers connected (turned v p q w old new t) (saw v p q w old new t begins) (subst F t.is found) (subst K t.is k) fits (subst U t.is err.1))
+      inr (subst W t.is err.0, has_not_routed outbox_of v w q.seen new newcomers connected (turned v p q w old new t) (saw v p q w old new t begins) (found_reaches outbox_of from bytes old.stops q.seen recipients newcomers connected found) (subst K t.is k) fits (subst U t.is err.1))
 
   -- nothing was found
   pub not_found : (outbox_of : M → OutboxId) (v p q w : PassState M) (old : SenderView) (e : BusError) → Turn v p q w old old → AllFit old.origin old.count old.stops → ((e ≡ errors.Closed) × (q.seen ≡ p.seen)) ⊎ ((e ≡ errors.NoMemory) × IsPrefix p.seen q.seen) → IsUnrouted outbox_of e v w

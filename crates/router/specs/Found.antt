@@ -28,6 +28,10 @@ module _ {M : Type 0} where
     pub theirs : (n : ℕ) (outbox : OutboxId) → Lists newcomers n outbox → IsOutboxOf outbox_of s n outbox
 
   -- those who are connected, where they are asked for
+  abbrev pub AreListed : State M → Option (List ℕ) → Type 0
+  AreListed s None = Unit {0}
+  AreListed s (Some numbers) = numbers ≡ numbers_of s.connections
+
   abbrev pub AreConnected : State M → Option (List ℕ) → Type 0
   AreConnected s None = Unit {0}
   AreConnected s (Some numbers) = (numbers ≡ numbers_of s.connections) × IsState s

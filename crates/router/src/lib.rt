@@ -16,6 +16,8 @@ mod pass;
 mod reading;
 mod routes;
 mod texts;
+mod unicasts;
+mod unique;
 
 pub use bus::Bus;
 pub use control::Control;
@@ -23,3 +25,4 @@ pub use error::BusError;
 pub use letterbox::Letterbox;
 pub use pass::Pass;
 pub use reading::Source;
+pub use unicasts::Sent;

@@ -6,7 +6,7 @@ ghost use Rattle.message_view.specs.Message.{Message};
 ghost use Rattle.message_view.specs.Valid.{Valid};
 ghost use Rattle.program_table.specs.Connections.{numbers_of};
 ghost use Rattle.program_table.specs.History.{after};
-ghost use Rattle.router.specs.Found.{HasEntry, Adds, AreNewcomers, AreConnected, IsFound};
+ghost use Rattle.router.specs.Found.{HasEntry, Adds, AreNewcomers, AreListed, AreConnected, IsFound};
 ghost use Rattle.router.specs.Routes.{IsOutboxOf};
 
 use arrayvec::ArrayVec;
@@ -110,6 +110,21 @@ fn connected_if_many<'a, M: Mailbox + Carrier>(
     if sender.seats() > MANY_SEATS {
         // The recipients of a message are among the connections.
         let _ = state.offered(view);
+        Ok(Some(connected(alloc, state)?))
+    } else {
+        Ok(None)
+    }
+}
+
+/// The numbers of the connections, where the sender has many seats.
+pub(crate) fn listed_if_many<M: Mailbox + Carrier>(
+    alloc: Global,
+    state: &BusState<M>,
+    sender: &Sender<M>,
+) -> Result<Option<Vec<u64>>, AllocError>
+    ensures { IfOk result (λ numbers. AreListed state.now (option_map (λ v. v.items) numbers)) }
+{
+    if sender.seats() > MANY_SEATS {
         Ok(Some(connected(alloc, state)?))
     } else {
         Ok(None)

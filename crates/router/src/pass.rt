@@ -1,6 +1,6 @@
 // What one user of the bus has seen and done.
 
-ghost use Rattle.std.specs.Prelude.{◌≡◌, ◌≢◌, ◌⊎◌, ◌+◌, ◌≤◌, ◌<◌, ◌^◌, [], true, length, IfOk, MatchOption, MatchResult, option_map};
+ghost use Rattle.std.specs.Prelude.{ℕ, ◌≡◌, ◌≢◌, ◌⊎◌, ◌+◌, ◌≤◌, ◌<◌, ◌^◌, [], true, length, IfOk, MatchOption, MatchResult, option_map};
 ghost use mathlib.Core.List.{IsPrefix};
 ghost use Rattle.message_view.specs.Message.{Message};
 ghost use Rattle.message_view.specs.Valid.{Valid};
@@ -9,6 +9,8 @@ ghost use Rattle.program_table.specs.Connections.{numbers_of};
 ghost use Rattle.program_table.specs.History.{after, own_commands};
 ghost use Rattle.program_table.specs.Recipients.{AreRecipients};
 ghost use Rattle.router.specs.Passes.{PassState, HasTaken, new_pass, sending};
+ghost use Rattle.router.specs.Addresses.{IsOwner};
+ghost use Rattle.router.specs.Addressees.{IsAddressee};
 ghost use Rattle.router.specs.Found.{IsFound};
 ghost use Rattle.router.specs.Names.{AreNames};
 ghost use Rattle.router.specs.Asking.{Tells, TellsByWorkers, AreFound};
@@ -18,6 +20,7 @@ use crate::error::BusError;
 use crate::listing::{Names, found_names, found_queue};
 use crate::mailboxes::{Found, found_mailboxes};
 use crate::reading::{found_owner, found_recipients};
+use crate::unicasts::{Addressee, found_addressee};
 use arrayvec::ArrayVec;
 use core::mem::replace_with;
 use crossbeam_utils::rule::Protocol;
@@ -321,6 +324,32 @@ impl<J: Naming, M: Mailbox + Carrier> Pass<J, M> {
             |sight, asked| -> (Sight<J, M>, Option<Result<Found<M>, AllocError>>)
                 ensures { MatchOption result.1 (result.0 ≡ sight) (λ found. IsPrefix sight result.0 × IfOk found (λ found. IsFound M.outbox_of (after result.0) asked.entry.2 asked.entry.3.now asked.entry.1.now.stops found.recipients.items found.newcomers.items (option_map (λ v. v.items) found.connected))) }
             { found_mailboxes(sight, asked.0, asked.1, asked.2, asked.3) },
+        );
+        match found {
+            Some(Ok(found)) => Ok(found),
+            Some(Err(_)) => Err(BusError::NoMemory),
+            None => Err(BusError::Closed),
+        }
+    }
+
+    // Enters the published state for the owner of a name and what the sender needs for it.
+    pub(crate) fn look_for_addressee(
+        &mut self,
+        alloc: Global,
+        sender: &Sender<M>,
+        name: &str,
+    ) -> Result<Option<Addressee<M>>, BusError>
+        ensures found { MatchResult result
+            (λ found. IsPrefix self.old.seen self.new.seen × MatchOption found ((n : ℕ) → IsOwner (after self.new.seen) name.now n → ⊥) (λ a. IsAddressee M.outbox_of (after self.new.seen) name.now sender.now.stops a.number a.newcomers.items (option_map (λ v. v.items) a.connected)))
+            (λ error. ((error ≡ BusError.Closed) × (self.new.seen ≡ self.old.seen)) ⊎ ((error ≡ BusError.NoMemory) × IsPrefix self.old.seen self.new.seen)) }
+        ensures same { self.new ≡ record self.old { seen = self.new.seen } }
+    {
+        let found = replace_with(
+            &mut self.sight,
+            (alloc, sender, name),
+            |sight, asked| -> (Sight<J, M>, Option<Result<Option<Addressee<M>>, AllocError>>)
+                ensures { MatchOption result.1 (result.0 ≡ sight) (λ found. IsPrefix sight result.0 × IfOk found (λ found. MatchOption found ((n : ℕ) → IsOwner (after result.0) asked.entry.2.now n → ⊥) (λ a. IsAddressee M.outbox_of (after result.0) asked.entry.2.now asked.entry.1.now.stops a.number a.newcomers.items (option_map (λ v. v.items) a.connected)))) }
+            { found_addressee(sight, asked.0, asked.1, asked.2) },
         );
         match found {
             Some(Ok(found)) => Ok(found),

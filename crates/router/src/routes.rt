@@ -39,8 +39,8 @@ fn give_up<M: Carrier>(sender: &mut Sender<M>, connected: Option<Vec<u64>>)
     }
 }
 
-// Gives up seats, and takes the newcomers' seats.
-fn prepare<M: Carrier>(
+/// Gives up seats, and takes the newcomers' seats.
+pub(crate) fn prepare<M: Carrier>(
     sender: &mut Sender<M>,
     connected: Option<Vec<u64>>,
     newcomers: Vec<Recipient<M>>,

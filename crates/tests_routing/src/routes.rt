@@ -1,33 +1,80 @@
+use arrayvec::ArrayVec;
 use bytes::Bytes;
 use outbox::{Item, Outbox, ROOM};
-use routing::{Gate, Recipient, Sender, Sent};
+use routing::{Carrier, Gate, Recipient, Sender, Sent};
 use std::alloc::{AllocError, Global};
 use std::cell::Cell;
+use std::process::Abort;
+use std::rc::Rc;
 use std::sync::Wait;
 use std::test::Fail;
 use std::thread::{Threads, join};
 
 const BROADCASTS: u64 = 100;
 
-// Routes broadcasts to one recipient, and answers how many were put.
-fn send<R: Wait>(
-    rt: &R,
-    alloc: Global,
-    sender: &mut Sender,
+// A mailbox that nothing writes out.
+#[derive(Drop)]
+struct Line {
     outbox: Outbox,
-    broadcasts: u64,
-) -> u64 {
-    let recipients = [Recipient { number: 3, outbox }];
+    pushed: Rc<Cell<u32>>,
+}
+
+impl Carrier for Line {
+    ghost outbox_of = { λ l. l.outbox };
+
+    fn outbox(&self) -> &Outbox {
+        &self.outbox
+    }
+
+    fn push_out<R: Wait>(&self, _rt: &R) {
+        self.pushed.set(self.pushed.get().wrapping_add(1));
+    }
+}
+
+// Takes a seat at the recipient's outbox.
+fn seat_at(alloc: Global, sender: &mut Sender<Line>, number: u64, outbox: Outbox) -> bool {
+    let Ok(pushed) = Rc::new(alloc, Cell::new(0)) else {
+        return false;
+    };
+    seat_with(alloc, sender, number, Line { outbox, pushed })
+}
+
+fn seat_with(alloc: Global, sender: &mut Sender<Line>, number: u64, line: Line) -> bool {
+    let mut newcomers = Vec::new(alloc);
+    if newcomers.push(Recipient::new(number, line)).is_err() {
+        return false;
+    }
+    sender.take_seats(newcomers).is_ok()
+}
+
+// Routes a broadcast to the recipient 3, and says whether it was put.
+fn send_one<R: Wait>(rt: &R, alloc: Global, sender: &mut Sender<Line>) -> bool {
     let bytes = Bytes::from_static(b"signal");
+    if !sender.has(3) {
+        return false;
+    }
+    match sender.route(rt, alloc, &[3], &bytes) {
+        Ok(refused) => refused.len() == 0,
+        Err(_) => false,
+    }
+}
+
+// Routes broadcasts to the recipient 3, and answers how many were put.
+fn send<R: Wait>(rt: &R, alloc: Global, sender: &mut Sender<Line>, broadcasts: u64) -> u64 {
     let mut put = 0u64;
     for _ in 0..broadcasts {
-        if let Ok(refused) = sender.route(rt, alloc, &recipients, &bytes)
-            && refused.len() == 0
-        {
+        if send_one(rt, alloc, sender) {
             put = put.wrapping_add(1);
         }
     }
     put
+}
+
+// Sends so many broadcasts of an origin to a recipient.
+fn send_all<R: Wait>(rt: &R, alloc: Global, origin: u64, outbox: Outbox) -> u64 {
+    let mut sender = Sender::new(alloc, origin);
+    let _ = seat_at(alloc, &mut sender, 3, outbox);
+    send(rt, alloc, &mut sender, BROADCASTS)
 }
 
 // Takes all that stands in the outbox.
@@ -66,8 +113,8 @@ fn exchange<R: Threads + Wait + Sync>(rt: &R, alloc: Global) -> Result<Vec<Item>
     let two = outbox.share()?;
     join(
         rt,
-        move || send(rt, alloc, &mut Sender::new(alloc, 1), one, BROADCASTS),
-        move || send(rt, alloc, &mut Sender::new(alloc, 2), two, BROADCASTS),
+        move || send_all(rt, alloc, 1, one),
+        move || send_all(rt, alloc, 2, two),
     );
     take_all(rt, alloc, &outbox)
 }
@@ -81,27 +128,29 @@ fn order_of_two_origins(rt: HostRuntime) -> Result<(), Fail> {
     Ok(())
 }
 
+// Routes one more broadcast to two recipients, and answers those that refused it.
+fn one_more<R: Wait + Abort>(
+    rt: &R,
+    alloc: Global,
+    sender: &mut Sender<Line>,
+) -> Result<ArrayVec<u64, 256>, Fail> {
+    let bytes = Bytes::from_static(b"one more");
+    if sender.has(3) && sender.has(5) {
+        return Ok(sender.route(rt, alloc, &[3, 5], &bytes)?);
+    }
+    panic!(rt; "no seat");
+}
+
 #[test]
 fn full_outbox(rt: HostRuntime) -> Result<(), Fail> {
     let alloc = rt.alloc();
     let full = Outbox::new(alloc)?;
     let other = Outbox::new(alloc)?;
     let mut sender = Sender::new(alloc, 1);
-    assert_eq!(rt; send(&rt, alloc, &mut sender, full.share()?, 1024), 1024);
-
-    let recipients = [
-        Recipient {
-            number: 3,
-            outbox: full.share()?,
-        },
-        Recipient {
-            number: 5,
-            outbox: other.share()?,
-        },
-    ];
-    let bytes = Bytes::from_static(b"one more");
-    let refused = sender.route(&rt, alloc, &recipients, &bytes)?;
-    assert_eq!(rt; refused.as_slice(), [3].as_slice());
+    assert!(rt; seat_at(alloc, &mut sender, 3, full.share()?));
+    assert!(rt; seat_at(alloc, &mut sender, 5, other.share()?));
+    assert_eq!(rt; send(&rt, alloc, &mut sender, 1024), 1024);
+    assert_eq!(rt; one_more(&rt, alloc, &mut sender)?.as_slice(), [3].as_slice());
     let items = take_all(&rt, alloc, &other)?;
     assert_eq!(rt; items.len(), 1);
     assert_eq!(rt; items[0].bytes.as_slice(), b"one more".as_slice());
@@ -109,28 +158,52 @@ fn full_outbox(rt: HostRuntime) -> Result<(), Fail> {
 
     // Once it is shut the outbox stays so, also when there is room again.
     assert_eq!(rt; take_all(&rt, alloc, &full)?.len(), 1024);
-    assert_eq!(rt; send(&rt, alloc, &mut sender, full.share()?, 1), 0);
+    assert_eq!(rt; send(&rt, alloc, &mut sender, 1), 0);
     Ok(())
+}
+
+fn reply<R: Wait + Abort>(rt: &R, sender: &mut Sender<Line>) -> Result<Sent, Fail> {
+    let bytes = Bytes::from_static(b"reply");
+    if sender.has(3) {
+        return Ok(sender.unicast(rt, 3, &bytes)?);
+    }
+    panic!(rt; "no seat");
 }
 
 #[test]
 fn unicast(rt: HostRuntime) -> Result<(), Fail> {
     let alloc = rt.alloc();
     let outbox = Outbox::new(alloc)?;
-    let recipient = Recipient {
-        number: 3,
-        outbox: outbox.share()?,
-    };
-    let bytes = Bytes::from_static(b"reply");
     let mut sender = Sender::new(alloc, 1);
-    assert_eq!(rt; sender.unicast(&rt, &recipient, &bytes)?, Sent::Put);
+    assert!(rt; seat_at(alloc, &mut sender, 3, outbox.share()?));
+    assert_eq!(rt; reply(&rt, &mut sender)?, Sent::Put);
     let items = take_all(&rt, alloc, &outbox)?;
     assert_eq!(rt; items.len(), 1);
     assert_eq!(rt; items[0].bytes.as_slice(), b"reply".as_slice());
     assert_eq!(rt; items[0].mark, None);
 
-    assert_eq!(rt; send(&rt, alloc, &mut sender, outbox.share()?, 1024), 1024);
-    assert_eq!(rt; sender.unicast(&rt, &recipient, &bytes)?, Sent::Full);
+    assert_eq!(rt; send(&rt, alloc, &mut sender, 1024), 1024);
+    assert_eq!(rt; reply(&rt, &mut sender)?, Sent::Full);
+    Ok(())
+}
+
+// Only where something was put is the outbox written out, and once.
+#[test]
+fn written_out_once(rt: HostRuntime) -> Result<(), Fail> {
+    let alloc = rt.alloc();
+    let pushed = Rc::new(alloc, Cell::new(0))?;
+    let line = Line {
+        outbox: Outbox::new(alloc)?,
+        pushed: pushed.clone()?,
+    };
+    let mut sender = Sender::new(alloc, 1);
+    assert!(rt; seat_with(alloc, &mut sender, 3, line));
+    sender.push_out(&rt);
+    assert_eq!(rt; pushed.get(), 0);
+    assert_eq!(rt; send(&rt, alloc, &mut sender, 2), 2);
+    sender.push_out(&rt);
+    sender.push_out(&rt);
+    assert_eq!(rt; pushed.get(), 1);
     Ok(())
 }
 
@@ -162,19 +235,27 @@ impl Gate for Calls {
     }
 }
 
+fn gated<R: Wait + Abort>(
+    rt: &R,
+    alloc: Global,
+    sender: &mut Sender<Line>,
+    calls: &Calls,
+) -> Result<usize, Fail> {
+    let bytes = Bytes::from_static(b"signal");
+    if sender.has(3) {
+        return Ok(sender.route_gated(rt, alloc, &[3], &bytes, calls)?.len());
+    }
+    panic!(rt; "no seat");
+}
+
 #[test]
 fn gate_is_called_round_the_puts(rt: HostRuntime) -> Result<(), Fail> {
     let alloc = rt.alloc();
     let outbox = Outbox::new(alloc)?;
-    let recipients = [Recipient {
-        number: 3,
-        outbox: outbox.share()?,
-    }];
     let calls = Calls { seen: Cell::new(0) };
-    let bytes = Bytes::from_static(b"signal");
     let mut sender = Sender::new(alloc, 1);
-    let refused = sender.route_gated(&rt, alloc, &recipients, &bytes, &calls)?;
-    assert_eq!(rt; refused.len(), 0);
+    assert!(rt; seat_at(alloc, &mut sender, 3, outbox.share()?));
+    assert_eq!(rt; gated(&rt, alloc, &mut sender, &calls)?, 0);
     assert_eq!(rt; calls.seen.get(), 12);
     assert_eq!(rt; take_all(&rt, alloc, &outbox)?.len(), 1);
     Ok(())
