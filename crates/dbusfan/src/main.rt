@@ -1,4 +1,4 @@
-//! The program dbusfan: what the system gives to `tool` and `serve` of the libraries below.
+//! The program dbusfan: what the system gives to `tool`, `serve` and `watch` of the libraries below.
 #![tactic(auto)]
 
 mod streams;
@@ -7,6 +7,7 @@ mod system;
 pub use dbusfan_serve::serve;
 pub use dbusfan_tool::tool;
 use dbusfan_tool::{Fault, Output, Writer};
+pub use dbusfan_watch::watch;
 use std::alloc::Global;
 use std::io::Lock;
 use std::net::{Net, TcpListener, TcpStream};
@@ -32,7 +33,7 @@ fn main(rt: HostRuntime) -> ExitCode {
     ExitCode::from(status)
 }
 
-/// Gives the words after the program's name to `serve` or to `tool`. An `Err` says that there are none to give.
+/// Gives the words after the program's name to `serve`, to `watch` or to `tool`. An `Err` says that there are none to give.
 fn run<R, E: Writer>(rt: &R, err: &mut Output<E>) -> io::Result<u8>
 where
     R: Runtime<A = Global>
@@ -51,6 +52,9 @@ where
         return Ok(serve(rt, alloc, options, &mut out, err));
     }
     let mut files = System::new(rt);
+    if let Some((&"watch", options)) = words.split_first() {
+        return Ok(watch(rt, options, &mut files, &mut out, err));
+    }
     Ok(tool(alloc, words, &mut files, &mut out, err))
 }
 

@@ -5,3 +5,4 @@ pub mod Finding
 pub mod Offering
 pub mod Lookups
 pub mod Indexing
+pub mod Asking

@@ -15,6 +15,8 @@ pub enum Filter {
 impl Filter {
     ghost use Rattle.std.specs.Prelude.{◌≡◌, IfOk};
     ghost use Rattle.entry_table.specs.Entries.{is_rule, is_attached};
+    ghost use Rattle.entry_table.specs.OfferedEntries.{texts_fixed};
+    ghost use Rattle.entry_table.specs.TextKeys.{shape_of};
 
     /// The same filter once more, without a copy.
     pub fn share(&self) -> Result<Filter, AllocError>
@@ -23,6 +25,16 @@ impl Filter {
         match self {
             Filter::Rule(program) => Ok(Filter::Rule(program.share()?)),
             Filter::Attached(program) => Ok(Filter::Attached(program.share()?)),
+        }
+    }
+
+    /// Which texts it fixes.
+    pub(crate) fn shape(&self) -> u16
+        ensures { result ≡ shape_of (texts_fixed self.now) }
+    {
+        match self {
+            Filter::Rule(compiled) => compiled.shape(),
+            Filter::Attached(_) => 0,
         }
     }
 

@@ -12,11 +12,17 @@ use std::marker::Model;
 
 /// Whether an entry has the shape and a message with these texts is offered to it. Entries of other texts stand in
 /// the same list where their hashes meet, so the texts themselves are compared.
+#[tactic(auto, using(crate::proofs::Asking::other_shape, crate::proofs::Asking::no_shape, crate::proofs::Asking::same_shape))]
 fn is_offered(shape: u16, found: &MessageTexts<'_>, entry: &Entry) -> bool
     ensures { result ≡ is_offered shape found.now.texts entry.now }
 {
-    let asked = Texts::of_filter(&entry.filter);
-    asked.shape() == shape && found.has(&asked)
+    if entry.filter.shape() != shape {
+        return false;
+    }
+    if shape == 0 {
+        return true;
+    }
+    found.has(&Texts::of_filter(&entry.filter))
 }
 
 /// The next of the entries of a shape at these places that a message with these texts is offered to.

@@ -1,5 +1,10 @@
 // Rules with their programs.
 
+ghost use Rattle.std.specs.Prelude.{◌≡◌};
+ghost use Rattle.match_rule.specs.FixedTexts.{fixed_texts};
+ghost use Rattle.entry_table.specs.TextKeys.{shape_of};
+
+use crate::texts::Texts;
 use bpf_verify::Verified;
 use match_rule::Rule;
 use rule_compile::{CompileError, compile};
@@ -7,12 +12,15 @@ use std::alloc::{AllocError, Global};
 use std::marker::Model;
 use std::sync::Arc;
 
-/// A rule, its slot and its program.
+/// A rule, its slot and its program, and which texts it fixes, which is asked of each entry of a list that a message is
+/// looked up in.
 #[derive(Drop)]
 struct Parts {
     rule: Rule,
     slot: Option<u16>,
     program: Verified,
+    shape: u16,
+    ghost shaped: { shape ≡ shape_of (fixed_texts rule) },
 }
 
 /// A rule with the program that it was compiled to, for images of edition 2. Shares are of one value.
@@ -32,7 +40,7 @@ impl Model for RuleProgram {
 }
 
 impl RuleProgram {
-    ghost use Rattle.std.specs.Prelude.{◌≡◌, IfOk, IfErr};
+    ghost use Rattle.std.specs.Prelude.{IfOk, IfErr};
     ghost use Rattle.rule_compile.specs.Compiled.{IsSlotOf, IsRefusal};
     ghost use Rattle.entry_table.specs.CompiledRule.{IsFit};
 
@@ -52,10 +60,12 @@ impl RuleProgram {
         ensures refused { IfErr result (IsRefusal rule) }
     {
         let program = compile(alloc, &rule, slot)?;
+        let shape = Texts::of_rule(&rule).shape();
         let parts = Parts {
             rule,
             slot,
             program,
+            shape,
         };
         Ok(RuleProgram {
             parts: Arc::new(alloc, parts)?,
@@ -85,6 +95,13 @@ impl RuleProgram {
         ensures fit { IsFit self.now }
     {
         self.parts.slot
+    }
+
+    /// Which texts the rule fixes.
+    pub(crate) fn shape(&self) -> u16
+        ensures { result ≡ shape_of (fixed_texts self.now.rule) }
+    {
+        self.parts.shape
     }
 
     /// The program.

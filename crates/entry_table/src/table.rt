@@ -33,7 +33,7 @@ impl Model for EntryTable {
 }
 
 impl EntryTable {
-    ghost use Rattle.std.specs.Prelude.{◌≡◌, ◌+◌, Bool, true, false, ◌++◌, ◌∷◌, [], IfOk, IfNone, IfSome, Option, option_map, find, filter, length, ◌<◌, List, ◌==◌};
+    ghost use Rattle.std.specs.Prelude.{◌≡◌, ◌+◌, Bool, true, false, ◌++◌, ◌∷◌, [], IfOk, IfNone, IfSome, Option, option_map, Contains, find, filter, length, ◌<◌, List, ◌==◌};
     ghost use Rattle.std.specs.List.{list_any};
     ghost use Rattle.message_view.specs.Message.{Message};
     ghost use Rattle.message_view.specs.Valid.{Valid};
@@ -158,9 +158,11 @@ impl EntryTable {
         self.take(connection, Wanted::Any)
     }
 
-    /// Takes out the newest entry of a connection, if it has any: the first that its list comes to.
-    fn take_newest(&mut self, connection: u64) -> Option<Entry>
+    /// Takes out one of a connection's entries, if it has any: the first that its list comes to.
+    pub fn remove_any(&mut self, connection: u64) -> Option<Entry>
+        ensures among { IfSome result (λ e. Contains self.old.entries e) }
         ensures theirs { IfSome result (λ e. is_of connection e ≡ true) }
+        ensures rest { IfSome result (λ e. self.new ≡ entries_but (λ f. f.id == e.id) self.old) }
         // Each other entry stays.
         ensures kept { IfSome result (λ e. (test : Entry → Bool) → test e ≡ false → filter test self.new.entries ≡ filter test self.old.entries) }
         ensures last { self.new.last ≡ self.old.last }
@@ -188,7 +190,7 @@ impl EntryTable {
     pub fn remove_all(&mut self, connection: u64)
         ensures { self.new ≡ entries_but (is_of connection) self.old }
     {
-        'theirs: while let Some(_) = self.take_newest(connection) {}
+        'theirs: while let Some(_) = self.remove_any(connection) {}
     }
 
     /// The entries that a message is offered to: attached programs, and the rules whose member, interface, path and

@@ -6,13 +6,14 @@ ghost use Rattle.message_value.specs.ShownArguments.{shown_arg};
 ghost use Rattle.message_view.specs.Message.{Message};
 ghost use Rattle.message_view.specs.Valid.{Valid};
 ghost use Rattle.match_rule.specs.Arguments.{text_in};
-ghost use Rattle.match_rule.specs.FixedTexts.{FixedTexts, arg0_of, string_in, texts_of};
+ghost use Rattle.match_rule.specs.FixedTexts.{FixedTexts, arg0_of, fixed_texts, string_in, texts_of};
 ghost use Rattle.entry_table.specs.OfferedEntries.{texts_fixed};
 ghost use Rattle.entry_table.specs.FoundTexts.{is_text_found, are_found};
 ghost use Rattle.entry_table.specs.TextKeys.{bit_of, shape_of, in_shape, where_bit, text_hash, joined, joined_hash, list_of, hash_lists};
 
 use crate::entry::Filter;
 use crate::index_key::IndexKey;
+use match_rule::Rule;
 use message_view::{Arg, View};
 use std::marker::Model;
 
@@ -101,20 +102,24 @@ pub(crate) fn list_of(shape: u16, hash: u64) -> usize
 }
 
 impl<'a> Texts<'a> {
+    /// The texts that a rule fixes.
+    pub(crate) fn of_rule(rule: &'a Rule) -> Texts<'a>
+        ensures { result ≡ fixed_texts rule.entry.now }
+    {
+        Texts {
+            member: rule.member(),
+            interface: rule.interface(),
+            path: rule.path(),
+            arg0: rule.arg0(),
+        }
+    }
+
     /// The texts that a filter fixes.
     pub(crate) fn of_filter(filter: &'a Filter) -> Texts<'a>
         ensures { result ≡ texts_fixed filter.entry.now }
     {
         match filter {
-            Filter::Rule(compiled) => {
-                let rule = compiled.rule();
-                Texts {
-                    member: rule.member(),
-                    interface: rule.interface(),
-                    path: rule.path(),
-                    arg0: rule.arg0(),
-                }
-            }
+            Filter::Rule(compiled) => Texts::of_rule(compiled.rule()),
             Filter::Attached(_) => Texts {
                 member: None,
                 interface: None,

@@ -1,6 +1,6 @@
 -- What is found among the entries that a message is offered to are the recipients.
-use Rattle.std.proofs.Common.{◌≡◌, inl, inr, ℕ, ◌≤◌, Bool, true, false, ◌&&◌, List, [], ◌∷◌, length, Option, subst, arith}
-use Rattle.std.specs.Prelude.{Contains}
+use Rattle.std.proofs.Common.{◌≡◌, inl, inr, ℕ, ◌≤◌, Bool, true, false, ◌&&◌, List, [], ◌∷◌, length, Option, Some, sym, ap, subst, ◌∙◌, arith}
+use Rattle.std.specs.Prelude.{Contains, replicate, slice_get}
 use Rattle.std.specs.List.{list_all}
 use Rattle.std.proofs.lemmas.List.Sums.{length-filter, count_by-le-length}
 use Rattle.message_view.specs.Message.{Message}
@@ -15,7 +15,7 @@ use Rattle.program_table.specs.Candidates.{is_candidate}
 use Rattle.fan_out.specs.Pieces.{IsInPiece, ArePieceRecipients}
 use Rattle.fan_out.specs.Marks.{marked_numbers}
 use Rattle.fan_out.specs.Marking.{AreDecided, AreMarked, AreMarkedRecipients}
-use Rattle.fan_out.proofs.Places.{contains_cases, contains_none, marked_from, from_marked, rising_marked}
+use Rattle.fan_out.proofs.Places.{contains_cases, contains_none, none_marked, marked_from, from_marked, rising_marked}
 use Rattle.fan_out.proofs.Deciding.{EndInOneWay, filter_decided}
 use Rattle.fan_out.proofs.Offering.{FoundWhereItHolds, among_offered, offered_few}
 
@@ -55,6 +55,19 @@ module _ {M : Type 0} where
         );
       }
 
+  -- each entry that a message is offered to is of a connection
+  pub offered_connected : (s : State M) (m : Message) (offered : List Entry) → IsState s → AreOffered s.registrations.entries m offered → (e : Entry) → Contains offered e → is_connected e.connection s.connections ≡ true
+  offered_connected s m offered is are e there = all_at (λ (x : Entry). is_connected x.connection s.connections) e s.registrations.entries is.of_connections ((are.exact e).0 there).0
+
+  -- a message that is offered to no entry has no recipient
+  pub nobody_marked : (s : State M) (sender : Option ℕ) (m : Message) (part of size : ℕ) (offered : List Entry) (marks : List Bool) → FoundWhereItHolds → AreOffered s.registrations.entries m offered → offered ≡ [] → marks ≡ replicate size false → AreMarkedRecipients s sender m part of marks
+  nobody_marked s sender m part of size offered marks found are none e = record {
+    exact = λ n. (
+      (λ marked. absurd (none_marked size marked.0 (sym (ap (λ (ms : List Bool). slice_get ms marked.0) e) ∙ marked.2))),
+      (λ here. let among = (among_offered s sender m offered n found are).1 here.0 in absurd (contains_none among.0 (subst (λ (es : List Entry). Contains es among.0) none among.1))),
+    );
+  }
+
   pub offered_fit : (s : State M) (m : Message) (offered : List Entry) → IsState s → AreOffered s.registrations.entries m offered → length offered ≤ 16384
   offered_fit s m offered is are =
       let few = offered_few s m offered are in
@@ -73,10 +86,11 @@ module _ {M : Type 0} where
   })
 
   -- all of them, where there is one piece
+  pub whole_listed : (s : State M) (sender : Option ℕ) (m : Message) (numbers : List ℕ) → ArePieceRecipients s sender m 1 1 numbers → AreRecipients s sender m numbers
+  whole_listed s sender m numbers listed = record {
+    rising = listed.rising;
+    exact = λ n. ((λ there. ((listed.exact n).0 there).0), (λ here. (listed.exact n).1 (here, in_whole n)));
+  }
+
   pub recipients_listed : (s : State M) (sender : Option ℕ) (m : Message) (numbers : List ℕ) (marks : List Bool) → IsState s → AreMarkedRecipients s sender m 1 1 marks → numbers ≡ marked_numbers (numbers_of s.connections) marks → AreRecipients s sender m numbers
-  recipients_listed s sender m numbers marks is marked e =
-      let listed = piece_listed s sender m 1 1 numbers marks is marked e in
-      record {
-        rising = listed.rising;
-        exact = λ n. ((λ there. ((listed.exact n).0 there).0), (λ here. (listed.exact n).1 (here, in_whole n)));
-      }
+  recipients_listed s sender m numbers marks is marked e = whole_listed s sender m numbers (piece_listed s sender m 1 1 numbers marks is marked e)

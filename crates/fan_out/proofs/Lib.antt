@@ -6,3 +6,4 @@ mod Deciding
 mod Offering
 mod Finding
 mod Joining
+mod Rows

@@ -1,6 +1,6 @@
 -- How marks come to be those of the recipients, entry by entry.
-use Rattle.std.proofs.Common.{◌≡◌, ◌⊎◌, inl, inr, ℕ, ◌+◌, Bool, true, false, cond, List, [], ◌∷◌, set, Option, Some, refl, sym, ap, subst, ◌∙◌, arith}
-use Rattle.std.specs.Prelude.{slice_get, replicate}
+use Rattle.std.proofs.Common.{◌≡◌, ◌⊎◌, inl, inr, ℕ, ◌+◌, Bool, true, false, List, [], ◌∷◌, set, Option, Some, refl, sym, ap, subst, ◌∙◌, arith}
+use Rattle.std.specs.Prelude.{MatchBool, slice_get, replicate}
 use Rattle.message_view.specs.Message.{Message}
 use Rattle.message_view.specs.Valid.{Valid}
 use Rattle.entry_table.specs.declared.entry.Entry.{Entry}
@@ -9,7 +9,7 @@ use Rattle.program_table.specs.State.{State}
 use Rattle.program_table.specs.Recipients.{FilterMatches}
 use Rattle.fan_out.specs.Pieces.{IsInPiece}
 use Rattle.fan_out.specs.Answers.{IsAnswer}
-use Rattle.fan_out.specs.Marks.{IsMarked, mark_count}
+use Rattle.fan_out.specs.Marks.{IsMarked, IsUnmarked, IsMarkedMore, mark_count}
 use Rattle.fan_out.specs.Marking.{Considers, MatchesAmong, AreDecided, AreMarked, AreMarkedSoFar}
 use Rattle.fan_out.proofs.Places.{contains_here, contains_later, contains_cases, contains_none, none_marked, count_none, set_here, set_kept, set_cases, count_set}
 
@@ -128,13 +128,13 @@ module _ {M : Type 0} where
       some_same : {a b : ℕ} → Some a ≡ Some b → a ≡ b
       some_same e = cc
 
-  marks_asked : (s : State M) (part of : ℕ) (bytes words : List ℕ) (all left : List Entry) (e : Entry) (marks : List Bool) (runs place : ℕ) (answer : Bool) → AreMarkedSoFar s part of bytes words all (e ∷ left) marks runs → IsAnswer bytes words e.filter answer → IsInPiece part of e.connection → slice_get (numbers_of s.connections) place ≡ Some e.connection → slice_get marks place ≡ Some false → AreMarkedSoFar s part of bytes words all left (cond answer (set marks place true) marks) (runs + 1)
-  marks_asked s part of bytes words all left e marks runs place true so_far answered inside stands unmarked = marks_yes s part of bytes words all left e marks runs place so_far answered inside stands unmarked
-  marks_asked s part of bytes words all left e marks runs place false so_far answered inside stands unmarked = marks_no s part of bytes words all left e marks runs so_far answered
+  marks_asked : (s : State M) (part of : ℕ) (bytes words : List ℕ) (all left : List Entry) (e : Entry) (before after : List Bool) (runs : ℕ) (answer : Bool) → AreMarkedSoFar s part of bytes words all (e ∷ left) before runs → IsAnswer bytes words e.filter answer → IsInPiece part of e.connection → IsUnmarked (numbers_of s.connections) before e.connection → MatchBool answer (IsMarkedMore (numbers_of s.connections) e.connection before after) (after ≡ before) → AreMarkedSoFar s part of bytes words all left after (runs + 1)
+  marks_asked s part of bytes words all left e before after runs true so_far answered inside unmarked more = rw more.marked (marks_yes s part of bytes words all left e before runs more.place so_far answered inside more.stands (unmarked more.place more.stands))
+  marks_asked s part of bytes words all left e before after runs false so_far answered inside unmarked same = rw same (marks_no s part of bytes words all left e before runs so_far answered)
 
   -- one entry more
   pub marks_more : (s : State M) (part of : ℕ) (bytes words : List ℕ) (all left : List Entry) (e : Entry) (before after : List Bool) (runs later : ℕ) → AreMarkedSoFar s part of bytes words all (e ∷ left) before runs → Considers s part of bytes words e before after runs later → AreMarkedSoFar s part of bytes words all left after later
   marks_more s part of bytes words all left e before after runs later so_far considered = elim considered [
     | inl passed ↦ rw (passed.0.kept, passed.0.none_run) (marks_pass s part of bytes words all left e before runs so_far passed.1)
-    | inr asked ↦ rw (asked.marked, asked.one_run) (marks_asked s part of bytes words all left e before runs asked.place asked.answer so_far asked.answered asked.inside asked.stands asked.unmarked)
+    | inr asked ↦ rw asked.one_run (marks_asked s part of bytes words all left e before after runs asked.answer so_far asked.answered asked.inside asked.unmarked asked.marked)
   ]

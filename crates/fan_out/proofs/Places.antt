@@ -45,10 +45,10 @@ from_marked (x ∷ ns) (false ∷ ms) n (zero, stands, marked) = cc
 from_marked (x ∷ ns) (false ∷ ms) n (suc k, stands, marked) = from_marked ns ms n (k, stands, marked)
 
 -- of rising numbers, those at marked places rise
-rising_tail : (x : ℕ) (ns : List ℕ) → IsStrictlyIncreasing (x ∷ ns) → IsStrictlyIncreasing ns
+pub rising_tail : (x : ℕ) (ns : List ℕ) → IsStrictlyIncreasing (x ∷ ns) → IsStrictlyIncreasing ns
 rising_tail x ns h k less = let later = h (suc k) (omega arith) in rw add-one (rw add-one at later)
 
-rising_head : (x : ℕ) (ns : List ℕ) (n : ℕ) → IsStrictlyIncreasing (x ∷ ns) → Contains ns n → x < n
+pub rising_head : (x : ℕ) (ns : List ℕ) (n : ℕ) → IsStrictlyIncreasing (x ∷ ns) → Contains ns n → x < n
 rising_head x ns n h (k, less, e) = let below = AllPairs-from_increasing (x ∷ ns) h 0 (suc k) n (omega arith) (omega arith) in rw e at below
 
 rising_cons : (x : ℕ) (ns : List ℕ) → ((n : ℕ) → Contains ns n → x < n) → IsStrictlyIncreasing ns → IsStrictlyIncreasing (x ∷ ns)

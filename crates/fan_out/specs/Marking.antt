@@ -1,5 +1,5 @@
 -- Inner: the search for recipients, entry by entry.
-use Rattle.std.specs.Prelude.{◌≡◌, ◌⊎◌, ◌↔◌, ℕ, ◌+◌, ◌≤◌, Bool, IsTrue, true, false, List, Option, Some, Contains, length, slice_get, slice_set, if◌then◌else◌}
+use Rattle.std.specs.Prelude.{◌≡◌, ◌⊎◌, ◌↔◌, ℕ, ◌+◌, ◌≤◌, Bool, IsTrue, true, false, List, Option, Some, Contains, length, MatchBool}
 use Rattle.message_view.specs.Message.{Message}
 use Rattle.message_view.specs.Valid.{Valid}
 use Rattle.entry_table.specs.declared.entry.Entry.{Entry}
@@ -8,7 +8,7 @@ use Rattle.program_table.specs.State.{State}
 use Rattle.program_table.specs.Recipients.{FilterMatches, IsRecipient}
 use Rattle.fan_out.specs.Pieces.{IsInPiece}
 use Rattle.fan_out.specs.Answers.{IsAnswer}
-use Rattle.fan_out.specs.Marks.{IsMarked, mark_count}
+use Rattle.fan_out.specs.Marks.{IsMarked, IsUnmarked, IsMarkedMore, mark_count}
 
 -- nothing was run
 pub record IsPassedOver (before after : List Bool) (runs later : ℕ) : Type 0 where
@@ -18,12 +18,10 @@ pub record IsPassedOver (before after : List Bool) (runs later : ℕ) : Type 0 w
 -- the entry's program was run, and its connection is marked where it matches
 pub record IsAsked (numbers : List ℕ) (part of : ℕ) (bytes words : List ℕ) (e : Entry) (before after : List Bool) (runs later : ℕ) : Type 0 where
   pub inside : IsInPiece part of e.connection
-  pub place : ℕ
-  pub stands : slice_get numbers place ≡ Some e.connection
-  pub unmarked : slice_get before place ≡ Some false
+  pub unmarked : IsUnmarked numbers before e.connection
   pub answer : Bool
   pub answered : IsAnswer bytes words e.filter answer
-  pub marked : after ≡ (if answer then slice_set before place true else before)
+  pub marked : MatchBool answer (IsMarkedMore numbers e.connection before after) (after ≡ before)
   pub one_run : later ≡ runs + 1
 
 module _ {M : Type 0} where

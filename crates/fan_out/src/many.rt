@@ -11,7 +11,7 @@ use crate::error::FanError;
 use crate::gate::Gate;
 use crate::marks::{MAX_RECIPIENTS, Marks};
 use crate::piece::Piece;
-use crate::recipients::find_recipients;
+use crate::recipients::mark_recipients;
 use crate::workers::{Work, all_pieces};
 use arrayvec::ArrayVec;
 use message_view::View;
@@ -51,9 +51,10 @@ impl<'a, M: Mailbox + Sync, G: Gate> Work for Question<'a, M, G> {
     fn piece(&self, part: u32) -> Marks {
         self.gate.before(part);
         let piece = Piece { part, of: self.of };
-        let found = find_recipients(self.state, self.sender, self.view, piece);
+        let mut marks = Marks::new();
+        mark_recipients(self.state, self.sender, self.view, piece, &mut marks);
         self.gate.after(part);
-        found.marks
+        marks
     }
 }
 
@@ -85,5 +86,7 @@ pub fn select_many<'a, M: Mailbox + Sync, G: Gate, R: Threads + Wait>(
         of: workers,
     };
     let marks = all_pieces(rt, &question, workers)?;
-    Ok(marks.numbers(state.connections()))
+    let mut recipients = ArrayVec::new();
+    marks.list(state.connections(), &mut recipients);
+    Ok(recipients)
 }

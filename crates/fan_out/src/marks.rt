@@ -1,6 +1,7 @@
-ghost use Rattle.std.specs.Prelude.{◌≡◌, ◌<◌, ◌≤◌, ◌⊎◌, ◌↔◌, ℕ, Some, true, false, length, replicate, slice_get, slice_set};
+ghost use Rattle.std.specs.Prelude.{◌≡◌, ◌+◌, ◌*◌, ◌%◌, ◌<◌, ◌≤◌, ◌++◌, ℕ, [], Some, true, false, length, drop, replicate, slice_get, slice_set};
+ghost use Rattle.arrayvec.specs.ArrayVec.{array_vec_len};
 ghost use Rattle.program_table.specs.Connections.{numbers_of};
-ghost use Rattle.fan_out.specs.Marks.{marked_numbers};
+ghost use Rattle.fan_out.specs.Marks.{AreInRows, marked_numbers};
 ghost use Rattle.fan_out.specs.Joining.{AreBoth};
 
 use arrayvec::ArrayVec;
@@ -9,11 +10,27 @@ use program_table::Connection;
 /// How many recipients a message has at most, which is how many connections a bus has at most.
 pub const MAX_RECIPIENTS: usize = 256;
 
-/// Which connections are marked, by their places among the connections.
+/// How many places stand in a row.
+const ROW: usize = 16;
+
+/// How many rows there are.
+const ROWS: usize = 16;
+
+/// By how much numbers are divided for their remainders.
+const REMAINDERS: usize = 256;
+
+/// Which connections are marked, by their places among the connections. So that few marks are found without a look at
+/// each place, rows with a mark are noted; and so that most connections without a mark are known without a search for
+/// their place, the remainders of the numbers of those that have one.
 #[derive(Drop)]
 pub(crate) struct Marks {
     pub(crate) places: [bool; MAX_RECIPIENTS],
+    rows: [bool; ROWS],
+    pub(crate) remainders: [bool; REMAINDERS],
     ghost size: { length places ≡ 256 },
+    ghost row_count: { length rows ≡ 16 },
+    ghost remainder_count: { length remainders ≡ 256 },
+    ghost in_rows: { AreInRows places rows },
 }
 
 impl Marks {
@@ -23,6 +40,8 @@ impl Marks {
     {
         Marks {
             places: [false; MAX_RECIPIENTS],
+            rows: [false; ROWS],
+            remainders: [false; REMAINDERS],
         }
     }
 
@@ -35,9 +54,25 @@ impl Marks {
 
     pub(crate) fn add(&mut self, place: usize)
         requires { place < MAX_RECIPIENTS }
-        ensures { self.new.places ≡ slice_set self.old.places place true }
+        ensures places { self.new.places ≡ slice_set self.old.places place true }
+        ensures remainders { self.new.remainders ≡ self.old.remainders }
     {
         self.places[place] = true;
+        self.rows[place / ROW] = true;
+    }
+
+    /// Whether the number of a marked connection leaves the same remainder.
+    pub(crate) fn has_remainder(&self, number: u64) -> bool
+        ensures { slice_get self.now.remainders (number % 256) ≡ Some result }
+    {
+        self.remainders[(number % REMAINDERS as u64) as usize]
+    }
+
+    pub(crate) fn add_remainder(&mut self, number: u64)
+        ensures places { self.new.places ≡ self.old.places }
+        ensures remainders { self.new.remainders ≡ slice_set self.old.remainders (number % 256) true }
+    {
+        self.remainders[(number % REMAINDERS as u64) as usize] = true;
     }
 
     /// Marks what the other marks, too.
@@ -51,17 +86,67 @@ impl Marks {
         }
     }
 
-    /// The numbers of the connections that are marked.
-    pub(crate) fn numbers<M>(&self, connections: &[Connection<M>]) -> ArrayVec<u64, MAX_RECIPIENTS>
-        requires { length connections.now ≤ MAX_RECIPIENTS }
-        ensures { result.items ≡ marked_numbers (numbers_of connections.now) self.now.places }
+    /// Whether a place in the row is marked.
+    fn has_row(&self, row: usize) -> bool
+        requires { row < 16 }
+        ensures { slice_get self.now.rows row ≡ Some result }
     {
-        let mut numbers = ArrayVec::new();
-        for (place, connection) in connections.iter().enumerate() {
-            if self.has(place) {
-                numbers.push(connection.number);
-            }
+        self.rows[row]
+    }
+
+    /// Appends the number of the connection at a place, if it is marked.
+    fn list_place<M>(
+        &self,
+        place: usize,
+        connections: &[Connection<M>],
+        numbers: &mut ArrayVec<u64, MAX_RECIPIENTS>,
+    )
+        requires place { place < 256 }
+        requires few { array_vec_len numbers.old ≤ place }
+        ensures few { array_vec_len numbers.new ≤ place + 1 }
+        ensures listed { numbers.new.items ++ marked_numbers (drop (place + 1) (numbers_of connections.now)) (drop (place + 1) self.now.places) ≡ numbers.old.items ++ marked_numbers (drop place (numbers_of connections.now)) (drop place self.now.places) }
+    {
+        if place >= connections.len() {
+            return;
         }
-        numbers
+        if !self.has(place) {
+            return;
+        }
+        numbers.push(connections[place].number);
+    }
+
+    /// Appends the numbers of the connections that are marked in a row.
+    fn list_row<M>(
+        &self,
+        row: usize,
+        connections: &[Connection<M>],
+        numbers: &mut ArrayVec<u64, MAX_RECIPIENTS>,
+    )
+        requires row { row < 16 }
+        requires few { array_vec_len numbers.old ≤ 16 * row }
+        ensures few { array_vec_len numbers.new ≤ 16 * row + 16 }
+        ensures listed { numbers.new.items ++ marked_numbers (drop (16 * row + 16) (numbers_of connections.now)) (drop (16 * row + 16) self.now.places) ≡ numbers.old.items ++ marked_numbers (drop (16 * row) (numbers_of connections.now)) (drop (16 * row) self.now.places) }
+    {
+        if !self.has_row(row) {
+            return;
+        }
+        for place in ROW * row..ROW * row + ROW {
+            self.list_place(place, connections, numbers);
+        }
+    }
+
+    /// Lists the numbers of the connections that are marked.
+    pub(crate) fn list<M>(
+        &self,
+        connections: &[Connection<M>],
+        numbers: &mut ArrayVec<u64, MAX_RECIPIENTS>,
+    )
+        requires few { length connections.now ≤ MAX_RECIPIENTS }
+        requires none { numbers.old.items ≡ [] }
+        ensures { numbers.new.items ≡ marked_numbers (numbers_of connections.now) self.now.places }
+    {
+        for row in 0..ROWS {
+            self.list_row(row, connections, numbers);
+        }
     }
 }

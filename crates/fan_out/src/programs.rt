@@ -1,7 +1,7 @@
 // The programs of entries, run over one message.
 
 ghost use Rattle.std.specs.Prelude.{◌≡◌, ◌+◌, ◌<◌, ℕ};
-ghost use Rattle.std.specs.Option.{ForSome};
+ghost use Rattle.std.specs.Option.{ForSome, IsSome};
 ghost use Rattle.summary.specs.declared.edition.Edition.TheVariants.{One, Two};
 ghost use Rattle.program_table.specs.Answers.{max_entries};
 ghost use Rattle.fan_out.specs.Answers.{IsImage, HasVerdict, IsAnswer};
@@ -12,55 +12,64 @@ use entry_table::Filter;
 use message_view::View;
 use summary::{Edition, Image, Slots};
 
-/// Runs a program over the image of an edition, which is made where it isn't there yet.
-fn run_over<'a>(
+/// Makes the image of edition 1. It stands apart because a function clears room for its values whenever it is called.
+#[inline(never)]
+fn make_one<'a>(image: &mut Option<Image<'a>>, view: &View<'a>, owned: &Slots)
+    ensures image { ForSome image.new (IsImage One view.now owned.now) }
+    ensures made { IsSome image.new }
+{
+    *image = Some(Image::new(view, owned, Edition::One));
+}
+
+/// Runs a program over the image of edition 1, which is made where it isn't there yet.
+fn run_over_one<'a>(
     image: &mut Option<Image<'a>>,
-    edition: Edition,
     view: &View<'a>,
     owned: &Slots,
     program: &Verified,
     tally: &mut Tally,
 ) -> u32
-    requires image { ForSome image.old (IsImage edition view.now owned.now) }
+    requires image { ForSome image.old (IsImage One view.now owned.now) }
     requires room { tally.old.runs < max_entries }
-    ensures image { ForSome image.new (IsImage edition view.now owned.now) }
-    ensures verdict { HasVerdict edition view.now owned.now program.now result }
+    ensures image { ForSome image.new (IsImage One view.now owned.now) }
+    ensures verdict { HasVerdict One view.now owned.now program.now result }
     ensures counted { tally.new.runs ≡ tally.old.runs + 1 }
 {
-    if let Some(made) = image {
-        return tally.run(program, made);
+    if image.is_none() {
+        make_one(image, view, owned);
     }
-    let made = Image::new(view, owned, edition);
-    let verdict = tally.run(program, &made);
-    *image = Some(made);
-    verdict
+    match image {
+        Some(made) => tally.run(program, made),
+        None => unreachable!(),
+    }
 }
 
-/// The images of a message that programs read, one for each edition and made when the first program reads it, and the
-/// count of the programs that were run.
+/// The images of a message that programs read, and the count of the programs that were run. Rules read edition 2; the
+/// image of edition 1 is made when the first program reads it.
 #[derive(Drop)]
 pub(crate) struct Programs<'v, 'a> {
     view: &'v View<'a>,
-    owned: Slots,
+    owned: &'v Slots,
     one: Option<Image<'a>>,
-    two: Option<Image<'a>>,
+    two: &'v Image<'a>,
     tally: Tally,
-    ghost first: { ForSome one (IsImage One view.now owned) },
-    ghost second: { ForSome two (IsImage Two view.now owned) },
+    ghost first: { ForSome one (IsImage One view.now owned.now) },
+    ghost second: { IsImage Two view.now owned.now two.now },
 }
 
 impl<'v, 'a> Programs<'v, 'a> {
     /// For a message whose sender owns the names of these slots.
-    pub(crate) fn new(view: &'v View<'a>, owned: Slots) -> Programs<'v, 'a>
+    pub(crate) fn new(view: &'v View<'a>, owned: &'v Slots, two: &'v Image<'a>) -> Programs<'v, 'a>
+        requires { IsImage Two view.now owned.now two.now }
         ensures view { result.view.now ≡ view.entry.now }
-        ensures owned { result.owned ≡ owned }
+        ensures owned { result.owned.now ≡ owned.entry.now }
         ensures none_run { result.tally.runs ≡ 0 }
     {
         Programs {
             view,
             owned,
             one: None,
-            two: None,
+            two,
             tally: Tally::new(),
         }
     }
@@ -76,28 +85,19 @@ impl<'v, 'a> Programs<'v, 'a> {
     fn verdict(&mut self, edition: Edition, program: &Verified) -> u32
         requires { self.old.tally.runs < max_entries }
         ensures view { self.new.view.now ≡ self.old.view.now }
-        ensures owned { self.new.owned ≡ self.old.owned }
-        ensures verdict { HasVerdict edition self.old.view.now self.old.owned program.now result }
+        ensures owned { self.new.owned.now ≡ self.old.owned.now }
+        ensures verdict { HasVerdict edition self.old.view.now self.old.owned.now program.now result }
         ensures counted { self.new.tally.runs ≡ self.old.tally.runs + 1 }
     {
-        let view = self.view;
         match edition {
-            Edition::One => run_over(
+            Edition::One => run_over_one(
                 &mut self.one,
-                edition,
-                view,
-                &self.owned,
+                self.view,
+                self.owned,
                 program,
                 &mut self.tally,
             ),
-            Edition::Two => run_over(
-                &mut self.two,
-                edition,
-                view,
-                &self.owned,
-                program,
-                &mut self.tally,
-            ),
+            Edition::Two => self.tally.run(program, self.two),
         }
     }
 
@@ -105,8 +105,8 @@ impl<'v, 'a> Programs<'v, 'a> {
     pub(crate) fn matches(&mut self, filter: &Filter) -> bool
         requires { self.old.tally.runs < max_entries }
         ensures view { self.new.view.now ≡ self.old.view.now }
-        ensures owned { self.new.owned ≡ self.old.owned }
-        ensures answer { IsAnswer self.old.view.now self.old.owned filter.now result }
+        ensures owned { self.new.owned.now ≡ self.old.owned.now }
+        ensures answer { IsAnswer self.old.view.now self.old.owned.now filter.now result }
         ensures counted { self.new.tally.runs ≡ self.old.tally.runs + 1 }
     {
         match filter {

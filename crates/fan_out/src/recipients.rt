@@ -1,28 +1,60 @@
 // The search for the recipients of a message.
 
-ghost use Rattle.std.specs.Prelude.{◌≡◌, ℕ, ◌+◌, ◌<◌, ◌≤◌, Option, length};
+ghost use Rattle.std.specs.Prelude.{◌≡◌, ℕ, ◌+◌, ◌<◌, ◌≤◌, [], ◌∷◌, Option, MatchBool, Contains, true, false, length, replicate};
 ghost use Rattle.message_view.specs.Message.{Message};
 ghost use Rattle.message_view.specs.Valid.{Valid};
+ghost use Rattle.entry_table.specs.declared.entry.Entry.{Entry};
+ghost use Rattle.entry_table.specs.OfferedEntries.{AreOffered};
 ghost use Rattle.program_table.specs.Answers.{max_entries};
+ghost use Rattle.program_table.specs.Connections.{numbers_of, is_connected};
 ghost use Rattle.program_table.specs.IsState.{IsState};
 ghost use Rattle.program_table.specs.Candidates.{candidates};
-ghost use Rattle.fan_out.specs.Marks.{mark_count};
+ghost use Rattle.fan_out.specs.Marks.{mark_count, AreNoted, IsMarked, IsMarkedMore, IsUnmarked};
+ghost use Rattle.fan_out.specs.Pieces.{ArePieceRecipients};
 ghost use Rattle.fan_out.specs.Marking.{Considers, AreDecided, AreMarked, AreMarkedRecipients};
 
-use crate::marks::Marks;
+use crate::marks::{MAX_RECIPIENTS, Marks};
 use crate::piece::Piece;
 use crate::programs::Programs;
+use arrayvec::ArrayVec;
 use bpf_machine::ends_in_one_way;
 use entry_table::{Entry, Offered};
 use match_rule::found_where_it_holds;
 use message_view::View;
 use program_table::{BusState, Mailbox};
+use summary::{Edition, Image};
 
-/// The recipients' marks, and how many programs were run to find them.
-#[derive(Drop)]
-pub(crate) struct Found {
-    pub(crate) marks: Marks,
-    pub(crate) runs: u32,
+/// Whether a connection is marked. It is searched for only where a marked one's number leaves the same remainder.
+fn is_marked<M: Mailbox>(state: &BusState<M>, marks: &Marks, connection: u64) -> bool
+    requires state { IsState state.now }
+    requires connected { is_connected connection state.now.connections ≡ true }
+    requires noted { AreNoted (numbers_of state.now.connections) marks.now.places marks.now.remainders }
+    ensures { MatchBool result (IsMarked (numbers_of state.now.connections) marks.now.places connection) (IsUnmarked (numbers_of state.now.connections) marks.now.places connection) }
+{
+    if !marks.has_remainder(connection) {
+        return false;
+    }
+    match state.place_of(connection) {
+        Some(place) => marks.has(place),
+        None => unreachable!(),
+    }
+}
+
+/// Marks a connection that isn't marked.
+fn mark<M: Mailbox>(state: &BusState<M>, marks: &mut Marks, connection: u64)
+    requires state { IsState state.now }
+    requires connected { is_connected connection state.now.connections ≡ true }
+    requires noted { AreNoted (numbers_of state.now.connections) marks.old.places marks.old.remainders }
+    ensures marked { IsMarkedMore (numbers_of state.now.connections) connection marks.old.places marks.new.places }
+    ensures noted { AreNoted (numbers_of state.now.connections) marks.new.places marks.new.remainders }
+{
+    match state.place_of(connection) {
+        Some(place) => {
+            marks.add(place);
+            marks.add_remainder(connection);
+        }
+        None => unreachable!(),
+    }
 }
 
 /// Marks the connection of an entry of the piece where the entry matches. The program of an entry whose connection is
@@ -35,67 +67,119 @@ fn consider<M: Mailbox>(
     marks: &mut Marks,
 )
     requires state { IsState state.now }
+    requires connected { is_connected entry.now.connection state.now.connections ≡ true }
+    requires noted { AreNoted (numbers_of state.now.connections) marks.old.places marks.old.remainders }
     requires room { programs.old.tally.runs < max_entries }
     ensures view { programs.new.view.now ≡ programs.old.view.now }
-    ensures owned { programs.new.owned ≡ programs.old.owned }
-    ensures considered { Considers state.now piece.part piece.of programs.old.view.now programs.old.owned entry.now marks.old.places marks.new.places programs.old.tally.runs programs.new.tally.runs }
+    ensures owned { programs.new.owned.now ≡ programs.old.owned.now }
+    ensures noted { AreNoted (numbers_of state.now.connections) marks.new.places marks.new.remainders }
+    ensures considered { Considers state.now piece.part piece.of programs.old.view.now programs.old.owned.now entry.now marks.old.places marks.new.places programs.old.tally.runs programs.new.tally.runs }
 {
     if !piece.has(entry.connection) {
         return;
     }
-    let Some(place) = state.place_of(entry.connection) else {
-        return;
-    };
-    if marks.has(place) {
+    if is_marked(state, marks, entry.connection) {
         return;
     }
     if programs.matches(&entry.filter) {
-        marks.add(place);
+        mark(state, marks, entry.connection);
     }
 }
 
-/// Considers the entries that a message is offered to, one after the other.
+/// Considers the entries that a message is offered to, one after the other, and tells how many programs were run.
 fn consider_all<M: Mailbox>(
     state: &BusState<M>,
     piece: Piece,
-    offered: Offered<'_>,
+    first: &Entry,
+    others: Offered<'_>,
     mut programs: Programs<'_, '_>,
-) -> Found
+    marks: &mut Marks,
+) -> u32
     requires state { IsState state.now }
-    requires few { length offered ≤ max_entries }
+    requires few { length others + 1 ≤ max_entries }
+    requires connected { (e : Entry) → Contains (first.now ∷ others) e → is_connected e.connection state.now.connections ≡ true }
     requires none_run { programs.tally.runs ≡ 0 }
-    ensures few { result.runs ≤ length offered.entry }
-    ensures enough { mark_count result.marks.places ≤ result.runs }
+    requires none_marked { marks.old.places ≡ replicate MAX_RECIPIENTS false }
+    ensures few { result ≤ length others.entry + 1 }
+    ensures enough { mark_count marks.new.places ≤ result }
     ensures exact { (sender : Option ℕ) (m : Message)
         → Valid programs.entry.view.now m
-        → AreDecided state.now sender m programs.entry.view.now programs.entry.owned offered.entry
-        → AreMarked state.now sender m piece.part piece.of offered.entry result.marks.places }
+        → AreDecided state.now sender m programs.entry.view.now programs.entry.owned.now (first.now ∷ others.entry)
+        → AreMarked state.now sender m piece.part piece.of (first.now ∷ others.entry) marks.new.places }
 {
-    let mut marks = Marks::new();
-    for entry in offered {
-        consider(state, piece, entry, &mut programs, &mut marks);
+    consider(state, piece, first, &mut programs, marks);
+    for entry in others {
+        consider(state, piece, entry, &mut programs, marks);
     }
-    Found {
-        marks,
-        runs: programs.runs(),
-    }
+    programs.runs()
 }
 
-/// The recipients of a message among the connections of a piece. Without a sender it is of the bus.
-pub(crate) fn find_recipients<'a, M: Mailbox>(
-    state: &'a BusState<M>,
+/// Considers the entries that a message is offered to, at least one. It stands apart because a function clears room for
+/// its values whenever it is called: a message that is offered to nobody needs no image.
+#[inline(never)]
+fn consider_offered<'a, M: Mailbox>(
+    state: &BusState<M>,
     sender: Option<u64>,
     view: &View<'a>,
     piece: Piece,
-) -> Found
-    ensures exact { (m : Message) → Valid view.entry.now m → AreMarkedRecipients state.entry.now sender m piece.part piece.of result.marks.places }
-    ensures most { (m : Message) → Valid view.entry.now m → result.runs ≤ length (candidates state.entry.now m) }
-    ensures least { mark_count result.marks.places ≤ result.runs }
-    ensures state { IsState state.entry.now }
+    first: &Entry,
+    others: Offered<'_>,
+    marks: &mut Marks,
+) -> u32
+    requires state { IsState state.now }
+    requires offered { (m : Message) → Valid view.now m → AreOffered state.now.registrations.entries m (first.now ∷ others) }
+    requires none_marked { marks.old.places ≡ replicate MAX_RECIPIENTS false }
+    ensures exact { (m : Message) → Valid view.now m → AreMarkedRecipients state.now sender m piece.part piece.of marks.new.places }
+    ensures most { result ≤ length others.entry + 1 }
+    ensures least { mark_count marks.new.places ≤ result }
 {
     ends_in_one_way();
     found_where_it_holds();
     let _ = view.raw();
-    let programs = Programs::new(view, state.slots_of(sender));
-    consider_all(state, piece, state.offered(view), programs)
+    let owned = state.slots_of(sender);
+    let two = &Image::new(view, &owned, Edition::Two);
+    let programs = Programs::new(view, &owned, two);
+    consider_all(state, piece, first, others, programs, marks)
+}
+
+/// Marks the recipients of a message among the connections of a piece, and tells how many programs were run. Without a
+/// sender it is of the bus.
+pub(crate) fn mark_recipients<'a, M: Mailbox>(
+    state: &'a BusState<M>,
+    sender: Option<u64>,
+    view: &View<'a>,
+    piece: Piece,
+    marks: &mut Marks,
+) -> u32
+    requires { marks.old.places ≡ replicate MAX_RECIPIENTS false }
+    ensures exact { (m : Message) → Valid view.entry.now m → AreMarkedRecipients state.entry.now sender m piece.part piece.of marks.new.places }
+    ensures most { (m : Message) → Valid view.entry.now m → result ≤ length (candidates state.entry.now m) }
+    ensures least { mark_count marks.new.places ≤ result }
+    ensures state { IsState state.entry.now }
+{
+    found_where_it_holds();
+    let mut offered = state.offered(view);
+    match offered.next() {
+        None => 0,
+        Some(first) => consider_offered(state, sender, view, piece, first, offered, marks),
+    }
+}
+
+/// Lists the recipients of a message among the connections of a piece, and tells how many programs were run.
+pub(crate) fn list_recipients<'a, M: Mailbox>(
+    state: &'a BusState<M>,
+    sender: Option<u64>,
+    view: &View<'a>,
+    piece: Piece,
+    recipients: &mut ArrayVec<u64, MAX_RECIPIENTS>,
+) -> u32
+    requires { recipients.old.items ≡ [] }
+    ensures exact { (m : Message) → Valid view.entry.now m → ArePieceRecipients state.entry.now sender m piece.part piece.of recipients.new.items }
+    ensures most { (m : Message) → Valid view.entry.now m → result ≤ length (candidates state.entry.now m) }
+    ensures least { length recipients.new.items ≤ result }
+{
+    let mut marks = Marks::new();
+    let runs = mark_recipients(state, sender, view, piece, &mut marks);
+    marks.list(state.connections(), recipients);
+    runs
 }

@@ -7,7 +7,7 @@ ghost use Rattle.fan_out.specs.Pieces.{ArePieceRecipients};
 
 pub use crate::marks::MAX_RECIPIENTS;
 use crate::piece::Piece;
-use crate::recipients::find_recipients;
+use crate::recipients::list_recipients;
 use arrayvec::ArrayVec;
 use message_view::View;
 use program_table::{BusState, Mailbox};
@@ -20,7 +20,15 @@ pub fn select<'a, M: Mailbox>(
 ) -> ArrayVec<u64, MAX_RECIPIENTS>
     ensures { (m : Message) → Valid view.now m → AreRecipients state.now sender m result.items }
 {
-    select_counted(state, sender, view).recipients
+    let mut recipients = ArrayVec::new();
+    list_recipients(
+        state,
+        sender,
+        view,
+        Piece { part: 1, of: 1 },
+        &mut recipients,
+    );
+    recipients
 }
 
 /// Recipients, and how many programs were run to find them.
@@ -41,11 +49,15 @@ pub fn select_counted<'a, M: Mailbox>(
     ensures least { length result.recipients.items ≤ result.runs }
     ensures most { (m : Message) → Valid view.now m → result.runs ≤ length (candidates state.now m) }
 {
-    let found = find_recipients(state, sender, view, Piece { part: 1, of: 1 });
-    Counted {
-        recipients: found.marks.numbers(state.connections()),
-        runs: found.runs,
-    }
+    let mut recipients = ArrayVec::new();
+    let runs = list_recipients(
+        state,
+        sender,
+        view,
+        Piece { part: 1, of: 1 },
+        &mut recipients,
+    );
+    Counted { recipients, runs }
 }
 
 /// The recipients among the connections whose number leaves `part` - 1 when divided by `of`.
@@ -60,6 +72,7 @@ pub fn select_piece<'a, M: Mailbox>(
     requires within { part ≤ of }
     ensures { (m : Message) → Valid view.now m → ArePieceRecipients state.now sender m part of result.items }
 {
-    let found = find_recipients(state, sender, view, Piece { part, of });
-    found.marks.numbers(state.connections())
+    let mut recipients = ArrayVec::new();
+    list_recipients(state, sender, view, Piece { part, of }, &mut recipients);
+    recipients
 }

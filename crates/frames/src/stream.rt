@@ -44,6 +44,13 @@ impl Frames {
         self.unread.is_empty()
     }
 
+    /// The bytes that no message has taken.
+    pub fn unread(&self) -> &[u8]
+        ensures { result.now ≡ self.now.unread }
+    {
+        self.unread.as_slice()
+    }
+
     /// Adds the stream's next bytes.
     ///
     /// # Errors

@@ -1,5 +1,5 @@
 -- What a view keeps is its message's.
-use Rattle.std.proofs.Common.{◌≡◌, ℕ, ◌+◌, ◌-◌, ◌<◌, ◌≤◌, List, length, map, get_or, Option, Some, None, Result, Ok, Err, false, ltb, refl, sym, ap, ◌∙◌, arith}
+use Rattle.std.proofs.Common.{◌≡◌, ℕ, ◌+◌, ◌-◌, ◌<◌, ◌≤◌, List, length, map, get_or, Option, Some, None, Result, Ok, Err, false, ltb, refl, sym, ap, subst, ◌∙◌, arith}
 use Rattle.std.specs.Prelude.{slice_index_or, IfOk, IsOk}
 use Rattle.std.proofs.Math.ListN.{get_or-map}
 use Rattle.std.proofs.lemmas.Bool.{lt-ltb, le-ltb}
@@ -94,6 +94,12 @@ kept_is bytes now body signature m kept keeps same valid =
 -- and so is the body
 pub body_kept : (bytes now body signature : List ℕ) (m : Message) (kept : Kept) → IsKept bytes body signature kept → bytes ≡ now → Valid now m → body ≡ body_bytes m
 body_kept bytes now body signature m kept keeps same valid = keeps.behind ∙ ap body_of same ∙ (valid_lies now m valid).is_body
+
+-- and the signature is that of its arguments
+pub signature_kept : (bytes now body signature given : List ℕ) (m : Message) (kept : Kept) → IsKept bytes body signature kept → bytes ≡ now → Valid now m → given ≡ signature → SigText m.types given
+signature_kept bytes now body signature given m kept keeps same valid is =
+    let typed : SigText keeps.message.types given = rw is keeps.typed in
+    subst (λ (x : Message). SigText x.types given) (message_is bytes now body signature m kept keeps same valid) typed
 
 pub text_kept : (xs ys : Slots) (i : ℕ) → map text_in xs ≡ map text_in ys → text_in (slice_index_or xs i None) ≡ text_in (slice_index_or ys i None)
 text_kept xs ys i same = sym (get_or-map text_in xs i None) ∙ ap (λ texts. get_or texts i None) same ∙ get_or-map text_in ys i None

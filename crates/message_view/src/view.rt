@@ -279,6 +279,13 @@ impl<'a> View<'a> {
         self.body
     }
 
+    /// The signature of the body, which is empty where the message has no field SIGNATURE.
+    pub fn signature(&self) -> &'a [u8]
+        ensures { (m : Message) → Valid self.now m → SigText m.types result.now }
+    {
+        self.signature.as_bytes()
+    }
+
     /// Before the first argument.
     fn at_body(&self) -> Cursor<'a>
         ensures { result ≡ body_at self.now }

@@ -9,17 +9,16 @@ ghost use Rattle.owners.specs.Kept.{is_on_slot, slot_owner, are_slots};
 use crate::claim::SlotClaim;
 use summary::Slots;
 
-/// The set, and the slot if its first claim is met and is the connection's own.
-fn with_owned(mut slots: Slots, slot: u16, is_first: bool, is_own: bool) -> Slots
+/// Adds the slot if its first claim is met and is the connection's own.
+fn add_owned(owned: &mut Slots, slot: u16, is_first: bool, is_own: bool)
     requires inside { slot < 1024 }
-    requires set { IsSet slots }
-    ensures slots { (other : ℕ) → has_slot result other ≡ (((is_first && is_own) && (other == slot)) || has_slot slots other) }
-    ensures set { IsSet result }
+    requires set { IsSet owned.old }
+    ensures slots { (other : ℕ) → has_slot owned.new other ≡ (((is_first && is_own) && (other == slot)) || has_slot owned.old other) }
+    ensures set { IsSet owned.new }
 {
     if is_first && is_own {
-        slots.insert(slot);
+        owned.insert(slot);
     }
-    slots
 }
 
 /// The slots of the names that there is a claim on.
@@ -45,7 +44,7 @@ pub(crate) fn owned_slots(claims: &[SlotClaim], connection: u64) -> Slots
     for claim in claims {
         let is_first = !seen.contains(claim.slot);
         let is_own = claim.connection == connection;
-        owned = with_owned(owned, claim.slot, is_first, is_own);
+        add_owned(&mut owned, claim.slot, is_first, is_own);
         seen.insert(claim.slot);
     }
     owned

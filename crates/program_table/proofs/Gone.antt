@@ -1,6 +1,6 @@
 -- Entries of a connection go one after the other, and then its claims.
 use Rattle.std.proofs.Common.{◌≡◌, ℕ, Bool, true, false, not, cond, ◌||◌, List, [], ◌∷◌, ◌++◌, filter, length, Option, Some, None, ◌<◌, refl, sym, ap, subst, ◌∙◌, arith}
-use Rattle.std.specs.Prelude.{◌==◌, find}
+use Rattle.std.specs.Prelude.{◌==◌, Contains, find}
 use Rattle.std.specs.List.{list_any}
 use Rattle.owners.specs.Queues.{Claim, is_on, without_all}
 use Rattle.owners.specs.Registry as registry
@@ -12,7 +12,7 @@ use Rattle.program_table.specs.Senders.{without_sender}
 use Rattle.program_table.specs.Removal.{entries_not_of, AreSomeGone}
 use Rattle.program_table.specs.Ties.{slot_names, registrations_of, AreTied}
 use Rattle.program_table.proofs.Holdings.{slot_names-holdings}
-use Rattle.program_table.proofs.Removing.{IsTaken, taken, taken_entry, none_taken, filter_between, length_between}
+use Rattle.program_table.proofs.Removing.{IsTaken, taken, taken_one, taken_entry, none_taken, filter_between, length_between}
 use Rattle.program_table.proofs.Freeing.{freed_slots, freed_view, same_claims, used_twice}
 use Rattle.program_table.proofs.Sound.{registrations_sound}
 
@@ -89,6 +89,11 @@ all_gone c r s gone last =
 pub taken_out : (p : Entry → Bool) (e : Entry) (all after : Entries) → AreEntries all → Some e ≡ find p all.entries → after ≡ entries_but (λ f. f.id == e.id) all → IsTaken e all.entries after.entries
 taken_out p e all after is found rest =
     subst (λ (es : List Entry). IsTaken e all.entries es) (sym (ap (λ (a : Entries). a.entries) rest)) (taken p all.entries e is.rising (sym found))
+
+-- one of the entries is taken out of the table
+pub taken_among : (e : Entry) (all after : Entries) → AreEntries all → Contains all.entries e → after ≡ entries_but (λ f. f.id == e.id) all → IsTaken e all.entries after.entries
+taken_among e all after is there rest =
+    subst (λ (es : List Entry). IsTaken e all.entries es) (sym (ap (λ (a : Entries). a.entries) rest)) (taken_one e all.entries is.rising there)
 
 pub fewer_left : (e : Entry) (all rest : List Entry) → IsTaken e all rest → length rest < length all
 fewer_left e all rest here =

@@ -14,3 +14,4 @@ mod Freeing
 mod Gone
 pub mod OwnCounts
 mod SlotNumbers
+mod RuleSlots

@@ -1,5 +1,5 @@
 -- How many commands a history has, and how many of them are a connection's.
-use Rattle.std.proofs.Common.{◌≡◌, ℕ, ◌+◌, ◌≤◌, ◌==◌, Bool, true, false, cond, not, ◌&&◌, List, [], ◌∷◌, ◌++◌, length, fold, Some, refl, sym, ap, ◌∙◌, arith}
+use Rattle.std.proofs.Common.{◌≡◌, ℕ, ◌+◌, ◌<◌, ◌≤◌, ◌==◌, Bool, true, false, cond, not, ◌&&◌, List, [], ◌∷◌, ◌++◌, length, fold, Some, refl, sym, ap, ◌∙◌, arith}
 use Rattle.std.specs.Prelude.{Result, Err, is_ok, is_some, find, nat_le, if◌then◌else◌}
 use Rattle.std.specs.List.{list_all}
 use Rattle.std.proofs.lemmas.Bool.Decides.{nat_tests}
@@ -211,6 +211,8 @@ module _ {M : Type 0} where
     mine : closing ≡ false → commands_of c next.connections ≡ commands_of c s.connections + one_if own
     gone : closing ≡ true → (is_connected c next.connections ≡ false) × (c ≤ next.last_connection)
     stays : is_connected c s.connections ≡ false → c ≤ s.last_connection → (is_connected c next.connections ≡ false) × (c ≤ next.last_connection)
+    grows : s.last_connection ≤ next.last_connection
+    low : own ≡ true → c ≤ next.last_connection
 
   module _ (c : ℕ) (s : State M) (g : AreGiven s.last_connection s.connections) where
     own_if : (d : ℕ) → is_connected d s.connections ≡ true → (b : Bool) → (c == d) ≡ b → (is_connected c s.connections && b) ≡ b
@@ -221,6 +223,9 @@ module _ {M : Type 0} where
         go true = refl
         go false = refl
 
+    low_if : (d : ℕ) → is_connected d s.connections ≡ true → (c == d) ≡ true → c ≤ s.last_connection
+    low_if d there e = rw (eq_of c d e) (there_below d s.last_connection s.connections g there)
+
     step_changed : (d : ℕ) (r : Registrations) → is_connected d s.connections ≡ true → Stepped c s (changed d s r) (c == d) false
     step_changed d r there = record {
       counts = refl;
@@ -228,6 +233,8 @@ module _ {M : Type 0} where
       mine = λ e. counted_more c d s.connections ∙ ap (λ (b : Bool). commands_of c s.connections + one_if b) (own_if d there (c == d) refl);
       gone = λ e. absurd (cc);
       stays = λ e le. (there_still c d s.connections ∙ e, le);
+      grows = omega arith;
+      low = low_if d there;
     }
 
     step : (x : Command M) → is_ok (row s x) ≡ true → Stepped c s (effect s x) (is_command_of s c x) (closes c x)
@@ -237,6 +244,8 @@ module _ {M : Type 0} where
       mine = λ e. counted_first c s.last_connection m s.connections g;
       gone = λ e. absurd (cc);
       stays = λ e le. (still_gone c s.last_connection m s.connections le e, omega (arith, le));
+      grows = omega arith;
+      low = λ e. let k = eq_of c (s.last_connection + 1) e in omega (arith, k);
     }
     step (AddRule d compiled) ok = step_changed d _ (there_first _ _ ok)
     step (RemoveRule d rule) ok = step_changed d _ (there_first _ _ ok)
@@ -251,6 +260,8 @@ module _ {M : Type 0} where
       mine = λ e. counted_others c d s.connections e ∙ rw e (omega arith);
       gone = λ e. (ap (λ (n : ℕ). is_connected n (without_connection d s.connections)) (eq_of c d e) ∙ gone_itself d s.connections, rw (eq_of c d e) (there_below d s.last_connection s.connections g (there_first _ _ ok)));
       stays = λ e le. (gone_others c d s.connections e, le);
+      grows = omega arith;
+      low = low_if d (there_first _ _ ok);
     }
 
     step_next : (x : Command M) → is_accepted s x ≡ true → Stepped c s (next_of s x) (is_command_of s c x) (closes c x)
@@ -302,6 +313,28 @@ module _ {M : Type 0} where
       let first = stepped.counts in
       omega (arith, later, first)
 
+  last_grows : (s : State M) (xs : List (Command M)) → AreGiven s.last_connection s.connections → are_accepted s xs ≡ true → s.last_connection ≤ (fold next_of s xs).last_connection
+  last_grows s [] g ok = omega arith
+  last_grows s (x ∷ xs) g ok =
+      let p = both_true (is_accepted s x) (are_accepted (next_of s x) xs) ok in
+      let stepped = step_next 0 s g x p.0 in
+      let later = last_grows (next_of s x) xs stepped.given p.1 in
+      let first = stepped.grows in
+      omega (arith, later, first)
+
+  none_own : (c : ℕ) (s : State M) (xs : List (Command M)) → AreGiven s.last_connection s.connections → are_accepted s xs ≡ true
+      → (fold next_of s xs).last_connection < c → own_from s c xs ≡ []
+  none_own c s [] g ok above = refl
+  none_own c s (x ∷ xs) g ok above =
+      let p = both_true (is_accepted s x) (are_accepted (next_of s x) xs) ok in
+      let stepped = step_next c s g x p.0 in
+      let later = last_grows (next_of s x) xs stepped.given p.1 in
+      go (is_command_of s c x) (λ e. let le = stepped.low e in omega (arith, le, later, above)) (none_own c (next_of s x) xs stepped.given p.1 above)
+    where
+      go : (b : Bool) → (b ≡ true → ⊥) → own_from (next_of s x) c xs ≡ [] → (if b then x ∷ own_from (next_of s x) c xs else own_from (next_of s x) c xs) ≡ []
+      go true never e = absurd (never refl)
+      go false never e = e
+
   -- the count of all commands is the length of the history
   pub commands_counted : (xs : List (Command M)) → IsHistory xs → (after xs).commands ≡ length xs
   commands_counted xs h = all_counted opening xs refl h ∙ none_before (length xs)
@@ -309,3 +342,7 @@ module _ {M : Type 0} where
   -- the count of a connection is that of its commands
   pub own_commands_counted : (xs : List (Command M)) (c : ℕ) → IsHistory xs → is_connected c (after xs).connections ≡ true → commands_of c (after xs).connections ≡ length (own_commands c xs)
   own_commands_counted xs c h there = own_counted c opening xs refl h there ∙ none_before (length (own_commands c xs))
+
+  -- a number that wasn't given has no command
+  pub own_commands_new : (xs : List (Command M)) (c : ℕ) → IsHistory xs → (after xs).last_connection < c → own_commands c xs ≡ []
+  own_commands_new xs c h above = none_own c opening xs refl h above

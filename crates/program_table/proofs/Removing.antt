@@ -1,6 +1,6 @@
 -- An entry is taken out of the entries.
-use Rattle.std.proofs.Common.{◌≡◌, ℕ, zero, suc, ◌+◌, ◌<◌, Bool, true, false, not, cond, ◌&&◌, List, [], ◌∷◌, ◌++◌, length, filter, Some, None, refl, sym, ap, subst, ◌∙◌, arith}
-use Rattle.std.specs.Prelude.{◌==◌, All, AllPairs, find, count_by}
+use Rattle.std.proofs.Common.{◌≡◌, ◌⊎◌, inl, inr, ℕ, zero, suc, ◌+◌, ◌<◌, Bool, true, false, not, cond, ◌&&◌, List, [], ◌∷◌, ◌++◌, length, filter, Some, None, refl, sym, ap, subst, ◌∙◌, arith}
+use Rattle.std.specs.Prelude.{◌==◌, All, AllPairs, Contains, find, count_by}
 use Rattle.std.specs.List.{list_all}
 use Rattle.std.proofs.lemmas.List.Sums.{sum_by-append}
 use Rattle.std.proofs.lemmas.Bool.Decides.{nat_tests}
@@ -113,6 +113,38 @@ taken p (x ∷ xs) e h f = go (taken p xs e (later_rise x xs h)) (p x) f
           before = ap (λ (es : List Entry). x ∷ es) rest.before;
           after = kept_if (x.id == e.id) x (others e.id xs) (rest.front ++ rest.back) apart rest.after;
         }
+
+among_cases : (x e : Entry) (xs : List Entry) → Contains (x ∷ xs) e → (x ≡ e) ⊎ Contains xs e
+among_cases x e xs (zero, less, at) = inl at
+among_cases x e xs (suc k, less, at) = inr (k, omega arith, at)
+
+among_above : (n : ℕ) (e : Entry) (xs : List Entry) → AreAbove n xs → Contains xs e → n < e.id
+among_above n e xs above (k, less, at) = subst (λ (f : Entry). n < f.id) at (above k e less)
+
+-- any entry that is taken
+pub taken_one : (e : Entry) (xs : List Entry) → AreRising xs → Contains xs e → IsTaken e xs (others e.id xs)
+taken_one e [] h (k, less, at) = absurd (omega arith)
+taken_one e (x ∷ xs) h there = elim (among_cases x e xs there) [
+  | inl same ↦ (
+      let is : (x.id == x.id) ≡ true = grind (arith, nat_tests) in
+      let here : IsTaken x (x ∷ xs) (others x.id (x ∷ xs)) = record {
+        front = [];
+        back = xs;
+        before = refl;
+        after = lost_if (x.id == x.id) x (others x.id xs) xs is (others_above x.id xs (above_first x xs h));
+      } in
+      subst (λ (y : Entry). IsTaken y (x ∷ xs) (others y.id (x ∷ xs))) same here)
+  | inr later ↦ (
+      let rest = taken_one e xs (later_rise x xs h) later in
+      let lt = among_above x.id e xs (above_first x xs h) later in
+      let apart : (x.id == e.id) ≡ false = grind (arith, nat_tests) in
+      record {
+        front = x ∷ rest.front;
+        back = rest.back;
+        before = ap (λ (es : List Entry). x ∷ es) rest.before;
+        after = kept_if (x.id == e.id) x (others e.id xs) (rest.front ++ rest.back) apart rest.after;
+      })
+]
 
 -- the connection's entry of an id, where it has one, is the only one of this id
 pub taken_entry : (c n : ℕ) (xs : List Entry) (e : Entry) → AreRising xs → find (is_entry c n) xs ≡ Some e → filter (λ (f : Entry). not (is_entry c n f)) xs ≡ others e.id xs

@@ -32,6 +32,11 @@ slot_fits (Some name) slot slots = do
   free ← refuse_if (is_none (slot_next name slots)) refusals.NamesFull
   refuse_if (not (option_eq nat_eq slot (slot_next name slots))) refusals.Stale
 
+-- the slot for which a rule with this sender name is compiled: the one that the name has or gets
+abbrev pub slot_asked : Option (List ℕ) → List (Option (List ℕ)) → Option ℕ
+slot_asked None slots = None
+slot_asked (Some name) slots = slot_next name slots
+
 abbrev pub add_rule_answer : CompiledRule → Registrations → Result Reply Refusal
 add_rule_answer compiled r = do
   room ← has_room r

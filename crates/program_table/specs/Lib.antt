@@ -10,6 +10,7 @@ pub mod State
 pub mod Refusals
 pub mod Answers
 pub mod Does
+pub mod RuleSlots
 pub mod History
 pub mod IsState
 pub mod Ties

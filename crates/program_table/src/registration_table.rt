@@ -9,7 +9,7 @@ use crate::removal::{self, sender_of};
 use entry_table::{Attachment, EntryTable, Filter, IndexKey, Offered, RuleProgram};
 use match_rule::Rule;
 use message_view::View;
-use owners::{ClaimError, Claims, Dropped, WellKnown};
+use owners::{ClaimError, Claims, Dropped, Queue, WellKnown};
 use std::alloc::{AllocError, Global};
 use std::marker::Model;
 use summary::Slots;
@@ -38,8 +38,10 @@ impl RegistrationTable {
     ghost use Rattle.message_view.specs.Valid.{Valid};
     ghost use Rattle.match_rule.specs.RuleTree.{sender_name_of};
     ghost use Rattle.summary.specs.Sets.{has_slot, IsSet};
-    ghost use Rattle.owners.specs.Queues.{owner_of};
+    ghost use Rattle.owners.specs.Queues.{owner_of, queue_of};
     ghost use Rattle.owners.specs.Registry.{max_names, next_name, least_of};
+    ghost use Rattle.rule_compile.specs.Compiled.{IsSlotOf};
+    ghost use Rattle.program_table.specs.RuleSlots.{rule_slot};
     ghost use Rattle.entry_table.specs.declared.entry.Filter.TheVariants as filters;
     ghost use Rattle.entry_table.specs.OfferedEntries.{AreOffered};
     ghost use Rattle.program_table.specs.SlotNames.{slot_next};
@@ -83,6 +85,21 @@ impl RegistrationTable {
             Ok(())
         } else {
             Err(Refusal::Stale)
+        }
+    }
+
+    /// The slot for which a rule is compiled, where there is room for its entry.
+    pub(crate) fn rule_slot(&self, rule: &Rule) -> Result<Option<u16>, Refusal>
+        ensures answer { result ≡ rule_slot rule.now self.now }
+        ensures fit { IfOk result (λ slot. IsSlotOf slot rule.now) }
+    {
+        self.room()?;
+        let Some(name) = rule.sender_name() else {
+            return Ok(None);
+        };
+        match self.slot_next(name) {
+            Some(slot) => Ok(Some(slot)),
+            None => Err(Refusal::NamesFull),
         }
     }
 
@@ -244,6 +261,13 @@ impl RegistrationTable {
         ensures { result ≡ owner_of name.now self.now.claims }
     {
         self.names.owner_of(name)
+    }
+
+    /// The connections that own a name or wait for it, in order.
+    pub(crate) fn queue_of(&self, name: &str) -> Queue<'_>
+        ensures { result ≡ queue_of name.now self.now.claims }
+    {
+        self.names.queue_of(name)
     }
 
     /// The least owned name after another in the order of bytes, or the least of all.

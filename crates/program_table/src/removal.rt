@@ -50,15 +50,15 @@ pub(crate) fn remove_entry(names: &mut Claims, entries: &mut EntryTable, connect
     }
 }
 
-/// Takes out the connection's oldest entry, and tells whether it had one.
-fn remove_oldest(names: &mut Claims, entries: &mut EntryTable, connection: u64) -> bool
+/// Takes out one of the connection's entries, and tells whether it had one.
+fn remove_any(names: &mut Claims, entries: &mut EntryTable, connection: u64) -> bool
     requires { AreTied names.old entries.old }
     ensures tied { AreTied names.new entries.new }
     ensures gone { AreSomeGone connection (registrations_of names.old entries.old) (registrations_of names.new entries.new) }
     ensures fewer { result ≡ true → length entries.new.entries < length entries.old.entries }
     ensures last { result ≡ false → entries_not_of connection entries.new.entries ≡ entries.new.entries }
 {
-    match entries.remove_oldest(connection) {
+    match entries.remove_any(connection) {
         Some(entry) => {
             let _ = entries.last_id();
             free_slot(names, &entry.filter);
@@ -74,6 +74,6 @@ pub(crate) fn remove_all(names: &mut Claims, entries: &mut EntryTable, connectio
     ensures tied { AreTied names.new entries.new }
     ensures gone { registrations_of names.new entries.new ≡ without_all_of connection (registrations_of names.old entries.old) }
 {
-    'theirs: while remove_oldest(names, entries, connection) {}
+    'theirs: while remove_any(names, entries, connection) {}
     names.drop_all(connection);
 }

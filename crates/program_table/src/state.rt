@@ -7,8 +7,9 @@ use crate::mailbox::Mailbox;
 use crate::refusal::Refusal;
 use crate::registration_table::RegistrationTable;
 use entry_table::{IndexKey, Offered};
+use match_rule::Rule;
 use message_view::View;
-use owners::WellKnown;
+use owners::{Queue, WellKnown};
 use std::alloc::{AllocError, Global};
 use std::marker::Model;
 use summary::Slots;
@@ -34,19 +35,21 @@ impl<M: Mailbox> Model for BusState<M> {
 }
 
 impl<M: Mailbox> BusState<M> {
-    ghost use Rattle.std.specs.Prelude.{◌≡◌, ◌<◌, ℕ, true, false, None, IfOk, IfErr, IfSome, MatchResult, MatchOption, option_map, option_copied, slice_get};
+    ghost use Rattle.std.specs.Prelude.{◌≡◌, ◌<◌, ◌≤◌, ℕ, length, true, false, None, IfOk, IfErr, IfSome, MatchResult, MatchOption, option_map, option_copied, slice_get};
     ghost use Rattle.message_view.specs.Message.{Message};
     ghost use Rattle.message_view.specs.Valid.{Valid};
     ghost use Rattle.summary.specs.Sets.{has_slot, IsSet};
-    ghost use Rattle.owners.specs.Queues.{owner_of};
+    ghost use Rattle.owners.specs.Queues.{owner_of, queue_of};
     ghost use Rattle.owners.specs.Registry.{max_names, next_name};
     ghost use Rattle.entry_table.specs.OfferedEntries.{AreOffered};
-    ghost use Rattle.program_table.specs.Connections.{numbers_of, mailbox_of, commands_of, is_connected};
+    ghost use Rattle.program_table.specs.Connections.{max_connections, numbers_of, mailbox_of, commands_of, is_connected};
     ghost use Rattle.program_table.specs.SlotNames.{slot_next};
     ghost use Rattle.program_table.specs.State.{State, opening};
     ghost use Rattle.program_table.specs.Does.{Does, reply_to, max_commands, answer_of, is_accepted, is_sharing, row, connect_row, connected, changed, effect};
     ghost use Rattle.program_table.specs.Recipients.{AreOwnedSlots};
+    ghost use Rattle.program_table.specs.RuleSlots.{IsRuleSlot, rule_slot_of};
     ghost use Rattle.program_table.specs.IsState.{IsState};
+    ghost use Rattle.rule_compile.specs.Compiled.{IsSlotOf};
 
     /// Nobody is connected. The index of entries hashes texts with this key.
     pub fn new(alloc: Global, key: IndexKey) -> Result<BusState<M>, AllocError>
@@ -248,6 +251,15 @@ impl<M: Mailbox> BusState<M> {
         self.connections.as_slice()
     }
 
+    /// How many connections there are, at most 256.
+    pub fn connection_count(&self) -> usize
+        ensures count { result ≡ length self.now.connections }
+        ensures few { result ≤ max_connections }
+    {
+        let _ = self.connections.last();
+        self.connections.as_slice().len()
+    }
+
     /// Where a connection stands in that list.
     pub fn place_of(&self, connection: u64) -> Option<usize>
         ensures { MatchOption result (is_connected connection self.now.connections ≡ false) (λ place. slice_get (numbers_of self.now.connections) place ≡ Some connection) }
@@ -282,6 +294,31 @@ impl<M: Mailbox> BusState<M> {
         ensures small { IfSome result (λ slot. slot < max_names) }
     {
         self.registrations.slot_next(name)
+    }
+
+    /// The slot for which a rule of a connection is compiled, or what refuses the rule whatever its program is.
+    pub fn rule_slot(&self, connection: u64, rule: &Rule) -> Result<Option<u16>, Refusal>
+        ensures { IsRuleSlot self.now connection rule.now result }
+    {
+        self.find_rule_slot(connection, rule)
+    }
+
+    fn find_rule_slot(&self, connection: u64, rule: &Rule) -> Result<Option<u16>, Refusal>
+        ensures answer { result ≡ rule_slot_of self.now connection rule.now }
+        ensures fit { IfOk result (λ slot. IsSlotOf slot rule.now) }
+    {
+        if self.commands() == u64::MAX {
+            return Err(Refusal::Closed);
+        }
+        self.connected(connection)?;
+        self.registrations.rule_slot(rule)
+    }
+
+    /// The connections that own a name or wait for it, in order, the primary owner first.
+    pub fn queue_of(&self, name: &str) -> Queue<'_>
+        ensures { result ≡ queue_of name.now self.now.registrations.claims }
+    {
+        self.registrations.queue_of(name)
     }
 
     /// The slots of the names whose primary owner is the sender. None is the bus.

@@ -1,6 +1,5 @@
 pub mod Fronts
 pub mod Histories
-pub mod Connected
 pub mod Counted
 pub mod Refused
 pub mod Adding

@@ -70,6 +70,7 @@ impl Naming for Brand {
 }
 
 /// An empty history that has no name yet. Contracts see it as the history that it is.
+#[derive(Drop)]
 pub struct Opened<M: Mailbox>
 where
     Law: Rule<Command<M>, u64>,

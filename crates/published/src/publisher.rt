@@ -239,6 +239,13 @@ impl<J: Naming, M: Mailbox, R: Wait + Drop> Publisher<J, M, R> {
         }
     }
 
+    /// Whether the bus has ended, so that nothing more is published.
+    pub fn has_ended(&self) -> bool
+        ensures { result ≡ self.now.has_ended }
+    {
+        self.has_ended
+    }
+
     /// The published history.
     pub fn front(&self) -> Front<J, M>
         ensures { result ≡ self.now.history }

@@ -13,8 +13,8 @@ use Rattle.program_table.specs.Connections.{max_connections}
 use Rattle.program_table.specs.State.{State}
 use Rattle.program_table.specs.Does.{is_accepted, reply_to, reply_of, max_commands}
 use Rattle.program_table.specs.History.{after, own_commands, is_command_of, IsHistory}
+use Rattle.program_table.proofs.OwnCounts.{own_commands_new}
 use Rattle.published.specs.Publication.{Publication, with_next}
-use Rattle.published.proofs.Counted.{own-new}
 use Rattle.published.proofs.Refused.{refused}
 use Rattle.router.specs.declared.error.BusError.{BusError}
 use Rattle.router.specs.Errors.{error_of}
@@ -85,7 +85,7 @@ module _ {M : Type 0} where
   its_own before m n said = same_number n ((after before.history).last_connection + 1) (next_number (after before.history) m n said)
 
   none_own : (before : Publication M) (m : M) (n : ℕ) → IsHistory before.history → reply_to (after before.history) (Connect m) ≡ Connected n → own_commands n before.history ≡ []
-  none_own before m n legal said = let e = next_number (after before.history) m n said in own-new before.history n legal (omega (arith, e))
+  none_own before m n legal said = let e = next_number (after before.history) m n said in own_commands_new before.history n legal (omega (arith, e))
 
   pub room_for_one : (v w : PassState M) (told : List (Command M)) (before : Publication M) (connection : ℕ) → IsTold v w told before → IsFresh v before connection → w.took + 1 < 2 ^ 64
   room_for_one v w told before connection t h =

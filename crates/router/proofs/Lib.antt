@@ -2,3 +2,8 @@ pub mod Owned
 pub mod Done
 pub mod Commands
 pub mod Joining
+pub mod Finding
+pub mod Sending
+pub mod Admitted
+pub mod Adding
+pub mod NameOrder

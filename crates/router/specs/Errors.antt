@@ -1,4 +1,7 @@
 -- The errors of a bus.
+use Rattle.std.specs.Prelude.{ℕ}
+use Rattle.rule_compile.specs.declared.error.CompileError.{CompileError}
+use Rattle.rule_compile.specs.declared.error.CompileError.TheVariants as compile_errors
 use Rattle.program_table.specs.declared.refusal.Refusal.{Refusal}
 use Rattle.program_table.specs.declared.refusal.Refusal.TheVariants as refusals
 use Rattle.router.specs.declared.error.BusError.{BusError}
@@ -14,3 +17,24 @@ error_of refusals.RuleNotFound = errors.RuleNotFound
 error_of refusals.NoAttachment = errors.NoAttachment
 error_of refusals.Closed = errors.Closed
 error_of refusals.Stale = errors.Closed
+
+-- the error of a rule that isn't compiled
+abbrev pub compile_error : CompileError → BusError
+compile_error compile_errors.TooLong = errors.TooLong
+compile_error compile_errors.NoMemory = errors.NoMemory
+
+abbrev pub bus_error_number : BusError → ℕ
+bus_error_number errors.NoMemory = 1
+bus_error_number errors.ConnectionsFull = 2
+bus_error_number errors.EntriesFull = 3
+bus_error_number errors.NamesFull = 4
+bus_error_number errors.QueueFull = 5
+bus_error_number errors.RuleNotFound = 6
+bus_error_number errors.NoAttachment = 7
+bus_error_number errors.Closed = 8
+bus_error_number (errors.Rule fault) = 9
+bus_error_number (errors.Program fault) = 10
+bus_error_number errors.TooLong = 11
+bus_error_number errors.Busy = 12
+bus_error_number (errors.Fan fault) = 13
+bus_error_number errors.Counts = 14

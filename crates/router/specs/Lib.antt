@@ -1,4 +1,10 @@
 pub mod Errors
 pub mod Passes
+pub mod Routes
+pub mod Found
 pub mod Calls
+pub mod Admission
 pub mod Readings
+pub mod Compiling
+pub mod Asking
+pub mod Names

@@ -6,10 +6,11 @@ ghost use Rattle.program_table.specs.declared.command.Command.TheVariants.{Detac
 ghost use Rattle.published.specs.Publication.{Publication};
 ghost use Rattle.router.specs.Passes.{PassState};
 ghost use Rattle.router.specs.Calls.{AnswersOnce, ConnectsOnce};
-ghost use Rattle.router.specs.Readings.{RemovesMatchOnce, AttachesOnce};
+ghost use Rattle.router.specs.Readings.{AddsMatchOnce, RemovesMatchOnce, AttachesOnce};
 
 use crate::control::Control;
 use crate::error::BusError;
+use crate::kept::KeptSights;
 use crate::pass::Pass;
 use bpf_code::Ins;
 use entry_table::IndexKey;
@@ -24,6 +25,7 @@ use summary::Edition;
 #[derive(Drop)]
 pub struct Bus<J: Naming, M: Mailbox, R: Wait + Drop> {
     control: Mutex<Control<J, M, R>>,
+    kept: Mutex<KeptSights<J, M>>,
 }
 
 impl<J: Naming, M: Mailbox, R: Wait + Drop> Bus<J, M, R> {
@@ -37,19 +39,38 @@ impl<J: Naming, M: Mailbox, R: Wait + Drop> Bus<J, M, R> {
         requires { opened ≡ J.book }
         ensures { IfErr result (λ error. error ≡ BusError.NoMemory) }
     {
+        let Ok(kept) = KeptSights::new(alloc) else {
+            return Err(BusError::NoMemory);
+        };
         match Control::new(rt, alloc, key, opened) {
             Ok(control) => Ok(Bus {
                 control: Mutex::new(control),
+                kept: Mutex::new(kept),
             }),
             Err(_) => Err(BusError::NoMemory),
         }
     }
 
-    /// A new pass, which has no connection.
+    /// A new pass, which has no connection. A reader that was given back has seen what it had.
+    ///
+    /// # Errors
+    ///
+    /// `Busy` where each place of a reader is in use.
     pub fn pass(&self, rt: &impl Wait) -> Result<Pass<J, M>, BusError>
         ensures { MatchResult result (λ pass. (pass.connection ≡ 0) × (pass.is_closed ≡ false) × (pass.took ≡ 0)) (λ error. error ≡ BusError.Busy) }
     {
-        self.control.lock(rt).pass()
+        let kept = self.kept.lock(rt).take();
+        match kept {
+            Some(sight) => Ok(Pass::new(sight)),
+            None => self.control.lock(rt).pass(),
+        }
+    }
+
+    /// Keeps the reader of a pass that is closed or was never connected for a later pass, or drops it where 256 are kept.
+    pub fn take_back(&self, rt: &impl Wait, pass: Pass<J, M>)
+        requires { (pass.is_closed ≡ true) ⊎ (pass.connection ≡ 0) }
+    {
+        self.kept.lock(rt).put(pass.into_sight());
     }
 
     /// Tells the published history, which begins with what the pass had seen, and is seen then.
@@ -71,6 +92,19 @@ impl<J: Naming, M: Mailbox, R: Wait + Drop> Bus<J, M, R> {
         ensures { ConnectsOnce pass.old mailbox result pass.new }
     {
         self.control.lock(rt).connect(pass, mailbox)
+    }
+
+    /// Adds an entry with a rule (AddMatch).
+    pub fn add_match(
+        &self,
+        rt: &impl Wait,
+        alloc: Global,
+        pass: &mut Pass<J, M>,
+        text: &str,
+    ) -> Result<Reply, BusError>
+        ensures { AddsMatchOnce text.now pass.old result pass.new }
+    {
+        self.control.lock(rt).add_match(alloc, pass, text)
     }
 
     /// Takes away the oldest entry with an equal rule (RemoveMatch).

@@ -7,6 +7,7 @@ ghost use Rattle.program_table.specs.History.{after, is_command_of, IsHistory};
 ghost use Rattle.published.specs.Publication.{Publication, nothing_published};
 ghost use Rattle.router.specs.Passes.{PassState, new_pass};
 ghost use Rattle.router.specs.Calls.{Answers, Connects};
+ghost use Rattle.router.specs.Admission.{Admits, IsReady};
 
 use crate::error::BusError;
 use crate::pass::Pass;
@@ -106,6 +107,46 @@ impl<J: Naming, M: Mailbox, R: Wait + Drop> Control<J, M, R> {
         self.publisher.value.state()
     }
 
+    /// Whether the pass may ask for something. It has then seen what is published.
+    pub(crate) fn admit(&self, pass: &mut Pass<J, M>) -> Result<(), BusError>
+        ensures { Admits pass.old self.now result pass.new }
+    {
+        let connection = pass.connection();
+        let took = pass.took();
+        if connection == 0 || pass.is_closed() || self.publisher.value.has_ended() {
+            return Err(BusError::Closed);
+        }
+        self.tell(pass)?;
+        if self.state().commands_of(connection) != took {
+            return Err(BusError::Closed);
+        }
+        let _took = pass.took();
+        Ok(())
+    }
+
+    /// Publishes a command of a pass that was admitted, which the pass has then seen.
+    pub(crate) fn publish(
+        &mut self,
+        pass: &mut Pass<J, M>,
+        command: Command<M>,
+    ) -> Result<Reply, BusError>
+        requires ready { IsReady pass.old self.old }
+        requires own { (s : State M) → is_command_of s pass.old.connection command ≡ true }
+        ensures { Answers false pass.old self.old command result pass.new self.new }
+    {
+        let reply = match self.publisher.value.publish(command) {
+            Ok(reply) => reply,
+            Err(PublishError::NoMemory) => return Err(BusError::NoMemory),
+            Err(PublishError::Ended) => return Err(BusError::Closed),
+        };
+        if let Reply::Refused(refusal) = reply {
+            return Err(BusError::of(refusal));
+        }
+        let connection = pass.connection();
+        pass.count_in(self.publisher.value.front(), connection);
+        Ok(reply)
+    }
+
     /// Publishes a command of the pass's connection, which the pass has then seen.
     pub(crate) fn command(
         &mut self,
@@ -115,25 +156,8 @@ impl<J: Naming, M: Mailbox, R: Wait + Drop> Control<J, M, R> {
         requires { (s : State M) → is_command_of s pass.old.connection command ≡ true }
         ensures { Answers false pass.old self.old command result pass.new self.new }
     {
-        let connection = pass.connection();
-        let took = pass.took();
-        if connection == 0 || pass.is_closed() {
-            return Err(BusError::Closed);
-        }
-        self.tell(pass)?;
-        if self.state().commands_of(connection) != took {
-            return Err(BusError::Closed);
-        }
-        let reply = match self.publisher.value.publish(command) {
-            Ok(reply) => reply,
-            Err(PublishError::NoMemory) => return Err(BusError::NoMemory),
-            Err(PublishError::Ended) => return Err(BusError::Closed),
-        };
-        if let Reply::Refused(refusal) = reply {
-            return Err(BusError::of(refusal));
-        }
-        pass.count_in(self.publisher.value.front(), connection);
-        Ok(reply)
+        self.admit(pass)?;
+        self.publish(pass, command)
     }
 
     /// Makes the connection of a pass that has none yet, whose messages go to the mailbox.

@@ -1,13 +1,14 @@
 // Why a call of the bus is refused.
 
 ghost use Rattle.std.specs.Prelude.{◌≡◌};
-ghost use Rattle.router.specs.Errors.{error_of};
+ghost use Rattle.router.specs.Errors.{error_of, bus_error_number, compile_error};
 ghost use Rattle.router.specs.Readings.{rule_error};
 
 use bpf_verify::VerifyError;
 use fan_out::FanError;
 use match_rule::RuleError;
 use program_table::Refusal;
+use rule_compile::CompileError;
 use std::error::Error;
 use std::fmt;
 
@@ -40,13 +41,35 @@ pub enum BusError {
     TooLong,
     /// Each place of a reader is in use.
     Busy,
-    /// Workers gave no recipients.
+    /// The workers gave no recipients.
     Fan(FanError),
-    /// The count 18,446,744,073,709,551,615 was used: the pass sends no broadcast more.
+    /// The last count of a broadcast was used.
     Counts,
 }
 
 impl BusError {
+    /// The error's number, from 1.
+    pub fn number(self) -> u8
+        ensures { result ≡ bus_error_number self }
+    {
+        match self {
+            BusError::NoMemory => 1,
+            BusError::ConnectionsFull => 2,
+            BusError::EntriesFull => 3,
+            BusError::NamesFull => 4,
+            BusError::QueueFull => 5,
+            BusError::RuleNotFound => 6,
+            BusError::NoAttachment => 7,
+            BusError::Closed => 8,
+            BusError::Rule(_) => 9,
+            BusError::Program(_) => 10,
+            BusError::TooLong => 11,
+            BusError::Busy => 12,
+            BusError::Fan(_) => 13,
+            BusError::Counts => 14,
+        }
+    }
+
     /// The error of a command that the state refuses.
     pub(crate) fn of(refusal: Refusal) -> BusError
         ensures { result ≡ error_of refusal }
@@ -70,6 +93,16 @@ impl BusError {
         match fault {
             RuleError::NoMemory => BusError::NoMemory,
             fault => BusError::Rule(fault),
+        }
+    }
+
+    /// The error of a rule that isn't compiled.
+    pub(crate) fn of_compiling(error: CompileError) -> BusError
+        ensures { result ≡ compile_error error }
+    {
+        match error {
+            CompileError::TooLong => BusError::TooLong,
+            CompileError::NoMemory => BusError::NoMemory,
         }
     }
 }

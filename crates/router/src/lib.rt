@@ -4,14 +4,17 @@
 #![tactic(auto)]
 
 mod bus;
+mod by_workers;
 mod calls;
 mod control;
 mod error;
+mod kept;
 mod letterbox;
+mod listing;
+mod mailboxes;
 mod pass;
 mod reading;
 mod routes;
-mod stubs;
 mod texts;
 
 pub use bus::Bus;
@@ -20,4 +23,3 @@ pub use error::BusError;
 pub use letterbox::Letterbox;
 pub use pass::Pass;
 pub use reading::Source;
-pub use routes::Sent;

@@ -29,7 +29,7 @@ pub enum Source {
 
 impl Source {
     // The sender's number. None is the bus.
-    fn sender(self, connection: u64) -> Option<u64>
+    pub(crate) fn sender(self, connection: u64) -> Option<u64>
         ensures { result ≡ sender_of self connection }
     {
         match self {

@@ -1,13 +1,12 @@
 -- From the place of a stop to the stop.
-use Rattle.std.proofs.Common.{ℕ, ◌≡◌, ◌<◌, ◌≤◌, ◌==◌, Option, Some, None, IsSome, IsSomeAnd, Bool, true, false, true≢false, cond, List, length, set, get_or, position, slice_get, nat_lt, refl, sym, ap, ◌∙◌, subst, arith, eq-eqb, eqb-true, lt-ltb, ⊎_elim}
-use Rattle.std.proofs.lemmas.Bool.{ltb-true}
+use Rattle.std.proofs.Common.{ℕ, ◌≡◌, ◌<◌, ◌≤◌, ◌==◌, Option, Some, None, IsSome, IsSomeAnd, Bool, true, false, true≢false, cond, List, length, set, get_or, position, slice_get, is_some, nat_lt, refl, sym, ap, ◌∙◌, subst, arith, eq-eqb, eqb-true, lt-ltb, ⊎_elim}
+use Rattle.std.proofs.lemmas.Bool.{le-ltb, ltb-true}
 use Rattle.std.proofs.lemmas.Option.{cond_some, slice_get-get_or, slice_get_cases}
 use Rattle.std.proofs.lemmas.List.Folds.{find_at, find-set, find_past}
 use Rattle.std.proofs.lemmas.List.Sums.{passes_at_first}
 use Rattle.std.specs.List.{position_or_len}
 use Rattle.routing.specs.SenderView.{StopView}
-use Rattle.routing.specs.Stops.{is_for, stop_at}
-use Rattle.routing.specs.Puts.{HasStop}
+use Rattle.routing.specs.Stops.{is_for, stop_at, HasStop}
 
 -- the place is that of the recipient's stop
 pub record IsPlace (n k : ℕ) (stops : List StopView) (d : StopView) : Type 0 where
@@ -62,3 +61,13 @@ set_stop m k stops t d there is n = pick (m == n) refl
         subst P (eqb-true m n e) (find-set (is_for m) stops k t there.first there.inside (eq-eqb t.recipient m is))
     pick false e =
         find_past (is_for n) stops k t d (ap (λ r. r == n) there.recipient ∙ e) (ap (λ r. r == n) is ∙ e)
+
+pub found_or_not : (n : ℕ) (stops : List StopView) → is_some (position (is_for n) stops) ≡ is_some (stop_at n stops)
+found_or_not n stops =
+    let q : ℕ = position_or_len (is_for n) stops in
+    ⊎_elim
+    (λ (h : (x : StopView) × (q < length stops) × (slice_get stops q ≡ Some x) × (get_or stops q x ≡ x)).
+    ap is_some (ap (λ b. cond b (Some q) None) (lt-ltb q (length stops) h.1)) ∙ sym (ap is_some (find_at (is_for n) stops ∙ h.2)))
+    (λ (h : (length stops ≤ q) × (slice_get stops q ≡ None)).
+    ap is_some (ap (λ b. cond b (Some q) None) (le-ltb q (length stops) h.0)) ∙ sym (ap is_some (find_at (is_for n) stops ∙ h.1)))
+    (slice_get_cases stops q).1

@@ -1,27 +1,36 @@
 -- One recipient after the other.
-use Rattle.std.proofs.Common.{ℕ, zero, suc, ◌≡◌, ◌+◌, ◌<◌, ◌≤◌, ◌==◌, ◌&&◌, ◌||◌, not, Bool, true, false, true≢false, cond, List, [], ◌∷◌, ◌++◌, length, map, take, drop, get_or, refl, sym, ap, ◌∙◌, subst, arith, eqb-true, ne_eqb, take-append-drop, length-append, Option, Some, None, IsSome, IfSome, IsSomeAnd}
+use Rattle.std.proofs.Common.{ℕ, zero, suc, ◌≡◌, ◌+◌, ◌<◌, ◌≤◌, ◌==◌, ◌&&◌, ◌||◌, not, Bool, true, false, true≢false, cond, List, [], ◌∷◌, ◌++◌, length, take, drop, get_or, refl, sym, ap, ◌∙◌, subst, arith, eqb-true, ne_eqb, take-append-drop, length-append, Option, Some, None, IsSome, IfSome, IsSomeAnd}
 use Rattle.std.specs.Option.{option_to_list}
-use Rattle.std.proofs.lemmas.List.{map-append, take_more}
-use Rattle.outbox.specs.Counts.{Rises, last_of}
-use Rattle.outbox.proofs.Rising.{rises_snoc, last_snoc, rises_front}
+use Rattle.std.proofs.lemmas.List.{take_more}
 use Rattle.routing.specs.SenderView.{StopView}
-use Rattle.routing.specs.declared.recipient.Recipient.{Recipient}
-use Rattle.routing.specs.Stops.{stop_at, is_in, number_of}
-use Rattle.routing.specs.Puts.{HasStop, AllHave, PutThere, PutAt, RoutedAt, PutTo}
+use Rattle.routing.specs.Stops.{stop_at, is_in, RisesFrom, HasStop, AllHave}
+use Rattle.routing.specs.Puts.{end_of, PutThere, PutAt, RoutedAt, PutTo}
 
-last_above : (n : ℕ) (xs : List ℕ) → Rises n xs → n ≤ last_of n xs
-last_above n [] r = omega arith
-last_above n (x ∷ xs) r = let h = last_above x xs r.1 in omega (arith, h, r.0)
+end_above : (n : ℕ) (xs : List ℕ) → RisesFrom n xs → n ≤ end_of n xs
+end_above n [] r = omega arith
+end_above n (x ∷ xs) r = let h = end_above (x + 1) xs r.1 in omega (arith, h, r.0)
 
 -- what is above the last isn't there
-not_in : (n m : ℕ) (xs : List ℕ) → Rises n xs → last_of n xs < m → is_in m xs ≡ false
+not_in : (n m : ℕ) (xs : List ℕ) → RisesFrom n xs → end_of n xs ≤ m → is_in m xs ≡ false
 not_in n m [] r l = refl
 not_in n m (x ∷ xs) r l =
-    let h = last_above x xs r.1 in
+    let h = end_above (x + 1) xs r.1 in
     let no : (x == m) ≡ false = ne_eqb x m (λ e. omega (arith, e, h, l)) in
-    ap (λ b. b || is_in m xs) no ∙ not_in x m xs r.1 l
+    ap (λ b. b || is_in m xs) no ∙ not_in (x + 1) m xs r.1 l
 
-in_snoc : (n m : ℕ) (xs : List ℕ) → is_in n (xs ++ m ∷ []) ≡ (is_in n xs || (m == n))
+rises_front : (n : ℕ) (xs ys : List ℕ) → RisesFrom n (xs ++ ys) → RisesFrom n xs
+rises_front n [] ys r = tt
+rises_front n (x ∷ xs) ys r = (r.0, rises_front (x + 1) xs ys r.1)
+
+rises_snoc : (n : ℕ) (xs : List ℕ) (m : ℕ) → RisesFrom n xs → end_of n xs ≤ m → RisesFrom n (xs ++ m ∷ [])
+rises_snoc n [] m r l = (l, tt)
+rises_snoc n (x ∷ xs) m r l = (r.0, rises_snoc (x + 1) xs m r.1 l)
+
+end_snoc : (n : ℕ) (xs : List ℕ) (m : ℕ) → end_of n (xs ++ m ∷ []) ≡ m + 1
+end_snoc n [] m = refl
+end_snoc n (x ∷ xs) m = end_snoc (x + 1) xs m
+
+pub in_snoc : (n m : ℕ) (xs : List ℕ) → is_in n (xs ++ m ∷ []) ≡ (is_in n xs || (m == n))
 in_snoc n m [] = pick (m == n)
   where
     pick : (b : Bool) → (b || false) ≡ b
@@ -33,22 +42,17 @@ in_snoc n m (x ∷ xs) = ap (λ b. (x == n) || b) (in_snoc n m xs) ∙ pick (x =
     pick true = refl
     pick false = refl
 
-rises_last : (n m : ℕ) (xs : List ℕ) → Rises n (xs ++ m ∷ []) → last_of n xs < m
+rises_last : (n m : ℕ) (xs : List ℕ) → RisesFrom n (xs ++ m ∷ []) → end_of n xs ≤ m
 rises_last n m [] r = r.0
-rises_last n m (x ∷ xs) r = rises_last x m xs r.1
+rises_last n m (x ∷ xs) r = rises_last (x + 1) m xs r.1
 
 -- the next recipient's number is above those that are done
-next_above : (recipients : List Recipient) (k : ℕ) (d : Recipient) → k < length recipients → Rises 0 (map number_of recipients) → Rises 0 (map number_of (take k recipients) ++ (get_or recipients k d).number ∷ [])
+next_above : (recipients : List ℕ) (k d : ℕ) → k < length recipients → RisesFrom 0 recipients → RisesFrom 0 (take k recipients ++ get_or recipients k d ∷ [])
 next_above recipients k d lt r =
-    let front : List ℕ = map number_of (take (k + 1) recipients) in
-    let whole : map number_of recipients ≡ front ++ map number_of (drop (k + 1) recipients) =
-    ap (map number_of) (sym (take-append-drop (k + 1) recipients)) ∙ map-append number_of (take (k + 1) recipients) (drop (k + 1) recipients) in
-    let next : front ≡ map number_of (take k recipients) ++ (get_or recipients k d).number ∷ [] =
-    ap (map number_of) (take_more recipients k d lt) ∙ map-append number_of (take k recipients) (get_or recipients k d ∷ []) in
-    let P : List ℕ → Type 0 = λ l. Rises 0 l in
-    subst P next (rises_front 0 front (map number_of (drop (k + 1) recipients)) (subst P whole r))
+    let P : List ℕ → Type 0 = λ l. RisesFrom 0 l in
+    subst P (take_more recipients k d lt) (rises_front 0 (take (k + 1) recipients) (drop (k + 1) recipients) (subst P (sym (take-append-drop (k + 1) recipients)) r))
 
-all_at : (recipients : List Recipient) (k : ℕ) (d : Recipient) (stops : List StopView) → k < length recipients → AllHave (map number_of recipients) stops → HasStop (get_or recipients k d).number stops
+all_at : (recipients : List ℕ) (k d : ℕ) (stops : List StopView) → k < length recipients → AllHave recipients stops → HasStop (get_or recipients k d) stops
 all_at [] k d stops lt all = absurd (omega (arith, lt))
 all_at (r ∷ rs) zero d stops lt all = all.0
 all_at (r ∷ rs) (suc k) d stops lt all = all_at rs k d stops (omega (arith, lt)) all.1
@@ -58,11 +62,11 @@ some_and None P has if_some = absurd (true≢false (sym has))
 some_and (Some s) P has if_some = if_some
 
 -- what holds of each stop before holds of the next recipient's now
-pub may_put : (mark : Option (ℕ × ℕ)) (k : ℕ) (recipients : List Recipient) (d : Recipient) (refused : List ℕ) (old stops : List StopView) (P : StopView → Type 0) → k < length recipients → Rises 0 (map number_of recipients) → AllHave (map number_of recipients) old
-    → ((n : ℕ) → IfSome (stop_at n old) P) → PutTo mark (map number_of (take k recipients)) refused old stops → IsSomeAnd (stop_at (get_or recipients k d).number stops) P
+pub may_put : (mark : Option (ℕ × ℕ)) (k : ℕ) (recipients : List ℕ) (d : ℕ) (refused : List ℕ) (old stops : List StopView) (P : StopView → Type 0) → k < length recipients → RisesFrom 0 recipients → AllHave recipients old
+    → ((n : ℕ) → IfSome (stop_at n old) P) → PutTo mark (take k recipients) refused old stops → IsSomeAnd (stop_at (get_or recipients k d) stops) P
 may_put mark k recipients d refused old stops P lt rising all fits h =
-    let m : ℕ = (get_or recipients k d).number in
-    let done : List ℕ = map number_of (take k recipients) in
+    let m : ℕ = get_or recipients k d in
+    let done : List ℕ = take k recipients in
     let r = next_above recipients k d lt rising in
     let out : is_in m done ≡ false = not_in 0 m done (rises_front 0 done (m ∷ []) r) (rises_last 0 m done r) in
     let R : Bool → Type 0 = λ b. RoutedAt mark b (is_in m refused) (stop_at m old) (stop_at m stops) in
@@ -83,28 +87,28 @@ put_more mark false put true true old stops new before after its h change is = (
 put_more mark false put true false old stops new before after its h change is = (h.0, h.1, h.2, is ∙ h.3, h.4)
 
 -- one recipient more
-next_put : (mark : Option (ℕ × ℕ)) (m : ℕ) (done refused refused' : List ℕ) (old stops new : List StopView) (put : Bool) → Rises 0 (done ++ m ∷ []) → refused' ≡ cond put refused (refused ++ m ∷ []) → PutTo mark done refused old stops
+next_put : (mark : Option (ℕ × ℕ)) (m : ℕ) (done refused refused' : List ℕ) (old stops new : List StopView) (put : Bool) → RisesFrom 0 (done ++ m ∷ []) → refused' ≡ cond put refused (refused ++ m ∷ []) → PutTo mark done refused old stops
     → PutAt m mark put stops new → PutTo mark (done ++ m ∷ []) refused' old new
 next_put mark m done refused refused' old stops new put r noted h now =
     record {
       each = λ n. one n;
-      rising = let P : List ℕ → Type 0 = λ l. Rises 0 l in subst P (sym noted) (rising' put);
-      below = let P : List ℕ → Type 0 = λ l. last_of 0 l ≤ last_of 0 (done ++ m ∷ []) in subst P (sym noted) (below' put);
+      rising = let P : List ℕ → Type 0 = λ l. RisesFrom 0 l in subst P (sym noted) (rising' put);
+      below = let P : List ℕ → Type 0 = λ l. end_of 0 l ≤ end_of 0 (done ++ m ∷ []) in subst P (sym noted) (below' put);
     }
   where
-    above : last_of 0 done < m
+    above : end_of 0 done ≤ m
     above = rises_last 0 m done r
 
     out_done : is_in m done ≡ false
     out_done = not_in 0 m done (rises_front 0 done (m ∷ []) r) above
 
-    rising' : (p : Bool) → Rises 0 (cond p refused (refused ++ m ∷ []))
+    rising' : (p : Bool) → RisesFrom 0 (cond p refused (refused ++ m ∷ []))
     rising' true = h.rising
     rising' false = let w = h.below in rises_snoc 0 refused m h.rising (omega (arith, w, above))
 
-    below' : (p : Bool) → last_of 0 (cond p refused (refused ++ m ∷ [])) ≤ last_of 0 (done ++ m ∷ [])
-    below' true = let w = h.below in let l = last_snoc 0 done m in omega (arith, w, above, l)
-    below' false = let l = last_snoc 0 done m in let k = last_snoc 0 refused m in omega (arith, l, k)
+    below' : (p : Bool) → end_of 0 (cond p refused (refused ++ m ∷ [])) ≤ end_of 0 (done ++ m ∷ [])
+    below' true = let w = h.below in let l = end_snoc 0 done m in omega (arith, w, above, l)
+    below' false = let l = end_snoc 0 done m in let k = end_snoc 0 refused m in omega (arith, l, k)
 
     in_refused : (n : ℕ) (p : Bool) → is_in n (cond p refused (refused ++ m ∷ [])) ≡ (is_in n refused || ((m == n) && not p))
     in_refused n true = plain (is_in n refused) (m == n)
@@ -129,15 +133,11 @@ next_put mark m done refused refused' old stops new put r noted h now =
         let Q : Bool → Type 0 = λ b. RoutedAt mark (is_in n done || (m == n)) b (stop_at n old) (stop_at n new) in
         subst P (sym (in_snoc n m done)) (subst Q listed (put_more mark (m == n) put (is_in n done) (is_in n refused) (stop_at n old) (stop_at n stops) (stop_at n new) now.before now.after (its n) (h.each n) now.change (now.now n)))
 
-pub next_recipient : (mark : Option (ℕ × ℕ)) (k : ℕ) (recipients : List Recipient) (r : Recipient) (refused refused' : List ℕ) (old stops new : List StopView) (put : Bool) → k < length recipients → r ≡ get_or recipients k r → Rises 0 (map number_of recipients)
-    → refused' ≡ cond put refused (refused ++ r.number ∷ []) → PutTo mark (map number_of (take k recipients)) refused old stops → PutAt r.number mark put stops new → PutTo mark (map number_of (take (k + 1) recipients)) refused' old new
-next_recipient mark k recipients r refused refused' old stops new put lt is rising noted h now =
-    let done : List ℕ = map number_of (take k recipients) in
-    let whole : done ++ r.number ∷ [] ≡ map number_of (take (k + 1) recipients) =
-    ap (λ (q : Recipient). done ++ q.number ∷ []) is ∙ sym (map-append number_of (take k recipients) (get_or recipients k r ∷ [])) ∙ ap (map number_of) (sym (take_more recipients k r lt)) in
+pub next_recipient : (mark : Option (ℕ × ℕ)) (k : ℕ) (recipients : List ℕ) (d : ℕ) (refused refused' : List ℕ) (old stops new : List StopView) (put : Bool) → k < length recipients → RisesFrom 0 recipients
+    → refused' ≡ cond put refused (refused ++ get_or recipients k d ∷ []) → PutTo mark (take k recipients) refused old stops → PutAt (get_or recipients k d) mark put stops new → PutTo mark (take (k + 1) recipients) refused' old new
+next_recipient mark k recipients d refused refused' old stops new put lt rising noted h now =
     let P : List ℕ → Type 0 = λ l. PutTo mark l refused' old new in
-    let Q : Recipient → Type 0 = λ q. Rises 0 (done ++ q.number ∷ []) in
-    subst P whole (next_put mark r.number done refused refused' old stops new put (subst Q (sym is) (next_above recipients k r lt rising)) noted h now)
+    subst P (sym (take_more recipients k d lt)) (next_put mark (get_or recipients k d) (take k recipients) refused refused' old stops new put (next_above recipients k d lt rising) noted h now)
 
 pub noted_length : (put : Bool) (m : ℕ) (refused refused' : List ℕ) (k : ℕ) → refused' ≡ cond put refused (refused ++ m ∷ []) → length refused ≤ k → length refused' ≤ k + 1
 noted_length true m refused refused' k e l = let P : List ℕ → Type 0 = λ x. length x ≤ k + 1 in subst P (sym e) (omega (arith, l))

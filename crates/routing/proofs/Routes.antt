@@ -1,11 +1,10 @@
 -- What taken seats and puts leave of a sender's stops.
-use Rattle.std.proofs.Common.{ℕ, ◌≡◌, ◌+◌, ◌≤◌, ◌==◌, ◌&&◌, ◌⊎◌, not, Bool, true, false, true≢false, cond, List, map, refl, sym, ap, ◌∙◌, subst, arith, inl, inr, eq-eqb, Option, Some, None, IfSome}
+use Rattle.std.proofs.Common.{eqb-true, ◌∷◌, ℕ, ◌≡◌, ◌+◌, ◌≤◌, ◌==◌, ◌&&◌, ◌⊎◌, not, Bool, true, false, true≢false, cond, List, [], filter, refl, sym, ap, ◌∙◌, subst, arith, inl, inr, eq-eqb, Option, Some, None, IfSome}
 use Rattle.outbox.specs.declared.rule.SeatView.{SeatView}
 use Rattle.outbox.specs.Seated.{OutboxId}
 use Rattle.outbox.specs.Views.{Follows, after_put}
-use Rattle.routing.specs.SenderView.{StopView, SenderView}
-use Rattle.routing.specs.declared.recipient.Recipient.{Recipient}
-use Rattle.routing.specs.Stops.{number_of, stop_at, last_count, outbox_id, knows_shut, last_at, outbox_at, shut_at, Fits, AllFit, is_in, is_put, Lists, Keeps, Routed, Unrouted}
+use Rattle.routing.specs.SenderView.{RecipientView, StopView, SenderView}
+use Rattle.routing.specs.Stops.{is_for, stop_at, last_count, outbox_id, knows_shut, last_at, outbox_at, shut_at, Fits, AllFit, is_in, is_put, Lists, Keeps, Routed, Unrouted}
 use Rattle.routing.specs.Puts.{TakenAt, SeatsTaken, PutAt, RoutedAt, PutTo}
 use Rattle.routing.proofs.Puts.{put_once}
 
@@ -14,27 +13,27 @@ last_after : Option (ℕ × ℕ) → Bool → ℕ → ℕ
 last_after None put last = last
 last_after (Some m) put last = cond put m.1 last
 
-taken_last : (recipients : List Recipient) (n : ℕ) (o p : Option StopView) → TakenAt recipients n o p → last_count p ≡ last_count o
+taken_last : (recipients : List RecipientView) (n : ℕ) (o p : Option StopView) → TakenAt recipients n o p → last_count p ≡ last_count o
 taken_last recipients n (Some s) p h = ap last_count h
 taken_last recipients n None None h = refl
 taken_last recipients n None (Some t) h = ap (λ (v : SeatView). v.last) h.1
 
-taken_stay : (recipients : List Recipient) (n : ℕ) (o p : Option StopView) (outbox : OutboxId) → TakenAt recipients n o p → outbox_id o ≡ Some outbox → outbox_id p ≡ Some outbox
+taken_stay : (recipients : List RecipientView) (n : ℕ) (o p : Option StopView) (outbox : OutboxId) → TakenAt recipients n o p → outbox_id o ≡ Some outbox → outbox_id p ≡ Some outbox
 taken_stay recipients n (Some s) p outbox h e = ap outbox_id h ∙ e
 taken_stay recipients n None p outbox h e = absurd (cc)
 
-taken_theirs : (recipients : List Recipient) (n : ℕ) (o p : Option StopView) (outbox : OutboxId) → TakenAt recipients n o p → outbox_id p ≡ Some outbox → (outbox_id o ≡ Some outbox) ⊎ Lists recipients n outbox
+taken_theirs : (recipients : List RecipientView) (n : ℕ) (o p : Option StopView) (outbox : OutboxId) → TakenAt recipients n o p → outbox_id p ≡ Some outbox → (outbox_id o ≡ Some outbox) ⊎ Lists recipients n outbox
 taken_theirs recipients n (Some s) p outbox h e = inl (sym (ap outbox_id h) ∙ e)
 taken_theirs recipients n None None outbox h e = absurd (cc)
 taken_theirs recipients n None (Some t) outbox h e =
     let is : t.outbox ≡ outbox = cc in
     let P : OutboxId → Type 0 = λ x. Lists recipients n x in inr (subst P is h.0)
 
-taken_shut : (recipients : List Recipient) (n : ℕ) (o p : Option StopView) → TakenAt recipients n o p → knows_shut o ≡ true → knows_shut p ≡ true
+taken_shut : (recipients : List RecipientView) (n : ℕ) (o p : Option StopView) → TakenAt recipients n o p → knows_shut o ≡ true → knows_shut p ≡ true
 taken_shut recipients n (Some s) p h e = ap knows_shut h ∙ e
 taken_shut recipients n None p h e = absurd (true≢false (sym e))
 
-taken_fits : (recipients : List Recipient) (n origin count : ℕ) (o p : Option StopView) → TakenAt recipients n o p → Fits origin count o → Fits origin count p
+taken_fits : (recipients : List RecipientView) (n origin count : ℕ) (o p : Option StopView) → TakenAt recipients n o p → Fits origin count o → Fits origin count p
 taken_fits recipients n origin count (Some s) p h f = let P : Option StopView → Type 0 = λ x. Fits origin count x in subst P (sym h) f
 taken_fits recipients n origin count None None h f = tt
 taken_fits recipients n origin count None (Some t) h f =
@@ -107,90 +106,106 @@ fits_follows origin count None f = tt
 fits_follows origin count (Some s) f = let le = f.1 in (f.0, omega (arith, le))
 
 -- taken seats keep what a sender knows of its stops
-pub still_fit : (recipients : List Recipient) (origin count : ℕ) (old new : List StopView) → AllFit origin count old → SeatsTaken recipients old new → AllFit origin count new
+pub still_fit : (recipients : List RecipientView) (origin count : ℕ) (old new : List StopView) → AllFit origin count old → SeatsTaken recipients old new → AllFit origin count new
 still_fit recipients origin count old new fits taken n = taken_fits recipients n origin count (stop_at n old) (stop_at n new) (taken n) (fits n)
 
 -- so the next broadcast may be put at each
-pub all_follow : (recipients : List Recipient) (origin count : ℕ) (old new : List StopView) → AllFit origin count old → SeatsTaken recipients old new → (n : ℕ) → IfSome (stop_at n new) (λ s. Follows s.seat.view (Some (origin, count + 1)))
-all_follow recipients origin count old new fits taken n = fits_follows origin count (stop_at n new) (still_fit recipients origin count old new fits taken n)
+pub all_follow : (origin count : ℕ) (stops : List StopView) → AllFit origin count stops → (n : ℕ) → IfSome (stop_at n stops) (λ s. Follows s.seat.view (Some (origin, count + 1)))
+all_follow origin count stops fits n = fits_follows origin count (stop_at n stops) (fits n)
 
-pub routed_fit : (recipients : List Recipient) (numbers refused : List ℕ) (origin count : ℕ) (old mid new : List StopView) → AllFit origin count old → SeatsTaken recipients old mid → PutTo (Some (origin, count + 1)) numbers refused mid new → AllFit origin (count + 1) new
-routed_fit recipients numbers refused origin count old mid new fits taken put n =
-    routed_fits origin count (is_in n numbers) (is_in n refused) (stop_at n mid) (stop_at n new) (put.each n) (still_fit recipients origin count old mid fits taken n)
+pub routed_fit : (recipients refused : List ℕ) (origin count : ℕ) (old new : List StopView) → AllFit origin count old → PutTo (Some (origin, count + 1)) recipients refused old new → AllFit origin (count + 1) new
+routed_fit recipients refused origin count old new fits put n = routed_fits origin count (is_in n recipients) (is_in n refused) (stop_at n old) (stop_at n new) (put.each n) (fits n)
 
-pub sent_fit : (recipients : List Recipient) (m : ℕ) (put : Bool) (origin count : ℕ) (old mid new : List StopView) → AllFit origin count old → SeatsTaken recipients old mid → PutAt m None put mid new → AllFit origin count new
-sent_fit recipients m put origin count old mid new fits taken now n =
-    sent_fits origin count (m == n) ((m == n) && not put) (stop_at n mid) (stop_at n new) (put_once None m put mid new now n) (still_fit recipients origin count old mid fits taken n)
+pub sent_fit : (m : ℕ) (put : Bool) (origin count : ℕ) (old new : List StopView) → AllFit origin count old → PutAt m None put old new → AllFit origin count new
+sent_fit m put origin count old new fits now n = sent_fits origin count (m == n) ((m == n) && not put) (stop_at n old) (stop_at n new) (put_once None m put old new now n) (fits n)
 
 -- seats alone were taken
-pub taken_keeps : (recipients : List Recipient) (old new : SenderView) → new.origin ≡ old.origin → SeatsTaken recipients old.stops new.stops → Keeps recipients old new
-taken_keeps recipients old new is taken = record {
+pub taken_keeps : (newcomers : List RecipientView) (old new : SenderView) → new.origin ≡ old.origin → SeatsTaken newcomers old.stops new.stops → Keeps newcomers old new
+taken_keeps newcomers old new is taken = record {
   origin_is = is;
-  stay = λ n outbox e. taken_stay recipients n (stop_at n old.stops) (stop_at n new.stops) outbox (taken n) e;
-  theirs = λ n outbox e. taken_theirs recipients n (stop_at n old.stops) (stop_at n new.stops) outbox (taken n) e;
-  shut = λ n e. taken_shut recipients n (stop_at n old.stops) (stop_at n new.stops) (taken n) e;
+  stay = λ n outbox e. taken_stay newcomers n (stop_at n old.stops) (stop_at n new.stops) outbox (taken n) e;
+  theirs = λ n outbox e. taken_theirs newcomers n (stop_at n old.stops) (stop_at n new.stops) outbox (taken n) e;
+  shut = λ n e. taken_shut newcomers n (stop_at n old.stops) (stop_at n new.stops) (taken n) e;
 }
 
-pub taken_unrouted : (recipients : List Recipient) (old new : SenderView) → new.count ≡ old.count → SeatsTaken recipients old.stops new.stops → Unrouted old new
-taken_unrouted recipients old new is taken = record {
+pub taken_unrouted : (newcomers : List RecipientView) (old new : SenderView) → new.count ≡ old.count → SeatsTaken newcomers old.stops new.stops → Unrouted old new
+taken_unrouted newcomers old new is taken = record {
   count_is = is;
-  lasts = λ n. taken_last recipients n (stop_at n old.stops) (stop_at n new.stops) (taken n);
+  lasts = λ n. taken_last newcomers n (stop_at n old.stops) (stop_at n new.stops) (taken n);
 }
 
 -- a put keeps what a sender keeps
-each_keeps : (recipients : List Recipient) (mark : Option (ℕ × ℕ)) (r f : ℕ → Bool) (old new : SenderView) (mid : List StopView) → new.origin ≡ old.origin → SeatsTaken recipients old.stops mid
-    → ((n : ℕ) → RoutedAt mark (r n) (f n) (stop_at n mid) (stop_at n new.stops)) → Keeps recipients old new
-each_keeps recipients mark r f old new mid is taken each = record {
+each_keeps : (mark : Option (ℕ × ℕ)) (r f : ℕ → Bool) (old new : SenderView) → new.origin ≡ old.origin → ((n : ℕ) → RoutedAt mark (r n) (f n) (stop_at n old.stops) (stop_at n new.stops)) → Keeps [] old new
+each_keeps mark r f old new is each = record {
   origin_is = is;
-  stay = λ n outbox e. same n ∙ taken_stay recipients n (stop_at n old.stops) (stop_at n mid) outbox (taken n) e;
-  theirs = λ n outbox e. taken_theirs recipients n (stop_at n old.stops) (stop_at n mid) outbox (taken n) (sym (same n) ∙ e);
-  shut = λ n e. routed_shut mark (r n) (f n) (stop_at n mid) (stop_at n new.stops) (each n) (taken_shut recipients n (stop_at n old.stops) (stop_at n mid) (taken n) e);
+  stay = λ n outbox e. same n ∙ e;
+  theirs = λ n outbox e. inl (sym (same n) ∙ e);
+  shut = λ n e. routed_shut mark (r n) (f n) (stop_at n old.stops) (stop_at n new.stops) (each n) e;
 }
   where
-    same : (n : ℕ) → outbox_at n new.stops ≡ outbox_at n mid
-    same n = routed_outbox mark (r n) (f n) (stop_at n mid) (stop_at n new.stops) (each n)
+    same : (n : ℕ) → outbox_at n new.stops ≡ outbox_at n old.stops
+    same n = routed_outbox mark (r n) (f n) (stop_at n old.stops) (stop_at n new.stops) (each n)
 
-pub routed_keeps : (recipients : List Recipient) (mark : Option (ℕ × ℕ)) (numbers refused : List ℕ) (old new : SenderView) (mid : List StopView) → new.origin ≡ old.origin → SeatsTaken recipients old.stops mid
-    → PutTo mark numbers refused mid new.stops → Keeps recipients old new
-routed_keeps recipients mark numbers refused old new mid is taken put = each_keeps recipients mark (λ n. is_in n numbers) (λ n. is_in n refused) old new mid is taken put.each
+pub routed_keeps : (mark : Option (ℕ × ℕ)) (recipients refused : List ℕ) (old new : SenderView) → new.origin ≡ old.origin → PutTo mark recipients refused old.stops new.stops → Keeps [] old new
+routed_keeps mark recipients refused old new is put = each_keeps mark (λ n. is_in n recipients) (λ n. is_in n refused) old new is put.each
 
-pub sent_keeps : (recipients : List Recipient) (m : ℕ) (put : Bool) (old new : SenderView) (mid : List StopView) → new.origin ≡ old.origin → SeatsTaken recipients old.stops mid → PutAt m None put mid new.stops → Keeps recipients old new
-sent_keeps recipients m put old new mid is taken now = each_keeps recipients None (λ n. m == n) (λ n. (m == n) && not put) old new mid is taken (put_once None m put mid new.stops now)
+pub sent_keeps : (m : ℕ) (put : Bool) (old new : SenderView) → new.origin ≡ old.origin → PutAt m None put old.stops new.stops → Keeps [] old new
+sent_keeps m put old new is now = each_keeps None (λ n. m == n) (λ n. (m == n) && not put) old new is (put_once None m put old.stops new.stops now)
 
-pub sent_unrouted : (recipients : List Recipient) (m : ℕ) (put : Bool) (old new : SenderView) (mid : List StopView) → new.count ≡ old.count → SeatsTaken recipients old.stops mid → PutAt m None put mid new.stops → Unrouted old new
-sent_unrouted recipients m put old new mid is taken now = record {
+pub sent_unrouted : (m : ℕ) (put : Bool) (old new : SenderView) → new.count ≡ old.count → PutAt m None put old.stops new.stops → Unrouted old new
+sent_unrouted m put old new is now = record {
   count_is = is;
-  lasts = λ n.
-      sent_last (m == n) ((m == n) && not put) (stop_at n mid) (stop_at n new.stops) (put_once None m put mid new.stops now n)
-      ∙ taken_last recipients n (stop_at n old.stops) (stop_at n mid) (taken n);
+  lasts = λ n. sent_last (m == n) ((m == n) && not put) (stop_at n old.stops) (stop_at n new.stops) (put_once None m put old.stops new.stops now n);
 }
 
-pub routed : (recipients : List Recipient) (refused : List ℕ) (origin : ℕ) (old new : SenderView) (mid : List StopView) → new.count ≡ old.count + 1 → SeatsTaken recipients old.stops mid
-    → PutTo (Some (origin, old.count + 1)) (map number_of recipients) refused mid new.stops → Routed recipients refused old new
-routed recipients refused origin old new mid is taken put = record {
+pub routed : (recipients refused : List ℕ) (origin : ℕ) (old new : SenderView) → new.count ≡ old.count + 1 → PutTo (Some (origin, old.count + 1)) recipients refused old.stops new.stops → Routed recipients refused old new
+routed recipients refused origin old new is put = record {
   count_is = is;
   lasts = λ n.
-      routed_last origin (old.count + 1) (is_in n numbers) (is_in n refused) (stop_at n mid) (stop_at n new.stops) (put.each n)
-      ∙ ap (λ l. cond (is_put n numbers refused) (old.count + 1) l) (taken_last recipients n (stop_at n old.stops) (stop_at n mid) (taken n))
-      ∙ ap (λ c. cond (is_put n numbers refused) c (last_at n old.stops)) (sym is);
+      routed_last origin (old.count + 1) (is_in n recipients) (is_in n refused) (stop_at n old.stops) (stop_at n new.stops) (put.each n)
+      ∙ ap (λ c. cond (is_put n recipients refused) c (last_at n old.stops)) (sym is);
   rising = put.rising;
-  listed = λ n e. routed_listed mark (is_in n numbers) (is_in n refused) (stop_at n mid) (stop_at n new.stops) (put.each n) e;
-  again = λ n e shut.
-      routed_again mark (is_in n numbers) (is_in n refused) (stop_at n mid) (stop_at n new.stops) (put.each n) e
-      (taken_shut recipients n (stop_at n old.stops) (stop_at n mid) (taken n) shut);
+  listed = λ n e. routed_listed mark (is_in n recipients) (is_in n refused) (stop_at n old.stops) (stop_at n new.stops) (put.each n) e;
+  again = λ n e shut. routed_again mark (is_in n recipients) (is_in n refused) (stop_at n old.stops) (stop_at n new.stops) (put.each n) e shut;
 }
   where
-    numbers : List ℕ
-    numbers = map number_of recipients
-
     mark : Option (ℕ × ℕ)
     mark = Some (origin, old.count + 1)
 
 -- an outbox that refuses a message is shut, and one that is known to be shut refuses it
-pub sent_full : (m : ℕ) (mid new : List StopView) → PutAt m None false mid new → shut_at m new ≡ true
-sent_full m mid new now = (routed_listed None (m == m) ((m == m) && true) (stop_at m mid) (stop_at m new) (put_once None m false mid new now m) (ap (λ b. b && true) (eq-eqb m m refl))).1
+pub sent_full : (m : ℕ) (old new : List StopView) → PutAt m None false old new → shut_at m new ≡ true
+sent_full m old new now = (routed_listed None (m == m) ((m == m) && true) (stop_at m old) (stop_at m new) (put_once None m false old new now m) (ap (λ b. b && true) (eq-eqb m m refl))).1
 
-pub sent_shut : (recipients : List Recipient) (m : ℕ) (put : Bool) (old mid new : List StopView) → SeatsTaken recipients old mid → PutAt m None put mid new → shut_at m old ≡ true → put ≡ false
-sent_shut recipients m put old mid new taken now e =
-    let was : now.before.seat.knows_shut ≡ true = ap knows_shut (sym now.was) ∙ taken_shut recipients m (stop_at m old) (stop_at m mid) (taken m) e in
+pub sent_shut : (m : ℕ) (put : Bool) (old new : List StopView) → PutAt m None put old new → shut_at m old ≡ true → put ≡ false
+sent_shut m put old new now e =
+    let was : now.before.seat.knows_shut ≡ true = ap knows_shut (sym now.was) ∙ e in
     (now.change.shut was).0
+
+-- the stops of these recipients alone
+kept_pick : (recipients : List ℕ) (n : ℕ) (s : StopView) (rest kept : List StopView) (b e : Bool) → is_in s.recipient recipients ≡ b → (s.recipient == n) ≡ e → stop_at n kept ≡ cond (is_in n recipients) (stop_at n rest) None
+    → stop_at n (cond b (s ∷ kept) kept) ≡ cond (is_in n recipients) (cond e (Some s) (stop_at n rest)) None
+kept_pick recipients n s rest kept true true its is h =
+    ap (λ x. cond x (Some s) (stop_at n kept)) is ∙ ap (λ x. cond x (Some s) None) (sym (ap (λ m. is_in m recipients) (sym (eqb-true s.recipient n is)) ∙ its))
+kept_pick recipients n s rest kept true false its is h = ap (λ x. cond x (Some s) (stop_at n kept)) is ∙ h
+kept_pick recipients n s rest kept false true its is h =
+    let out : is_in n recipients ≡ false = ap (λ m. is_in m recipients) (sym (eqb-true s.recipient n is)) ∙ its in
+    h ∙ ap (λ x. cond x (stop_at n rest) None) out ∙ ap (λ x. cond x (Some s) None) (sym out)
+kept_pick recipients n s rest kept false false its is h = h
+
+kept_none : (b : Bool) (o : Option StopView) → o ≡ None → o ≡ cond b o None
+kept_none true o e = refl
+kept_none false o e = e
+
+pub kept_at : (recipients : List ℕ) (n : ℕ) (stops : List StopView) → stop_at n (filter (λ s. is_in s.recipient recipients) stops) ≡ cond (is_in n recipients) (stop_at n stops) None
+kept_at recipients n [] = kept_none (is_in n recipients) None refl
+kept_at recipients n (s ∷ ss) =
+    kept_pick recipients n s ss (filter (λ s. is_in s.recipient recipients) ss) (is_in s.recipient recipients) (s.recipient == n) refl refl (kept_at recipients n ss)
+
+pub kept_fit : (recipients : List ℕ) (origin count : ℕ) (stops : List StopView) → AllFit origin count stops → AllFit origin count (filter (λ s. is_in s.recipient recipients) stops)
+kept_fit recipients origin count stops fits n =
+    let P : Option StopView → Type 0 = λ o. Fits origin count o in
+    subst P (sym (kept_at recipients n stops)) (pick (is_in n recipients))
+  where
+    pick : (b : Bool) → Fits origin count (cond b (stop_at n stops) None)
+    pick true = fits n
+    pick false = tt

@@ -1,26 +1,16 @@
 -- Inner: what seats that are taken and puts that are made change, stop by stop.
-use Rattle.std.specs.Prelude.{ℕ, ◌≡◌, ◌≤◌, ◌==◌, Bool, true, false, not, cond, Option, Some, None, IsSome, List, [], ◌∷◌}
-use Rattle.outbox.specs.Counts.{Rises, last_of}
+use Rattle.std.specs.Prelude.{ℕ, ◌≡◌, ◌≤◌, ◌+◌, ◌==◌, Bool, true, false, not, cond, Option, Some, None, IsSome, List, [], ◌∷◌}
 use Rattle.outbox.specs.Views.{blank, after_put}
-use Rattle.routing.specs.SenderView.{StopView}
-use Rattle.routing.specs.declared.recipient.Recipient.{Recipient}
-use Rattle.routing.specs.Stops.{stop_at, is_in, Lists}
-
-abbrev pub HasStop : ℕ → List StopView → Type 0
-HasStop n stops = IsSome (stop_at n stops)
-
--- each of these recipients has a stop
-abbrev pub AllHave : List ℕ → List StopView → Type 0
-AllHave [] stops = Unit {0}
-AllHave (n ∷ ns) stops = HasStop n stops × AllHave ns stops
+use Rattle.routing.specs.SenderView.{RecipientView, StopView}
+use Rattle.routing.specs.Stops.{stop_at, is_in, RisesFrom, Lists}
 
 -- a stop that was there is as it was; a new one is at a recipient's outbox, and has put nothing
-abbrev pub TakenAt : List Recipient → ℕ → Option StopView → Option StopView → Type 0
+abbrev pub TakenAt : List RecipientView → ℕ → Option StopView → Option StopView → Type 0
 TakenAt recipients n (Some s) new = new ≡ Some s
 TakenAt recipients n None None = Unit {0}
 TakenAt recipients n None (Some t) = Lists recipients n t.outbox × (t.seat.view ≡ blank)
 
-abbrev pub SeatsTaken : List Recipient → List StopView → List StopView → Type 0
+abbrev pub SeatsTaken : List RecipientView → List StopView → List StopView → Type 0
 SeatsTaken recipients old new = (n : ℕ) → TakenAt recipients n (stop_at n old) (stop_at n new)
 
 -- what a put, or its refusal, makes of a stop
@@ -44,8 +34,13 @@ abbrev pub RoutedAt : Option (ℕ × ℕ) → Bool → Bool → Option StopView 
 RoutedAt mark false refused old new = (refused ≡ false) × (new ≡ old)
 RoutedAt mark true refused old new = (s : StopView) × (t : StopView) × (old ≡ Some s) × (new ≡ Some t) × PutThere mark (not refused) s t
 
+-- one above the last number, or n
+abbrev pub end_of : ℕ → List ℕ → ℕ
+end_of n [] = n
+end_of n (x ∷ xs) = end_of (x + 1) xs
+
 -- the broadcast was put to each of these recipients, but to those that refused it
 pub record PutTo (mark : Option (ℕ × ℕ)) (recipients refused : List ℕ) (old new : List StopView) : Type 0 where
   pub each : (n : ℕ) → RoutedAt mark (is_in n recipients) (is_in n refused) (stop_at n old) (stop_at n new)
-  pub rising : Rises 0 refused
-  pub below : last_of 0 refused ≤ last_of 0 recipients
+  pub rising : RisesFrom 0 refused
+  pub below : end_of 0 refused ≤ end_of 0 recipients

@@ -1,6 +1,11 @@
--- What clauses see of a stop and of a sender.
+-- What clauses see of a recipient, of a stop and of a sender.
 use Rattle.std.specs.Prelude.{ℕ, List}
 use Rattle.outbox.specs.Seated.{OutboxId, Seated}
+
+-- a recipient's number and its outbox
+pub record RecipientView : Type 0 where
+  pub number : ℕ
+  pub outbox : OutboxId
 
 -- a recipient's number, its outbox, and the sender's seat there
 pub record StopView : Type 0 where

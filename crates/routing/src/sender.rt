@@ -1,13 +1,15 @@
 // Senders.
 
-ghost use Rattle.std.specs.Prelude.{◌≡◌, ◌≤◌, ◌∷◌, [], ◌↔◌, true, IfOk, OnErr, length, map};
-ghost use Rattle.outbox.specs.Counts.{Rises};
-ghost use Rattle.routing.specs.Stops.{number_of, shut_at, Keeps, Routed, Unrouted};
+ghost use Rattle.std.specs.Prelude.{◌≡◌, ◌≤◌, [], ◌↔◌, true, IfOk, OnOk, OnErr, filter, is_some, length, map};
+ghost use Rattle.routing.specs.Stops.{RisesFrom, number_of, is_in, stop_at, shut_at, HasStop, AllHave, AllFit, Keeps, Routed, Unrouted};
 
+use crate::carrier::Carrier;
 use crate::error::RouteError;
 use crate::gate::{Gate, OpenGate};
 use crate::recipient::Recipient;
-use crate::stops::{Stop, put_all, put_at, shares_of, take_seat, take_seats};
+use crate::stops::{
+    Stop, place_of, push_out_all, put_all, put_at, retain, shares_of, take_seats,
+};
 use arrayvec::ArrayVec;
 use bytes::Bytes;
 use outbox::Item;
@@ -27,13 +29,13 @@ pub enum Sent {
 /// seat at each outbox that it needed so far. The broadcasts of the bus itself have the origin and a count of the pass
 /// that routes them too.
 #[derive(Drop)]
-pub struct Sender {
+pub struct Sender<C> {
     origin: u64,
     count: u64,
-    stops: Vec<Stop>,
+    stops: Vec<Stop<C>>,
 }
 
-impl Model for Sender {
+impl<C> Model for Sender<C> {
     ghost use Rattle.routing.specs.SenderView.{SenderView};
     ghost use Rattle.routing.specs.Stops.{AllFit};
 
@@ -44,9 +46,9 @@ impl Model for Sender {
     ghost invariant = { λ s. AllFit s.origin s.count s.stops.items };
 }
 
-impl Sender {
+impl<C> Sender<C> {
     /// A sender that has put nothing. It takes no memory.
-    pub fn new(alloc: Global, origin: u64) -> Sender
+    pub fn new(alloc: Global, origin: u64) -> Sender<C>
         ensures { (result.origin ≡ origin) × (result.count ≡ 0) × (result.stops ≡ []) }
     {
         Sender {
@@ -55,50 +57,67 @@ impl Sender {
             stops: Vec::new(alloc),
         }
     }
+}
+
+impl<C: Carrier> Sender<C> {
+    /// Whether it has a seat at this recipient's outbox.
+    pub fn has(&self, recipient: u64) -> bool
+        ensures { result ≡ is_some (stop_at recipient self.now.stops) }
+    {
+        place_of(self.stops.as_slice(), recipient).is_some()
+    }
+
+    /// Takes a seat at each newcomer's outbox.
+    pub fn take_seats(&mut self, newcomers: Vec<Recipient<C>>) -> Result<(), AllocError>
+        ensures keeps { Keeps newcomers.items self.old self.new }
+        ensures unrouted { Unrouted self.old self.new }
+        ensures all { OnOk result (AllHave (map number_of newcomers.items) self.new.stops) }
+    {
+        take_seats(&mut self.stops, newcomers)
+    }
 
     /// Puts a broadcast into the outboxes of its recipients, whose numbers rise, and answers those whose outbox refused
-    /// it, a shut one included. The seats that it still needs and the shares of the bytes are taken before the first
-    /// put, so after an error nothing was put and the count isn't used.
+    /// it, a shut one included. The shares of the bytes are taken before the first put, so after an error nothing was put
+    /// and the count isn't used.
     pub fn route<R: Wait>(
         &mut self,
         rt: &R,
         alloc: Global,
-        recipients: &[Recipient],
+        recipients: &[u64],
         bytes: &Bytes,
     ) -> Result<ArrayVec<u64, 256>, RouteError>
         requires few { length recipients.now ≤ 256 }
-        requires rising { Rises 0 (map number_of recipients.now) }
+        requires rising { RisesFrom 0 recipients.now }
+        requires seats { AllHave recipients.now self.old.stops }
         ensures ok { IfOk result (λ refused. Routed recipients.now refused.items self.old self.new) }
-        ensures keeps { Keeps recipients.now self.old self.new }
-
-        ensures err { OnErr result (Unrouted self.old self.new) }
+        ensures keeps { Keeps [] self.old self.new }
+        ensures err { OnErr result (self.new ≡ self.old) }
         ensures counts { (result ≡ Err RouteError.Counts) ↔ (self.old.count ≡ u64.MAX) }
     {
         self.route_gated(rt, alloc, recipients, bytes, &OpenGate)
     }
 
-    /// Routes a broadcast as `route` does. `gate.before(0)` is called once the seats and the shares are there, before
-    /// the first put, and `gate.after(0)` after the last put; neither is called where the answer is an error.
+    /// Routes a broadcast as `route` does. `gate.before(0)` is called once the shares are there, before the first put, and
+    /// `gate.after(0)` after the last put; neither is called where the answer is an error.
     pub fn route_gated<R: Wait, G: Gate>(
         &mut self,
         rt: &R,
         alloc: Global,
-        recipients: &[Recipient],
+        recipients: &[u64],
         bytes: &Bytes,
         gate: &G,
     ) -> Result<ArrayVec<u64, 256>, RouteError>
         requires few { length recipients.now ≤ 256 }
-        requires rising { Rises 0 (map number_of recipients.now) }
+        requires rising { RisesFrom 0 recipients.now }
+        requires seats { AllHave recipients.now self.old.stops }
         ensures ok { IfOk result (λ refused. Routed recipients.now refused.items self.old self.new) }
-        ensures keeps { Keeps recipients.now self.old self.new }
-
-        ensures err { OnErr result (Unrouted self.old self.new) }
+        ensures keeps { Keeps [] self.old self.new }
+        ensures err { OnErr result (self.new ≡ self.old) }
         ensures counts { (result ≡ Err RouteError.Counts) ↔ (self.old.count ≡ u64.MAX) }
     {
         if self.count == u64::MAX {
             return Err(RouteError::Counts);
         }
-        take_seats(&mut self.stops, recipients)?;
         let shares = shares_of(alloc, bytes, recipients.len())?;
         let mark = (self.origin, self.count + 1);
         gate.before(0);
@@ -108,28 +127,50 @@ impl Sender {
         Ok(refused)
     }
 
-    /// Puts a message that isn't a broadcast into the recipient's outbox. The seat that it still needs is taken before,
-    /// and no last count changes.
+    /// Puts a message that isn't a broadcast into the recipient's outbox. No last count changes.
     pub fn unicast<R: Wait>(
         &mut self,
         rt: &R,
-        recipient: &Recipient,
+        recipient: u64,
         bytes: &Bytes,
     ) -> Result<Sent, AllocError>
+        requires { HasStop recipient self.old.stops }
         ensures unrouted { Unrouted self.old self.new }
-        ensures keeps { Keeps (recipient.now ∷ []) self.old self.new }
+        ensures keeps { Keeps [] self.old self.new }
 
         // Full is answered by a shut outbox alone, and each later message is answered so too.
-        ensures full { result ≡ Ok Sent.Full → shut_at recipient.now.number self.new.stops ≡ true }
-        ensures shut { shut_at recipient.now.number self.old.stops ≡ true → IfOk result (λ sent. sent ≡ Sent.Full) }
+        ensures full { result ≡ Ok Sent.Full → shut_at recipient self.new.stops ≡ true }
+        ensures shut { shut_at recipient self.old.stops ≡ true → IfOk result (λ sent. sent ≡ Sent.Full) }
     {
-        take_seat(&mut self.stops, recipient)?;
         let bytes = bytes.clone()?;
         let stops = self.stops.as_mut_slice();
-        if put_at(rt, stops, recipient.number, Item { bytes, mark: None }) {
+        if put_at(rt, stops, recipient, Item { bytes, mark: None }) {
             Ok(Sent::Put)
         } else {
             Ok(Sent::Full)
         }
+    }
+
+    /// Writes out each outbox in which something was put since it last was written out.
+    pub fn push_out<R: Wait>(&mut self, rt: &R)
+        ensures { self.new ≡ self.old }
+    {
+        push_out_all(rt, self.stops.as_mut_slice());
+    }
+
+    /// At how many outboxes it has a seat.
+    pub fn seats(&self) -> usize
+        ensures seats { result ≡ length self.now.stops }
+        // Its seats name its origin or none, and no last count is above its count.
+        ensures fits { AllFit self.now.origin self.now.count self.now.stops }
+    {
+        self.stops.len()
+    }
+
+    /// Gives up its seats at the outboxes of all others than these recipients.
+    pub fn retain(&mut self, recipients: &[u64])
+        ensures { self.new ≡ record self.old { stops = filter (λ s. is_in s.recipient recipients.now) self.old.stops } }
+    {
+        retain(&mut self.stops, recipients);
     }
 }

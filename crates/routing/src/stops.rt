@@ -1,12 +1,12 @@
 // A sender's seats at the outboxes of its recipients.
 
-ghost use Rattle.std.specs.Prelude.{◌≡◌, ◌<◌, ◌≤◌, ◌++◌, ◌∷◌, [], ℕ, cond, Some, IfOk, OnOk, IfSome, IsSomeAnd, length, map, position};
+ghost use Rattle.std.specs.Prelude.{◌≡◌, ◌<◌, ◌≤◌, ◌++◌, ◌∷◌, [], ℕ, cond, Some, IfOk, OnOk, IfSome, IsSomeAnd, filter, length, map, position};
 ghost use Rattle.outbox.specs.Views.{Follows, blank};
-ghost use Rattle.outbox.specs.Counts.{Rises};
-ghost use Rattle.routing.specs.SenderView.{StopView};
-ghost use Rattle.routing.specs.Stops.{is_for, stop_at, number_of};
-ghost use Rattle.routing.specs.Puts.{PutThere, PutAt, PutTo, SeatsTaken, HasStop, AllHave};
+ghost use Rattle.routing.specs.SenderView.{StopView, RecipientView};
+ghost use Rattle.routing.specs.Stops.{RisesFrom, is_for, is_in, stop_at, number_of, HasStop, AllHave};
+ghost use Rattle.routing.specs.Puts.{PutThere, PutAt, PutTo, SeatsTaken};
 
+use crate::carrier::Carrier;
 use crate::recipient::Recipient;
 use arrayvec::ArrayVec;
 use bytes::Bytes;
@@ -17,13 +17,16 @@ use std::sync::Wait;
 
 /// A seat at a recipient's outbox.
 #[derive(Drop)]
-pub(crate) struct Stop {
+pub(crate) struct Stop<C> {
     recipient: u64,
+    carrier: C,
     outbox: Outbox,
     seat: Seat,
+    // Something was put since the outbox was last written out.
+    is_waiting: bool,
 }
 
-impl Model for Stop {
+impl<C> Model for Stop<C> {
     ghost use Rattle.std.specs.Prelude.{◌≡◌};
     ghost use Rattle.routing.specs.SenderView.{StopView};
 
@@ -34,20 +37,7 @@ impl Model for Stop {
     ghost invariant = { λ s. s.seat.outbox ≡ s.outbox };
 }
 
-impl Stop {
-    /// A new seat there.
-    pub(crate) fn at(recipient: &Recipient) -> Result<Stop, AllocError>
-        ensures { IfOk result (λ s. (s.recipient ≡ recipient.now.number) × (s.outbox ≡ recipient.now.outbox) × (s.seat.view ≡ blank)) }
-    {
-        let outbox = recipient.outbox.share()?;
-        let seat = outbox.seat();
-        Ok(Stop {
-            recipient: recipient.number,
-            outbox,
-            seat,
-        })
-    }
-
+impl<C> Stop<C> {
     pub(crate) fn recipient(&self) -> u64
         ensures { result ≡ self.now.recipient }
     {
@@ -59,19 +49,53 @@ impl Stop {
         requires { Follows self.old.seat.view item.mark }
         ensures { PutThere item.mark result self.old self.new }
     {
+        self.is_waiting = true;
         self.outbox.put(rt, &mut self.seat, item).is_ok()
     }
 }
 
-// Where the recipient's stop is.
-fn place_of(stops: &[Stop], recipient: u64) -> Option<usize>
+impl<C: Carrier> Stop<C> {
+    /// A new seat there.
+    pub(crate) fn at(recipient: Recipient<C>) -> Result<Stop<C>, AllocError>
+        ensures { IfOk result (λ s. (s.recipient ≡ recipient.number) × (s.outbox ≡ recipient.outbox) × (s.seat.view ≡ blank)) }
+    {
+        let (number, carrier) = recipient.into_parts();
+        let outbox = carrier.outbox().share()?;
+        let seat = outbox.seat();
+        Ok(Stop {
+            recipient: number,
+            carrier,
+            outbox,
+            seat,
+            is_waiting: false,
+        })
+    }
+
+    /// Writes the outbox out, where something was put since it last was.
+    pub(crate) fn push_out<R: Wait>(&mut self, rt: &R)
+        ensures { self.new ≡ self.old }
+    {
+        if self.is_waiting {
+            self.is_waiting = false;
+            self.carrier.push_out(rt);
+        }
+    }
+}
+
+/// Where the recipient's stop is.
+pub(crate) fn place_of<C>(stops: &[Stop<C>], recipient: u64) -> Option<usize>
     ensures { result ≡ position (is_for recipient) stops.now }
 {
     stops.iter().position(|s| s.recipient() == recipient)
 }
 
 /// Puts an item at the recipient's outbox, and says whether it was put.
-pub(crate) fn put_at<R: Wait>(rt: &R, stops: &mut [Stop], recipient: u64, item: Item) -> bool
+pub(crate) fn put_at<C, R: Wait>(
+    rt: &R,
+    stops: &mut [Stop<C>],
+    recipient: u64,
+    item: Item,
+) -> bool
     requires { IsSomeAnd (stop_at recipient stops.old) (λ s. Follows s.seat.view item.mark) }
     ensures { PutAt recipient item.mark result stops.old stops.new }
 {
@@ -82,11 +106,14 @@ pub(crate) fn put_at<R: Wait>(rt: &R, stops: &mut [Stop], recipient: u64, item: 
 }
 
 /// Takes a seat at the recipient's outbox, where the sender has none there.
-pub(crate) fn take_seat(stops: &mut Vec<Stop>, recipient: &Recipient) -> Result<(), AllocError>
-    ensures taken { SeatsTaken (recipient.now ∷ []) stops.old.items stops.new.items }
-    ensures has { OnOk result (HasStop recipient.now.number stops.new.items) }
+pub(crate) fn take_seat<C: Carrier>(
+    stops: &mut Vec<Stop<C>>,
+    recipient: Recipient<C>,
+) -> Result<(), AllocError>
+    ensures taken { SeatsTaken (recipient ∷ []) stops.old.items stops.new.items }
+    ensures has { OnOk result (HasStop recipient.number stops.new.items) }
 {
-    if place_of(stops.as_slice(), recipient.number).is_some() {
+    if place_of(stops.as_slice(), recipient.number()).is_some() {
         return Ok(());
     }
     let stop = Stop::at(recipient)?;
@@ -94,13 +121,16 @@ pub(crate) fn take_seat(stops: &mut Vec<Stop>, recipient: &Recipient) -> Result<
     Ok(())
 }
 
-/// Takes each seat that the sender still needs.
-pub(crate) fn take_seats(stops: &mut Vec<Stop>, recipients: &[Recipient]) -> Result<(), AllocError>
-    ensures taken { SeatsTaken recipients.now stops.old.items stops.new.items }
-    ensures all { OnOk result (AllHave (map number_of recipients.now) stops.new.items) }
+/// Takes a seat at each newcomer's outbox.
+pub(crate) fn take_seats<C: Carrier>(
+    stops: &mut Vec<Stop<C>>,
+    mut newcomers: Vec<Recipient<C>>,
+) -> Result<(), AllocError>
+    ensures taken { SeatsTaken newcomers.items stops.old.items stops.new.items }
+    ensures all { OnOk result (AllHave (map number_of newcomers.items) stops.new.items) }
 {
-    for recipient in recipients {
-        take_seat(stops, recipient)?;
+    while let Some(newcomer) = newcomers.pop() {
+        take_seat(stops, newcomer)?;
     }
     Ok(())
 }
@@ -131,26 +161,49 @@ fn note(refused: &mut ArrayVec<u64, 256>, recipient: u64, put: bool)
 }
 
 /// Puts a broadcast to each recipient, one share for each, and answers those whose outbox refused it.
-pub(crate) fn put_all<R: Wait>(
+pub(crate) fn put_all<C, R: Wait>(
     rt: &R,
-    stops: &mut [Stop],
-    recipients: &[Recipient],
+    stops: &mut [Stop<C>],
+    recipients: &[u64],
     mark: (u64, u64),
     mut shares: Vec<Bytes>,
 ) -> ArrayVec<u64, 256>
-    requires has { AllHave (map number_of recipients.now) stops.old }
-    requires rising { Rises 0 (map number_of recipients.now) }
+    requires has { AllHave recipients.now stops.old }
+    requires rising { RisesFrom 0 recipients.now }
     requires shares { length shares.items ≡ length recipients.now }
     requires few { length recipients.now ≤ 256 }
     requires follows { (n : ℕ) → IfSome (stop_at n stops.old) (λ s. Follows s.seat.view (Some mark)) }
-    ensures { PutTo (Some mark) (map number_of recipients.now) result.items stops.old stops.new }
+    ensures { PutTo (Some mark) recipients.now result.items stops.old stops.new }
 {
     let mut refused = ArrayVec::new();
     for recipient in recipients {
         let bytes = shares.pop().unwrap();
         let mark = Some(mark);
-        let put = put_at(rt, stops, recipient.number, Item { bytes, mark });
-        note(&mut refused, recipient.number, put);
+        let put = put_at(rt, stops, *recipient, Item { bytes, mark });
+        note(&mut refused, *recipient, put);
     }
     refused
+}
+
+/// Writes out each outbox in which something was put since it last was written out.
+pub(crate) fn push_out_all<C: Carrier, R: Wait>(rt: &R, stops: &mut [Stop<C>])
+    ensures { stops.new ≡ stops.old }
+{
+    for place in 0..stops.len() {
+        stops[place].push_out(rt);
+    }
+}
+
+// Whether the number is among these.
+fn is_among(number: u64, numbers: &[u64]) -> bool
+    ensures { result ≡ is_in number numbers.now }
+{
+    numbers.iter().any(|n| *n == number)
+}
+
+/// Lets go the stops of all others than these recipients.
+pub(crate) fn retain<C: Drop>(stops: &mut Vec<Stop<C>>, recipients: &[u64])
+    ensures { stops.new.items ≡ filter (λ s. is_in s.recipient recipients.now) stops.old.items }
+{
+    stops.retain(|stop| is_among(stop.recipient(), recipients));
 }

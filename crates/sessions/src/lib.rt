@@ -1,8 +1,31 @@
-//! Stub: echoes messages after the authentication.
+//! Sessions: what a client's bytes come to, from its first byte to its end. A session has no sockets and no threads of its
+//! own: whoever drives it feeds it bytes, lets it treat one message after the other, and has what it put written out.
+//! Its calls are proved safe and to return; what a session says is shown by tests.
 #![tactic(auto)]
 
+mod announcements;
+mod connection;
+mod dispatch;
+mod ending;
 mod error;
+mod greeting;
+mod home;
+mod identity;
+mod matches;
+mod methods;
+mod names;
+mod owner;
+mod queries;
+mod refused;
+mod request;
+mod serial;
+mod serving;
 mod session;
+mod site;
+mod talk;
+mod writing;
 
+pub use ending::Rest;
 pub use error::SessionError;
-pub use session::{Rest, Session, Step};
+pub use serving::serve_one;
+pub use session::{Session, Step};

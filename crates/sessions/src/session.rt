@@ -1,137 +1,210 @@
-// A session that echoes.
+// A client's session.
 
+ghost use Rattle.std.specs.Prelude.{◌≡◌, None};
+
+use crate::connection::Connection;
+use crate::ending::Rest;
 use crate::error::SessionError;
-use auth::Auth;
-use bytes::Bytes;
-use frames::{FrameError, Frames};
-use outbox::Item;
-use program_table::Mailbox;
-use published::Naming;
-use router::{Bus, Pass};
+use crate::greeting::greet;
+use crate::home::Home;
+use crate::identity::Identity;
+use crate::request::Request;
+use crate::site::Site;
+use crate::talk::Talk;
+use crossbeam_utils::rule::Protocol;
+use frames::Frames;
+use message_view::MsgError;
+use program_table::{Command, Mailbox};
+use published::{Naming, Published, Shown};
+use router::Bus;
 use routing::Carrier;
 use std::alloc::Global;
+use std::collections::LinkedList;
 use std::sync::Wait;
 
+/// What a step came to.
 #[derive(Clone, Copy, Debug, PartialEq, Eq)]
 pub enum Step {
+    /// A line or a message was treated.
     Done,
+    /// The next line or message isn't there whole.
     Waits,
 }
 
+/// One client's session: the talk, then messages, of which the first is Hello. What it answers, and what others send to
+/// its client, waits in the outbox of its mailbox.
 #[derive(Drop)]
-pub struct Session<J: Naming, M: Mailbox + Carrier> {
-    alloc: Global,
-    mailbox: M,
-    auth: Auth,
-    frames: Frames,
-    lines: Vec<u8>,
-    begun: bool,
-    greeted: bool,
-    pass: Option<Pass<J, M>>,
-}
-
-#[derive(Drop)]
-pub struct Rest<J: Naming, M: Mailbox + Carrier> {
-    pass: Pass<J, M>,
-}
-
-impl<J: Naming, M: Mailbox + Carrier> Rest<J, M> {
-    pub fn retry<W: Wait, R: Wait + Drop>(self, _rt: &W, _alloc: Global, _bus: &Bus<J, M, R>) -> Option<Rest<J, M>> {
-        Some(self)
-    }
-}
-
-fn error_of(error: FrameError) -> SessionError {
-    match error {
-        FrameError::Message(_) => SessionError::Message,
-        FrameError::NoMemory => SessionError::NoMemory,
-    }
+pub struct Session<J: Naming, M: Mailbox + Carrier>
+where
+    Published: Protocol<Shown<J, M>, LinkedList<Command<M>>>,
+{
+    identity: Identity,
+    talk: Talk,
+    // What is read and not treated.
+    input: Frames,
+    home: Home<M>,
+    // None before Hello.
+    connection: Option<Connection<J, M>>,
+    fault: Option<SessionError>,
+    // Faults of messages are kept here, and not there.
+    ghost is_clean: { input.fault ≡ None },
 }
 
 impl<J: Naming, M: Mailbox + Carrier> Session<J, M> {
+    /// A session before its first byte, of a bus with this GUID. All that it says goes to the mailbox.
     pub fn new(alloc: Global, guid: [u8; 32], mailbox: M) -> Session<J, M> {
         Session {
-            alloc,
-            mailbox,
-            auth: Auth::new(guid),
-            frames: Frames::new(alloc),
-            lines: Vec::new(alloc),
-            begun: false,
-            greeted: false,
-            pass: None,
+            identity: Identity {
+                guid,
+                machine_id: None,
+            },
+            talk: Talk::new(guid),
+            input: Frames::new(alloc),
+            home: Home::new(mailbox),
+            connection: None,
+            fault: None,
         }
     }
 
-    pub fn set_machine_id(&mut self, _id: [u8; 32]) {}
-
-    pub fn feed(&mut self, bytes: &[u8]) -> Result<(), SessionError> {
-        if self.begun {
-            return self.frames.feed(bytes).map_err(error_of);
-        }
-        self.lines.extend_from_slice(bytes).map_err(|_| SessionError::NoMemory)
+    /// Sets the machine's id, which GetMachineId answers once Hello came. Without one it is refused.
+    pub fn set_machine_id(&mut self, id: [u8; 32]) {
+        self.identity.machine_id = Some(id);
     }
 
-    fn put<W: Wait>(&mut self, rt: &W, bytes: Bytes) {
-        let outbox = self.mailbox.outbox();
-        let mut seat = outbox.seat();
-        let _ = outbox.put(rt, &mut seat, Item { bytes, mark: None });
-    }
-
-    pub fn step<W: Wait, R: Wait + Drop>(&mut self, rt: &W, alloc: Global, bus: &Bus<J, M, R>) -> Result<Step, SessionError> {
-        if !self.begun {
-            if self.lines.is_empty() {
-                return Ok(Step::Waits);
-            }
-            let Ok(fed) = self.auth.feed(self.lines.as_slice()) else {
-                return Err(SessionError::Auth);
-            };
-            let taken = fed.taken.min(self.lines.len());
-            let Ok(mut rest) = self.lines[taken..].to_vec(self.alloc) else {
-                return Err(SessionError::NoMemory);
-            };
-            std::mem::swap(&mut self.lines, &mut rest);
-            if let Ok(bytes) = Bytes::copy_from_slice(alloc, fed.answer.as_slice()) {
-                if !bytes.is_empty() {
-                    self.put(rt, bytes);
-                }
-            }
-            if fed.begun {
-                self.begun = true;
-                self.frames.feed(self.lines.as_slice()).map_err(error_of)?;
-            }
-            return Ok(Step::Done);
-        }
-        if self.pass.is_none() {
-            self.pass = bus.pass(rt).ok();
-        }
-        match self.frames.next() {
-            Ok(Some(bytes)) => {
-                self.greeted = true;
-                self.put(rt, bytes);
-                Ok(Step::Done)
-            }
-            Ok(None) => Ok(Step::Waits),
-            Err(error) => Err(error_of(error)),
-        }
-    }
-
-    pub fn push_out<W: Wait>(&mut self, rt: &W) {
-        self.mailbox.push_out(rt);
-    }
-
+    /// Whether the talk is over and messages are read.
     pub fn has_begun(&self) -> bool {
-        self.begun
+        self.talk.has_begun()
     }
 
+    /// Whether Hello was accepted.
     pub fn is_connected(&self) -> bool {
-        self.greeted
+        self.connection.is_some()
     }
 
-    pub fn end<W: Wait, R: Wait + Drop>(self, rt: &W, _alloc: Global, bus: &Bus<J, M, R>) -> Option<Rest<J, M>> {
-        let Session { alloc: _, mailbox: _, auth: _, frames: _, lines: _, begun: _, greeted: _, pass } = self;
-        if let Some(pass) = pass {
-            bus.take_back(rt, pass);
+    /// Keeps the client's next bytes.
+    ///
+    /// # Errors
+    ///
+    /// `NoMemory`, or what a step answered.
+    pub fn feed(&mut self, bytes: &[u8]) -> Result<(), SessionError> {
+        if let Some(fault) = self.fault {
+            return Err(fault);
         }
-        None
+        match self.input.feed(bytes) {
+            Ok(()) => Ok(()),
+            Err(error) => Err(self.fail(SessionError::from(error))),
+        }
+    }
+
+    /// Treats the next line of the talk or the next message.
+    ///
+    /// # Errors
+    ///
+    /// Why the session ends, from then on for ever. What it has put may still be written out.
+    pub fn step<W: Wait, R: Wait + Drop>(
+        &mut self,
+        rt: &W,
+        alloc: Global,
+        bus: &Bus<J, M, R>,
+    ) -> Result<Step, SessionError> {
+        if let Some(fault) = self.fault {
+            return Err(fault);
+        }
+        if self.home.is_shut() {
+            return Err(self.fail(SessionError::Slow));
+        }
+        let site = Site { rt, alloc, bus };
+        let outcome = if self.talk.has_begun() {
+            self.take_message(&site)
+        } else {
+            self.take_line(&site)
+        };
+        match outcome {
+            Ok(step) => Ok(step),
+            Err(error) => Err(self.fail(error)),
+        }
+    }
+
+    fn fail(&mut self, error: SessionError) -> SessionError {
+        self.fault = Some(error);
+        error
+    }
+
+    fn take_line<W: Wait, R: Wait + Drop>(
+        &mut self,
+        site: &Site<'_, J, M, W, R>,
+    ) -> Result<Step, SessionError> {
+        if self.input.is_empty() {
+            return Ok(Step::Waits);
+        }
+        let bytes = self.input.unread();
+        let taken = self.talk.take_line(site.rt, site.alloc, &mut self.home, bytes)?;
+        self.input.skip(taken);
+        Ok(Step::Done)
+    }
+
+    fn take_message<W: Wait, R: Wait + Drop>(
+        &mut self,
+        site: &Site<'_, J, M, W, R>,
+    ) -> Result<Step, SessionError> {
+        let view = match self.input.front() {
+            Ok(Some(view)) => view,
+            Ok(None) => return Ok(Step::Waits),
+            Err(fault) => return Err(SessionError::Message(fault)),
+        };
+        let len = view.raw().len();
+        match &mut self.connection {
+            Some(connection) => connection.treat(site, &mut self.home, &view)?,
+            None => {
+                let mut connection = greet(site, &mut self.home, self.identity, &view)?;
+                let welcomed = connection.welcome(site, &mut self.home, Request::of(&view));
+                self.connection = Some(connection);
+                welcomed?;
+            }
+        }
+        self.input.skip(len);
+        Ok(Step::Done)
+    }
+
+    /// Writes out what the session has put, its own outbox's and that of others.
+    pub fn push_out<W: Wait>(&mut self, rt: &W) {
+        self.home.push_out(rt);
+        if let Some(connection) = &mut self.connection {
+            connection.pass.push_out(rt);
+        }
+    }
+
+    /// What it means that the client's bytes end here.
+    ///
+    /// # Errors
+    ///
+    /// `Auth` before BEGIN, `Message(Short)` inside a message, or what a step answered.
+    pub fn end_of_input(&self) -> Result<(), SessionError> {
+        if let Some(fault) = self.fault {
+            return Err(fault);
+        }
+        if !self.talk.has_begun() {
+            return Err(SessionError::Auth);
+        }
+        if self.input.is_empty() {
+            Ok(())
+        } else {
+            Err(SessionError::Message(MsgError::Short))
+        }
+    }
+
+    /// Ends the session: its names are given up and its connection is closed, each change announced and written out.
+    /// What is left of it, where memory was refused for that.
+    pub fn end<W: Wait, R: Wait + Drop>(
+        self,
+        rt: &W,
+        alloc: Global,
+        bus: &Bus<J, M, R>,
+    ) -> Option<Rest<J, M>> {
+        let Session { connection, .. } = self;
+        match connection {
+            Some(connection) => connection.end(&Site { rt, alloc, bus }),
+            None => None,
+        }
     }
 }

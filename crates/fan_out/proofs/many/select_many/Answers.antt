@@ -10,7 +10,7 @@ pub returns-clause-recipients : goal.returns-clause-recipients
 returns-clause-recipients g c m valid =
     let marks = c.in_ok-marks.marks.places in
     let some : 0 < c.args.workers = omega arith in
-    recipients_listed c.args.state.now c.args.sender m c.numbers.result.items marks
+    recipients_listed c.args.state.now c.args.sender m c.list.new.numbers.items marks
     (pieces_state c.args.state.now c.args.sender c.args.view.now c.args.workers marks some c.in_ok-marks.ensures.marks)
     (pieces_whole c.args.state.now c.args.sender c.args.view.now c.args.workers marks m some valid c.in_ok-marks.ensures.marks)
-    (c.numbers.ensures ∙ ap (λ (cs : List (Connection _)). marked_numbers (numbers_of cs) marks) c.connections.ensures)
+    (c.list.ensures ∙ ap (λ (cs : List (Connection _)). marked_numbers (numbers_of cs) marks) c.connections.ensures)

@@ -1,9 +1,8 @@
-use Rattle.std.proofs.Common.{◌≡◌, ◌≤◌, ◌+◌, Some, length, map, take}
-use Rattle.routing.specs.Stops.{number_of}
+use Rattle.std.proofs.Common.{◌≡◌, ◌≤◌, ◌+◌, Some, length, take}
 use Rattle.routing.specs.Puts.{PutTo}
 use Rattle.routing.proofs.stops.put_all.Given as goal
 
 abbrev pub invariant-loop-recipient : goal.invariant-loop-recipient
 invariant-loop-recipient g l =
-    PutTo (Some l.mark) (map number_of (take l.recipient-index l.recipients)) l.refused.items l.initial.stops l.stops
+    PutTo (Some l.mark) (take l.recipient-index l.recipients) l.refused.items l.initial.stops l.stops
     × (length l.refused.items ≤ l.recipient-index) × (length l.shares.items + l.recipient-index ≡ length l.recipients)

@@ -16,10 +16,10 @@ step connection old new start e theirs last kept before =
     ∙ before
 
 pub theirs-preserved-in-Some : goal.theirs-preserved-in-Some
-theirs-preserved-in-Some c = step c.args.connection c.theirs.self c.take_newest.new.self c.args.self.now c.in-Some.field-0 c.in-Some.ensures.theirs c.in-Some.ensures.last c.in-Some.ensures.kept c.theirs.invariant
+theirs-preserved-in-Some c = step c.args.connection c.theirs.self c.remove_any.new.self c.args.self.now c.in-Some.field-0 c.in-Some.ensures.theirs c.in-Some.ensures.last c.in-Some.ensures.kept c.theirs.invariant
 
 pub theirs-preserved-in-Some-2 : goal.theirs-preserved-in-Some-2
-theirs-preserved-in-Some-2 c = step c.args.connection c.theirs.self c.take_newest.new.self c.args.self.now c.in-Some.field-0 c.in-Some.ensures.theirs c.in-Some.ensures.last c.in-Some.ensures.kept c.theirs.invariant
+theirs-preserved-in-Some-2 c = step c.args.connection c.theirs.self c.remove_any.new.self c.args.self.now c.in-Some.field-0 c.in-Some.ensures.theirs c.in-Some.ensures.last c.in-Some.ensures.kept c.theirs.invariant
 
 pub returns : goal.returns
 returns c =

@@ -1,4 +1,4 @@
-use Rattle.std.proofs.Common.{◌≡◌, ◌++◌, ◌∷◌, [], Bool, true, sym, ap, ◌∙◌, refl}
+use Rattle.std.proofs.Common.{◌≡◌, ◌++◌, ◌∷◌, [], Bool, true, sym, ap, ◌∙◌, inl, refl}
 use Rattle.std.specs.Prelude.{if◌then◌else◌}
 use Rattle.program_table.specs.declared.command.Command.TheVariants.{Connect}
 use Rattle.program_table.specs.declared.command.Reply.TheVariants.{Connected}
@@ -30,6 +30,7 @@ count_in-requires g c =
       begins = (x ∷ [], ap (λ k. k ++ x ∷ []) (seen_all v c.tell.new.pass c.in_ok-tell.field-0 b told) ∙ sym more ∙ sym c.front.ensures);
       room = room_for_one v c.tell.new.pass c.in_ok-tell.field-0 b c.connection-connection.result told fresh;
       number = λ z. not_none (after l).last_connection n next z;
+      same = inl (ap (λ (p : PassState g.row.M.Denot). p.connection) c.in_ok-tell.ensures.2 ∙ sym c.connection-connection.ensures ∙ c.if-connection-ne0.false);
       own = first_own v c.tell.new.pass c.in_ok-tell.field-0 c.front.result b c.publish.new.self c.connection-connection.result n c.args.mailbox told fresh named more c.front.ensures;
     }
 

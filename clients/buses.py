@@ -1,0 +1,90 @@
+"""Buses that scripts start: ours, and those that this machine has besides."""
+import os
+import shutil
+import subprocess
+import tempfile
+import time
+
+import wire
+
+HERE = os.path.dirname(os.path.abspath(__file__))
+GUID = "0123456789abcdef0123456789abcdef"
+
+
+def program():
+    """The built program. DBUSFAN names another one."""
+    return os.environ.get("DBUSFAN") or os.path.join(HERE, "..", "crates", "dbusfan", "out", "dbusfan")
+
+
+class Bus:
+    """A bus in a process of its own, on a Unix socket or a TCP port."""
+
+    def __init__(self, kind, transport="unix", limit=None):
+        self.kind = kind
+        self.folder = tempfile.mkdtemp(prefix="dbusfan-clients-")
+        socket = os.path.join(self.folder, "bus")
+        wanted = f"unix:path={socket}" if transport == "unix" else "tcp:host=127.0.0.1,port=0"
+        self.log = open(os.path.join(self.folder, "log"), "wb")
+        if kind == "dbusfan":
+            words = [program(), "serve", "--listen", wanted, "--guid", GUID]
+        else:
+            words = ["dbus-daemon", f"--config-file={self.config(wanted)}", "--nofork", "--print-address"]
+        if limit:
+            words = ["prlimit", f"--nofile={limit}", *words]
+        self.process = subprocess.Popen(words, stdout=subprocess.PIPE, stderr=self.log, text=True)
+        line = self.process.stdout.readline().strip()
+        self.address = line.removeprefix("listening ").split(",guid=")[0]
+        if not self.address:
+            raise SystemExit(f"{kind} didn't start: {' '.join(words)}")
+
+    def config(self, wanted):
+        path = os.path.join(self.folder, "config")
+        with open(path, "w") as file:
+            file.write(f"""<!DOCTYPE busconfig PUBLIC "-//freedesktop//DTD D-Bus Bus Configuration 1.0//EN"
+ "http://www.freedesktop.org/standards/dbus/1.0/busconfig.dtd">
+<busconfig><type>session</type><listen>{wanted}</listen><auth>EXTERNAL</auth><auth>ANONYMOUS</auth><allow_anonymous/>
+<policy context="default"><allow send_destination="*" eavesdrop="true"/><allow eavesdrop="true"/><allow own="*"/></policy>
+<limit name="max_incoming_bytes">1000000000</limit><limit name="max_outgoing_bytes">1000000000</limit>
+<limit name="max_message_size">1000000000</limit><limit name="max_completed_connections">100000</limit>
+<limit name="max_match_rules_per_connection">100000</limit><limit name="max_names_per_connection">50000</limit></busconfig>""")
+        return path
+
+    def connect(self, **options):
+        return wire.Connection(self.address, **options)
+
+    def processor_seconds(self):
+        with open(f"/proc/{self.process.pid}/stat") as file:
+            words = file.read().rsplit(")", 1)[1].split()
+        return (int(words[11]) + int(words[12])) / os.sysconf("SC_CLK_TCK")
+
+    def resident_kib(self):
+        with open(f"/proc/{self.process.pid}/status") as file:
+            return next(int(line.split()[1]) for line in file if line.startswith("VmRSS"))
+
+    def descriptors(self):
+        return len(os.listdir(f"/proc/{self.process.pid}/fd"))
+
+    def is_running(self):
+        return self.process.poll() is None
+
+    def stop(self):
+        self.process.kill()
+        self.process.wait()
+        self.log.close()
+        shutil.rmtree(self.folder)
+
+    def __enter__(self):
+        return self
+
+    def __exit__(self, *_):
+        self.stop()
+
+
+def wait_until(holds, seconds=10):
+    """Whether the condition holds within that time."""
+    end = time.monotonic() + seconds
+    while time.monotonic() < end:
+        if holds():
+            return True
+        time.sleep(0.02)
+    return holds()

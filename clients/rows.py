@@ -1,0 +1,353 @@
+"""What real programs ask of a bus, row by row. A row is a function of a bus that answers what was seen; each bus has to
+answer what is wanted."""
+import os
+import re
+import subprocess
+import tempfile
+import time
+
+import wire
+from buses import wait_until
+from wire import BUS, BUS_PATH, DBusError
+
+ROWS = []
+
+
+def row(client, wanted, ours_alone=False):
+    """A row of the table: whose client it is, and what has to be seen."""
+    def add(function):
+        ROWS.append((client, function.__name__.replace("_", " "), function, wanted, ours_alone))
+        return function
+    return add
+
+
+def error_of(call, *words, **options):
+    try:
+        return call(*words, **options)
+    except DBusError as error:
+        return error.name.removeprefix("org.freedesktop.DBus.Error.")
+
+
+def run(*words, timeout=10, session=None):
+    """Standard output of a program, or the name of the D-Bus error that it says."""
+    environment = dict(os.environ, DBUS_SESSION_BUS_ADDRESS=session) if session else None
+    done = subprocess.run(words, capture_output=True, text=True, timeout=timeout, env=environment)
+    named = re.search(r"org\.freedesktop\.DBus\.Error\.(\w+)", done.stderr)
+    return done.stdout.strip() or (named.group(1) if named else done.stderr.strip())
+
+
+# a client of our own
+
+
+@row("wire", [True, True, "NameAcquired", True])
+def hello(bus):
+    one = bus.connect()
+    seen = one.receive()
+    return [re.fullmatch(r":1\.\d+", one.name) is not None, seen.sender == BUS, seen.member, seen.body[0] == one.name == seen.destination]
+
+
+@row("wire", "Failed")
+def hello_twice(bus):
+    return error_of(bus.connect().call, "Hello")
+
+
+@row("wire", [1, 4, 2, 3, 2, 1, 2, 1, 2, 3])
+def names_with_every_flag(bus):
+    one, two = bus.connect(), bus.connect()
+    name = "com.example.Flags"
+    ask = lambda who, flags: who.call("RequestName", "su", (name, flags))[0]
+    give = lambda who, what: who.call("ReleaseName", "s", (what,))[0]
+    seen = [ask(one, 0), ask(one, 0), ask(two, 0), ask(two, 4), ask(two, 2)]
+    ask(one, 1)
+    seen += [ask(two, 2)]
+    seen += [give(one, "com.example.Nobodys"), give(one, name), give(two, "com.example.Nobodys")]
+    seen += [give(one, name)]
+    return seen
+
+
+@row("wire", ["NameLost", "NameOwnerChanged", True, True, [True, True]])
+def takeover_and_queue(bus):
+    one, two, three = bus.connect(), bus.connect(), bus.connect()
+    name = "com.example.Takeover"
+    one.call("RequestName", "su", (name, 1))
+    three.call("AddMatch", "s", (f"type='signal',member='NameOwnerChanged',arg0='{name}'",))
+    two.call("RequestName", "su", (name, 2))
+    lost = one.receive_signal("NameLost")
+    changed = three.receive_signal("NameOwnerChanged")
+    queue = three.call("ListQueuedOwners", "s", (name,))[0]
+    moved = changed.body == (name, one.name, two.name)
+    two.close()
+    back = three.receive_signal("NameOwnerChanged")
+    return [lost.member, changed.member, moved, queue == [two.name, one.name], [back.body == (name, two.name, one.name), three.call("GetNameOwner", "s", (name,))[0] == one.name]]
+
+
+KEYS = [
+    ("type='signal'", 1), ("type='method_call'", 0), ("interface='a.b'", 1), ("interface='a.x'", 0), ("member='c'", 1), ("member='x'", 0),
+    ("path='/a/b'", 1), ("path='/a'", 0), ("path_namespace='/a'", 1), ("path_namespace='/a/b'", 1), ("path_namespace='/x'", 0), ("path_namespace='/'", 1),
+    ("arg0='one.two'", 1), ("arg0='x'", 0), ("arg1='/c/d'", 0), ("arg1path='/c/'", 1), ("arg1path='/c/d'", 1), ("arg1path='/x/'", 0), ("arg0namespace='one'", 1),
+    ("arg0namespace='on'", 0), ("arg2='three'", 1), ("arg3='x'", 0), ("type='signal',interface='a.b',member='c',path='/a/b',arg0='one.two',arg2='three'", 1), ("", 1),
+    ("destination=':1.999'", 0), ("sender=':1.999'", 0), ("sender='com.example.Sender'", 1), ("sender='com.example.Nobody'", 0), ("sender='org.freedesktop.DBus'", 0),
+]
+
+
+@row("wire", [wanted for _, wanted in KEYS])
+def match_rules_of_every_key(bus):
+    sender = bus.connect()
+    sender.call("RequestName", "su", ("com.example.Sender", 0))
+    seen = []
+    for rule, _ in KEYS:
+        watcher = bus.connect()
+        watcher.receive_signal("NameAcquired")
+        watcher.call("AddMatch", "s", (rule,))
+        sender.signal("/a/b", "a.b", "c", "sos", ("one.two", "/c/d", "three"))
+        sender.call("Ping", interface="org.freedesktop.DBus.Peer")
+        watcher.call("Ping", interface="org.freedesktop.DBus.Peer")
+        seen.append(sum(got.kind == wire.SIGNAL and got.member == "c" for got in watcher.waiting))
+        watcher.close()
+    return seen
+
+
+@row("wire", [1, "MatchRuleNotFound", "MatchRuleInvalid", "MatchRuleInvalid", "MatchRuleInvalid"])
+def rules_come_and_go(bus):
+    one = bus.connect()
+    one.call("AddMatch", "s", ("member='c',path='/a'",))
+    one.signal("/a", "a.b", "c")
+    seen = [one.receive_signal("c").body == ()]
+    one.call("RemoveMatch", "s", ("path=/a,member=c",))
+    seen.append(error_of(one.call, "RemoveMatch", "s", ("path=/a,member=c",)))
+    return seen + [error_of(one.call, "AddMatch", "s", (rule,)) for rule in ("member='c", "nothing='x'", "path='a'")]
+
+
+@row("wire", 2)
+def own_recipient_of_two_equal_rules_once_each_signal(bus):
+    one = bus.connect()
+    for _ in range(2):
+        one.call("AddMatch", "s", ("member='c'",))
+    one.signal()
+    one.signal()
+    one.call("Ping", interface="org.freedesktop.DBus.Peer")
+    return sum(got.kind == wire.SIGNAL and got.member == "c" for got in one.waiting)
+
+
+@row("wire", [True, True])
+def comings_and_goings(bus):
+    watcher = bus.connect()
+    watcher.call("AddMatch", "s", ("sender='org.freedesktop.DBus',member='NameOwnerChanged'",))
+    one = bus.connect()
+    came = watcher.receive_signal("NameOwnerChanged")
+    one.close()
+    went = watcher.receive_signal("NameOwnerChanged")
+    return [came.body == (one.name, "", one.name), went.body == (one.name, one.name, "")]
+
+
+@row("wire", ["NameHasNoOwner", "UnknownMethod", "InvalidArgs", "ServiceUnknown", "InvalidArgs", "InvalidArgs", "ServiceUnknown"])
+def errors_by_name(bus):
+    one = bus.connect()
+    return [
+        error_of(one.call, "GetNameOwner", "s", ("com.example.Nobody",)),
+        error_of(one.call, "NoSuchMethod"),
+        error_of(one.call, "GetNameOwner", "u", (1,)),
+        error_of(one.call, "Anything", interface="a.b", path="/", destination="com.example.Nobody"),
+        error_of(one.call, "RequestName", "su", (":1.5", 0)),
+        error_of(one.call, "RequestName", "su", ("org.freedesktop.DBus", 0)),
+        error_of(one.call, "StartServiceByName", "su", ("com.example.Nobody", 0)),
+    ]
+
+
+@row("wire", [2, 2], ours_alone=True)
+def starting_a_service_that_is_there(bus):
+    one = bus.connect()
+    one.call("RequestName", "su", ("com.example.First", 0))
+    return [one.call("StartServiceByName", "su", (name, 0))[0] for name in ("com.example.First", BUS)]
+
+
+@row("wire", [True, True, ["org.freedesktop.DBus"], "UnixProcessIdUnknown or a number", True])
+def methods_that_programs_call_first(bus):
+    one = bus.connect()
+    one.call("RequestName", "su", ("com.example.First", 0))
+    names = one.call("ListNames")[0]
+    pid = error_of(one.call, "GetConnectionUnixProcessID", "s", (one.name,))
+    known = "UnixProcessIdUnknown or a number" if pid == "UnixProcessIdUnknown" or isinstance(pid[0], int) else pid
+    return [
+        names[0] == BUS and one.name in names and "com.example.First" in names,
+        one.call("NameHasOwner", "s", (BUS,))[0] and not one.call("NameHasOwner", "s", ("com.example.Nobody",))[0],
+        one.call("ListActivatableNames")[0],
+        known,
+        "org.freedesktop.DBus" in one.call("Introspect", interface="org.freedesktop.DBus.Introspectable")[0],
+    ]
+
+
+@row("wire", [("ping", 7), "com.example.Error.No", True])
+def calls_and_answers_between_two(bus):
+    one, two = bus.connect(), bus.connect()
+    two.call("RequestName", "su", ("com.example.Service", 0))
+    serial = one.send(wire.METHOD_CALL, 0, "su", ("ping", 7), path="/x", interface="a.b", member="Echo", destination="com.example.Service")
+    asked = next(got for got in iter(two.receive, None) if got.kind == wire.METHOD_CALL)
+    two.send(wire.METHOD_RETURN, 1, "su", asked.body, reply_serial=asked.serial, destination=asked.sender)
+    answer = next(got for got in iter(one.receive, None) if got.reply_serial == serial)
+    serial = one.send(wire.METHOD_CALL, 0, path="/x", interface="a.b", member="Fail", destination=two.name)
+    asked = next(got for got in iter(two.receive, None) if got.kind == wire.METHOD_CALL)
+    two.send(wire.ERROR, 1, "s", ("no",), error_name="com.example.Error.No", reply_serial=asked.serial, destination=asked.sender)
+    fault = next(got for got in iter(one.receive, None) if got.reply_serial == serial)
+    return [answer.body, fault.error_name, fault.sender == two.name]
+
+
+@row("wire", [True, True, True])
+def large_messages(bus):
+    one, two = bus.connect(timeout=60), bus.connect(timeout=60)
+    two.call("AddMatch", "s", ("member='big'",))
+    seen = []
+    for size in (100, 1 << 20, 60 << 20):
+        data = bytes(range(256)) * (size // 256 + 1)
+        one.signal("/a", "a.b", "big", "ay", (data[:size],))
+        seen.append(two.receive_signal("big").body[0] == data[:size])
+    return seen
+
+
+@row("wire", [True, True])
+def gone_in_mid_message(bus):
+    one, two = bus.connect(), bus.connect()
+    two.call("AddMatch", "s", ("member='NameOwnerChanged'",))
+    whole = wire.message(wire.SIGNAL, 5, 1, "s", ("x" * 100,), path="/a", interface="a.b", member="c")
+    one.link.sendall(whole[:70])
+    one.close()
+    went = two.receive_signal("NameOwnerChanged")
+    return [went.body[2] == "", bus.connect().name is not None]
+
+
+# dbus-send
+
+
+def dbus_send(bus, member, *words, dest=BUS, path=BUS_PATH, interface=BUS):
+    return run("dbus-send", f"--bus={bus.address}", "--print-reply=literal", f"--dest={dest}", path, f"{interface}.{member}", *words)
+
+
+@row("dbus-send", ["boolean true", "NameHasNoOwner", "uint32 1", "MatchRuleInvalid"])
+def calls_of_the_bus(bus):
+    return [
+        dbus_send(bus, "NameHasOwner", "string:org.freedesktop.DBus"),
+        dbus_send(bus, "GetNameOwner", "string:com.example.Nobody"),
+        dbus_send(bus, "RequestName", "string:com.example.Sent", "uint32:0"),
+        dbus_send(bus, "AddMatch", "string:member='c"),
+    ]
+
+
+@row("dbus-send", ("text", 7, True, ["a", "b"], {"k": 1}, 2.5))
+def a_signal_of_many_types(bus):
+    one = bus.connect()
+    one.call("AddMatch", "s", ("member='Sent'",))
+    run("dbus-send", f"--bus={bus.address}", "--type=signal", "/a", "a.b.Sent", "string:text", "uint32:7", "boolean:true", "array:string:a,b", "dict:string:int32:k,1", "double:2.5")
+    return one.receive_signal("Sent").body
+
+
+# dbus-monitor
+
+
+class Watcher:
+    """A program that prints what goes over the bus, until it is stopped."""
+
+    def __init__(self, *words):
+        self.file = tempfile.TemporaryFile()
+        self.process = subprocess.Popen(words, stdout=self.file, stderr=subprocess.STDOUT)
+
+    def text(self):
+        self.file.seek(0)
+        return self.file.read().decode(errors="replace")
+
+    def has(self, text, seconds=10):
+        return wait_until(lambda: text in self.text(), seconds)
+
+    def stop(self):
+        self.process.kill()
+        self.process.wait()
+        self.file.close()
+
+
+@row("dbus-monitor", [True, True, False])
+def signals_by_rules(bus):
+    one = bus.connect()
+    watcher = Watcher("dbus-monitor", "--address", bus.address, "type='signal',interface='a.b',member='Seen'")
+    try:
+        shown = wait_until(lambda: one.signal("/a", "a.b", "Seen", "su", ("text", 7)) and "member=Seen" in watcher.text())
+        one.signal("/a", "a.b", "Unseen")
+        one.signal("/a", "a.b", "Seen", "s", ("last",))
+        return [shown, watcher.has('string "last"'), "Unseen" in watcher.text()]
+    finally:
+        watcher.stop()
+
+
+# gdbus
+
+
+@row("gdbus", ["(true,)", "NameHasNoOwner", "(uint32 1,)"])
+def calls_by_gdbus(bus):
+    call = lambda member, *words: run("gdbus", "call", "--address", bus.address, "--dest", BUS, "--object-path", BUS_PATH, "--method", f"{BUS}.{member}", *words)
+    return [call("NameHasOwner", BUS), call("GetNameOwner", "com.example.Nobody"), call("RequestName", "com.example.Called", "uint32 0")]
+
+
+@row("gdbus", [("text", 7, [1, 2], {"k": ("s", "v")})])
+def emits_a_signal(bus):
+    one = bus.connect()
+    one.call("AddMatch", "s", ("member='Emitted'",))
+    # with --address it says no Hello
+    run("gdbus", "emit", "--session", "--object-path", "/a", "--signal", "a.b.Emitted", "'text'", "uint32 7", "[1, 2]", "{'k': <'v'>}", session=bus.address)
+    return [one.receive_signal("Emitted").body]
+
+
+@row("gdbus", [True, True])
+def monitors_a_name(bus):
+    one = bus.connect()
+    one.call("RequestName", "su", ("com.example.Monitored", 0))
+    watcher = Watcher("gdbus", "monitor", "--address", bus.address, "--dest", "com.example.Monitored")
+    try:
+        owned = watcher.has("is owned by")
+        shown = wait_until(lambda: one.signal("/a", "a.b", "Shown", "s", ("text",)) and "a.b.Shown ('text',)" in watcher.text())
+        return [owned, shown]
+    finally:
+        watcher.stop()
+
+
+@row("gdbus", [True, True])
+def introspects_the_bus(bus):
+    text = run("gdbus", "introspect", "--address", bus.address, "--dest", BUS, "--object-path", BUS_PATH)
+    return ["interface org.freedesktop.DBus {" in text, "RequestName(" in text]
+
+
+@row("gdbus", "")
+def waits_for_a_name(bus):
+    waiting = subprocess.Popen(["gdbus", "wait", "--address", bus.address, "--timeout", "10", "com.example.Awaited"], stdout=subprocess.PIPE, stderr=subprocess.STDOUT, text=True)
+    time.sleep(0.3)
+    one = bus.connect()
+    one.call("RequestName", "su", ("com.example.Awaited", 0))
+    return waiting.communicate(timeout=10)[0].strip()
+
+
+# busctl
+
+
+def busctl(bus, *words):
+    return run("busctl", f"--address={bus.address}", *words)
+
+
+@row("busctl", ["b true", 'as 1 "org.freedesktop.DBus"', True])
+def calls_by_busctl(bus):
+    return [
+        busctl(bus, "call", BUS, BUS_PATH, BUS, "NameHasOwner", "s", BUS),
+        busctl(bus, "call", BUS, BUS_PATH, BUS, "ListActivatableNames"),
+        "RequestName" in busctl(bus, "introspect", BUS, BUS_PATH),
+    ]
+
+
+@row("busctl", [("text", 7, ("s", "inner"))])
+def emits_by_busctl(bus):
+    one = bus.connect()
+    one.call("AddMatch", "s", ("member='Busctl'",))
+    busctl(bus, "emit", "/a", "a.b", "Busctl", "suv", "text", "7", "s", "inner")
+    return [one.receive_signal("Busctl").body]
+
+
+@row("busctl", True)
+def lists_names(bus):
+    one = bus.connect()
+    one.call("RequestName", "su", ("com.example.Listed", 0))
+    return "com.example.Listed" in busctl(bus, "list", "--no-pager")

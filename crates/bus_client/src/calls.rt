@@ -1,0 +1,94 @@
+// Calls of a bus's own methods.
+
+use message_build::{BuildError, Builder};
+use message_view::Kind;
+use std::alloc::Global;
+
+/// The bus's own name.
+pub(crate) const BUS_NAME: &str = "org.freedesktop.DBus";
+
+/// The interface of the bus's methods that the standard has.
+const BUS_INTERFACE: &str = "org.freedesktop.DBus";
+
+/// The interface of the bus's methods for programs.
+const PROGRAM_INTERFACE: &str = "org.example.ProgramBus1";
+
+const BUS_PATH: &str = "/org/freedesktop/DBus";
+
+/// A method of a bus with its arguments.
+#[derive(Clone, Copy)]
+pub(crate) enum Call<'a> {
+    Hello,
+    AddMatch(&'a str),
+    /// A program's instructions, eight bytes each.
+    Attach(&'a [u8]),
+    /// The same for images of an edition.
+    AttachEdition(u32, &'a [u8]),
+}
+
+/// The bytes of an array of `(qyyu)` and what comes before them, at a place that is a multiple of 8.
+fn program_body(
+    alloc: Global,
+    edition: Option<u32>,
+    code: &[u8],
+) -> Result<Vec<u8>, BuildError> {
+    let len = u32::try_from(code.len()).map_err(|_| BuildError::TooLarge)?;
+    let mut body = Vec::new(alloc);
+    match edition {
+        Some(edition) => {
+            body.extend_from_slice(&edition.to_le_bytes())?;
+            body.extend_from_slice(&len.to_le_bytes())?;
+        }
+        None => {
+            body.extend_from_slice(&len.to_le_bytes())?;
+            body.extend_from_slice(&[0; 4])?;
+        }
+    }
+    body.extend_from_slice(code)?;
+    Ok(body)
+}
+
+impl<'a> Call<'a> {
+    fn interface(self) -> &'static str {
+        match self {
+            Call::Hello | Call::AddMatch(_) => BUS_INTERFACE,
+            Call::Attach(_) | Call::AttachEdition(_, _) => PROGRAM_INTERFACE,
+        }
+    }
+
+    fn member(self) -> &'static str {
+        match self {
+            Call::Hello => "Hello",
+            Call::AddMatch(_) => "AddMatch",
+            Call::Attach(_) => "Attach",
+            Call::AttachEdition(_, _) => "AttachEdition",
+        }
+    }
+
+    /// Gives a builder the arguments.
+    fn put_arguments(self, alloc: Global, builder: &mut Builder<'_>) -> Result<(), BuildError> {
+        match self {
+            Call::Hello => Ok(()),
+            Call::AddMatch(rule) => builder.arg_str(rule),
+            Call::Attach(code) => {
+                let body = program_body(alloc, None, code)?;
+                builder.raw_body(b"a(qyyu)", &body)
+            }
+            Call::AttachEdition(edition, code) => {
+                let body = program_body(alloc, Some(edition), code)?;
+                builder.raw_body(b"ua(qyyu)", &body)
+            }
+        }
+    }
+
+    /// The message of the call.
+    pub(crate) fn message(self, alloc: Global, serial: u32) -> Result<Vec<u8>, BuildError> {
+        let mut builder = Builder::new(alloc, Kind::MethodCall, 0, serial);
+        builder.path(BUS_PATH);
+        builder.interface(self.interface());
+        builder.member(self.member());
+        builder.destination(BUS_NAME);
+        self.put_arguments(alloc, &mut builder)?;
+        builder.finish(alloc)
+    }
+}

@@ -1,0 +1,143 @@
+// A client of a bus.
+
+use crate::calls::{BUS_NAME, Call};
+use crate::error::ClientError;
+use crate::lines::{log_in, read_some};
+use bytes::Bytes;
+use frames::Frames;
+use message_view::{Kind, View};
+use std::alloc::Global;
+use std::collections::VecDeque;
+use std::io::{Read, Write};
+
+/// How many bytes of messages are read at once.
+const READ_LEN: usize = 8192;
+
+/// A connection that has said Hello.
+#[derive(Drop)]
+pub struct Client<S> {
+    alloc: Global,
+    stream: S,
+    frames: Frames,
+    /// The serial of the last call.
+    serial: u32,
+    /// Broadcasts that came while an answer was waited for.
+    kept: VecDeque<Bytes>,
+}
+
+/// What a message is to a client that waits for an answer.
+#[derive(Drop)]
+enum Reading {
+    Returned,
+    /// The call's answer is the error of this name.
+    Answered(String),
+    Broadcast,
+    /// To this client alone, and no answer to the call.
+    Other,
+}
+
+/// What a message is to a client that waits for the bus's answer to the call of this serial.
+fn read_answer(alloc: Global, message: &[u8], serial: u32) -> Result<Reading, ClientError> {
+    let view = View::read(message)?;
+    let is_answer = view.reply_serial() == Some(serial) && view.sender() == Some(BUS_NAME);
+    match view.kind() {
+        Kind::MethodReturn if is_answer => Ok(Reading::Returned),
+        Kind::Error if is_answer => {
+            let name = String::from_str(alloc, view.error_name().unwrap_or(""))?;
+            Ok(Reading::Answered(name))
+        }
+        _ if view.destination().is_none() => Ok(Reading::Broadcast),
+        _ => Ok(Reading::Other),
+    }
+}
+
+impl<S: Read + Write + Drop> Client<S> {
+    /// Talks with a bus until messages begin, and says Hello.
+    ///
+    /// # Errors
+    ///
+    /// Each of `ClientError`.
+    pub fn open(alloc: Global, mut stream: S) -> Result<Client<S>, ClientError> {
+        let unread = log_in(alloc, &mut stream)?;
+        let mut frames = Frames::new(alloc);
+        frames.feed(unread.as_slice())?;
+        let mut client = Client {
+            alloc,
+            stream,
+            frames,
+            serial: 0,
+            kept: VecDeque::new(alloc),
+        };
+        client.call(Call::Hello)?;
+        Ok(client)
+    }
+
+    /// Adds a match rule.
+    ///
+    /// # Errors
+    ///
+    /// `Answered` where the bus refuses it, and others.
+    pub fn add_match(&mut self, rule: &str) -> Result<(), ClientError> {
+        self.call(Call::AddMatch(rule))
+    }
+
+    /// Attaches a program, given by the bytes of its instructions, for images of an edition, or of the first where none is
+    /// said.
+    ///
+    /// # Errors
+    ///
+    /// `Answered` where the bus refuses it or knows no programs, and others.
+    pub fn attach(&mut self, edition: Option<u32>, code: &[u8]) -> Result<(), ClientError> {
+        match edition {
+            Some(edition) => self.call(Call::AttachEdition(edition, code)),
+            None => self.call(Call::Attach(code)),
+        }
+    }
+
+    /// The stream that the client talks by.
+    pub fn stream_mut(&mut self) -> &mut S {
+        &mut self.stream
+    }
+
+    /// The next message, first those that came while an answer was waited for.
+    ///
+    /// # Errors
+    ///
+    /// `Socket` at the end too, `Message` where what comes is no message, and `NoMemory`.
+    pub fn next(&mut self) -> Result<Bytes, ClientError> {
+        match self.kept.pop_front() {
+            Some(message) => Ok(message),
+            None => self.next_read(),
+        }
+    }
+
+    /// The next message of the stream.
+    fn next_read(&mut self) -> Result<Bytes, ClientError> {
+        for _ in 0..u64::MAX {
+            if let Some(message) = self.frames.next()? {
+                return Ok(message);
+            }
+            let mut block = [0u8; READ_LEN];
+            let len = read_some(&mut self.stream, &mut block)?;
+            self.frames.feed(&block[..len])?;
+        }
+        Err(ClientError::Socket)
+    }
+
+    /// Calls a method of the bus and waits for its answer.
+    fn call(&mut self, call: Call<'_>) -> Result<(), ClientError> {
+        self.serial = self.serial.checked_add(1).unwrap_or(1);
+        let message = call.message(self.alloc, self.serial)?;
+        self.stream.write_all(&message)?;
+        for _ in 0..u64::MAX {
+            let message = self.next_read()?;
+            match read_answer(self.alloc, message.as_slice(), self.serial)? {
+                Reading::Returned => return Ok(()),
+                Reading::Answered(name) => return Err(ClientError::Answered(name)),
+                Reading::Broadcast => self.kept.push_back(message)?,
+                Reading::Other => {}
+            }
+        }
+        Err(ClientError::Socket)
+    }
+}

@@ -1,0 +1,22 @@
+//! The client's side of a bus: where it listens, the authentication talk, and calls with their answers. The layer above uses
+//! that a talk ends after four of the client's lines at most, and that BEGIN follows OK alone.
+#![tactic(auto)]
+
+mod address;
+mod calls;
+mod client;
+mod error;
+mod escapes;
+mod lines;
+mod link;
+mod places;
+mod talk;
+mod timed;
+
+pub use address::{Address, AddressError, read_addresses};
+pub use client::Client;
+pub use error::ClientError;
+pub use link::{Link, connect};
+pub use places::addresses_of;
+pub use talk::{Answer, Say, Stage};
+pub use timed::Timed;

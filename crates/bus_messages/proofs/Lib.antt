@@ -1,0 +1,3 @@
+pub mod CalledMethods
+pub mod TextArguments
+pub mod NumberArguments

@@ -1,0 +1,57 @@
+// What the messages of the bus carry.
+
+ghost use Rattle.message_build.specs.Words.{Adds};
+ghost use Rattle.bus_messages.specs.Bodies.{with_body};
+
+use message_build::{BuildError, Builder};
+
+/// The signature of a dictionary of properties.
+const PROPERTIES: &[u8] = b"a{sv}";
+
+/// No properties: a length of 0, and the padding before the entry that isn't there.
+const NO_PROPERTIES: &[u8] = &[0; 8];
+
+/// An empty array of strings as a variant.
+const EMPTY_LIST: &[u8] = b"\x02as\0\0\0\0\0";
+
+/// The bus's properties Features and Interfaces, both empty arrays of strings: 48 bytes of entries.
+const BUS_PROPERTIES: &[u8] =
+    b"\x30\0\0\0\0\0\0\0\x08\0\0\0Features\0\x02as\0\0\0\0\0\0\0\0\x0a\0\0\0Interfaces\0\x02as\0\0\0\0\0\0";
+
+/// The arguments of an answer or a signal of the bus.
+#[derive(Clone, Copy)]
+pub enum Body<'a> {
+    Nothing,
+    Text(&'a str),
+    Number(u32),
+    Truth(bool),
+    Texts(&'a [&'a str]),
+    /// No entries of an `a{sv}`.
+    EmptyDict,
+    /// A variant that holds no strings: each property of the bus.
+    EmptyList,
+    /// All properties of the bus, as an `a{sv}`.
+    Properties,
+}
+
+impl Body<'_> {
+    /// Adds the arguments to a message.
+    ///
+    /// # Errors
+    ///
+    /// `NoMemory`, and then nothing is added.
+    pub(crate) fn add_to(self, builder: &mut Builder<'_>) -> Result<(), BuildError>
+        ensures { Adds result builder.old builder.new (with_body builder.old self.entry) }
+    {
+        match self {
+            Body::Nothing => Ok(()),
+            Body::Text(text) => builder.arg_str(text),
+            Body::Number(number) => builder.arg_u32(number),
+            Body::Truth(truth) => builder.arg_bool(truth),
+            Body::Texts(texts) => builder.arg_strs(texts),
+            Body::EmptyDict => builder.raw_body(PROPERTIES, NO_PROPERTIES),
+            Body::EmptyList => builder.raw_body(b"v", EMPTY_LIST),
+            Body::Properties => builder.raw_body(PROPERTIES, BUS_PROPERTIES),
+        }
+    }
+}

@@ -1,0 +1,178 @@
+// The calls that the bus answers itself.
+
+ghost use Rattle.std.specs.Prelude.{◌≡◌, Ok, Err, if◌then◌else◌};
+ghost use Rattle.std.specs.Str.{bytes_eq};
+ghost use Rattle.message_view.specs.Message.{Message};
+ghost use Rattle.message_view.specs.Valid.{Valid};
+ghost use Rattle.bus_messages.specs.declared.call.Call.TheVariants.{Get, GetAll};
+ghost use Rattle.bus_messages.specs.declared.call.CallError.TheVariants.{InvalidArgs};
+ghost use Rattle.bus_messages.specs.Calls.{Understands, IsReadAs, is_property};
+ghost use Rattle.bus_messages.specs.Methods.{bus};
+
+use crate::arguments::Arguments;
+use crate::error_name::ErrorName;
+use crate::method::{BUS, Method, Row};
+use bpf_code::Ins;
+use message_view::View;
+use std::alloc::{AllocError, Global};
+use std::fmt;
+use summary::Edition;
+
+/// A call of one of the bus's methods, with its arguments.
+#[derive(Drop)]
+pub enum Call<'a> {
+    Hello,
+    AddMatch(&'a str),
+    RemoveMatch(&'a str),
+    /// A name, and the flags of the request.
+    RequestName(&'a str, u32),
+    ReleaseName(&'a str),
+    GetNameOwner(&'a str),
+    NameHasOwner(&'a str),
+    ListNames,
+    Ping,
+    /// By Attach, which is of edition 1, or by AttachEdition.
+    Attach(Edition, Vec<Ins>),
+    Detach(u32),
+    /// A name; the flags have no meaning.
+    StartServiceByName(&'a str),
+    ListActivatableNames,
+    ListQueuedOwners(&'a str),
+    GetId,
+    GetConnectionUnixUser(&'a str),
+    GetConnectionUnixProcessId(&'a str),
+    GetConnectionCredentials(&'a str),
+    GetMachineId,
+    Introspect,
+    /// Of one of the bus's properties, each of which is an empty list.
+    Get,
+    /// Of the bus's properties.
+    GetAll,
+}
+
+/// Why a message is no call that the bus answers.
+#[derive(Clone, Copy, Debug, PartialEq, Eq)]
+pub enum CallError {
+    /// The bus has no such method.
+    UnknownMethod,
+    /// The arguments aren't of the method's types, or name a property that the bus hasn't.
+    InvalidArgs,
+    /// There is no such edition of a summary.
+    BadEdition,
+    /// Memory ran out.
+    NoMemory,
+}
+
+impl CallError {
+    /// The error that the call is answered with.
+    pub fn error_name(self) -> ErrorName {
+        match self {
+            CallError::UnknownMethod => ErrorName::UnknownMethod,
+            CallError::InvalidArgs => ErrorName::InvalidArgs,
+            CallError::BadEdition => ErrorName::BadEdition,
+            CallError::NoMemory => ErrorName::NoMemory,
+        }
+    }
+}
+
+impl fmt::Display for CallError {
+    fn fmt<W: fmt::Write>(&self, f: &mut fmt::Formatter<W>) -> fmt::Result {
+        f.write_str(self.error_name().word())
+    }
+}
+
+impl std::error::Error for CallError {}
+
+impl From<AllocError> for CallError {
+    ghost use Rattle.std.specs.Prelude.{◌≡◌};
+    ghost use Rattle.bus_messages.specs.declared.call.CallError.TheVariants.{NoMemory};
+
+    ghost from_gives = { λ _ error. error ≡ NoMemory };
+
+    fn from(_refused: AllocError) -> CallError {
+        CallError::NoMemory
+    }
+}
+
+/// A property of the bus, by its interface and its name.
+fn property<'a>(interface: &str, name: &str) -> Result<Call<'a>, CallError>
+    ensures { result ≡ (if is_property interface.now name.now then Ok Get else Err InvalidArgs) }
+{
+    if interface == BUS && (name == "Features" || name == "Interfaces") {
+        Ok(Call::Get)
+    } else {
+        Err(CallError::InvalidArgs)
+    }
+}
+
+/// All properties of an interface.
+fn properties<'a>(interface: &str) -> Result<Call<'a>, CallError>
+    ensures { result ≡ (if bytes_eq interface.now bus then Ok GetAll else Err InvalidArgs) }
+{
+    if interface == BUS {
+        Ok(Call::GetAll)
+    } else {
+        Err(CallError::InvalidArgs)
+    }
+}
+
+impl<'a> Call<'a> {
+    /// The call of a method with these arguments.
+    fn of(
+        alloc: Global,
+        method: Method,
+        arguments: &mut Arguments<'a>,
+    ) -> Result<Call<'a>, CallError>
+        ensures { Understands method arguments.old result }
+    {
+        match method {
+            Method::Hello => Ok(Call::Hello),
+            Method::AddMatch => Ok(Call::AddMatch(arguments.text()?)),
+            Method::RemoveMatch => Ok(Call::RemoveMatch(arguments.text()?)),
+            Method::RequestName => Ok(Call::RequestName(arguments.text()?, arguments.number()?)),
+            Method::ReleaseName => Ok(Call::ReleaseName(arguments.text()?)),
+            Method::GetNameOwner => Ok(Call::GetNameOwner(arguments.text()?)),
+            Method::NameHasOwner => Ok(Call::NameHasOwner(arguments.text()?)),
+            Method::ListNames => Ok(Call::ListNames),
+            Method::Ping => Ok(Call::Ping),
+            Method::Attach => Ok(Call::Attach(Edition::One, arguments.program(alloc)?)),
+            Method::AttachEdition => Ok(Call::Attach(
+                arguments.edition()?,
+                arguments.program(alloc)?,
+            )),
+            Method::Detach => Ok(Call::Detach(arguments.number()?)),
+            Method::StartServiceByName => Ok(Call::StartServiceByName(arguments.text()?)),
+            Method::ListActivatableNames => Ok(Call::ListActivatableNames),
+            Method::ListQueuedOwners => Ok(Call::ListQueuedOwners(arguments.text()?)),
+            Method::GetId => Ok(Call::GetId),
+            Method::GetConnectionUnixUser => Ok(Call::GetConnectionUnixUser(arguments.text()?)),
+            Method::GetConnectionUnixProcessId => {
+                Ok(Call::GetConnectionUnixProcessId(arguments.text()?))
+            }
+            Method::GetConnectionCredentials => {
+                Ok(Call::GetConnectionCredentials(arguments.text()?))
+            }
+            Method::GetMachineId => Ok(Call::GetMachineId),
+            Method::Introspect => Ok(Call::Introspect),
+            Method::Get => property(arguments.text()?, arguments.text()?),
+            Method::GetAll => properties(arguments.text()?),
+        }
+    }
+
+    /// Reads a message as a call of the bus, whatever its path and its destination are.
+    ///
+    /// # Errors
+    ///
+    /// `UnknownMethod` where the bus has no method of the interface and the member, `InvalidArgs` where the body has
+    /// another signature than the method takes, `BadEdition` where a summary's edition isn't 1 or 2, and `NoMemory`.
+    pub fn read(alloc: Global, view: &View<'a>) -> Result<Call<'a>, CallError>
+        ensures { (m : Message) → Valid view.now m → IsReadAs m result }
+    {
+        let member = view.member().ok_or(CallError::UnknownMethod)?;
+        let row = Row::of(view.interface(), member).ok_or(CallError::UnknownMethod)?;
+        if view.signature() != row.takes.as_bytes() {
+            return Err(CallError::InvalidArgs);
+        }
+        Call::of(alloc, row.method, &mut Arguments::of(view))
+    }
+}

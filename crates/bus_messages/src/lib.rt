@@ -1,0 +1,25 @@
+//! What the bus itself says and understands: the table of its methods, the calls that clients make of them, and the
+//! answers, errors and signals that it sends. Nothing here knows of connections but their numbers. The sessions above use
+//! that each message which is built is valid and the one that its arguments ask for, and that a unique name and its
+//! number are one another's.
+#![tactic(auto)]
+
+mod arguments;
+mod body;
+mod call;
+mod error_name;
+mod introspect;
+mod laws;
+mod method;
+mod sent;
+mod unique_name;
+
+pub use body::Body;
+pub use bytes::Bytes;
+pub use call::{Call, CallError};
+pub use error_name::ErrorName;
+pub use introspect::introspection;
+pub use laws::{number_is_read, text_is_there};
+pub use message_build::BuildError;
+pub use sent::{error, name_acquired, name_lost, name_owner_changed, reply};
+pub use unique_name::UniqueName;

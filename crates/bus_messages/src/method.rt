@@ -1,0 +1,137 @@
+// The methods of the bus.
+
+ghost use Rattle.std.specs.Prelude.{◌≡◌, map, option_map};
+ghost use Rattle.std.specs.List.{find};
+ghost use Rattle.bus_messages.specs.Methods.{methods, is_of, is_called, method_called};
+ghost use Rattle.bus_messages.specs.Rows.{shown};
+
+/// A method of the bus.
+#[derive(Clone, Copy, Debug, PartialEq, Eq)]
+pub(crate) enum Method {
+    Hello,
+    AddMatch,
+    RemoveMatch,
+    RequestName,
+    ReleaseName,
+    GetNameOwner,
+    NameHasOwner,
+    ListNames,
+    Ping,
+    Attach,
+    AttachEdition,
+    Detach,
+    StartServiceByName,
+    ListActivatableNames,
+    ListQueuedOwners,
+    GetId,
+    GetConnectionUnixUser,
+    GetConnectionUnixProcessId,
+    GetConnectionCredentials,
+    GetMachineId,
+    Introspect,
+    Get,
+    GetAll,
+}
+
+/// What a method is called, and the signatures of its arguments and of its answer.
+#[derive(Clone, Copy)]
+pub(crate) struct Row {
+    pub(crate) method: Method,
+    pub(crate) interface: &'static str,
+    pub(crate) member: &'static str,
+    pub(crate) takes: &'static str,
+    pub(crate) gives: &'static str,
+}
+
+pub(crate) const BUS: &str = "org.freedesktop.DBus";
+
+const PEER: &str = "org.freedesktop.DBus.Peer";
+
+const PROGRAMS: &str = "org.example.ProgramBus1";
+
+const INTROSPECTABLE: &str = "org.freedesktop.DBus.Introspectable";
+
+const PROPERTIES: &str = "org.freedesktop.DBus.Properties";
+
+/// The interfaces of the bus, in the order in which Introspect gives them.
+pub(crate) static INTERFACES: [&str; 5] = [BUS, PEER, PROGRAMS, INTROSPECTABLE, PROPERTIES];
+
+macro_rules! rows {
+    ($($method:ident $interface:ident $member:literal ($takes:literal) -> $gives:literal;)*) => {
+        [$(Row {
+            method: Method::$method,
+            interface: $interface,
+            member: $member,
+            takes: $takes,
+            gives: $gives,
+        }),*]
+    };
+}
+
+/// Each method. A call that names no interface is of the first row with its member.
+static ROWS: [Row; 23] = rows! {
+    Hello BUS "Hello" ("") -> "s";
+    AddMatch BUS "AddMatch" ("s") -> "";
+    RemoveMatch BUS "RemoveMatch" ("s") -> "";
+    RequestName BUS "RequestName" ("su") -> "u";
+    ReleaseName BUS "ReleaseName" ("s") -> "u";
+    GetNameOwner BUS "GetNameOwner" ("s") -> "s";
+    NameHasOwner BUS "NameHasOwner" ("s") -> "b";
+    ListNames BUS "ListNames" ("") -> "as";
+    Ping PEER "Ping" ("") -> "";
+    Attach PROGRAMS "Attach" ("a(qyyu)") -> "u";
+    AttachEdition PROGRAMS "AttachEdition" ("ua(qyyu)") -> "u";
+    Detach PROGRAMS "Detach" ("u") -> "";
+    StartServiceByName BUS "StartServiceByName" ("su") -> "u";
+    ListActivatableNames BUS "ListActivatableNames" ("") -> "as";
+    ListQueuedOwners BUS "ListQueuedOwners" ("s") -> "as";
+    GetId BUS "GetId" ("") -> "s";
+    GetConnectionUnixUser BUS "GetConnectionUnixUser" ("s") -> "u";
+    GetConnectionUnixProcessId BUS "GetConnectionUnixProcessID" ("s") -> "u";
+    GetConnectionCredentials BUS "GetConnectionCredentials" ("s") -> "a{sv}";
+    GetMachineId PEER "GetMachineId" ("") -> "s";
+    Introspect INTROSPECTABLE "Introspect" ("") -> "s";
+    Get PROPERTIES "Get" ("ss") -> "v";
+    GetAll PROPERTIES "GetAll" ("s") -> "a{sv}";
+};
+
+/// Every method of the bus.
+pub(crate) fn rows() -> &'static [Row]
+    ensures { map shown result.now ≡ methods }
+{
+    &ROWS
+}
+
+/// Whether a call may be of an interface, where it names one or none.
+fn is_of(named: Option<&str>, interface: &str) -> bool
+    ensures { result ≡ is_of (option_map (λ name. name.now) named.entry) interface.now }
+{
+    match named {
+        Some(name) => interface == name,
+        None => true,
+    }
+}
+
+impl Row {
+    /// Whether a call of this member is a call of this method, where it names this interface or none.
+    fn is_called(&self, interface: Option<&str>, member: &str) -> bool
+        ensures { result ≡ is_called (option_map (λ name. name.now) interface.entry) member.now (shown self.now) }
+    {
+        self.member == member && is_of(interface, self.interface)
+    }
+
+    /// The row of the method that a call is of.
+    pub(crate) fn of(interface: Option<&str>, member: &str) -> Option<&'static Row>
+        ensures { option_map (λ row. shown row.now) result ≡ method_called (option_map (λ name. name.now) interface.entry) member.now }
+    {
+        let table = rows();
+        first_called(table, interface, member)
+    }
+}
+
+/// The first row of the method that a call is of.
+fn first_called<'r>(rows: &'r [Row], interface: Option<&str>, member: &str) -> Option<&'r Row>
+    ensures { option_map (λ row. row.now) result ≡ find (λ row. is_called (option_map (λ name. name.now) interface.entry) member.now (shown row)) rows.entry.now }
+{
+    rows.iter().find(|row| row.is_called(interface, member))
+}

@@ -1,0 +1,145 @@
+// The messages that the bus makes.
+
+ghost use Rattle.std.specs.Prelude.{◌≡◌, ◌∷◌, [], Some, None, codes, option_map};
+ghost use Rattle.message_build.specs.Asked.{Asked};
+ghost use Rattle.bus_messages.specs.Sent.{Builds, from_bus, reply_asked, error_asked, signal_asked};
+
+use crate::body::Body;
+use crate::error_name::ErrorName;
+use bytes::Bytes;
+use message_build::{BuildError, Builder};
+use message_view::Kind;
+use std::alloc::Global;
+
+/// The name of the bus, which is also the interface of its signals.
+const BUS_NAME: &str = "org.freedesktop.DBus";
+
+const BUS_PATH: &str = "/org/freedesktop/DBus";
+
+/// The flag that no reply is expected.
+const NO_REPLY: u8 = 1;
+
+/// A message from the bus, without a body yet.
+fn from_bus<'a>(alloc: Global, kind: Kind, serial: u32, to: Option<&'a str>) -> Builder<'a>
+    ensures { result ≡ from_bus kind serial (option_map (λ name. name.now) to.entry) }
+{
+    let mut builder = Builder::new(alloc, kind, NO_REPLY, serial);
+    if let Some(name) = to {
+        builder.destination(name);
+    }
+    builder.sender(BUS_NAME);
+    builder
+}
+
+/// The bytes of what was asked for, to be shared.
+fn finished(alloc: Global, builder: &Builder<'_>) -> Result<Bytes, BuildError>
+    ensures { Builds builder.now result }
+{
+    let bytes = builder.finish(alloc)?;
+    Ok(Bytes::from_vec(bytes)?)
+}
+
+/// The answer to the message with a serial.
+///
+/// # Errors
+///
+/// `Invalid` where a serial is 0 or the name is none; `TooLarge` where the message would be above the limits; `NoMemory`.
+pub fn reply(
+    alloc: Global,
+    serial: u32,
+    to: Option<&str>,
+    reply_to: u32,
+    body: Body<'_>,
+) -> Result<Bytes, BuildError>
+    ensures { Builds (reply_asked serial (option_map (λ name. name.now) to.entry) reply_to body.entry) result }
+{
+    let mut builder = from_bus(alloc, Kind::MethodReturn, serial, to);
+    builder.reply_serial(reply_to);
+    body.add_to(&mut builder)?;
+    finished(alloc, &builder)
+}
+
+/// The error that answers the message with a serial. Its argument is the error's word.
+///
+/// # Errors
+///
+/// As those of `reply`.
+pub fn error(
+    alloc: Global,
+    serial: u32,
+    to: Option<&str>,
+    reply_to: u32,
+    name: ErrorName,
+) -> Result<Bytes, BuildError>
+    ensures { Builds (error_asked serial (option_map (λ name. name.now) to.entry) reply_to name) result }
+{
+    let mut builder = from_bus(alloc, Kind::Error, serial, to);
+    builder.error_name(name.name());
+    builder.reply_serial(reply_to);
+    builder.arg_str(name.word())?;
+    finished(alloc, &builder)
+}
+
+/// A signal of the bus, without a body yet.
+fn signal<'a>(
+    alloc: Global,
+    serial: u32,
+    to: Option<&'a str>,
+    member: &'a str,
+) -> Builder<'a>
+    ensures { result ≡ signal_asked serial (option_map (λ name. name.now) to.entry) member.entry.now [] }
+{
+    let mut builder = from_bus(alloc, Kind::Signal, serial, to);
+    builder.path(BUS_PATH);
+    builder.interface(BUS_NAME);
+    builder.member(member);
+    builder
+}
+
+/// The broadcast that a name has another owner. Both owners are unique names, or empty where there is none.
+///
+/// # Errors
+///
+/// `Invalid` where the serial is 0; `TooLarge` where the message would be above the limits; `NoMemory`.
+pub fn name_owner_changed(
+    alloc: Global,
+    serial: u32,
+    name: &str,
+    old: &str,
+    new: &str,
+) -> Result<Bytes, BuildError>
+    ensures { Builds (signal_asked serial None (codes "NameOwnerChanged") (name.now ∷ old.now ∷ new.now ∷ [])) result }
+{
+    let mut builder = signal(alloc, serial, None, "NameOwnerChanged");
+    builder.arg_str(name)?;
+    builder.arg_str(old)?;
+    builder.arg_str(new)?;
+    finished(alloc, &builder)
+}
+
+/// The signal to a connection that lost a name.
+///
+/// # Errors
+///
+/// `Invalid` where the serial is 0 or it goes to no bus name; `TooLarge` where the message would be above the limits;
+/// `NoMemory`.
+pub fn name_lost(alloc: Global, serial: u32, to: &str, name: &str) -> Result<Bytes, BuildError>
+    ensures { Builds (signal_asked serial (Some to.now) (codes "NameLost") (name.now ∷ [])) result }
+{
+    let mut builder = signal(alloc, serial, Some(to), "NameLost");
+    builder.arg_str(name)?;
+    finished(alloc, &builder)
+}
+
+/// The signal to a connection that has a name now.
+///
+/// # Errors
+///
+/// As those of `name_lost`.
+pub fn name_acquired(alloc: Global, serial: u32, to: &str, name: &str) -> Result<Bytes, BuildError>
+    ensures { Builds (signal_asked serial (Some to.now) (codes "NameAcquired") (name.now ∷ [])) result }
+{
+    let mut builder = signal(alloc, serial, Some(to), "NameAcquired");
+    builder.arg_str(name)?;
+    finished(alloc, &builder)
+}

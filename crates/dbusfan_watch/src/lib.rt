@@ -1,0 +1,13 @@
+//! The command `dbusfan watch`: what goes over a bus, by a match rule or by a program of one's own. The program above calls
+//! `watch` with the words after the command's name.
+#![tactic(auto)]
+
+mod entry;
+mod fault;
+mod options;
+mod printing;
+mod words;
+
+pub use entry::watch;
+pub use fault::Fault;
+pub use options::{Options, Wanted};

@@ -1,0 +1,80 @@
+-- Marks in rows, and the remainders of the numbers of marked connections.
+use Rattle.std.proofs.Common.{◌≡◌, ℕ, zero, suc, ◌+◌, ◌*◌, ◌/◌, ◌%◌, ◌<◌, ◌≤◌, Bool, true, false, List, [], ◌∷◌, ◌++◌, length, get_or, drop, Some, refl, sym, ap, subst, ◌∙◌, add-one, arith}
+use Rattle.std.specs.Prelude.{MatchBool, Contains, slice_get}
+use Rattle.std.specs.List.Sorted.{IsStrictlyIncreasing}
+use Rattle.std.proofs.lemmas.List.{length-map, drop_all}
+use Rattle.std.proofs.lemmas.Option.{slice_get-get_or, slice_get_within}
+use Rattle.program_table.specs.declared.connection.Connection.{Connection}
+use Rattle.program_table.specs.Connections.{numbers_of}
+use Rattle.fan_out.specs.Marks.{AreInRows, AreNoted, IsMarked, IsUnmarked, marked_numbers}
+use Rattle.fan_out.proofs.Places.{contains_here, contains_later, rising_tail, rising_head}
+
+skip_mark : (ns : List ℕ) (ms : List Bool) (k : ℕ) → slice_get ms k ≡ Some false → marked_numbers (drop k ns) (drop k ms) ≡ marked_numbers (drop (suc k) ns) (drop (suc k) ms)
+skip_mark [] ms zero e = refl
+skip_mark [] ms (suc k) e = refl
+skip_mark (n ∷ ns) [] k e = cc
+skip_mark (n ∷ ns) (true ∷ ms) zero e = cc
+skip_mark (n ∷ ns) (false ∷ ms) zero e = refl
+skip_mark (n ∷ ns) (m ∷ ms) (suc k) e = skip_mark ns ms k e
+
+pub number_skipped : (numbers ns : List ℕ) (ms : List Bool) (k : ℕ) → slice_get ms k ≡ Some false → numbers ++ marked_numbers (drop (k + 1) ns) (drop (k + 1) ms) ≡ numbers ++ marked_numbers (drop k ns) (drop k ms)
+number_skipped numbers ns ms k e = rw add-one (ap (λ (xs : List ℕ). numbers ++ xs) (sym (skip_mark ns ms k e)))
+
+-- places without a mark give no numbers
+skip_marks : (count k : ℕ) (ns : List ℕ) (ms : List Bool) → ((j : ℕ) → k ≤ j → j < k + count → slice_get ms j ≡ Some false) → marked_numbers (drop k ns) (drop k ms) ≡ marked_numbers (drop (k + count) ns) (drop (k + count) ms)
+skip_marks zero k ns ms h = let e : k + 0 ≡ k = omega arith in rw e refl
+skip_marks (suc count) k ns ms h =
+    let e : k + suc count ≡ suc k + count = omega arith in
+    skip_mark ns ms k (h k (omega arith) (omega arith)) ∙ rw e (skip_marks count (suc k) ns ms (λ j from below. h j (omega arith) (omega arith)))
+
+marked_never : (b : Bool) → Some b ≡ Some false → Some b ≡ Some true → ⊥
+marked_never b e f = cc
+
+-- a row that isn't noted has no mark
+unmarked_row : (places rows : List Bool) (row j : ℕ) → length places ≡ 256 → AreInRows places rows → row < 16 → slice_get rows row ≡ Some false → 16 * row ≤ j → j < 16 * row + 16 → slice_get places j ≡ Some false
+unmarked_row places rows row j size in_rows less unnoted from below = go (get_or places j false) (slice_get-get_or places j false (omega arith))
+  where
+    go : (b : Bool) → slice_get places j ≡ Some b → slice_get places j ≡ Some false
+    go false e = e
+    go true e =
+        let at : j / 16 ≡ row = omega arith in
+        absurd (marked_never true (sym (in_rows j e) ∙ ap (slice_get rows) at ∙ unnoted) refl)
+
+pub row_passed : (places rows : List Bool) (row : ℕ) (ns : List ℕ) → length places ≡ 256 → AreInRows places rows → row < 16 → slice_get rows row ≡ Some false → marked_numbers (drop (16 * row) ns) (drop (16 * row) places) ≡ marked_numbers (drop (16 * row + 16) ns) (drop (16 * row + 16) places)
+row_passed places rows row ns size in_rows less unnoted = skip_marks 16 (16 * row) ns places (λ j from below. unmarked_row places rows row j size in_rows less unnoted from below)
+
+module _ {M : Type 0} where
+  -- behind the last connection there are no numbers
+  pub none_left : (cs : List (Connection M)) (ms : List Bool) (k : ℕ) → length cs ≤ k → marked_numbers (drop k (numbers_of cs)) ms ≡ []
+  none_left cs ms k past =
+      let few : length (numbers_of cs) ≤ k = omega (arith, past, length-map cs (λ (c : Connection M). c.number)) in
+      ap (λ (ns : List ℕ). marked_numbers ns ms) (drop_all k (numbers_of cs) few)
+
+at_contains : (ns : List ℕ) (j n : ℕ) → slice_get ns j ≡ Some n → Contains ns n
+at_contains [] j n e = cc
+at_contains (x ∷ ns) zero n e = let same : x ≡ n = cc in subst (λ (y : ℕ). Contains (x ∷ ns) y) same (contains_here x ns)
+at_contains (x ∷ ns) (suc j) n e = contains_later x n ns (at_contains ns j n e)
+
+not_first : (x n : ℕ) (ns : List ℕ) (j : ℕ) → IsStrictlyIncreasing (x ∷ ns) → Some x ≡ Some n → slice_get ns j ≡ Some n → ⊥
+not_first x n ns j rising e f = let same : x ≡ n = cc in omega (arith, rising_head x ns n rising (at_contains ns j n f), same)
+
+-- a number stands at one place
+same_place : (ns : List ℕ) (i j n : ℕ) → IsStrictlyIncreasing ns → slice_get ns i ≡ Some n → slice_get ns j ≡ Some n → i ≡ j
+same_place [] i j n rising e f = cc
+same_place (x ∷ ns) zero zero n rising e f = refl
+same_place (x ∷ ns) zero (suc j) n rising e f = absurd (not_first x n ns j rising e f)
+same_place (x ∷ ns) (suc i) zero n rising e f = absurd (not_first x n ns i rising f e)
+same_place (x ∷ ns) (suc i) (suc j) n rising e f = ap suc (same_place ns i j n (rising_tail x ns rising) e f)
+
+-- the mark at a number's place is the number's
+pub marked_at : (numbers : List ℕ) (marks : List Bool) (place n : ℕ) (b : Bool) → IsStrictlyIncreasing numbers → slice_get numbers place ≡ Some n → slice_get marks place ≡ Some b → MatchBool b (IsMarked numbers marks n) (IsUnmarked numbers marks n)
+marked_at numbers marks place n true rising stands e = (place, stands, e)
+marked_at numbers marks place n false rising stands e = λ k there. subst (λ (j : ℕ). slice_get marks j ≡ Some false) (same_place numbers place k n rising stands there) e
+
+-- a number whose remainder isn't noted isn't marked
+pub unmarked_from : (numbers : List ℕ) (marks remainders : List Bool) (n : ℕ) → length numbers ≤ length marks → AreNoted numbers marks remainders → slice_get remainders (n % 256) ≡ Some false → IsUnmarked numbers marks n
+unmarked_from numbers marks remainders n few noted unnoted k stands = go (get_or marks k false) (slice_get-get_or marks k false (omega (arith, few, slice_get_within numbers k n stands)))
+  where
+    go : (b : Bool) → slice_get marks k ≡ Some b → slice_get marks k ≡ Some false
+    go false e = e
+    go true e = absurd (marked_never true (sym (noted k n stands e) ∙ unnoted) refl)

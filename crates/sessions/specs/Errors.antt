@@ -1,0 +1,22 @@
+-- The numbers and names of the errors that end a session.
+use Rattle.std.specs.Prelude.{ℕ, List, codes}
+use Rattle.sessions.specs.declared.error.SessionError.{SessionError}
+use Rattle.sessions.specs.declared.error.SessionError.TheVariants.{Auth, Message, NoHello, Read, Write, Slow, NoMemory}
+
+abbrev pub number_of : SessionError → ℕ
+number_of Auth = 1
+number_of (Message _) = 2
+number_of NoHello = 3
+number_of Read = 4
+number_of Write = 5
+number_of Slow = 6
+number_of NoMemory = 7
+
+abbrev pub name_of : SessionError → List ℕ
+name_of Auth = codes "Auth"
+name_of (Message _) = codes "Message"
+name_of NoHello = codes "NoHello"
+name_of Read = codes "Read"
+name_of Write = codes "Write"
+name_of Slow = codes "Slow"
+name_of NoMemory = codes "NoMemory"

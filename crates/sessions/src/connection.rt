@@ -1,0 +1,121 @@
+// A client that has said Hello.
+
+use crate::error::SessionError;
+use crate::home::Home;
+use crate::identity::Identity;
+use crate::refused::Refused;
+use crate::request::Request;
+use crate::serial::Serials;
+use crate::site::Site;
+use bus_messages::{Body, Bytes, ErrorName, UniqueName, error, reply};
+use crossbeam_utils::rule::Protocol;
+use program_table::{Command, Mailbox};
+use published::{Naming, Published, Shown};
+use router::Pass;
+use routing::Carrier;
+use std::alloc::Global;
+use std::collections::LinkedList;
+use std::sync::Wait;
+
+/// A client on the bus: its pass, its unique name, and the serials of the messages that the bus makes for its session.
+#[derive(Drop)]
+pub(crate) struct Connection<J: Naming, M: Mailbox>
+where
+    Published: Protocol<Shown<J, M>, LinkedList<Command<M>>>,
+{
+    pub(crate) pass: Pass<J, M>,
+    pub(crate) name: UniqueName,
+    pub(crate) serials: Serials,
+    pub(crate) identity: Identity,
+}
+
+impl<J: Naming, M: Mailbox + Carrier> Connection<J, M> {
+    /// The connection of a pass that is connected under this number.
+    pub(crate) fn new(pass: Pass<J, M>, number: u64, identity: Identity) -> Connection<J, M> {
+        Connection {
+            pass,
+            name: UniqueName::new(number),
+            serials: Serials::new(),
+            identity,
+        }
+    }
+
+    /// Answers a call, where its caller waits for an answer.
+    ///
+    /// # Errors
+    ///
+    /// `Slow`, and `NoMemory` where not even the error NoMemory could be built.
+    pub(crate) fn answer<W: Wait, R: Wait + Drop>(
+        &mut self,
+        site: &Site<'_, J, M, W, R>,
+        home: &mut Home<M>,
+        request: Request,
+        body: Body<'_>,
+    ) -> Result<(), SessionError> {
+        if !request.wants_answer {
+            return Ok(());
+        }
+        let serial = self.serials.take();
+        let to = Some(self.name.as_str());
+        match reply(site.alloc, serial, to, request.serial, body) {
+            Ok(bytes) => home.put(site.rt, bytes),
+            Err(_) => self.put_error(site, home, request, serial, ErrorName::NoMemory),
+        }
+    }
+
+    /// Answers a call with an error, where its caller waits for an answer.
+    ///
+    /// # Errors
+    ///
+    /// As those of `answer`, and `NoMemory` where the bus has ended.
+    pub(crate) fn refuse<W: Wait, R: Wait + Drop>(
+        &mut self,
+        site: &Site<'_, J, M, W, R>,
+        home: &mut Home<M>,
+        request: Request,
+        why: Refused,
+    ) -> Result<(), SessionError> {
+        let Refused::Error(name) = why else {
+            return Err(SessionError::NoMemory);
+        };
+        if !request.wants_answer {
+            return Ok(());
+        }
+        let serial = self.serials.take();
+        self.put_error(site, home, request, serial, name)
+    }
+
+    fn put_error<W: Wait, R: Wait + Drop>(
+        &self,
+        site: &Site<'_, J, M, W, R>,
+        home: &mut Home<M>,
+        request: Request,
+        serial: u32,
+        name: ErrorName,
+    ) -> Result<(), SessionError> {
+        let to = Some(self.name.as_str());
+        let bytes = error_bytes(site.alloc, serial, to, request, name)?;
+        home.put(site.rt, bytes)
+    }
+}
+
+/// The bytes of an error, or of the error NoMemory in its place.
+///
+/// # Errors
+///
+/// `NoMemory` where neither could be built.
+pub(crate) fn error_bytes(
+    alloc: Global,
+    serial: u32,
+    to: Option<&str>,
+    request: Request,
+    name: ErrorName,
+) -> Result<Bytes, SessionError> {
+    match error(alloc, serial, to, request.serial, name) {
+        Ok(bytes) => Ok(bytes),
+        Err(_) => {
+            error(alloc, serial, to, request.serial, ErrorName::NoMemory)
+                .map_err(|_| SessionError::NoMemory)
+        }
+    }
+}

@@ -1,0 +1,66 @@
+// Who owns a name that a client asks about.
+
+use crate::connection::Connection;
+use crate::dispatch::BUS_NAME;
+use crate::refused::Refused;
+use bus_messages::{ErrorName, UniqueName};
+use owners::WellKnown;
+use program_table::Mailbox;
+use published::Naming;
+use routing::Carrier;
+use signature::check_bus_name;
+use std::alloc::Global;
+
+/// A name's owner. The bus owns its own name, and each connected unique name owns itself.
+#[derive(Clone, Copy, Debug, PartialEq, Eq)]
+pub(crate) enum Owner {
+    Bus,
+    Connection(u64),
+}
+
+/// A bus name, by who may own it.
+#[derive(Drop)]
+pub(crate) enum AskedName {
+    Bus,
+    /// A unique name, with the number of the connection that may have it.
+    Unique(Option<u64>),
+    WellKnown(WellKnown),
+}
+
+impl AskedName {
+    /// The name that a text is, or `InvalidArgs` where it is none.
+    pub(crate) fn read(text: &str) -> Result<AskedName, Refused> {
+        if text == BUS_NAME {
+            return Ok(AskedName::Bus);
+        }
+        if let Ok(name) = WellKnown::read(text) {
+            return Ok(AskedName::WellKnown(name));
+        }
+        if check_bus_name(text) {
+            return Ok(AskedName::Unique(UniqueName::number_of(text)));
+        }
+        Err(Refused::Error(ErrorName::InvalidArgs))
+    }
+}
+
+impl<J: Naming, M: Mailbox + Carrier> Connection<J, M> {
+    /// The owner of the name that a text is, or why that can't be told.
+    pub(crate) fn owner(&mut self, alloc: Global, text: &str) -> Result<Option<Owner>, Refused> {
+        match AskedName::read(text)? {
+            AskedName::Bus => Ok(Some(Owner::Bus)),
+            AskedName::Unique(None) => Ok(None),
+            AskedName::Unique(Some(number)) => {
+                let (connections, _) = self.pass.names(alloc)?;
+                if connections.as_slice().contains(&number) {
+                    Ok(Some(Owner::Connection(number)))
+                } else {
+                    Ok(None)
+                }
+            }
+            AskedName::WellKnown(name) => {
+                let owner = self.pass.owner_of(&name)?;
+                Ok(owner.map(|number| Owner::Connection(number)))
+            }
+        }
+    }
+}

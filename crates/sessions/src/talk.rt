@@ -1,0 +1,71 @@
+// The talk before messages begin.
+
+ghost use Rattle.std.specs.Prelude.{◌≤◌, length, IfOk};
+
+use crate::error::SessionError;
+use crate::home::Home;
+use auth::Auth;
+use bytes::Bytes;
+use program_table::Mailbox;
+use routing::Carrier;
+use std::alloc::Global;
+use std::sync::Wait;
+
+/// The server's side of a talk, and whether it is over.
+#[derive(Drop)]
+pub(crate) struct Talk {
+    auth: Auth,
+    has_begun: bool,
+}
+
+impl Talk {
+    pub(crate) fn new(guid: [u8; 32]) -> Talk {
+        Talk {
+            auth: Auth::new(guid),
+            has_begun: false,
+        }
+    }
+
+    /// Whether BEGIN came: what follows are messages.
+    pub(crate) fn has_begun(&self) -> bool {
+        self.has_begun
+    }
+
+    /// Treats the next line and puts its answer. It gives how many bytes were taken: all of them where the line's end
+    /// isn't there.
+    ///
+    /// # Errors
+    ///
+    /// `Auth`, `Slow`, `NoMemory`.
+    pub(crate) fn take_line<M: Mailbox + Carrier, W: Wait>(
+        &mut self,
+        rt: &W,
+        alloc: Global,
+        home: &mut Home<M>,
+        bytes: &[u8],
+    ) -> Result<usize, SessionError>
+        ensures { IfOk result (λ taken. taken ≤ length bytes.now) }
+    {
+        let Ok(fed) = self.auth.feed(bytes) else {
+            return Err(SessionError::Auth);
+        };
+        self.has_begun = fed.begun;
+        put_answer(rt, alloc, home, fed.answer.as_slice())?;
+        Ok(fed.taken)
+    }
+}
+
+fn put_answer<M: Mailbox + Carrier, W: Wait>(
+    rt: &W,
+    alloc: Global,
+    home: &mut Home<M>,
+    answer: &[u8],
+) -> Result<(), SessionError> {
+    if answer.is_empty() {
+        return Ok(());
+    }
+    match Bytes::copy_from_slice(alloc, answer) {
+        Ok(bytes) => home.put(rt, bytes),
+        Err(_) => Err(SessionError::NoMemory),
+    }
+}

@@ -1,0 +1,2 @@
+pub mod Printable
+pub mod Escaped

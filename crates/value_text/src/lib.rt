@@ -1,0 +1,17 @@
+//! Messages as lines of text. The layer above uses that a line is printable ASCII and one line feed, whatever bytes the
+//! message has, and that the hexadecimal line is the message's bytes.
+#![tactic(auto)]
+
+mod basic;
+mod body;
+mod double;
+mod element;
+mod error;
+mod line;
+mod message;
+mod value;
+
+pub use error::TextError;
+pub use line::Line;
+pub use message::{hex_line, message_line};
+pub use value::write_value;
