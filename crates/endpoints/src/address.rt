@@ -10,14 +10,9 @@ use std::fmt;
 #[derive(Clone, Copy, Debug)]
 pub enum Address<'a> {
     /// `tcp:host=H,port=P`. Port 0 asks for any port that is free.
-    Tcp {
-        host: &'a str,
-        port: u16,
-    },
+    Tcp { host: &'a str, port: u16 },
     /// `unix:path=P`.
-    Unix {
-        path: &'a str,
-    },
+    Unix { path: &'a str },
 }
 
 /// Whether the byte ends a value, as `,` and `;` do, or escapes another, as `%` does.
