@@ -88,10 +88,10 @@ where
         + Sync
         + Alloc,
 {
-    let listener = Listener::bind(rt, options.address).map_err(|error| Fault::of(
-        &error,
-        Fault::Socket,
-    ))?;
+    let listener = match Listener::bind(rt, options.address) {
+        Ok(listener) => listener,
+        Err(error) => return Err(Fault::of_bind(&error)),
+    };
     let served = match announce(alloc, &listener, options.address, out) {
         Ok(()) => serve_at(rt, alloc, options, &listener),
         Err(fault) => Err(fault),
