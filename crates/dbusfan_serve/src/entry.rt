@@ -88,8 +88,10 @@ where
         + Sync
         + Alloc,
 {
-    let listener =
-        Listener::bind(rt, options.address).map_err(|error| Fault::of(&error, Fault::Socket))?;
+    let listener = match Listener::bind(rt, options.address) {
+        Ok(listener) => listener,
+        Err(error) => return Err(Fault::of_bind(&error)),
+    };
     let served = match announce(alloc, &listener, options.address, out) {
         Ok(()) => serve_at(rt, alloc, options, &listener),
         Err(fault) => Err(fault),
@@ -128,7 +130,9 @@ where
         guid: options.guid,
         machine: machine_id(rt),
     };
-    let workers = thread::available_parallelism(rt).map(|count| count.get()).unwrap_or(1);
+    let workers = thread::available_parallelism(rt)
+        .map(|count| count.get())
+        .unwrap_or(1);
     let limits = Limits::with_workers(workers);
     let count = options.connections.map(u64::from);
     server::serve(rt, alloc, key, identity, limits, listener, count).map_err(|_| Fault::Memory)

@@ -6,7 +6,7 @@ use std::io::ErrorKind;
 
 /// What the command is refused for.
 #[derive(Clone, Copy, Debug, PartialEq, Eq)]
-pub enum Fault {
+pub(crate) enum Fault {
     /// The words are no row of the command line.
     Usage,
     /// Standard output can't be written.
@@ -19,7 +19,7 @@ pub enum Fault {
 
 impl Fault {
     /// The status that the program ends with.
-    pub fn status(self) -> u8 {
+    fn status(self) -> u8 {
         match self {
             Fault::Usage => 3,
             Fault::File | Fault::Socket => 4,
@@ -43,11 +43,11 @@ impl Fault {
         self.status()
     }
 
-    /// What an error means, where nothing but memory is asked of the system or else this fault is met.
-    pub(crate) fn of(error: &io::Error, other: Fault) -> Fault {
+    /// What it means that an address can't be bound.
+    pub(crate) fn of_bind(error: &io::Error) -> Fault {
         match error.kind() {
             ErrorKind::OutOfMemory => Fault::Memory,
-            _ => other,
+            _ => Fault::Socket,
         }
     }
 }

@@ -7,5 +7,3 @@ mod machine;
 mod options;
 
 pub use entry::serve;
-pub use fault::Fault;
-pub use options::Options;

@@ -4,12 +4,12 @@ use endpoints::Address;
 
 /// What `serve --listen ADDRESS --guid GUID [--connections N]` asks for.
 #[derive(Clone, Copy)]
-pub struct Options<'a> {
-    pub address: Address<'a>,
+pub(crate) struct Options<'a> {
+    pub(crate) address: Address<'a>,
     /// 32 hexadecimal digits.
-    pub guid: [u8; 32],
+    pub(crate) guid: [u8; 32],
     /// After how many connections to end; at least one.
-    pub connections: Option<u32>,
+    pub(crate) connections: Option<u32>,
 }
 
 /// The values of the options that were given so far.
@@ -88,7 +88,7 @@ fn count_of(text: &str) -> Option<u32> {
 
 impl<'a> Options<'a> {
     /// What the words after `serve` ask for, if they are its options, in any order.
-    pub fn read(words: &[&'a str]) -> Option<Options<'a>> {
+    pub(crate) fn read(words: &[&'a str]) -> Option<Options<'a>> {
         if words.len() % 2 != 0 {
             return None;
         }

@@ -39,12 +39,12 @@ impl Listener {
         }
     }
 
-    /// The next connection, waited for. Small writes on it aren't held back.
+    /// The next connection, waited for. Small writes on it aren't held back, where the system grants that.
     pub fn accept(&self) -> io::Result<Link> {
         match self {
             Listener::Tcp(listener) => {
                 let (stream, _) = listener.accept()?;
-                stream.set_nodelay(true)?;
+                let _ = stream.set_nodelay(true);
                 Ok(Link::Tcp(stream))
             }
             Listener::Unix(listener) => Ok(Link::Unix(listener.accept()?.0)),

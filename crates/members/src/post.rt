@@ -4,10 +4,9 @@ use endpoints::Link;
 use mio::unix::SourceFd;
 use mio::{Interest, Poll, Registry, Token, Waker};
 use std::alloc::Global;
-use std::io;
-use std::mem;
 use std::sync::atomic::{AtomicBool, Ordering};
 use std::sync::{Mutex, Wait};
+use std::{io, mem};
 
 /// The token of the waker. The keys of connections are all lower.
 pub const BELL: Token = Token(usize::MAX);

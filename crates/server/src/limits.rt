@@ -1,5 +1,7 @@
 // How many connections there may be, and how long they may take to come in.
 
+ghost use Rattle.std.specs.Prelude.{◌≡◌, ◌≤◌};
+
 use std::sync::{Condvar, Mutex, Wait};
 use std::time::Duration;
 
@@ -17,7 +19,11 @@ pub struct Limits {
 
 impl Limits {
     /// 64 connections without Hello at once, each for at most 30 seconds, and 1 to 16 workers.
-    pub fn with_workers(workers: usize) -> Limits {
+    pub fn with_workers(workers: usize) -> Limits
+        ensures newcomers { result.newcomers ≡ 64 }
+        ensures some { 1 ≤ result.workers }
+        ensures few { result.workers ≤ 16 }
+    {
         Limits {
             newcomers: 64,
             patience: Duration::from_secs(30),

@@ -12,14 +12,13 @@ use members::Mail;
 use published::{Naming, Opened};
 use router::Bus;
 use std::alloc::Global;
-use std::io;
 use std::io::ErrorKind;
 use std::marker::Brand;
 use std::net::Net;
 use std::sync::Wait;
-use std::thread;
 use std::thread::{Builder, Threads};
 use std::time::Clock;
+use std::{io, thread};
 
 /// Serves as many connections as are asked for, or without end, on a bus of their own. It answers once all of them have
 /// ended, or where memory or threads are refused at the start.

@@ -98,12 +98,7 @@ pub(crate) fn work<J: Naming, R: Wait + Drop, W: Wait + Clock>(
 }
 
 impl<'a, J: Naming, R: Wait + Drop> Worker<'a, J, R> {
-    fn new(
-        alloc: Global,
-        hub: &'a Hub<J, R>,
-        post: Arc<Post>,
-        block: Vec<u8>,
-    ) -> Worker<'a, J, R> {
+    fn new(alloc: Global, hub: &'a Hub<J, R>, post: Arc<Post>, block: Vec<u8>) -> Worker<'a, J, R> {
         Worker {
             alloc,
             hub,

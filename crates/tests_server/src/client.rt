@@ -24,7 +24,9 @@ pub const S1_STAMPED: &[u8; 80] =
 
 /// The lengths of the answers: to the talk (`DATA` and `OK GUID`), to Hello with the signal NameAcquired, and to AddMatch.
 const TALK_ANSWER: usize = 43;
+
 const HELLO_ANSWER: usize = 258;
+
 const MATCH_ANSWER: usize = 72;
 
 fn skip<S: Read>(stream: &mut S, count: usize) -> io::Result<()> {

@@ -4,14 +4,13 @@ use crate::announced::{Announced, Announcer};
 use crate::client::{S1_STAMPED, talk};
 use dbusfan_serve::serve;
 use dbusfan_tool::Output;
-use std::io;
 use std::io::ErrorKind;
 use std::net::{Net, TcpStream};
 use std::os::unix::net::UnixStream;
 use std::sync::Wait;
 use std::test::Fail;
-use std::thread;
 use std::time::Duration;
+use std::{io, thread};
 
 const GUID: &str = "0123456789abcdef0123456789abcdef";
 
@@ -50,7 +49,14 @@ fn two_clients_over_tcp(rt: HostRuntime) -> Result<(), Fail> {
         to: &announced,
     });
     let mut err = Output::new(Vec::new(alloc));
-    let words = ["--listen", "tcp:host=127.0.0.1,port=0", "--guid", GUID, "--connections", "2"];
+    let words = [
+        "--listen",
+        "tcp:host=127.0.0.1,port=0",
+        "--guid",
+        GUID,
+        "--connections",
+        "2",
+    ];
     let (got, status) = thread::join(
         &rt,
         || over_tcp(&rt, &announced),
@@ -70,7 +76,14 @@ fn two_clients_over_unix(rt: HostRuntime) -> Result<(), Fail> {
         to: &announced,
     });
     let mut err = Output::new(Vec::new(alloc));
-    let words = ["--listen", "unix:path=two_clients.sock", "--guid", GUID, "--connections", "2"];
+    let words = [
+        "--listen",
+        "unix:path=two_clients.sock",
+        "--guid",
+        GUID,
+        "--connections",
+        "2",
+    ];
     let (got, status) = thread::join(
         &rt,
         || over_unix(&rt, &announced, "two_clients.sock"),

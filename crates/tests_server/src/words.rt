@@ -15,7 +15,12 @@ fn words_that_are_no_row(rt: HostRuntime) -> Result<(), Fail> {
         &["--guid", GUID],
         &["--listen", "unix:path=", "--guid", GUID],
         &["--listen", "tcp:host=127.0.0.1,port=65536", "--guid", GUID],
-        &["--listen", listen, "--guid", "0123456789abcdef0123456789abcdeg"],
+        &[
+            "--listen",
+            listen,
+            "--guid",
+            "0123456789abcdef0123456789abcdeg",
+        ],
         &["--listen", listen, "--guid", GUID, "--connections", "0"],
         &["--listen", listen, "--guid", GUID, "--listen", listen],
     ];
@@ -32,7 +37,12 @@ fn words_that_are_no_row(rt: HostRuntime) -> Result<(), Fail> {
 
 #[test]
 fn a_place_that_cannot_be_bound(rt: HostRuntime) -> Result<(), Fail> {
-    let words = ["--listen", "unix:path=no/such/folder/bus.sock", "--guid", GUID];
+    let words = [
+        "--listen",
+        "unix:path=no/such/folder/bus.sock",
+        "--guid",
+        GUID,
+    ];
     let mut out = Output::new(Vec::new(rt.alloc()));
     let mut err = Output::new(Vec::new(rt.alloc()));
     let status = serve(&rt, rt.alloc(), words.as_slice(), &mut out, &mut err);

@@ -1,0 +1,2 @@
+pub mod Commas
+pub mod Spelled
