@@ -53,7 +53,12 @@ impl Fault {
             Fault::Auth => err.put(b"dbusfan: auth\n"),
             Fault::Refused(name) => put_named(alloc, name.as_str(), "", err),
             Fault::NoPrograms(name) => {
-                put_named(alloc, name.as_str(), ": this bus can't attach programs", err);
+                put_named(
+                    alloc,
+                    name.as_str(),
+                    ": this bus can't attach programs",
+                    err,
+                );
             }
         }
         self.status()
