@@ -129,7 +129,10 @@ impl Keys {
     fn to_tcp(self) -> Result<Address, AddressError> {
         let host = text_of(self.host.ok_or(AddressError::Form)?)?;
         let port = text_of(self.port.ok_or(AddressError::Form)?)?;
-        let port = port.as_str().parse::<u16>().map_err(|_| AddressError::Form)?;
+        let port = port
+            .as_str()
+            .parse::<u16>()
+            .map_err(|_| AddressError::Form)?;
         Ok(Address::Tcp { host, port })
     }
 }

@@ -27,11 +27,7 @@ pub(crate) enum Call<'a> {
 }
 
 /// The bytes of an array of `(qyyu)` and what comes before them, at a place that is a multiple of 8.
-fn program_body(
-    alloc: Global,
-    edition: Option<u32>,
-    code: &[u8],
-) -> Result<Vec<u8>, BuildError> {
+fn program_body(alloc: Global, edition: Option<u32>, code: &[u8]) -> Result<Vec<u8>, BuildError> {
     let len = u32::try_from(code.len()).map_err(|_| BuildError::TooLarge)?;
     let mut body = Vec::new(alloc);
     match edition {

@@ -5,8 +5,7 @@ use message_build::BuildError;
 use message_view::MsgError;
 use std::alloc::{AllocError, AllocFailed};
 use std::error::Error;
-use std::fmt;
-use std::io;
+use std::{fmt, io};
 
 /// Why a bus gave no answer.
 #[derive(Debug, Drop)]

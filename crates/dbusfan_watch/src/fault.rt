@@ -39,9 +39,18 @@ impl Fault {
 
     /// What a call for a program was refused for.
     pub(crate) fn of_attaching(error: ClientError) -> Fault {
-        match Fault::from(error) {
-            Fault::Refused(name) if NO_METHOD.contains(&name.as_str()) => Fault::NoPrograms(name),
-            fault => fault,
+        match error {
+            ClientError::Answered(name) => Fault::of_program(name),
+            other => Fault::from(other),
+        }
+    }
+
+    /// What a bus says of a program by an error of this name.
+    fn of_program(name: String) -> Fault {
+        if says_no_method(name.as_str()) {
+            Fault::NoPrograms(name)
+        } else {
+            Fault::Refused(name)
         }
     }
 
@@ -53,11 +62,21 @@ impl Fault {
             Fault::Auth => err.put(b"dbusfan: auth\n"),
             Fault::Refused(name) => put_named(alloc, name.as_str(), "", err),
             Fault::NoPrograms(name) => {
-                put_named(alloc, name.as_str(), ": this bus can't attach programs", err);
+                put_named(
+                    alloc,
+                    name.as_str(),
+                    ": this bus can't attach programs",
+                    err,
+                );
             }
         }
         self.status()
     }
+}
+
+/// Whether a bus says by an error of this name that it has no method for programs.
+fn says_no_method(name: &str) -> bool {
+    NO_METHOD.iter().any(|known| *known == name)
 }
 
 /// Writes the line of an error that the bus answered.

@@ -30,7 +30,9 @@ fn print_message<O: Writer>(
     is_hex: bool,
     out: &mut Output<O>,
 ) -> Result<(), Fault> {
-    let view = View::read(message).map_err(|fault| Fault::Tool(dbusfan_tool::Fault::Message(fault)))?;
+    let view = View::read(message).map_err(|fault| Fault::Tool(dbusfan_tool::Fault::Message(
+        fault,
+    )))?;
     let line = if is_hex {
         hex_line(alloc, &view)?
     } else {

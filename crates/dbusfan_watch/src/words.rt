@@ -43,8 +43,8 @@ impl<'a> Words<'a> {
     /// What stands among some words, if each of them may stand where it does.
     pub(crate) fn read(words: &[&'a str]) -> Option<Words<'a>> {
         let mut so_far = Words::nothing();
-        for word in words {
-            so_far = so_far.with(word)?;
+        for i in 0..words.len() {
+            so_far = so_far.with(words[i])?;
         }
         match so_far.awaited {
             Awaited::AnyWord | Awaited::NameAlone => Some(so_far),

@@ -66,11 +66,7 @@ fn bus_with_signals(alloc: Global, error: Option<&str>) -> Result<Vec<u8>, Fail>
 }
 
 // The next message's member is this one.
-fn is_next(
-    rt: &impl Abort,
-    client: &mut Client<Script<'_>>,
-    member: &str,
-) -> Result<(), Fail> {
+fn is_next(rt: &impl Abort, client: &mut Client<Script<'_>>, member: &str) -> Result<(), Fail> {
     match client.next() {
         Ok(message) => {
             let view = View::read(message.as_slice())?;

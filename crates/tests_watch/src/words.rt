@@ -32,7 +32,13 @@ fn is_none(rt: &impl Abort, words: &[&str]) {
 #[test]
 fn rules(rt: HostRuntime) {
     is_rule(&rt, &["session", ""], "", false, None);
-    is_rule(&rt, &["session", "type='signal'", "--hex"], "type='signal'", true, None);
+    is_rule(
+        &rt,
+        &["session", "type='signal'", "--hex"],
+        "type='signal'",
+        true,
+        None,
+    );
     is_rule(&rt, &["--count", "3", "session", "a"], "a", false, Some(3));
     is_rule(&rt, &["session", "--hex", "--", "-x"], "-x", true, None);
     is_rule(&rt, &["session", "-"], "-", false, None);
@@ -41,8 +47,16 @@ fn rules(rt: HostRuntime) {
 #[test]
 fn programs(rt: HostRuntime) {
     is_program(&rt, &["session", "--program", "p"], None);
-    is_program(&rt, &["--program", "p", "--edition", "2", "session"], Some(2));
-    is_program(&rt, &["session", "--edition", "1", "--program", "p"], Some(1));
+    is_program(
+        &rt,
+        &["--program", "p", "--edition", "2", "session"],
+        Some(2),
+    );
+    is_program(
+        &rt,
+        &["session", "--edition", "1", "--program", "p"],
+        Some(1),
+    );
 }
 
 #[test]

@@ -6,14 +6,14 @@ use Rattle.value_text.specs.Printable.{is_printable}
 -- the letter that stands for a byte after a backslash
 abbrev pub letter_of : ℕ → Option ℕ
 letter_of b =
-  if b == 7 then Some 97 else
-  if b == 8 then Some 98 else
-  if b == 9 then Some 116 else
-  if b == 10 then Some 110 else
-  if b == 11 then Some 118 else
-  if b == 12 then Some 102 else
-  if b == 13 then Some 114 else
-  if b == 92 || b == 34 || b == 39 then Some b else None
+    if b == 7 then Some 97 else
+    if b == 8 then Some 98 else
+    if b == 9 then Some 116 else
+    if b == 10 then Some 110 else
+    if b == 11 then Some 118 else
+    if b == 12 then Some 102 else
+    if b == 13 then Some 114 else
+    if b == 92 || b == 34 || b == 39 then Some b else None
 
 -- a byte in octal digits
 abbrev pub octal : ℕ → List ℕ

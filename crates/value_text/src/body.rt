@@ -69,5 +69,12 @@ pub(crate) fn put_body(alloc: Global, line: &mut Line, view: &View<'_>) -> Resul
     line.put(signature.as_bytes())?;
     line.put(b")")?;
     let mut cursor = cursor_at(0, view.body())?;
-    write_members(alloc, line, &mut cursor, view.order(), signature.types(), MAX_LEVELS)
+    write_members(
+        alloc,
+        line,
+        &mut cursor,
+        view.order(),
+        signature.types(),
+        MAX_LEVELS,
+    )
 }

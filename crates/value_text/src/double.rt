@@ -8,11 +8,14 @@ use std::num::f64_from_bits_with_nan;
 
 /// The sign bit of a double, the bits of its exponent, and those of its fraction (IEEE 754, binary64).
 const SIGN: u64 = 0x8000_0000_0000_0000;
+
 const EXPONENT: u64 = 0x7ff0_0000_0000_0000;
+
 const FRACTION: u64 = 0x000f_ffff_ffff_ffff;
 
 /// The powers of ten of a first digit that are written without an exponent: from here on, and as many as there are digits.
 const LOWEST: i32 = -4;
+
 const DIGITS: i32 = 6;
 
 /// Adds a blank and the double of these bits: six digits at most, without zeros at the end, and with an exponent where

@@ -30,12 +30,7 @@ impl<'a> Element<'a> {
     }
 
     /// Goes over one element, within so many levels.
-    fn skip(
-        &self,
-        cursor: &mut Cursor<'_>,
-        order: Order,
-        levels: usize,
-    ) -> Result<(), MsgError> {
+    fn skip(&self, cursor: &mut Cursor<'_>, order: Order, levels: usize) -> Result<(), MsgError> {
         match self {
             Element::One(value_type) => check_value(cursor, order, value_type, levels),
             Element::Entry(key, value_type) => {

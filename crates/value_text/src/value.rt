@@ -49,7 +49,14 @@ pub fn write_value(
         Parts::Dict(key, value) => {
             cursor.align(4)?;
             let deeper = inside(levels)?;
-            write_array(alloc, line, cursor, order, &Element::Entry(key, value), deeper)
+            write_array(
+                alloc,
+                line,
+                cursor,
+                order,
+                &Element::Entry(key, value),
+                deeper,
+            )
         }
         Parts::Struct(members) => {
             cursor.align(8)?;
