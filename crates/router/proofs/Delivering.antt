@@ -1,30 +1,28 @@
 -- Owners of names, and unicast messages.
-use Rattle.std.proofs.Common.{◌≡◌, ◌⊎◌, inl, inr, ℕ, zero, suc, arith, ◌+◌, ◌<◌, ◌==◌, ◌||◌, Bool, true, false, true≢false, List, [], ◌∷◌, ◌++◌, length, map, take, get_or, Option, Some, None, refl, sym, ap, subst, ◌∙◌, eqb-true, eq-eqb}
+use Rattle.std.proofs.Common.{◌≡◌, ◌⊎◌, inl, inr, ℕ, zero, suc, arith, ◌+◌, ◌<◌, ◌==◌, ◌||◌, Bool, true, false, true≢false, List, [], ◌∷◌, ◌++◌, length, take, get_or, Option, Some, None, refl, sym, ap, subst, ◌∙◌, eqb-true, eq-eqb}
 use Rattle.std.specs.Prelude.{is_some, option_map, Result, Ok, Err, IfOk, IfErr, MatchResult, MatchOption}
 use Rattle.std.proofs.lemmas.List.{take_more, map-append}
 use mathlib.Core.List.{IsPrefix}
 use Rattle.outbox.specs.Seated.{OutboxId}
-use Rattle.owners.specs.Queues.{owner_of}
-use Rattle.owners.specs.WellKnown.{is_unique}
 use Rattle.program_table.specs.declared.command.Command.{Command}
 use Rattle.program_table.specs.declared.connection.Connection.{Connection}
 use Rattle.program_table.specs.Connections.{numbers_of, connection_of, is_connected, mailbox_of}
 use Rattle.program_table.specs.History.{after}
 use Rattle.program_table.specs.State.{State}
 use Rattle.routing.specs.SenderView.{RecipientView, StopView, SenderView}
-use Rattle.routing.specs.Stops.{is_in, shut_at, number_of, HasStop, AllFit, Lists}
+use Rattle.routing.specs.Stops.{is_in, shut_at, AllFit}
 use Rattle.routing.proofs.Puts.{in_snoc}
 use Rattle.router.specs.declared.error.BusError.{BusError}
 use Rattle.router.specs.declared.error.BusError.TheVariants as errors
 use Rattle.router.specs.declared.unicasts.Sent.{Sent}
-use Rattle.router.specs.declared.unicasts.Sent.TheVariants.{Put, NoOwner, Full}
-use Rattle.router.specs.Passes.{PassState, sending}
-use Rattle.router.specs.Routes.{IsOutboxOf, HasNotRouted}
+use Rattle.router.specs.declared.unicasts.Sent.TheVariants.{NoOwner}
+use Rattle.router.specs.Passes.{PassState}
+use Rattle.router.specs.Routes.{HasNotRouted}
 use Rattle.router.specs.Found.{AreNewcomers, AreListed, AreReachable, KeepsThose, UnroutedThose, Adds, stays}
-use Rattle.router.specs.Addresses.{unique_name, IsNamed, IsOwner, NoneIsNamed, IsSent, Unicasts, IsUnsent}
+use Rattle.router.specs.Addresses.{unique_name, IsOwner, NoneIsNamed, Unicasts, IsUnsent}
 use Rattle.router.specs.Addressees.{IsAddressee, IsDelivered}
 use Rattle.router.proofs.Finding.{is_in-connected, no_newcomers, adds_more}
-use Rattle.router.proofs.Sending.{Reaches, Turn, turned, saw, has_not_routed, has_seen}
+use Rattle.router.proofs.Sending.{Turn, turned, saw, has_not_routed, has_seen}
 
 or_cases : (a b : Bool) → (a || b) ≡ true → (a ≡ true) ⊎ (b ≡ true)
 or_cases true b e = inl refl

@@ -1,5 +1,5 @@
 -- From what stands in the published state to those to whom a pass sends.
-use Rattle.std.proofs.Common.{◌≡◌, ◌⊎◌, inl, inr, ℕ, zero, suc, ◌+◌, ◌<◌, ◌≤◌, ◌==◌, ◌&&◌, ◌||◌, Bool, true, false, true≢false, cond, List, [], ◌∷◌, ◌++◌, length, map, take, get_or, Option, Some, None, refl, sym, ap, subst, ◌∙◌, arith, eqb-true, eq-eqb}
+use Rattle.std.proofs.Common.{◌≡◌, ◌⊎◌, inl, inr, ℕ, zero, suc, ◌+◌, ◌<◌, ◌≤◌, ◌==◌, ◌&&◌, ◌||◌, Bool, true, false, true≢false, cond, List, [], ◌∷◌, ◌++◌, length, map, take, get_or, Option, Some, None, refl, sym, ap, subst, ◌∙◌, arith, eqb-true}
 use Rattle.std.specs.Prelude.{Contains, is_some, option_map, slice_index}
 use Rattle.std.proofs.lemmas.List.{take_more, map-append}
 use Rattle.outbox.specs.Seated.{OutboxId}
@@ -10,7 +10,7 @@ use Rattle.program_table.specs.IsState.{IsState}
 use Rattle.program_table.specs.State.{State}
 use Rattle.std.specs.List.{list_all}
 use Rattle.std.specs.List.Sorted.{IsStrictlyIncreasing}
-use Rattle.routing.specs.SenderView.{RecipientView, StopView, SenderView}
+use Rattle.routing.specs.SenderView.{RecipientView, StopView}
 use Rattle.routing.specs.Stops.{RisesFrom, is_in, number_of, HasStop, Lists}
 use Rattle.routing.proofs.Puts.{in_snoc}
 use Rattle.router.specs.Routes.{IsOutboxOf}

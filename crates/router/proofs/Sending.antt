@@ -1,22 +1,19 @@
 -- What a pass's sender makes of what was found.
-use Rattle.std.proofs.Common.{◌≡◌, ◌⊎◌, inl, inr, ℕ, ◌+◌, ◌==◌, ◌||◌, Bool, true, false, true≢false, cond, List, [], ◌∷◌, map, Option, Some, None, IsSome, refl, sym, ap, subst, ◌∙◌, arith, eq-eqb, eqb-true}
+use Rattle.std.proofs.Common.{◌≡◌, ◌⊎◌, inl, inr, ℕ, ◌+◌, ◌==◌, ◌||◌, Bool, true, false, true≢false, cond, List, [], ◌∷◌, map, Option, Some, None, IsSome, refl, sym, ap, subst, ◌∙◌, eq-eqb, eqb-true}
 use Rattle.std.specs.Prelude.{Result, Ok, Err, IfOk, IfErr, MatchResult}
 use mathlib.Core.List.{IsPrefix}
 use Rattle.outbox.specs.Seated.{OutboxId}
-use Rattle.message_view.specs.Message.{Message}
-use Rattle.message_view.specs.Valid.{Valid}
 use Rattle.program_table.specs.declared.command.Command.{Command}
 use Rattle.program_table.specs.Connections.{is_connected}
 use Rattle.program_table.specs.History.{after}
-use Rattle.program_table.specs.Recipients.{AreRecipients}
 use Rattle.routing.specs.SenderView.{RecipientView, StopView, SenderView}
-use Rattle.routing.specs.Stops.{RisesFrom, stop_at, last_count, outbox_id, knows_shut, is_in, is_put, number_of, last_at, outbox_at, shut_at, HasStop, AllHave, AllFit, Lists, Keeps, Routed, Unrouted}
+use Rattle.routing.specs.Stops.{stop_at, last_count, outbox_id, knows_shut, is_in, is_put, number_of, outbox_at, HasStop, AllHave, AllFit, Lists, Keeps, Routed, Unrouted}
 use Rattle.routing.proofs.Routes.{kept_at}
 use Rattle.router.specs.declared.reading.Source.{Source}
 use Rattle.router.specs.Passes.{PassState, sending, sender_of}
 use Rattle.router.specs.declared.error.BusError.{BusError}
 use Rattle.router.specs.declared.error.BusError.TheVariants as errors
-use Rattle.router.specs.Routes.{max_count, is_there, IsOutboxOf, KeepsSeats, Sends, HasRouted, HasNotRouted, IsUnrouted}
+use Rattle.router.specs.Routes.{max_count, IsOutboxOf, Sends, HasRouted, HasNotRouted, IsUnrouted}
 use Rattle.router.specs.Found.{kept_stops, stays, IsFound, AreReachable, KeepsThose, UnroutedThose, RoutedThose}
 use Rattle.router.proofs.Finding.{stays-connected}
 

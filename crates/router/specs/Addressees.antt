@@ -1,7 +1,6 @@
 -- Inner: what a pass finds for a unicast message, and what its sender makes of it.
-use Rattle.std.specs.Prelude.{◌≡◌, ◌⊎◌, ℕ, true, List, [], ◌∷◌, Option, Some, None}
+use Rattle.std.specs.Prelude.{◌≡◌, ◌⊎◌, ℕ, true, List, [], ◌∷◌, Option}
 use Rattle.outbox.specs.Seated.{OutboxId}
-use Rattle.program_table.specs.Connections.{numbers_of}
 use Rattle.program_table.specs.State.{State}
 use Rattle.routing.specs.SenderView.{RecipientView, StopView}
 use Rattle.routing.specs.Stops.{shut_at}

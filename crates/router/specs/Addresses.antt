@@ -1,5 +1,5 @@
 -- Who owns a bus name (D-Bus Specification, "Message Bus Names"), and unicast messages of a pass.
-use Rattle.std.specs.Prelude.{◌≡◌, ◌⊎◌, ℕ, Bool, true, false, List, ◌++◌, Option, Some, codes, decimal}
+use Rattle.std.specs.Prelude.{◌≡◌, ◌⊎◌, ℕ, Bool, true, false, List, ◌++◌, Some, codes, decimal}
 use Rattle.outbox.specs.Seated.{OutboxId}
 use Rattle.owners.specs.Queues.{owner_of}
 use Rattle.owners.specs.WellKnown.{is_unique}

@@ -347,7 +347,10 @@ impl<J: Naming, M: Mailbox + Carrier> Pass<J, M> {
         let found = replace_with(
             &mut self.sight,
             (alloc, sender, name),
-            |sight, asked| -> (Sight<J, M>, Option<Result<Option<Addressee<M>>, AllocError>>)
+            |sight, asked| -> (
+                Sight<J, M>,
+                Option<Result<Option<Addressee<M>>, AllocError>>,
+            )
                 ensures { MatchOption result.1 (result.0 ≡ sight) (λ found. IsPrefix sight result.0 × IfOk found (λ found. MatchOption found ((n : ℕ) → IsOwner (after result.0) asked.entry.2.now n → ⊥) (λ a. IsAddressee M.outbox_of (after result.0) asked.entry.2.now asked.entry.1.now.stops a.number a.newcomers.items (option_map (λ v. v.items) a.connected)))) }
             { found_addressee(sight, asked.0, asked.1, asked.2) },
         );

@@ -7,9 +7,7 @@ use crate::carrier::Carrier;
 use crate::error::RouteError;
 use crate::gate::{Gate, OpenGate};
 use crate::recipient::Recipient;
-use crate::stops::{
-    Stop, place_of, push_out_all, put_all, put_at, retain, shares_of, take_seats,
-};
+use crate::stops::{Stop, place_of, push_out_all, put_all, put_at, retain, shares_of, take_seats};
 use arrayvec::ArrayVec;
 use bytes::Bytes;
 use outbox::Item;

@@ -90,12 +90,7 @@ pub(crate) fn place_of<C>(stops: &[Stop<C>], recipient: u64) -> Option<usize>
 }
 
 /// Puts an item at the recipient's outbox, and says whether it was put.
-pub(crate) fn put_at<C, R: Wait>(
-    rt: &R,
-    stops: &mut [Stop<C>],
-    recipient: u64,
-    item: Item,
-) -> bool
+pub(crate) fn put_at<C, R: Wait>(rt: &R, stops: &mut [Stop<C>], recipient: u64, item: Item) -> bool
     requires { IsSomeAnd (stop_at recipient stops.old) (λ s. Follows s.seat.view item.mark) }
     ensures { PutAt recipient item.mark result stops.old stops.new }
 {

@@ -150,7 +150,10 @@ fn full_outbox(rt: HostRuntime) -> Result<(), Fail> {
     assert!(rt; seat_at(alloc, &mut sender, 3, full.share()?));
     assert!(rt; seat_at(alloc, &mut sender, 5, other.share()?));
     assert_eq!(rt; send(&rt, alloc, &mut sender, 1024), 1024);
-    assert_eq!(rt; one_more(&rt, alloc, &mut sender)?.as_slice(), [3].as_slice());
+    assert_eq!(rt;
+        one_more(&rt, alloc, &mut sender)?.as_slice(),
+        [3].as_slice()
+    );
     let items = take_all(&rt, alloc, &other)?;
     assert_eq!(rt; items.len(), 1);
     assert_eq!(rt; items[0].bytes.as_slice(), b"one more".as_slice());

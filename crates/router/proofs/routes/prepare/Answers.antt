@@ -1,4 +1,3 @@
-use Rattle.std.proofs.Common.{rules}
 use Rattle.router.proofs.Sending.{prepared_keeps, prepared_unrouted}
 use Rattle.router.proofs.routes.prepare.Goals as goal
 
