@@ -18,13 +18,15 @@ use owners::WellKnown;
 use program_table::{Mailbox, Reply};
 use published::{Front, Naming, Opened};
 use std::alloc::Global;
-use std::sync::{Mutex, Wait};
+use std::sync::{Mutex, MutexGuard, Wait};
 use summary::Edition;
 
 /// A bus, which threads share. Each call takes its lock.
 #[derive(Drop)]
 pub struct Bus<J: Naming, M: Mailbox, R: Wait + Drop> {
     control: Mutex<Control<J, M, R>>,
+    // Whose turn it is to change an owner and to announce it.
+    turns: Mutex<()>,
     kept: Mutex<KeptSights<J, M>>,
 }
 
@@ -45,10 +47,17 @@ impl<J: Naming, M: Mailbox, R: Wait + Drop> Bus<J, M, R> {
         match Control::new(rt, alloc, key, opened) {
             Ok(control) => Ok(Bus {
                 control: Mutex::new(control),
+                turns: Mutex::new(()),
                 kept: Mutex::new(kept),
             }),
             Err(_) => Err(BusError::NoMemory),
         }
+    }
+
+    /// Waits for the turn to change who owns a name, and keeps it while the guard is there. Who changes an owner takes the
+    /// turn first and announces the change before letting it go, so that changes are announced in their order.
+    pub fn turn(&self, rt: &impl Wait) -> MutexGuard<'_, ()> {
+        self.turns.lock(rt)
     }
 
     /// A new pass, which has no connection. A reader that was given back has seen what it had.

@@ -58,7 +58,7 @@ impl<J: Naming, M: Mailbox + Carrier> Connection<J, M> {
             Ending::Refused => Some(Rest { connection: self }),
             Ending::Done => {
                 let Connection { pass, .. } = self;
-                site.bus.take_back(site.rt, pass);
+                site.give_back(pass);
                 None
             }
         }
@@ -69,17 +69,28 @@ impl<J: Naming, M: Mailbox + Carrier> Connection<J, M> {
         site: &Site<'_, J, M, W, R>,
     ) -> Ending {
         for _ in 0..=MAX_CLAIMS {
-            match site.bus.drop_name(site.rt, &mut self.pass) {
-                Ok(Reply::Changed(change)) => {
-                    let _ = self.announce(site, &change);
-                }
-                Ok(Reply::Waiting) => {}
-                Ok(_) => return Ending::Done,
-                Err(BusError::NoMemory) => return Ending::Refused,
-                Err(_) => return Ending::Done,
+            if let Some(ending) = self.give_up_name(site) {
+                return ending;
             }
         }
         Ending::Done
+    }
+
+    // None where there may be a further name.
+    fn give_up_name<W: Wait, R: Wait + Drop>(
+        &mut self,
+        site: &Site<'_, J, M, W, R>,
+    ) -> Option<Ending> {
+        let _turn = site.bus.turn(site.rt);
+        match site.bus.drop_name(site.rt, &mut self.pass) {
+            Ok(Reply::Changed(change)) => {
+                let _ = self.announce(site, &change);
+                None
+            }
+            Ok(Reply::Waiting) => None,
+            Err(BusError::NoMemory) => Some(Ending::Refused),
+            _ => Some(Ending::Done),
+        }
     }
 
     // Takes the connection off the bus, and announces that its unique name is gone.

@@ -65,7 +65,7 @@ fn connected<J: Naming, M: Mailbox + Carrier, W: Wait, R: Wait + Drop>(
             Ok(Connection::new(pass, number, identity))
         }
         Err(error) => {
-            site.bus.take_back(site.rt, pass);
+            site.give_back(pass);
             Err(Refused::from(error))
         }
     }

@@ -26,6 +26,7 @@ impl<J: Naming, M: Mailbox + Carrier> Connection<J, M> {
         let Ok(name) = WellKnown::read(name) else {
             return self.refuse(site, home, request, Refused::Error(ErrorName::InvalidArgs));
         };
+        let _turn = site.bus.turn(site.rt);
         let asked = site.bus.request_name(site.rt, &mut self.pass, &name, flags);
         self.answer_named(site, home, request, asked)
     }
@@ -40,6 +41,7 @@ impl<J: Naming, M: Mailbox + Carrier> Connection<J, M> {
         let Ok(name) = WellKnown::read(name) else {
             return self.refuse(site, home, request, Refused::Error(ErrorName::InvalidArgs));
         };
+        let _turn = site.bus.turn(site.rt);
         let released = site.bus.release_name(site.rt, &mut self.pass, &name);
         self.answer_named(site, home, request, released)
     }

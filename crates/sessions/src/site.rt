@@ -2,7 +2,7 @@
 
 use program_table::Mailbox;
 use published::Naming;
-use router::Bus;
+use router::{Bus, Pass};
 use std::alloc::Global;
 use std::sync::Wait;
 
@@ -12,4 +12,14 @@ pub(crate) struct Site<'a, J: Naming, M: Mailbox, W: Wait, R: Wait + Drop> {
     pub(crate) rt: &'a W,
     pub(crate) alloc: Global,
     pub(crate) bus: &'a Bus<J, M, R>,
+}
+
+impl<J: Naming, M: Mailbox, W: Wait, R: Wait + Drop> Site<'_, J, M, W, R> {
+    /// Gives a pass's reader back to the bus. That of a pass whose connection the bus couldn't close, as it has ended, is
+    /// let go.
+    pub(crate) fn give_back(&self, pass: Pass<J, M>) {
+        if pass.is_closed() || pass.connection() == 0 {
+            self.bus.take_back(self.rt, pass);
+        }
+    }
 }
