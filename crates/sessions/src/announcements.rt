@@ -101,7 +101,10 @@ impl<J: Naming, M: Mailbox + Carrier> Connection<J, M> {
         let Ok(bytes) = built else {
             return Err(SessionError::NoMemory);
         };
-        match site.bus.unicast(site.rt, site.alloc, &mut self.pass, to.as_str(), &bytes) {
+        match site
+            .bus
+            .unicast(site.rt, site.alloc, &mut self.pass, to.as_str(), &bytes)
+        {
             Ok(_) => Ok(()),
             Err(_) => Err(SessionError::NoMemory),
         }
@@ -138,7 +141,10 @@ impl<J: Naming, M: Mailbox + Carrier> Connection<J, M> {
         let Ok(view) = View::read(bytes.as_slice()) else {
             return Ok(());
         };
-        match site.bus.route(site.rt, site.alloc, &mut self.pass, source, &view, bytes) {
+        match site
+            .bus
+            .route(site.rt, site.alloc, &mut self.pass, source, &view, bytes)
+        {
             Ok(_) => Ok(()),
             Err(_) => Err(SessionError::NoMemory),
         }

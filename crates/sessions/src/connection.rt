@@ -114,8 +114,9 @@ pub(crate) fn error_bytes(
     match error(alloc, serial, to, request.serial, name) {
         Ok(bytes) => Ok(bytes),
         Err(_) => {
-            error(alloc, serial, to, request.serial, ErrorName::NoMemory)
-                .map_err(|_| SessionError::NoMemory)
+            error(alloc, serial, to, request.serial, ErrorName::NoMemory).map_err(
+                |_| SessionError::NoMemory,
+            )
         }
     }
 }

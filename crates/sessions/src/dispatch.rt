@@ -88,7 +88,10 @@ impl<J: Naming, M: Mailbox + Carrier> Connection<J, M> {
             Ok(bytes) => bytes,
             Err(why) => return self.give_up(site, home, view, why),
         };
-        match site.bus.unicast(site.rt, site.alloc, &mut self.pass, to, &bytes) {
+        match site
+            .bus
+            .unicast(site.rt, site.alloc, &mut self.pass, to, &bytes)
+        {
             Ok(Sent::Put | Sent::Full) => Ok(()),
             Ok(Sent::NoOwner) => self.give_up(
                 site,

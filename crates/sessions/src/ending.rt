@@ -64,10 +64,7 @@ impl<J: Naming, M: Mailbox + Carrier> Connection<J, M> {
         }
     }
 
-    fn give_up_names<W: Wait, R: Wait + Drop>(
-        &mut self,
-        site: &Site<'_, J, M, W, R>,
-    ) -> Ending {
+    fn give_up_names<W: Wait, R: Wait + Drop>(&mut self, site: &Site<'_, J, M, W, R>) -> Ending {
         for _ in 0..=MAX_CLAIMS {
             if let Some(ending) = self.give_up_name(site) {
                 return ending;

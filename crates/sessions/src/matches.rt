@@ -23,7 +23,9 @@ impl<J: Naming, M: Mailbox + Carrier> Connection<J, M> {
         request: Request,
         text: &str,
     ) -> Result<(), SessionError> {
-        let added = site.bus.add_match(site.rt, site.alloc, &mut self.pass, text);
+        let added = site
+            .bus
+            .add_match(site.rt, site.alloc, &mut self.pass, text);
         self.confirm(site, home, request, added)
     }
 
@@ -34,7 +36,9 @@ impl<J: Naming, M: Mailbox + Carrier> Connection<J, M> {
         request: Request,
         text: &str,
     ) -> Result<(), SessionError> {
-        let removed = site.bus.remove_match(site.rt, site.alloc, &mut self.pass, text);
+        let removed = site
+            .bus
+            .remove_match(site.rt, site.alloc, &mut self.pass, text);
         self.confirm(site, home, request, removed)
     }
 
@@ -71,7 +75,10 @@ impl<J: Naming, M: Mailbox + Carrier> Connection<J, M> {
         edition: Edition,
         program: Vec<Ins>,
     ) -> Result<(), SessionError> {
-        match site.bus.attach(site.rt, site.alloc, &mut self.pass, edition, program) {
+        match site
+            .bus
+            .attach(site.rt, site.alloc, &mut self.pass, edition, program)
+        {
             Ok(Reply::Entry(id)) => self.answer(site, home, request, Body::Number(id)),
             Ok(_) => Ok(()),
             Err(error) => self.refuse(site, home, request, Refused::from(error)),

@@ -31,7 +31,12 @@ impl<J: Naming, M: Mailbox + Carrier> Connection<J, M> {
                 self.answer(site, home, request, Body::Text(owner.as_str()))
             }
             Ok(None) => {
-                self.refuse(site, home, request, Refused::Error(ErrorName::NameHasNoOwner))
+                self.refuse(
+                    site,
+                    home,
+                    request,
+                    Refused::Error(ErrorName::NameHasNoOwner),
+                )
             }
             Err(why) => self.refuse(site, home, request, why),
         }

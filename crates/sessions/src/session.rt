@@ -138,7 +138,9 @@ impl<J: Naming, M: Mailbox + Carrier> Session<J, M> {
             return Ok(Step::Waits);
         }
         let bytes = self.input.unread();
-        let taken = self.talk.take_line(site.rt, site.alloc, &mut self.home, bytes)?;
+        let taken = self
+            .talk
+            .take_line(site.rt, site.alloc, &mut self.home, bytes)?;
         self.input.skip(taken);
         Ok(Step::Done)
     }

@@ -53,7 +53,10 @@ fn refused(rt: HostRuntime) -> Result<(), Fail> {
         let answer = asked::<Brand, _>(&rt, rt.alloc(), Opened::new(), member, Some(text))?;
         let view = View::read(answer.as_slice())?;
         let name = view.error_name().ok_or("no error")?;
-        assert_eq!(rt; name.strip_prefix("org.freedesktop.DBus.Error."), Some(word));
+        assert_eq!(rt;
+            name.strip_prefix("org.freedesktop.DBus.Error."),
+            Some(word)
+        );
     }
     Ok(())
 }

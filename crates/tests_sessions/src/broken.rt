@@ -74,7 +74,14 @@ fn write_fails<J: Naming, R: Wait + Abort>(
     let bytes = input(alloc)?;
     let mut written = Vec::new(alloc);
     let writer = Output::failing(&mut written, good);
-    let (outcome, rest) = serve_one(rt, alloc, &bus, GUID, Input::new(bytes.as_slice(), AT_ONCE), writer);
+    let (outcome, rest) = serve_one(
+        rt,
+        alloc,
+        &bus,
+        GUID,
+        Input::new(bytes.as_slice(), AT_ONCE),
+        writer,
+    );
     assert!(rt; rest.is_none());
     is_left(rt, alloc, &bus)?;
     Ok(outcome)

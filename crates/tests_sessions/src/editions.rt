@@ -15,7 +15,8 @@ use std::sync::Wait;
 use std::test::Fail;
 
 /// `ld [968]`, `jeq #1, L2, L3`, `ret #1`, `ret #0` as the rest of a body after its edition: four instructions, `(qyyu)`.
-const PROGRAM: &[u8] = b"\x20\0\0\0\x20\0\0\0\xc8\x03\0\0\x15\0\0\x01\x01\0\0\0\x06\0\0\0\x01\0\0\0\x06\0\0\0\0\0\0\0";
+const PROGRAM: &[u8] =
+    b"\x20\0\0\0\x20\0\0\0\xc8\x03\0\0\x15\0\0\x01\x01\0\0\0\x06\0\0\0\x01\0\0\0\x06\0\0\0\0\0\0\0";
 
 /// An edition, and how many messages its client gets: two lines of the talk, three messages, and S1 where its serial is
 /// what the program reads.

@@ -36,7 +36,10 @@ fn on_new_bus<J: Naming, R: Wait + Abort>(
     }
     assert_eq!(rt; drive(rt, alloc, &bus, &mut session), Ok(()));
     session.feed(&S1)?;
-    assert_eq!(rt; drive(rt, alloc, &bus, &mut session), Err(SessionError::Slow));
+    assert_eq!(rt;
+        drive(rt, alloc, &bus, &mut session),
+        Err(SessionError::Slow)
+    );
     assert!(rt; session.end(rt, alloc, &bus).is_none());
     Ok(())
 }

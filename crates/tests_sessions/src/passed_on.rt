@@ -33,7 +33,10 @@ fn without_hello<J: Naming, R: Wait + Abort>(
     let mut session = Session::new(alloc, GUID, Letterbox::new(alloc)?);
     session.feed(TALK)?;
     session.feed(&S1)?;
-    assert_eq!(rt; drive(rt, alloc, &bus, &mut session), Err(SessionError::NoHello));
+    assert_eq!(rt;
+        drive(rt, alloc, &bus, &mut session),
+        Err(SessionError::NoHello)
+    );
     assert!(rt; !session.is_connected());
     Ok(())
 }
@@ -101,7 +104,10 @@ fn has_no_service<R: Wait + Abort>(rt: &R, alloc: Global, outbox: &Outbox) -> Re
     let messages = taken(rt, alloc, outbox)?;
     assert_eq!(rt; messages.len(), 1);
     let view = View::read(messages[0].as_slice())?;
-    assert_eq!(rt; view.error_name(), Some("org.freedesktop.DBus.Error.ServiceUnknown"));
+    assert_eq!(rt;
+        view.error_name(),
+        Some("org.freedesktop.DBus.Error.ServiceUnknown")
+    );
     assert_eq!(rt; view.reply_serial(), Some(7));
     Ok(())
 }
