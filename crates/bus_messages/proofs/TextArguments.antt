@@ -1,5 +1,5 @@
 -- The text of a message whose signature is one text.
-use Rattle.std.proofs.Common.{◌≡◌, ◌≢◌, ℕ, List, [], ◌∷◌, length, lit≤, None, refl, sym, subst, ◌∙◌}
+use Rattle.std.proofs.Common.{◌≡◌, ◌≢◌, ℕ, List, [], ◌∷◌, length, lit≤, Some, None, refl, sym, ap, subst, ◌∙◌}
 use Rattle.signature.specs.DataType.{DataTypes, basic, no_types, one_more, spellings, SigText}
 use Rattle.message_value.specs.declared.order.Order.{Order}
 use Rattle.message_value.specs.Value.{Values, number, text, elements, entries, members, of_type, no_values, one_value}
@@ -30,3 +30,10 @@ text_there types_are bytes m valid is =
     let types : m.types ≡ one_text = types_are m.types one_text (115 ∷ []) own short in
     let place = body_place (length (header_bytes m)) in
     subst (λ (ts : DataTypes). MembersFit m.order 64 place ts m.arguments → text_of (arguments_from m.order place ts m.arguments) ≢ None) (sym types) (value_is_there m.order place m.arguments) valid.arguments
+
+-- the text that is read is that of the first argument
+pub text_is : (m : Message) (types : DataTypes) (t : List ℕ) (values : Values) → m.types ≡ one_more (basic 115) types → m.arguments ≡ one_value (text t) values → first_text (given_by m) ≡ Some t
+text_is m types t others typed valued =
+    let place = body_place (length (header_bytes m)) in
+    ap (λ (ts : DataTypes). text_of (arguments_from m.order place ts m.arguments)) typed
+    ∙ ap (λ (vs : Values). text_of (arguments_from m.order place (one_more (basic 115) types) vs)) valued

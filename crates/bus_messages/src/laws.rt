@@ -2,7 +2,7 @@
 
 ghost use Rattle.std.specs.Prelude.{◌≡◌, ◌≢◌, ℕ, List, Some, None, codes};
 ghost use Rattle.signature.specs.DataType.{DataTypes, basic, one_more, spellings};
-ghost use Rattle.message_value.specs.Value.{Values, number, one_value};
+ghost use Rattle.message_value.specs.Value.{Values, number, text, one_value};
 ghost use Rattle.message_view.specs.Message.{Message};
 ghost use Rattle.message_view.specs.Valid.{Valid};
 ghost use Rattle.bus_messages.specs.Arguments.{first_text, first_number};
@@ -17,6 +17,11 @@ pub fn text_is_there()
 {
     one_reading();
 }
+
+/// The text that is read of a message's first argument, where its type is `s`, is that argument's.
+pub fn text_is_read()
+    ensures { (m : Message) (types : DataTypes) (t : List ℕ) (values : Values) → m.types ≡ one_more (basic 115) types → m.arguments ≡ one_value (text t) values → first_text (given_by m) ≡ Some t }
+{}
 
 /// The number that is read of a valid message's first argument, where its type is `u`, is that argument's.
 pub fn number_is_read()

@@ -19,7 +19,7 @@ pub use bytes::Bytes;
 pub use call::{Call, CallError};
 pub use error_name::ErrorName;
 pub use introspect::introspection;
-pub use laws::{number_is_read, text_is_there};
+pub use laws::{number_is_read, text_is_read, text_is_there};
 pub use message_build::BuildError;
 pub use sent::{error, name_acquired, name_lost, name_owner_changed, reply};
 pub use unique_name::UniqueName;

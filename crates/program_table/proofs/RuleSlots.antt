@@ -36,7 +36,7 @@ agree_at false r other h = h
 
 agree_slots : (slot : Option ℕ) (n : ℕ)
     → Agree (let r : Result (Option ℕ) Refusal = refuse_if (is_none slot) refusals.NamesFull >>= (λ _. Ok slot) in r)
-        ((refuse_if (is_none slot) refusals.NamesFull >>= (λ _. refuse_if (not (option_eq nat_eq slot slot)) refusals.Stale)) >>= (λ _. Ok (replies.Entry n)))
+    ((refuse_if (is_none slot) refusals.NamesFull >>= (λ _. refuse_if (not (option_eq nat_eq slot slot)) refusals.Stale)) >>= (λ _. Ok (replies.Entry n)))
 agree_slots None n = refl
 agree_slots (Some k) n = ap (λ b. is_ok (refuse_if (not b) refusals.Stale >>= (λ _. let r : Result Reply Refusal = Ok (replies.Entry n) in r))) (eq-eqb k k refl)
 

@@ -1,8 +1,6 @@
 -- What adding a rule comes to.
-use Rattle.std.proofs.Common.{◌≡◌, ℕ, ◌⊎◌, inl, inr, Bool, true, false, List, [], ◌∷◌, ◌++◌, refl, sym, ap, ◌∙◌, subst}
+use Rattle.std.proofs.Common.{◌≡◌, ℕ, inl, inr, Bool, false, [], ◌∷◌, ◌++◌, refl, sym, ap, ◌∙◌, subst}
 use Rattle.std.specs.Prelude.{Result, Ok, Err, IfOk, if◌then◌else◌}
-use mathlib.Core.List.{IsPrefix}
-use Rattle.bpf_code.specs.declared.instruction.Ins.{Ins}
 use Rattle.match_rule.specs.RuleTree.{RuleTree}
 use Rattle.entry_table.specs.CompiledRule.{CompiledRule, IsFit}
 use Rattle.program_table.specs.declared.command.Command.{Command}
@@ -18,8 +16,8 @@ use Rattle.router.specs.declared.error.BusError.{BusError}
 use Rattle.router.specs.Passes.{PassState, HasTaken}
 use Rattle.router.specs.Calls.{IsStopped, Answers}
 use Rattle.router.specs.Admission.{IsAdmitted}
-use Rattle.router.specs.Readings.{compiled_in, AddsRule, IsTooLong}
-use Rattle.router.specs.Compiling.{Compiles, IsKeptOut, IsHeavy}
+use Rattle.router.specs.Readings.{compiled_in, AddsRule}
+use Rattle.router.specs.Compiling.{Compiles}
 use Rattle.router.proofs.Commands.{IsTold, IsCounted, turned_down}
 use Rattle.router.proofs.Admitted.{answers_admitted}
 

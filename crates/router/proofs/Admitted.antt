@@ -1,16 +1,14 @@
 -- What a pass that was admitted may do.
-use Rattle.std.proofs.Common.{◌≡◌, ◌≢◌, ℕ, ◌+◌, ◌<◌, ◌≤◌, ◌⊎◌, inl, inr, Bool, true, false, List, [], ◌∷◌, ◌++◌, length, refl, sym, ap, ◌∙◌, subst, arith, append_assoc}
+use Rattle.std.proofs.Common.{◌≡◌, ℕ, inl, inr, false, List, [], ◌∷◌, ◌++◌, refl, sym, ap, ◌∙◌, subst, arith, append_assoc}
 use Rattle.std.specs.Prelude.{Result, Ok, Err}
 use mathlib.Core.List.{IsPrefix}
 use Rattle.program_table.specs.declared.command.Command.{Command}
 use Rattle.program_table.specs.declared.command.Reply.{Reply}
-use Rattle.program_table.specs.History.{after, own_commands, IsHistory}
+use Rattle.program_table.specs.History.{own_commands, IsHistory}
 use Rattle.published.specs.Publication.{Publication}
-use Rattle.published.proofs.Fronts.{prefix_self}
 use Rattle.router.specs.declared.error.BusError.{BusError}
-use Rattle.router.specs.declared.error.BusError.TheVariants as errors
 use Rattle.router.specs.Passes.{PassState, HasTaken}
-use Rattle.router.specs.Calls.{IsDone, IsRefused, KeepsOwn, IsShutOut, unconnected, closed, ended, others, fewer, IsStopped, IsClosed, Answers}
+use Rattle.router.specs.Calls.{IsShutOut, unconnected, closed, ended, others, fewer, Answers}
 use Rattle.router.specs.Admission.{IsAdmitted, IsReady}
 use Rattle.router.proofs.Owned.{own_same}
 use Rattle.router.proofs.Done.{counted}

@@ -1,13 +1,12 @@
 -- After each owned name fewer are left.
-use Rattle.std.proofs.Common.{◌≡◌, ℕ, ◌+◌, ◌<◌, ◌≤◌, ◌⊎◌, inl, inr, Bool, true, false, List, [], ◌∷◌, ◌++◌, length, Option, Some, None, refl, sym, ap, ◌∙◌, subst, arith, append_assoc}
+use Rattle.std.proofs.Common.{◌≡◌, ℕ, ◌+◌, ◌<◌, ◌≤◌, ◌⊎◌, inl, inr, Bool, true, false, List, [], ◌∷◌, length, Option, Some, None, refl, sym, ap, ◌∙◌, arith, Less, Equal, Greater}
 use Rattle.std.specs.Prelude.{map, filter, if◌then◌else◌}
-use Rattle.std.specs.Ordering.{nat_cmp, is_lt, Less, Equal, Greater, ordering_reverse}
+use Rattle.std.specs.Ordering.{nat_cmp, is_lt, ordering_reverse}
 use Rattle.std.specs.declared.cmp.Ordering.{Ordering}
 use Rattle.std.specs.Cmp.Lexicographic.{slice_cmp, nat_list_cmp_total}
 use Rattle.std.proofs.lemmas.Bool.{false≢true}
 use Rattle.owners.specs.Queues.{Claim}
 use Rattle.owners.specs.Registry.{lesser, least, is_after, next_name}
-use Rattle.router.specs.Names.{AreNamesFrom, AreNames}
 
 -- the name is one of them
 Has : List ℕ → List (List ℕ) → Type 0
@@ -20,14 +19,15 @@ some_same x y e = ap (λ (o : Option (List ℕ)). elim o [ Some z ↦ z | None �
 least_has : (xs : List (List ℕ)) (n : List ℕ) → least xs ≡ Some n → Has n xs
 unfolding Has
 least_has [] n e = absurd (let h : None ≡ Some n = e in cc)
-least_has (x ∷ xs) n e = by (least xs) refl
+least_has (x ∷ xs) n e = by (least_has xs n) (least xs) refl
   where
-    pick : (b : Bool) (o : List ℕ) → least xs ≡ Some o → (if b then Some o else Some x) ≡ Some n → (x ≡ n) ⊎ Has n xs
-    pick true o f k = inr (least_has xs n (f ∙ k))
-    pick false o f k = inl (some_same x n k)
-    by : (o : Option (List ℕ)) → least xs ≡ o → (x ≡ n) ⊎ Has n xs
-    by None f = inl (some_same x n (ap (lesser x) (sym f) ∙ e))
-    by (Some o) f = pick (is_lt (slice_cmp nat_cmp o x)) o f (ap (lesser x) (sym f) ∙ e)
+    pick : (least xs ≡ Some n → Has n xs) → (b : Bool) (o : List ℕ) → least xs ≡ Some o → (if b then Some o else Some x) ≡ Some n → (x ≡ n) ⊎ Has n xs
+    pick rest true o f k = inr (rest (f ∙ k))
+    pick rest false o f k = inl (some_same x n k)
+
+    by : (least xs ≡ Some n → Has n xs) → (o : Option (List ℕ)) → least xs ≡ o → (x ≡ n) ⊎ Has n xs
+    by rest None f = inl (some_same x n (ap (lesser x) (sym f) ∙ e))
+    by rest (Some o) f = pick rest (is_lt (slice_cmp nat_cmp o x)) o f (ap (lesser x) (sym f) ∙ e)
 
 less : (r : Ordering) → is_lt r ≡ true → r ≡ Less
 less Less e = refl
@@ -57,11 +57,11 @@ if_has false x n ys h = inr h
 passes : (p : List ℕ → Bool) (xs : List (List ℕ)) (n : List ℕ) → Has n (filter p xs) → p n ≡ true
 unfolding Has
 passes p [] n h = absurd h
-passes p (x ∷ xs) n h = by (if_has (p x) x n (filter p xs) h)
+passes p (x ∷ xs) n h = by (passes p xs n) (if_has (p x) x n (filter p xs) h)
   where
-    by : ((p x ≡ true) × (x ≡ n)) ⊎ Has n (filter p xs) → p n ≡ true
-    by (inl e) = ap p (sym e.1) ∙ e.0
-    by (inr k) = passes p xs n k
+    by : (Has n (filter p xs) → p n ≡ true) → ((p x ≡ true) × (x ≡ n)) ⊎ Has n (filter p xs) → p n ≡ true
+    by rest (inl e) = ap p (sym e.1) ∙ e.0
+    by rest (inr k) = rest k
 
 if_length : (b : Bool) (x : List ℕ) (ys : List (List ℕ)) → length (if b then x ∷ ys else ys) ≡ length ys + (if b then 1 else 0)
 if_length true x ys = omega arith
@@ -91,15 +91,16 @@ shorter : (p q : List ℕ → Bool) → ((x : List ℕ) → q x ≡ true → p x
     → length (filter q xs) < length (filter p xs)
 unfolding Has
 shorter p q weaker n fails [] h = absurd h
-shorter p q weaker n fails (x ∷ xs) h = by (if_has (p x) x n (filter p xs) h)
+shorter p q weaker n fails (x ∷ xs) h = by (shorter p q weaker n fails xs) (if_has (p x) x n (filter p xs) h)
   where
-    by : ((p x ≡ true) × (x ≡ n)) ⊎ Has n (filter p xs) → length (filter q (x ∷ xs)) < length (filter p (x ∷ xs))
-    by (inl e) =
+    by : (Has n (filter p xs) → length (filter q xs) < length (filter p xs)) → ((p x ≡ true) × (x ≡ n)) ⊎ Has n (filter p xs)
+        → length (filter q (x ∷ xs)) < length (filter p (x ∷ xs))
+    by less_later (inl e) =
         let rest = no_longer p q weaker xs in
         let one = one_less (p x) (q x) e.0 (ap q e.1 ∙ fails) in
         omega (arith, if_length (p x) x (filter p xs), if_length (q x) x (filter q xs), rest, one)
-    by (inr k) =
-        let rest = shorter p q weaker n fails xs k in
+    by less_later (inr k) =
+        let rest = less_later k in
         let one = no_more (p x) (q x) (weaker x) in
         omega (arith, if_length (p x) x (filter p xs), if_length (q x) x (filter q xs), rest, one)
 
@@ -112,10 +113,3 @@ fewer_left last n claims e =
     let all = map (λ (c : Claim). c.name) claims in
     let has = least_has (filter (is_after last) all) n e in
     shorter (is_after last) (is_after (Some n)) (after_too last n (passes (is_after last) all n has)) n (not_itself n) all has
-
--- one more name
-pub one_more_name : (first next : Option (List ℕ)) (n : List ℕ) (claims : List Claim) (names : List (List ℕ)) → next ≡ Some n
-    → ((rest : List (List ℕ)) → AreNamesFrom next claims rest → AreNamesFrom first claims (names ++ rest))
-    → (rest : List (List ℕ)) → AreNamesFrom (next_name (Some n) claims) claims rest → AreNamesFrom first claims ((names ++ n ∷ []) ++ rest)
-one_more_name first next n claims names e h rest k =
-    subst (λ (l : List (List ℕ)). AreNamesFrom first claims l) (sym (append_assoc names (n ∷ []) rest)) (h (n ∷ rest) (e, k))

@@ -1,8 +1,8 @@
 -- Whether a pass may ask for something.
-use Rattle.std.specs.Prelude.{◌≡◌, ◌≢◌, false, length, Result, Ok, Err}
+use Rattle.std.specs.Prelude.{◌≡◌, ◌≢◌, false, Result, Ok, Err}
 use mathlib.Core.List.{IsPrefix}
 use Rattle.program_table.specs.Connections.{commands_of}
-use Rattle.program_table.specs.History.{after, own_commands, IsHistory}
+use Rattle.program_table.specs.History.{after, IsHistory}
 use Rattle.published.specs.Publication.{Publication}
 use Rattle.router.specs.declared.error.BusError.{BusError}
 use Rattle.router.specs.declared.error.BusError.TheVariants as errors

@@ -25,7 +25,10 @@ pub(crate) fn found_by_workers<J: Naming, M: Mailbox + Sync, G: Gate, R: Threads
     view: &View<'_>,
     workers: u32,
     gate: &G,
-) -> (Sight<J, M>, Option<Result<ArrayVec<u64, MAX_RECIPIENTS>, FanError>>)
+) -> (
+    Sight<J, M>,
+    Option<Result<ArrayVec<u64, MAX_RECIPIENTS>, FanError>>,
+)
     requires { (0 < workers) × (workers ≤ MAX_WORKERS) }
     ensures { MatchOption result.1 (result.0 ≡ sight) (λ found. IsPrefix sight result.0 × AreFound (after result.0) sender view.now found) }
 {

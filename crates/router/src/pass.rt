@@ -276,7 +276,10 @@ impl<J: Naming, M: Mailbox + Sync> Pass<J, M> {
         let found = replace_with(
             &mut self.sight,
             (rt, sender, view, workers, gate),
-            |sight, asked| -> (Sight<J, M>, Option<Result<ArrayVec<u64, MAX_RECIPIENTS>, FanError>>)
+            |sight, asked| -> (
+                Sight<J, M>,
+                Option<Result<ArrayVec<u64, MAX_RECIPIENTS>, FanError>>,
+            )
                 requires { (0 < asked.3) × (asked.3 ≤ MAX_WORKERS) }
                 ensures { MatchOption result.1 (result.0 ≡ sight) (λ found. IsPrefix sight result.0 × AreFound (after result.0) asked.entry.1 asked.entry.2.now found) }
             { found_by_workers(asked.0, sight, asked.1, asked.2, asked.3, asked.4) },

@@ -49,7 +49,13 @@ fn names<J: Naming, R: Wait + Abort>(
     assert_eq!(rt; dropped, Reply::Changed(given_up(&name)));
     assert_eq!(rt; bus.drop_name(rt, pass)?, Reply::Nothing);
     let released = bus.release_name(rt, pass, &name)?;
-    assert_eq!(rt; released, Reply::Name(Named { answer: NameReply::NonExistent, change: None }));
+    assert_eq!(rt;
+        released,
+        Reply::Name(Named {
+            answer: NameReply::NonExistent,
+            change: None
+        })
+    );
     Ok(())
 }
 
@@ -79,8 +85,18 @@ fn programs<J: Naming, R: Wait + Abort>(
     pass: &mut Pass<J, ()>,
 ) -> Result<(), Fail> {
     // ret #1
-    let all = vec![in alloc; Ins { code: 6, jt: 0, jf: 0, k: 1 }]?;
-    assert_eq!(rt; bus.attach(rt, alloc, pass, Edition::Two, all)?, Reply::Entry(1));
+    let all = vec![in alloc;
+        Ins {
+            code: 6,
+            jt: 0,
+            jf: 0,
+            k: 1
+        },
+    ]?;
+    assert_eq!(rt;
+        bus.attach(rt, alloc, pass, Edition::Two, all)?,
+        Reply::Entry(1)
+    );
     assert_eq!(rt; bus.detach(rt, pass, 1)?, Reply::Done);
     Ok(())
 }

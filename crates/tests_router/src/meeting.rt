@@ -18,7 +18,7 @@ fn meeting(rt: HostRuntime) -> Result<(), Fail> {
     meets::<Brand, _>(&rt, rt.alloc(), Opened::<()>::new())
 }
 
-fn meets<J: Naming, R: Wait + Threads + Abort>(
+fn meets<J: Naming + Send + Sync, R: Wait + Threads + Abort>(
     rt: &R,
     alloc: Global,
     opened: Opened<()>,

@@ -89,9 +89,12 @@ fn owned_by_two<J: Naming, R: Abort>(
     name: &WellKnown,
 ) -> Result<(), Fail> {
     assert_eq!(rt; pass.owner_of(name)?, Some(2));
-    assert_eq!(rt; pass.queued_owners(alloc, name)?.as_slice(), &[2, 1]);
+    assert_eq!(rt;
+        pass.queued_owners(alloc, name)?.as_slice(),
+        [2, 1].as_slice()
+    );
     let (numbers, names) = pass.names(alloc)?;
-    assert_eq!(rt; numbers.as_slice(), &[1, 2, 3]);
+    assert_eq!(rt; numbers.as_slice(), [1, 2, 3].as_slice());
     assert_eq!(rt; names.len(), 1);
     assert!(rt; names[0] == *name);
     Ok(())
