@@ -1,7 +1,9 @@
 // Sessions that are driven by hand, and what stands in their outboxes.
 
+ghost use Rattle.std.specs.Prelude.{◌≡◌};
+
 use bytes::Bytes;
-use outbox::Outbox;
+use outbox::{Item, Outbox, Seat};
 use published::Naming;
 use router::{Bus, Letterbox};
 use sessions::{Session, SessionError, Step};
@@ -23,16 +25,36 @@ pub(crate) fn drive<J: Naming, R: Wait>(
     Ok(())
 }
 
+/// A seat at an outbox, by which a test takes.
+#[derive(Drop)]
+struct Taker {
+    outbox: Outbox,
+    seat: Seat,
+    ghost at_outbox: { seat.outbox ≡ outbox },
+}
+
+impl Taker {
+    fn new(outbox: &Outbox) -> Result<Taker, AllocError> {
+        let outbox = outbox.share()?;
+        let seat = outbox.seat();
+        Ok(Taker { outbox, seat })
+    }
+
+    fn take<R: Wait>(&mut self, rt: &R) -> Option<Item> {
+        self.outbox.take(rt, &mut self.seat)
+    }
+}
+
 /// All that stands in an outbox.
 pub(crate) fn taken<R: Wait>(
     rt: &R,
     alloc: Global,
     outbox: &Outbox,
 ) -> Result<Vec<Bytes>, AllocError> {
-    let mut seat = outbox.seat();
+    let mut taker = Taker::new(outbox)?;
     let mut items = Vec::new(alloc);
     for _ in 0..2000 {
-        match outbox.take(rt, &mut seat) {
+        match taker.take(rt) {
             Some(item) => items.push(item.bytes)?,
             None => break,
         }
