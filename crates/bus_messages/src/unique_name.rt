@@ -1,7 +1,8 @@
 // Unique connection names.
 
-ghost use Rattle.std.specs.Prelude.{◌≡◌, ◌≢◌, ◌++◌, ◌<◌, ◌^◌, ℕ, List, Some, codes, decimal, MatchOption};
+ghost use Rattle.std.specs.Prelude.{◌≡◌, ◌≢◌, ◌++◌, ◌<◌, ◌^◌, ℕ, List, Some, codes, decimal, MatchOption, true};
 ghost use Rattle.bus_messages.specs.UniqueNames.{unique_name};
+ghost use Rattle.signature.specs.Name.{is_bus_name};
 
 use arrayvec::ArrayString;
 use itoa::Buffer;
@@ -61,8 +62,10 @@ impl UniqueName {
     }
 
     pub fn as_str(&self) -> &str
-        ensures { result.now ≡ unique_name self.now }
+        ensures text { result.now ≡ unique_name self.now }
+        ensures valid { is_bus_name result.now ≡ true }
     {
+        let _number = self.number;
         self.text.as_str()
     }
 
