@@ -10,7 +10,7 @@ find-shown : (p : MethodRow → Bool) (rows : List Row) → find p (map shown ro
 find-shown p [] = refl
 find-shown p (row ∷ rows) =
     elim (p (shown row)) as (λ b. cond b (Some (shown row)) (find p (map shown rows)) ≡ option_map shown (cond b (Some row) (find (λ r. p (shown r)) rows)))
-        [ true ↦ refl | false ↦ find-shown p rows ]
+    [ true ↦ refl | false ↦ find-shown p rows ]
 
 lent : (found : Option (Bor Row)) → option_map (λ row. shown row.now) found ≡ option_map shown (option_map (λ row. row.now) found)
 lent (Some row) = refl

@@ -47,7 +47,7 @@ first_at message order place n types values none lt is =
     let start : place + padding 4 place ≡ place = omega (arith, none) in
     let rest = members_bytes order (place + length (zeros (padding 4 place) ++ word_bytes order n)) types values in
     let bytes : members_bytes order place (one_more (basic 117) types) (one_value (number n) values) ≡ word_bytes order n ++ rest =
-        ap (λ (k : ℕ). (zeros k ++ word_bytes order n) ++ rest) none in
+    ap (λ (k : ℕ). (zeros k ++ word_bytes order n) ++ rest) none in
     ap (λ (p : ℕ). number_from order (drop p message)) start
     ∙ ap (number_from order) (is ∙ bytes)
     ∙ word_first order n rest lt
@@ -57,10 +57,10 @@ number_is bytes m types n values valid typed valued =
     let place = body_place (length (header_bytes m)) in
     let none : padding 4 place ≡ 0 = padding_alike place 0 (body_alike (length (header_bytes m))) (basic 117) in
     let fits : MembersFit m.order 64 place (one_more (basic 117) types) (one_value (number n) values) =
-        subst (λ (vs : Values). MembersFit m.order 64 place (one_more (basic 117) types) vs) valued
-        (subst (λ (ts : DataTypes). MembersFit m.order 64 place ts m.arguments) typed valid.arguments) in
+    subst (λ (vs : Values). MembersFit m.order 64 place (one_more (basic 117) types) vs) valued
+    (subst (λ (ts : DataTypes). MembersFit m.order 64 place ts m.arguments) typed valid.arguments) in
     let body : drop place (message_bytes m) ≡ members_bytes m.order place (one_more (basic 117) types) (one_value (number n) values) =
-        body_there bytes m valid ∙ ap (λ (ts : DataTypes). members_bytes m.order place ts m.arguments) typed ∙ ap (members_bytes m.order place (one_more (basic 117) types)) valued in
+    body_there bytes m valid ∙ ap (λ (ts : DataTypes). members_bytes m.order place ts m.arguments) typed ∙ ap (members_bytes m.order place (one_more (basic 117) types)) valued in
     ap (λ (ts : DataTypes). number_at (message_bytes m) m.order (arguments_from m.order place ts m.arguments)) typed
     ∙ ap (λ (vs : Values). number_at (message_bytes m) m.order (arguments_from m.order place (one_more (basic 117) types) vs)) valued
     ∙ first_at (message_bytes m) m.order place n types values none fits.0.1 body

@@ -121,8 +121,9 @@ impl<'a> Arguments<'a> {
         ensures rest { self.new ≡ later self.old }
     {
         match self.left.next() {
-            Some(arg) => word_at(self.message, self.order, arg.place as usize)
-                .ok_or(CallError::InvalidArgs),
+            Some(arg) => word_at(self.message, self.order, arg.place as usize).ok_or(
+                CallError::InvalidArgs,
+            ),
             None => Err(CallError::InvalidArgs),
         }
     }

@@ -5,13 +5,20 @@ use signature::Signature;
 use std::alloc::{AllocError, Global};
 use std::str;
 
-const HEAD: &str = "<!DOCTYPE node PUBLIC \"-//freedesktop//DTD D-BUS Object Introspection 1.0//EN\"\n\"http://www.freedesktop.org/standards/dbus/1.0/introspect.dtd\">\n<node>\n";
+const HEAD: &str =
+    "<!DOCTYPE node PUBLIC \"-//freedesktop//DTD D-BUS Object Introspection 1.0//EN\"\n\"http://www.freedesktop.org/standards/dbus/1.0/introspect.dtd\">\n<node>\n";
 
 /// The signals and the properties of the bus's first interface.
-const SIGNALS: &str = "    <signal name=\"NameOwnerChanged\">\n      <arg type=\"s\"/>\n      <arg type=\"s\"/>\n      <arg type=\"s\"/>\n    </signal>\n    <signal name=\"NameLost\">\n      <arg type=\"s\"/>\n    </signal>\n    <signal name=\"NameAcquired\">\n      <arg type=\"s\"/>\n    </signal>\n    <property name=\"Features\" type=\"as\" access=\"read\"/>\n    <property name=\"Interfaces\" type=\"as\" access=\"read\"/>\n";
+const SIGNALS: &str =
+    "    <signal name=\"NameOwnerChanged\">\n      <arg type=\"s\"/>\n      <arg type=\"s\"/>\n      <arg type=\"s\"/>\n    </signal>\n    <signal name=\"NameLost\">\n      <arg type=\"s\"/>\n    </signal>\n    <signal name=\"NameAcquired\">\n      <arg type=\"s\"/>\n    </signal>\n    <property name=\"Features\" type=\"as\" access=\"read\"/>\n    <property name=\"Interfaces\" type=\"as\" access=\"read\"/>\n";
 
 /// A text between two others.
-fn push_between(text: &mut String, before: &str, name: &str, after: &str) -> Result<(), AllocError> {
+fn push_between(
+    text: &mut String,
+    before: &str,
+    name: &str,
+    after: &str,
+) -> Result<(), AllocError> {
     text.push_str(before)?;
     text.push_str(name)?;
     text.push_str(after)

@@ -81,12 +81,7 @@ pub fn error(
 }
 
 /// A signal of the bus, without a body yet.
-fn signal<'a>(
-    alloc: Global,
-    serial: u32,
-    to: Option<&'a str>,
-    member: &'a str,
-) -> Builder<'a>
+fn signal<'a>(alloc: Global, serial: u32, to: Option<&'a str>, member: &'a str) -> Builder<'a>
     ensures { result ≡ signal_asked serial (option_map (λ name. name.now) to.entry) member.entry.now [] }
 {
     let mut builder = from_bus(alloc, Kind::Signal, serial, to);

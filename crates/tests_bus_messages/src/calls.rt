@@ -5,13 +5,18 @@ use std::alloc::Global;
 use std::test::Fail;
 
 const BUS: &str = "org.freedesktop.DBus";
+
 const PEER: &str = "org.freedesktop.DBus.Peer";
+
 const PROGRAMS: &str = "org.example.ProgramBus1";
+
 const PROPERTIES: &str = "org.freedesktop.DBus.Properties";
 
 // The argument `x`, and what comes after it.
 const TEXT: &[u8] = b"\x01\0\0\0x\0";
+
 const TEXT_AND_FIVE: &[u8] = b"\x01\0\0\0x\0\0\0\x05\0\0\0";
+
 const FIVE: &[u8] = b"\x05\0\0\0";
 
 fn message(
@@ -130,7 +135,13 @@ const REFUSED: [(&str, &str, &[u8], &[u8], CallError); 8] = [
     (BUS, "Hello", b"u", FIVE, CallError::InvalidArgs),
     (BUS, "AddMatch", b"", b"", CallError::InvalidArgs),
     (BUS, "RequestName", b"s", TEXT, CallError::InvalidArgs),
-    (PROGRAMS, "Attach", b"as", b"\0\0\0\0", CallError::InvalidArgs),
+    (
+        PROGRAMS,
+        "Attach",
+        b"as",
+        b"\0\0\0\0",
+        CallError::InvalidArgs,
+    ),
 ];
 
 #[test]
