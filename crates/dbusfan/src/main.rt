@@ -33,7 +33,7 @@ fn main(rt: HostRuntime) -> ExitCode {
     ExitCode::from(status)
 }
 
-/// Gives the words after the program's name to `serve`, to `watch` or to `tool`. An `Err` says that there are none to give.
+/// Gives the words after the program's name to the command that they ask for. An `Err` says that there are none to give.
 fn run<R, E: Writer>(rt: &R, err: &mut Output<E>) -> io::Result<u8>
 where
     R: Runtime<A = Global>
@@ -46,16 +46,25 @@ where
     let alloc = rt.alloc();
     let args: Vec<String> = env::args(rt)?.collect(alloc)?;
     let words: Vec<&str> = args.iter().skip(1).map(|arg| arg.as_str()).collect(alloc)?;
-    let words = words.as_slice();
+    Ok(command(rt, words.as_slice(), err))
+}
+
+/// Does what the words ask for: `serve`, `watch`, or what else there is.
+fn command<R, E: Writer>(rt: &R, words: &[&str], err: &mut Output<E>) -> u8
+where
+    R: Runtime<A = Global>
+        + Net<Listener = TcpListener, Stream = TcpStream>
+        + Threads
+        + Wait
+        + RandomSource
+        + Sync,
+{
     let mut out = Output::new(Stream::new(io::writer(rt)));
-    if let Some((&"serve", options)) = words.split_first() {
-        return Ok(serve(rt, alloc, options, &mut out, err));
+    match words.split_first() {
+        Some((&"serve", options)) => serve(rt, rt.alloc(), options, &mut out, err),
+        Some((&"watch", options)) => watch(rt, options, &mut System::new(rt), &mut out, err),
+        _ => tool(rt.alloc(), words, &mut System::new(rt), &mut out, err),
     }
-    let mut files = System::new(rt);
-    if let Some((&"watch", options)) = words.split_first() {
-        return Ok(watch(rt, options, &mut files, &mut out, err));
-    }
-    Ok(tool(alloc, words, &mut files, &mut out, err))
 }
 
 /// Words that aren't UTF-8 are no row of the command line; else memory was short.
