@@ -1,4 +1,0 @@
-use Rattle.tests_sessions.proofs.asked.refused.Given as goal
-
-abbrev pub ghosts-asked : goal.ghosts-asked
-ghosts-asked g a = record { book = a.opened }

@@ -1,4 +1,0 @@
-use Rattle.tests_sessions.proofs.talks.eighth_rejection.Given as goal
-
-abbrev pub ghosts-talked : goal.ghosts-talked
-ghosts-talked g a = record { book = a.opened }
