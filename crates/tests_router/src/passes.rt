@@ -1,6 +1,6 @@
 ghost use Rattle.std.specs.Prelude.{◌≡◌};
 
-use entry_table::IndexKey;
+use crate::fixture::{KEY, S1, connected};
 use message_view::View;
 use owners::WellKnown;
 use published::{Naming, Opened};
@@ -10,18 +10,6 @@ use std::marker::Brand;
 use std::process::Abort;
 use std::sync::Wait;
 use std::test::Fail;
-
-const KEY: IndexKey = IndexKey {
-    first: 1,
-    second: 2,
-};
-
-/// A signal of the path `/a`, the interface `a.b` and the member `c`.
-const S1: [u8; 64] = [
-    0x6c, 4, 0, 1, 0, 0, 0, 0, 1, 0, 0, 0, 0x2a, 0, 0, 0, 1, 1, b'o', 0, 2, 0, 0, 0, b'/', b'a', 0,
-    0, 0, 0, 0, 0, 2, 1, b's', 0, 3, 0, 0, 0, b'a', b'.', b'b', 0, 0, 0, 0, 0, 3, 1, b's', 0, 1, 0,
-    0, 0, b'c', 0, 0, 0, 0, 0, 0, 0,
-];
 
 #[test]
 fn passes_meet(rt: HostRuntime) -> Result<(), Fail> {
@@ -39,15 +27,6 @@ fn names_and_recipients<J: Naming, R: Wait + Abort>(
     let one = connected(rt, &bus)?;
     let two = connected(rt, &bus)?;
     owns(rt, &bus, one, two)
-}
-
-fn connected<J: Naming, R: Wait + Abort>(
-    rt: &R,
-    bus: &Bus<J, (), &R>,
-) -> Result<Pass<J, ()>, Fail> {
-    let mut pass = bus.pass(rt)?;
-    let _ = bus.connect(rt, &mut pass, ())?;
-    Ok(pass)
 }
 
 // A name that the first pass asks for is the first connection's to the second one.
