@@ -11,13 +11,13 @@ use std::process::Abort;
 use std::sync::Wait;
 use std::test::Fail;
 
-const KEY: IndexKey = IndexKey {
+pub(crate) const KEY: IndexKey = IndexKey {
     first: 1,
     second: 2,
 };
 
 /// A signal of the path `/a`, the interface `a.b` and the member `c`.
-const S1: [u8; 64] = [
+pub(crate) const S1: [u8; 64] = [
     0x6c, 4, 0, 1, 0, 0, 0, 0, 1, 0, 0, 0, 0x2a, 0, 0, 0, 1, 1, b'o', 0, 2, 0, 0, 0, b'/', b'a', 0,
     0, 0, 0, 0, 0, 2, 1, b's', 0, 3, 0, 0, 0, b'a', b'.', b'b', 0, 0, 0, 0, 0, 3, 1, b's', 0, 1, 0,
     0, 0, b'c', 0, 0, 0, 0, 0, 0, 0,
