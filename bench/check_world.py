@@ -3,6 +3,7 @@
 
     check_world.py play FILE                 the answers to a list (- is standard input)
     check_world.py cases FILE..              case files: what misses, then `N cases, M wrong`
+    check_world.py through COMMAND FILE..    case files, each case fed to `COMMAND -`
     check_world.py against COMMAND [..]      random lists, each played here and fed to `COMMAND -`
     check_world.py self DIRECTORY            this checker itself, by cases that others made
     check_world.py message WORD..            the bytes of a message, for case files
@@ -11,7 +12,7 @@
 import argparse
 import sys
 
-from checker import build, compare, outside, text
+from checker import build, compare, outside, text, through
 
 
 def play(options):
@@ -56,6 +57,9 @@ def arguments():
     mode = modes.add_parser("cases")
     mode.add_argument("files", nargs="+")
     mode.set_defaults(run=cases)
+    mode = modes.add_parser("through")
+    through.add_options(mode)
+    mode.set_defaults(run=through.main)
     mode = modes.add_parser("against")
     compare.add_options(mode)
     mode.set_defaults(run=compare.main)

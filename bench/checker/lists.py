@@ -210,6 +210,8 @@ class List:
     def look(self, senders):
         """A message of each sender, and who gets it."""
         for sender in senders:
+            if self.both and sender != "bus" and not self.is_there(sender):
+                continue
             job = len(self.lines)
             if self.event("begin %s %s" % (sender, self.rng.choice(self.valid).raw.hex())) == "begun":
                 self.event("end %d" % job)

@@ -8,15 +8,15 @@ mod client;
 mod error;
 mod escapes;
 mod lines;
-mod link;
 mod places;
+mod sockets;
 mod talk;
 mod timed;
 
 pub use address::{Address, AddressError, read_addresses};
 pub use client::Client;
 pub use error::ClientError;
-pub use link::{Link, connect};
 pub use places::addresses_of;
+pub use sockets::connect;
 pub use talk::{Answer, Say, Stage};
 pub use timed::Timed;

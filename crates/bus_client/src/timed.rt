@@ -1,6 +1,6 @@
 // A socket that waits only so long.
 
-use crate::link::Link;
+use endpoints::Link;
 use std::io;
 use std::io::{ErrorKind, Read, Write};
 use std::rt::Clock;

@@ -1,4 +1,3 @@
 pub mod CalledMethods
 pub mod TextArguments
 pub mod NumberArguments
-pub mod BusNames

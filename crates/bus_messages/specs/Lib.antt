@@ -1,5 +1,5 @@
 pub mod ErrorNames
-pub mod UniqueNames
+pub use Rattle.unique_name.specs.UniqueNames
 pub mod Bodies
 pub mod Sent
 pub mod Methods

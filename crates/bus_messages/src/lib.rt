@@ -1,7 +1,6 @@
 //! What the bus itself says and understands: the table of its methods, the calls that clients make of them, and the
 //! answers, errors and signals that it sends. Nothing here knows of connections but their numbers. The sessions above use
-//! that each message which is built is valid and the one that its arguments ask for, and that a unique name and its
-//! number are one another's.
+//! that each message which is built is valid and the one that its arguments ask for.
 #![tactic(auto)]
 
 mod arguments;
@@ -12,7 +11,6 @@ mod introspect;
 mod laws;
 mod method;
 mod sent;
-mod unique_name;
 
 pub use body::Body;
 pub use bytes::Bytes;

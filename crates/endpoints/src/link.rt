@@ -1,4 +1,4 @@
-// Accepted sockets.
+// Connected sockets.
 
 ghost use Rattle.std.specs.Io.{ReadsAtMost, WritesAtMost};
 
@@ -7,6 +7,7 @@ use std::io::{Read, Write};
 use std::net::{Shutdown, TcpStream};
 use std::os::fd::{AsRawFd, RawFd};
 use std::os::unix::net::UnixStream;
+use std::time::Duration;
 
 /// A connection's socket. Threads share it by reference: one reads, another writes, any of them shuts it down.
 #[derive(Drop)]
@@ -21,6 +22,20 @@ impl Link {
         match self {
             Link::Tcp(stream) => stream.set_nonblocking(true),
             Link::Unix(stream) => stream.set_nonblocking(true),
+        }
+    }
+
+    /// From now on a read or a write that waits for longer than the limit answers `WouldBlock`.
+    pub fn set_timeouts(&self, limit: Option<Duration>) -> io::Result<()> {
+        match self {
+            Link::Tcp(stream) => {
+                stream.set_read_timeout(limit)?;
+                stream.set_write_timeout(limit)
+            }
+            Link::Unix(stream) => {
+                stream.set_read_timeout(limit)?;
+                stream.set_write_timeout(limit)
+            }
         }
     }
 

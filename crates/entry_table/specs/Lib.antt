@@ -8,3 +8,5 @@ pub mod TextKeys
 pub mod ShapeCounts
 pub mod IndexLists
 pub mod FoundTexts
+pub mod RuleHints
+pub mod Elsewhere

@@ -13,7 +13,8 @@ pub enum Filter {
 }
 
 impl Filter {
-    ghost use Rattle.std.specs.Prelude.{◌≡◌, IfOk};
+    ghost use Rattle.std.specs.Prelude.{◌≡◌, ◌↔◌, IfOk, IsTrue, option_map};
+    ghost use Rattle.entry_table.specs.Elsewhere.{IsFilterElsewhere};
     ghost use Rattle.entry_table.specs.Entries.{is_rule, is_attached};
     ghost use Rattle.entry_table.specs.OfferedEntries.{texts_fixed};
     ghost use Rattle.entry_table.specs.TextKeys.{shape_of};
@@ -35,6 +36,16 @@ impl Filter {
         match self {
             Filter::Rule(compiled) => compiled.shape(),
             Filter::Attached(_) => 0,
+        }
+    }
+
+    /// Whether it is a rule that asks for a path namespace that the path, that of a message, isn't in.
+    pub fn is_elsewhere(&self, path: Option<&str>) -> bool
+        ensures { IsTrue result ↔ IsFilterElsewhere self.now (option_map (λ text. text.now) path.entry) }
+    {
+        match self {
+            Filter::Rule(compiled) => compiled.is_elsewhere(path),
+            Filter::Attached(_) => false,
         }
     }
 

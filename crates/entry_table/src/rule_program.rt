@@ -1,42 +1,65 @@
 // Rules with their programs.
 
-ghost use Rattle.std.specs.Prelude.{◌≡◌};
+ghost use Rattle.std.specs.Prelude.{◌≡◌, ◌↔◌, length, IsTrue, IsSomeAnd, option_map};
 ghost use Rattle.match_rule.specs.FixedTexts.{fixed_texts};
+ghost use Rattle.match_rule.specs.PathNamespaces.{HasPathIn, IsElsewhere};
 ghost use Rattle.entry_table.specs.TextKeys.{shape_of};
 
 use crate::texts::Texts;
 use bpf_verify::Verified;
-use match_rule::Rule;
+use match_rule::{Rule, has_path_in, may_have_path};
 use rule_compile::{CompileError, compile};
 use std::alloc::{AllocError, Global};
 use std::marker::Model;
 use std::sync::Arc;
 
-/// A rule, its slot and its program, and which texts it fixes, which is asked of each entry of a list that a message is
-/// looked up in.
+/// A rule, its slot and its program.
 #[derive(Drop)]
 struct Parts {
     rule: Rule,
     slot: Option<u16>,
     program: Verified,
-    shape: u16,
-    ghost shaped: { shape ≡ shape_of (fixed_texts rule) },
 }
 
-/// A rule with the program that it was compiled to, for images of edition 2. Shares are of one value.
+/// A rule with the program that it was compiled to, for images of edition 2. Shares are of one value. Which texts the
+/// rule fixes and how long its path namespace is are asked of each entry of a list that a message is looked up in, so
+/// they are kept here, where no share has to be followed.
 #[derive(Drop)]
 pub struct RuleProgram {
     parts: Arc<Parts>,
+    shape: u16,
+    namespace_len: Option<usize>,
 }
 
 impl Model for RuleProgram {
     ghost use Rattle.entry_table.specs.CompiledRule.{CompiledRule, IsFit};
+    ghost use Rattle.entry_table.specs.RuleHints.{AreHints};
 
     ghost Value = { CompiledRule };
 
     ghost view = { λ p. record { rule = p.parts.value.rule; slot = p.parts.value.slot; program = p.parts.value.program } };
 
-    ghost invariant = { λ p. IsFit (record { rule = p.parts.value.rule; slot = p.parts.value.slot; program = p.parts.value.program }) };
+    ghost invariant = { λ p. IsFit (record { rule = p.parts.value.rule; slot = p.parts.value.slot; program = p.parts.value.program }) × AreHints p.parts.value.rule p.shape p.namespace_len };
+}
+
+/// The length of a text in bytes.
+fn len_of(text: Option<&str>) -> Option<usize>
+    ensures { result ≡ option_map length (option_map (λ text. text.now) text.entry) }
+{
+    match text {
+        None => None,
+        Some(text) => Some(text.len()),
+    }
+}
+
+/// Whether a path isn't in the namespace that is asked for.
+fn is_outside(path: Option<&str>, asked: Option<&str>) -> bool
+    ensures { IsTrue result ↔ IsSomeAnd asked.entry (λ namespace. HasPathIn (option_map (λ text. text.now) path.entry) namespace.now → ⊥) }
+{
+    match asked {
+        None => false,
+        Some(namespace) => !has_path_in(path, namespace),
+    }
 }
 
 impl RuleProgram {
@@ -61,14 +84,16 @@ impl RuleProgram {
     {
         let program = compile(alloc, &rule, slot)?;
         let shape = Texts::of_rule(&rule).shape();
+        let namespace_len = len_of(rule.path_namespace());
         let parts = Parts {
             rule,
             slot,
             program,
-            shape,
         };
         Ok(RuleProgram {
             parts: Arc::new(alloc, parts)?,
+            shape,
+            namespace_len,
         })
     }
 
@@ -78,6 +103,8 @@ impl RuleProgram {
     {
         Ok(RuleProgram {
             parts: Arc::try_clone(&self.parts)?,
+            shape: self.shape,
+            namespace_len: self.namespace_len,
         })
     }
 
@@ -101,7 +128,20 @@ impl RuleProgram {
     pub(crate) fn shape(&self) -> u16
         ensures { result ≡ shape_of (fixed_texts self.now.rule) }
     {
-        self.parts.shape
+        self.shape
+    }
+
+    /// Whether the rule asks for a path namespace that the path isn't in.
+    pub fn is_elsewhere(&self, path: Option<&str>) -> bool
+        ensures { IsTrue result ↔ IsElsewhere self.now.rule (option_map (λ text. text.now) path.entry) }
+    {
+        let Some(len) = self.namespace_len else {
+            return false;
+        };
+        if len > 1 && !may_have_path(path, len) {
+            return true;
+        }
+        is_outside(path, self.parts.rule.path_namespace())
     }
 
     /// The program.

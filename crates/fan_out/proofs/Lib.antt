@@ -7,3 +7,4 @@ mod Offering
 mod Finding
 mod Joining
 mod Rows
+mod Missing

@@ -10,7 +10,7 @@ use Rattle.program_table.specs.Recipients.{FilterMatches}
 use Rattle.fan_out.specs.Pieces.{IsInPiece}
 use Rattle.fan_out.specs.Answers.{IsAnswer}
 use Rattle.fan_out.specs.Marks.{IsMarked, IsUnmarked, IsMarkedMore, mark_count}
-use Rattle.fan_out.specs.Marking.{Considers, MatchesAmong, AreDecided, AreMarked, AreMarkedSoFar}
+use Rattle.fan_out.specs.Marking.{IsMissed, Considers, MatchesAmong, AreDecided, AreMarked, AreMarkedSoFar}
 use Rattle.fan_out.proofs.Places.{contains_here, contains_later, contains_cases, contains_none, none_marked, count_none, set_here, set_kept, set_cases, count_set}
 
 false_true : (b : Bool) → b ≡ false → b ≡ true → ⊥
@@ -45,22 +45,26 @@ module _ {M : Type 0} where
   }
 
   -- why an entry may be passed over
-  abbrev NeedsNoRun : State M → ℕ → ℕ → Entry → List Bool → Type 0
-  NeedsNoRun s part of e marks =
-      (IsInPiece part of e.connection → ⊥)
+  abbrev NeedsNoRun : State M → ℕ → ℕ → List ℕ → Entry → List Bool → Type 0
+  NeedsNoRun s part of bytes e marks =
+      IsMissed bytes e.filter
+      ⊎ ((IsInPiece part of e.connection → ⊥)
       ⊎ ((is_connected e.connection s.connections ≡ false)
-      ⊎ IsMarked (numbers_of s.connections) marks e.connection)
+      ⊎ IsMarked (numbers_of s.connections) marks e.connection))
 
-  passed_marked : (s : State M) (part of : ℕ) (e : Entry) (marks : List Bool) (n : ℕ) → is_connected e.connection s.connections ≡ true → NeedsNoRun s part of e marks → e.connection ≡ n → IsInPiece part of n → IsMarked (numbers_of s.connections) marks n
-  passed_marked s part of e marks n there why same inside = elim why [
-    | inl outside ↦ absurd (outside (subst (λ (k : ℕ). IsInPiece part of k) (sym same) inside))
-    | inr other ↦ elim other [
-      | inl absent ↦ absurd (false_true (is_connected e.connection s.connections) absent there)
-      | inr marked ↦ subst (λ (k : ℕ). IsMarked (numbers_of s.connections) marks k) same marked
+  passed_marked : (s : State M) (part of : ℕ) (bytes : List ℕ) (sender : Option ℕ) (m : Message) (e : Entry) (marks : List Bool) (n : ℕ) → Valid bytes m → is_connected e.connection s.connections ≡ true → NeedsNoRun s part of bytes e marks → e.connection ≡ n → FilterMatches s.registrations sender m e.filter → IsInPiece part of n → IsMarked (numbers_of s.connections) marks n
+  passed_marked s part of bytes sender m e marks n valid there why same matches inside = elim why [
+    | inl missed ↦ absurd (missed s.registrations sender m valid matches)
+    | inr others ↦ elim others [
+      | inl outside ↦ absurd (outside (subst (λ (k : ℕ). IsInPiece part of k) (sym same) inside))
+      | inr other ↦ elim other [
+        | inl absent ↦ absurd (false_true (is_connected e.connection s.connections) absent there)
+        | inr marked ↦ subst (λ (k : ℕ). IsMarked (numbers_of s.connections) marks k) same marked
+      ]
     ]
   ]
 
-  pub marks_pass : (s : State M) (part of : ℕ) (bytes words : List ℕ) (all left : List Entry) (e : Entry) (marks : List Bool) (runs : ℕ) → AreMarkedSoFar s part of bytes words all (e ∷ left) marks runs → NeedsNoRun s part of e marks → AreMarkedSoFar s part of bytes words all left marks runs
+  pub marks_pass : (s : State M) (part of : ℕ) (bytes words : List ℕ) (all left : List Entry) (e : Entry) (marks : List Bool) (runs : ℕ) → AreMarkedSoFar s part of bytes words all (e ∷ left) marks runs → NeedsNoRun s part of bytes e marks → AreMarkedSoFar s part of bytes words all left marks runs
   marks_pass s part of bytes words all left e marks runs so_far why = record {
     rest = λ f there. so_far.rest f (contains_later e f left there);
     few = omega (arith, so_far.few);
@@ -71,7 +75,7 @@ module _ {M : Type 0} where
           (λ among. elim (both.1 among) [
             | inl marked ↦ inl marked
             | inr here ↦ elim (among_cases s sender m e left n here.0) [
-              | inl this ↦ inl (passed_marked s part of e marks n (decided.connected e (so_far.rest e (contains_here e left))) why this.0 here.1)
+              | inl this ↦ inl (passed_marked s part of bytes sender m e marks n valid (decided.connected e (so_far.rest e (contains_here e left))) why this.0 this.1 here.1)
               | inr later ↦ inr (later, here.1)
             ]
           ]),

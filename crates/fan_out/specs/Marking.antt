@@ -3,6 +3,8 @@ use Rattle.std.specs.Prelude.{◌≡◌, ◌⊎◌, ◌↔◌, ℕ, ◌+◌, ◌
 use Rattle.message_view.specs.Message.{Message}
 use Rattle.message_view.specs.Valid.{Valid}
 use Rattle.entry_table.specs.declared.entry.Entry.{Entry}
+use Rattle.entry_table.specs.declared.entry.Filter.{Filter}
+use Rattle.program_table.specs.Registrations.{Registrations}
 use Rattle.program_table.specs.Connections.{numbers_of, is_connected}
 use Rattle.program_table.specs.State.{State}
 use Rattle.program_table.specs.Recipients.{FilterMatches, IsRecipient}
@@ -24,14 +26,20 @@ pub record IsAsked (numbers : List ℕ) (part of : ℕ) (bytes words : List ℕ)
   pub marked : MatchBool answer (IsMarkedMore numbers e.connection before after) (after ≡ before)
   pub one_run : later ≡ runs + 1
 
+-- the filter matches no message of these bytes, whoever sent it
+abbrev pub IsMissed : List ℕ → Filter → Type 0
+IsMissed bytes filter = (r : Registrations) (sender : Option ℕ) (m : Message) → Valid bytes m → FilterMatches r sender m filter → ⊥
+
 module _ {M : Type 0} where
-  -- an entry of another piece, of no connection, or of a connection that is marked already is passed over
+  -- an entry that can't match, one of another piece, of no connection, or of a connection that is marked already is
+  -- passed over
   abbrev pub Considers : State M → ℕ → ℕ → List ℕ → List ℕ → Entry → List Bool → List Bool → ℕ → ℕ → Type 0
   Considers s part of bytes words e before after runs later =
       (IsPassedOver before after runs later
-      × ((IsInPiece part of e.connection → ⊥)
+      × (IsMissed bytes e.filter
+      ⊎ ((IsInPiece part of e.connection → ⊥)
       ⊎ ((is_connected e.connection s.connections ≡ false)
-      ⊎ IsMarked (numbers_of s.connections) before e.connection)))
+      ⊎ IsMarked (numbers_of s.connections) before e.connection))))
       ⊎ IsAsked (numbers_of s.connections) part of bytes words e before after runs later
 
   -- one of the entries is of this connection, and matches

@@ -1,14 +1,18 @@
 // The programs of entries, run over one message.
 
-ghost use Rattle.std.specs.Prelude.{◌≡◌, ◌+◌, ◌<◌, ℕ};
+ghost use Rattle.std.specs.Prelude.{◌≡◌, ◌+◌, ◌<◌, ℕ, true, option_map};
 ghost use Rattle.std.specs.Option.{ForSome, IsSome};
+ghost use Rattle.message_view.specs.Message.{Message, path_of};
+ghost use Rattle.message_view.specs.Valid.{Valid};
 ghost use Rattle.summary.specs.declared.edition.Edition.TheVariants.{One, Two};
 ghost use Rattle.program_table.specs.Answers.{max_entries};
 ghost use Rattle.fan_out.specs.Answers.{IsImage, HasVerdict, IsAnswer};
+ghost use Rattle.fan_out.specs.Marking.{IsMissed};
 
 use crate::tally::Tally;
 use bpf_verify::Verified;
 use entry_table::Filter;
+use match_rule::not_elsewhere_where_it_holds;
 use message_view::View;
 use summary::{Edition, Image, Slots};
 
@@ -44,17 +48,19 @@ fn run_over_one<'a>(
     }
 }
 
-/// The images of a message that programs read, and the count of the programs that were run. Rules read edition 2; the
-/// image of edition 1 is made when the first program reads it.
+/// The images of a message that programs read, its path, and the count of the programs that were run. Rules read edition
+/// 2; the image of edition 1 is made when the first program reads it.
 #[derive(Drop)]
 pub(crate) struct Programs<'v, 'a> {
     view: &'v View<'a>,
     owned: &'v Slots,
     one: Option<Image<'a>>,
     two: &'v Image<'a>,
+    path: Option<&'a str>,
     tally: Tally,
     ghost first: { ForSome one (IsImage One view.now owned.now) },
     ghost second: { IsImage Two view.now owned.now two.now },
+    ghost asked: { (m : Message) → Valid view.now m → option_map (λ text. text.now) path ≡ path_of m },
 }
 
 impl<'v, 'a> Programs<'v, 'a> {
@@ -70,6 +76,7 @@ impl<'v, 'a> Programs<'v, 'a> {
             owned,
             one: None,
             two,
+            path: view.path(),
             tally: Tally::new(),
         }
     }
@@ -79,6 +86,14 @@ impl<'v, 'a> Programs<'v, 'a> {
         ensures { result ≡ self.now.tally.runs }
     {
         self.tally.runs
+    }
+
+    /// Whether a filter can't match, since it asks for a path namespace that the message's path isn't in.
+    pub(crate) fn misses(&self, filter: &Filter) -> bool
+        ensures { result ≡ true → IsMissed self.now.view.now filter.now }
+    {
+        not_elsewhere_where_it_holds();
+        filter.is_elsewhere(self.path)
     }
 
     /// The verdict of a program on the image of an edition.

@@ -57,8 +57,8 @@ fn mark<M: Mailbox>(state: &BusState<M>, marks: &mut Marks, connection: u64)
     }
 }
 
-/// Marks the connection of an entry of the piece where the entry matches. The program of an entry whose connection is
-/// marked already isn't run.
+/// Marks the connection of an entry of the piece where the entry matches. The program of an entry isn't run where the
+/// message's path tells that it doesn't match, nor where its connection is marked already.
 fn consider<M: Mailbox>(
     state: &BusState<M>,
     piece: Piece,
@@ -76,6 +76,9 @@ fn consider<M: Mailbox>(
     ensures considered { Considers state.now piece.part piece.of programs.old.view.now programs.old.owned.now entry.now marks.old.places marks.new.places programs.old.tally.runs programs.new.tally.runs }
 {
     if !piece.has(entry.connection) {
+        return;
+    }
+    if programs.misses(&entry.filter) {
         return;
     }
     if is_marked(state, marks, entry.connection) {

@@ -14,3 +14,4 @@ pub mod ReadRules
 pub mod Namespaces
 pub mod TextArgs
 pub mod FixedFound
+pub mod NamespaceFound

@@ -1,6 +1,6 @@
 -- The text of a signature is ASCII, and so it is UTF-8.
-use Rattle.std.proofs.Common.{◌≡◌, ℕ, suc, ◌+◌, ◌<◌, false, List, [], ◌∷◌, ◌++◌, Option, Some, None, Result, Ok, Err, refl, sym, subst, arith}
-use Rattle.std.specs.Prelude.{is_some, is_ok, IsTrue, IsSome, IfOk, MatchResult}
+use Rattle.std.proofs.Common.{◌≡◌, ℕ, suc, ◌+◌, ◌<◌, true, List, [], ◌∷◌, ◌++◌, Some, refl, sym, subst, arith}
+use Rattle.std.specs.Prelude.{is_some, IsTrue}
 use Rattle.std.specs.Str.{IsAscii, IsUtf8}
 use Rattle.std.proofs.lemmas.Str.{IsUtf8-from_ascii}
 use Rattle.std.proofs.lemmas.Str.Ascii.{IsAscii-nil, IsAscii-cons}
@@ -8,8 +8,7 @@ use Rattle.std.proofs.lemmas.Bool.Decides.{nat_tests}
 use Rattle.signature.specs.Code.{is_basic}
 use Rattle.signature.specs.DataType.{DataType, DataTypes, basic, variant, array, dict, struct, no_types, one_more, spelling, spellings, Fits, AllFit, SigText}
 use Rattle.signature.specs.Trees.{types_of}
-use Rattle.signature.specs.declared.fault.SigError.{SigError}
-use Rattle.signature.proofs.TreesOfTexts.{trees_spelled}
+use Rattle.signature.proofs.TreesOfTexts.{trees_spelled, types_of-SigText}
 
 basic_low : (code : ℕ) → IsTrue (is_basic code) → code < 128
 basic_low code is = grind (arith, nat_tests)
@@ -46,16 +45,10 @@ signature_utf8 types bytes is =
     let spelled = trees_spelled types bytes is in
     IsUtf8-from_ascii bytes (subst IsAscii (sym spelled.spelled) (types_ascii types 0 0 spelled.fits))
 
--- what isn't UTF-8 is no signature
-pub no_signature : (bytes : List ℕ) → (IsUtf8 bytes → ⊥) → is_some (types_of bytes) ≡ false
-no_signature bytes h = go (types_of bytes) refl
-  where
-    go : (found : Option DataTypes) → types_of bytes ≡ found → is_some found ≡ false
-    go None e = refl
-    go (Some types) e = absurd (h (signature_utf8 types bytes e))
+-- the text of types is UTF-8
+pub types_utf8 : (types : DataTypes) (bytes : List ℕ) → SigText types bytes → IsUtf8 bytes
+types_utf8 types bytes is = signature_utf8 types bytes (types_of-SigText types bytes is)
 
--- what the reading of a signature says
-pub read_is : (bytes : List ℕ) (read : Result (List ℕ) SigError) → MatchResult read (λ s. IsSome (types_of s)) (λ _. types_of bytes ≡ None)
-    → IfOk read (λ s. (s ≡ bytes) × ((types : DataTypes) × SigText types bytes)) → is_ok read ≡ is_some (types_of bytes)
-read_is bytes (Ok s) tree found = sym (rw found.0 at tree)
-read_is bytes (Err fault) tree found = sym (rw tree refl)
+-- and it has types
+pub types_some : (types : DataTypes) (bytes : List ℕ) → SigText types bytes → is_some (types_of bytes) ≡ true
+types_some types bytes is = rw (types_of-SigText types bytes is) refl

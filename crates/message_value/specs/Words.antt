@@ -1,5 +1,5 @@
 -- Words that the contracts of the readers use.
-use Rattle.std.specs.Prelude.{◌≡◌, ℕ, Bool, true, false, List, length, ◌%◌, ◌<◌, ◌≤◌, ◌==◌, slice_index, if◌then◌else◌, Option, Some, None, Result, Ok, Err}
+use Rattle.std.specs.Prelude.{◌≡◌, ℕ, Bool, true, false, List, length, ◌%◌, ◌<◌, ◌≤◌, ◌==◌, ◌&&◌, nat_le, slice_index, if◌then◌else◌, Option, Some, None, Result, Ok, Err}
 use Rattle.signature.specs.DataType.{DataType, basic, TypeText}
 use Rattle.signature.specs.BasicType.{basic_alignment}
 use Rattle.message_value.specs.declared.order.Order.{Order}
@@ -46,6 +46,10 @@ abbrev pub text_code : TextType → ℕ
 text_code texts.String = 115
 text_code texts.ObjectPath = 111
 text_code texts.Signature = 103
+
+-- an ASCII character other than zero
+abbrev pub is_plain : ℕ → Bool
+is_plain byte = nat_le 1 byte && nat_le byte 127
 
 -- what a test of a text's form lends: the text itself
 abbrev pub LendsText : Bool → List ℕ → Option (List ℕ) → Type 0

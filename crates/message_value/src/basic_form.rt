@@ -51,6 +51,7 @@ fn check_boolean(cursor: &mut Cursor<'_>, order: Order) -> Result<(), MsgError>
 
 /// A value of a basic type, with the zeros before it.
 #[tactic(auto, unfolding(crate::specs::Words::basic_at, crate::specs::Reading::number_value_at))]
+#[inline(always)]
 pub(crate) fn check_basic(
     cursor: &mut Cursor<'_>,
     order: Order,

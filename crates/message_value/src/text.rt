@@ -1,17 +1,18 @@
 // The basic types whose values are texts.
 
 ghost use Rattle.std.specs.Prelude.{◌≡◌, ◌<◌, ◌^◌, ◌==◌, option_map};
-ghost use Rattle.std.specs.List.{list_any};
+ghost use Rattle.std.specs.List.{list_all, list_any};
 ghost use Rattle.message_value.specs.Fits.{is_text_of};
 ghost use Rattle.message_value.specs.Reading.{text_fault, text_at, long_text_at, short_text_at, text_value_at};
-ghost use Rattle.message_value.specs.Words.{Reads, LendsText, text_code};
+ghost use Rattle.message_value.specs.Words.{Reads, LendsText, text_code, is_plain};
 ghost use Rattle.message_value.specs.Value.{text};
 
 use crate::cursor::Cursor;
 use crate::fault::MsgError;
 use crate::order::Order;
 use memchr::memchr;
-use signature::{Signature, check_path};
+use signature::{Signature, check_path_bytes};
+use std::str::from_utf8_unchecked;
 
 /// Below so many bytes a look at each of them takes less time than a search, which has to begin and to end.
 const SHORT: usize = 64;
@@ -22,6 +23,12 @@ pub enum TextType {
     String,
     ObjectPath,
     Signature,
+}
+
+fn is_plain(byte: u8) -> bool
+    ensures { result ≡ is_plain byte }
+{
+    matches!(byte, 1..=127)
 }
 
 /// Whether a byte is zero, by a look at each without an early end, so that the processor looks at many at once.
@@ -45,9 +52,24 @@ fn has_zero(bytes: &[u8]) -> bool
     memchr(0, bytes).is_some()
 }
 
+/// Whether each byte is an ASCII character other than zero, by a look at each without an early end. Such
+/// bytes are UTF-8, and most texts have no others.
+fn is_plain_ascii(bytes: &[u8]) -> bool
+    ensures { result ≡ list_all is_plain bytes.now }
+{
+    let mut plain = true;
+    for byte in bytes {
+        plain &= is_plain(*byte);
+    }
+    plain
+}
+
 fn plain_text(bytes: &[u8]) -> Option<&str>
     ensures { LendsText (is_text_of 115 bytes.now) bytes.now (option_map (λ text. text.now) result) }
 {
+    if is_plain_ascii(bytes) {
+        return Some(unsafe { from_utf8_unchecked(bytes) });
+    }
     match std::str::from_utf8(bytes) {
         Err(_) => None,
         Ok(_) if has_zero(bytes) => None,
@@ -58,20 +80,21 @@ fn plain_text(bytes: &[u8]) -> Option<&str>
 fn path_text(bytes: &[u8]) -> Option<&str>
     ensures { LendsText (is_text_of 111 bytes.now) bytes.now (option_map (λ text. text.now) result) }
 {
-    match std::str::from_utf8(bytes) {
-        Err(_) => None,
-        Ok(text) if check_path(text) => Some(text),
-        Ok(_) => None,
+    // A path is ASCII.
+    if check_path_bytes(bytes) {
+        Some(unsafe { from_utf8_unchecked(bytes) })
+    } else {
+        None
     }
 }
 
 fn signature_text(bytes: &[u8]) -> Option<&str>
     ensures { LendsText (is_text_of 103 bytes.now) bytes.now (option_map (λ text. text.now) result) }
 {
-    match std::str::from_utf8(bytes) {
+    // A signature is ASCII.
+    match Signature::read(bytes) {
+        Ok(_) => Some(unsafe { from_utf8_unchecked(bytes) }),
         Err(_) => None,
-        Ok(text) if Signature::read(bytes).is_ok() => Some(text),
-        Ok(_) => None,
     }
 }
 

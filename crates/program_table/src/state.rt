@@ -257,7 +257,7 @@ impl<M: Mailbox> BusState<M> {
         ensures few { result ≤ max_connections }
     {
         let _ = self.connections.last();
-        self.connections.as_slice().len()
+        self.connections().len()
     }
 
     /// Where a connection stands in that list.

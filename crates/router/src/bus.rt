@@ -4,17 +4,14 @@ ghost use Rattle.std.specs.Prelude.{◌≡◌, ◌⊎◌, MatchResult, IfErr, fa
 ghost use mathlib.Core.List.{IsPrefix};
 ghost use Rattle.program_table.specs.declared.command.Command.TheVariants.{Detach, Request, Release, DropOne, Close};
 ghost use Rattle.published.specs.Publication.{Publication};
-ghost use Rattle.router.specs.Passes.{PassState};
-ghost use Rattle.router.specs.Calls.{AnswersOnce, ConnectsOnce};
-ghost use Rattle.router.specs.Readings.{AddsMatchOnce, RemovesMatchOnce, AttachesOnce};
+ghost use Rattle.passes.specs.Passes.{PassState};
+ghost use Rattle.passes.specs.Calls.{AnswersOnce, ConnectsOnce};
+ghost use Rattle.passes.specs.Readings.{AddsMatchOnce, RemovesMatchOnce, AttachesOnce};
 
-use crate::control::Control;
-use crate::error::BusError;
-use crate::kept::KeptSights;
-use crate::pass::Pass;
 use bpf_code::Ins;
 use entry_table::IndexKey;
 use owners::WellKnown;
+use passes::{BusError, Control, KeptPasses, Pass};
 use program_table::{Mailbox, Reply};
 use published::{Front, Naming, Opened};
 use std::alloc::Global;
@@ -25,7 +22,7 @@ use summary::Edition;
 #[derive(Drop)]
 pub struct Bus<J: Naming, M: Mailbox, R: Wait + Drop> {
     control: Mutex<Control<J, M, R>>,
-    kept: Mutex<KeptSights<J, M>>,
+    kept: Mutex<KeptPasses<J, M>>,
     // Whose turn it is to change an owner and to announce it.
     turns: Mutex<()>,
 }
@@ -41,7 +38,7 @@ impl<J: Naming, M: Mailbox, R: Wait + Drop> Bus<J, M, R> {
         requires { opened ≡ J.book }
         ensures { IfErr result (λ error. error ≡ BusError.NoMemory) }
     {
-        let Ok(kept) = KeptSights::new(alloc) else {
+        let Ok(kept) = KeptPasses::new(alloc) else {
             return Err(BusError::NoMemory);
         };
         match Control::new(rt, alloc, key, opened) {
@@ -70,7 +67,7 @@ impl<J: Naming, M: Mailbox, R: Wait + Drop> Bus<J, M, R> {
     {
         let kept = self.kept.lock(rt).take();
         match kept {
-            Some(sight) => Ok(Pass::new(sight)),
+            Some(pass) => Ok(pass),
             None => self.control.lock(rt).pass(),
         }
     }
@@ -79,7 +76,7 @@ impl<J: Naming, M: Mailbox, R: Wait + Drop> Bus<J, M, R> {
     pub fn take_back(&self, rt: &impl Wait, pass: Pass<J, M>)
         requires { (pass.is_closed ≡ true) ⊎ (pass.connection ≡ 0) }
     {
-        self.kept.lock(rt).put(pass.into_sight());
+        self.kept.lock(rt).put(pass);
     }
 
     /// Tells the published history, which begins with what the pass had seen, and is seen then.

@@ -4,6 +4,7 @@ use crate::basic_type::BasicType;
 use crate::parts::Parts;
 use crate::reading::Signature;
 use crate::types::Types;
+use crate::walk::is_basic;
 use std::marker::Model;
 
 /// The text of one complete type (D-Bus Specification, "Type System").
@@ -39,6 +40,9 @@ impl<'a> OneType<'a> {
         // So it is what spells a tree.
         ensures tree { MatchOption result (type_of text.now ≡ None) (λ t. IsSome (type_of t)) }
     {
+        if let Some(basic) = OneType::basic(text) {
+            return Some(basic);
+        }
         let Ok(signature) = Signature::read(text) else {
             return None;
         };
@@ -46,6 +50,17 @@ impl<'a> OneType<'a> {
         match (types.next(), types.next()) {
             (Some(only), None) => Some(only),
             _ => None,
+        }
+    }
+
+    /// The type of a text that is the byte of a basic type.
+    fn basic(text: &'a [u8]) -> Option<OneType<'a>>
+        ensures { IfSome result (λ t. (t ≡ text.now) × (length text.now ≡ 1) × ((type : DataType) × TypeText type text.now)) }
+    {
+        if text.len() == 1 && is_basic(text[0]) {
+            Some(OneType::new(text))
+        } else {
+            None
         }
     }
 
@@ -78,6 +93,7 @@ impl<'a> OneType<'a> {
     }
 
     /// Its parts.
+    #[inline(always)]
     pub fn parts(&self) -> Parts<'a>
         ensures parts { (type : DataType) → TypeText type self.now → ArePartsOf type result }
         ensures spelled { (type : DataType) × TypeText type self.now }

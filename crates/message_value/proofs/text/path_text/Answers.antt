@@ -1,5 +1,6 @@
-use Rattle.message_value.proofs.PlainTexts.{no_path}
+use Rattle.std.proofs.Common.{sym, ◌∙◌}
+use Rattle.message_value.proofs.PlainTexts.{path_utf8}
 use Rattle.message_value.proofs.text.path_text.Goals as goal
 
-pub returns-in-Err : goal.returns-in-Err
-returns-in-Err c = no_path c.args.bytes.now c.in-Err.ensures.cases.0
+pub from_utf8_unchecked-requires : goal.from_utf8_unchecked-requires
+from_utf8_unchecked-requires c = path_utf8 c.args.bytes.now (sym c.check_path_bytes.ensures ∙ c.if-check_path_bytes.true)

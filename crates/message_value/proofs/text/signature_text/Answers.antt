@@ -1,13 +1,12 @@
-use Rattle.std.proofs.Common.{sym, ap, ◌∙◌}
-use Rattle.message_value.proofs.SignatureTexts.{no_signature, read_is}
+use Rattle.message_value.proofs.SignatureTexts.{types_utf8, types_some}
 use Rattle.message_value.proofs.text.signature_text.Goals as goal
 
-pub returns-in-Err : goal.returns-in-Err
-returns-in-Err c = no_signature c.args.bytes.now c.in-Err.ensures.cases.0
+pub from_utf8_unchecked-requires : goal.from_utf8_unchecked-requires
+from_utf8_unchecked-requires c =
+    let found = c.in-Ok.ensures.found in
+    types_utf8 found.1.0 c.args.bytes.now found.1.1
 
 pub returns-in-Ok : goal.returns-in-Ok
 returns-in-Ok c =
-    (sym (sym c.if-is_ok.true ∙ c.is_ok.ensures.value ∙ read_is c.args.bytes.now c.read.result c.read.ensures.trees c.read.ensures.found), ap (λ t. t.now) c.in-Ok.text-is ∙ c.in-Ok.ensures.cases.0)
-
-pub returns-in-Ok-2 : goal.returns-in-Ok-2
-returns-in-Ok-2 c = sym (read_is c.args.bytes.now c.read.result c.read.ensures.trees c.read.ensures.found) ∙ sym c.is_ok.ensures.value ∙ c.if-is_ok.false
+    let found = c.in-Ok.ensures.found in
+    (types_some found.1.0 c.args.bytes.now found.1.1, c.from_utf8_unchecked.ensures)

@@ -1,4 +1,4 @@
-use Rattle.std.proofs.Common.{sym, ◌∙◌, ap, ◌∷◌, List, ℕ, subst}
+use Rattle.std.proofs.Common.{sym, ◌∙◌, ap, ◌∷◌, List, ℕ, subst, arith}
 use Rattle.std.specs.Prelude.{IsSome}
 use Rattle.signature.specs.DataType.{SigText, no_types, one_more}
 use Rattle.signature.specs.Trees.{type_of}
@@ -6,9 +6,15 @@ use Rattle.signature.proofs.TreesOfTexts.{SigText-TypeText, only_lent, one_lent,
 use Rattle.signature.proofs.one_type.OneType.read.Goals as goal
 use Rattle.signature.proofs.one_type.OneType.read.Goals.{in_default-2-via-in-Some+in_default, in_default-2-via-in_default}
 
-pub returns-in_default-clause-only : goal.returns-in_default-clause-only
-returns-in_default-clause-only c = λ type is short.
-    c.in_default.ensures.only (one_more type no_types) (SigText-TypeText type c.args.text.now is short)
+pub returns-in-Some-clause-tree : goal.returns-in-Some-clause-tree
+returns-in-Some-clause-tree c =
+    let found = c.in-Some.ensures in
+    let one = found.1 in
+    subst (λ t. IsSome (type_of t)) (sym found.0) (some_tree found.2.0 c.args.text.now found.2.1 (omega arith))
+
+pub returns-in_default-read-clause-only : goal.returns-in_default-read-clause-only
+returns-in_default-read-clause-only c = λ type is short.
+    c.in_default-read.ensures.only (one_more type no_types) (SigText-TypeText type c.args.text.now is short)
 
 pub returns-in-Some-None-clause-found : goal.returns-in-Some-None-clause-found
 returns-in-Some-None-clause-found c =

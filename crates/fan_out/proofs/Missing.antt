@@ -1,0 +1,25 @@
+-- What asks for another path namespace than that of a message's path doesn't match the message.
+use Rattle.std.proofs.Common.{◌≡◌, ℕ, Bool, true, List, Option, subst}
+use Rattle.message_view.specs.Message.{Message, path_of}
+use Rattle.message_view.specs.Valid.{Valid}
+use Rattle.match_rule.specs.RuleTree.{RuleTree}
+use Rattle.match_rule.specs.Holds.{Holds}
+use Rattle.match_rule.specs.PathNamespaces.{IsElsewhere}
+use Rattle.entry_table.specs.declared.entry.Filter.{Filter}
+use Rattle.entry_table.specs.declared.entry.Filter.TheVariants.{Rule, Attached}
+use Rattle.entry_table.specs.Elsewhere.{IsFilterElsewhere}
+use Rattle.program_table.specs.Registrations.{Registrations}
+use Rattle.program_table.specs.Recipients.{is_owned, FilterMatches}
+use Rattle.fan_out.specs.Marking.{IsMissed}
+
+-- a message of which a rule holds has a path in the rule's namespace
+abbrev NotElsewhere : Type 0
+NotElsewhere = (rule : RuleTree) (m : Message) (owned : List ℕ → Bool) → Holds rule m owned → IsElsewhere rule (path_of m) → ⊥
+
+no_match : (filter : Filter) (r : Registrations) (sender : Option ℕ) (m : Message) → NotElsewhere → IsFilterElsewhere filter (path_of m) → FilterMatches r sender m filter → ⊥
+no_match (Rule compiled) r sender m law elsewhere matches = law compiled.rule m (is_owned r sender) matches elsewhere
+no_match (Attached attached) r sender m law elsewhere matches = elsewhere
+
+pub filter_missed : (bytes : List ℕ) (filter : Filter) (path : Option (List ℕ)) → NotElsewhere → ((m : Message) → Valid bytes m → path ≡ path_of m) → IsFilterElsewhere filter path → IsMissed bytes filter
+filter_missed bytes filter path law asked elsewhere r sender m valid matches =
+    no_match filter r sender m law (subst (λ (p : Option (List ℕ)). IsFilterElsewhere filter p) (asked m valid) elsewhere) matches

@@ -1,0 +1,112 @@
+// Connections and names in the published state.
+
+ghost use Rattle.std.specs.Prelude.{◌≡◌, ◌≤◌, length, MatchOption, IfOk};
+ghost use mathlib.Core.List.{IsPrefix};
+ghost use Rattle.owners.specs.Queues.{owner_of, queue_of};
+ghost use Rattle.program_table.specs.Connections.{numbers_of};
+ghost use Rattle.program_table.specs.History.{after};
+ghost use Rattle.lookups.specs.Names.{AreNames};
+
+use arrayvec::ArrayVec;
+use fan_out::MAX_RECIPIENTS;
+use owners::WellKnown;
+use program_table::{BusState, Connection, Mailbox};
+use published::{Naming, Sight};
+use std::alloc::{AllocError, Global};
+
+/// The numbers of the connections, rising, and the owned names in the order of bytes.
+pub type Names = (ArrayVec<u64, MAX_RECIPIENTS>, Vec<WellKnown>);
+
+fn numbers_of<M>(connections: &[Connection<M>]) -> ArrayVec<u64, MAX_RECIPIENTS>
+    requires { length connections.now ≤ MAX_RECIPIENTS }
+    ensures { result.items ≡ numbers_of connections.now }
+{
+    let mut numbers = ArrayVec::new();
+    for connection in connections {
+        numbers.push(connection.number);
+    }
+    numbers
+}
+
+// The owned names in the order of bytes.
+fn names_in<M: Mailbox>(state: &BusState<M>, alloc: Global) -> Result<Vec<WellKnown>, AllocError>
+    ensures { IfOk result (λ names. AreNames state.now.registrations.claims names.items) }
+{
+    let mut names: Vec<WellKnown> = Vec::new(alloc);
+    let mut last: Option<WellKnown> = None;
+    'names: while let Some(name) = state.next_name(last.as_ref()) {
+        names.push(name.copy())?;
+        last = Some(name);
+    }
+    Ok(names)
+}
+
+fn all_in<M: Mailbox>(state: &BusState<M>, alloc: Global) -> Result<Names, AllocError>
+    ensures { IfOk result (λ all. (all.0.items ≡ numbers_of state.now.connections) × AreNames state.now.registrations.claims all.1.items) }
+{
+    // There is room for all.
+    let _ = state.connection_count();
+    let numbers = numbers_of(state.connections());
+    let names = names_in(state, alloc)?;
+    Ok((numbers, names))
+}
+
+/// Enters the published state, lists connections and names, and leaves. None where the bus is gone.
+pub fn found_names<J: Naming, M: Mailbox>(
+    sight: Sight<J, M>,
+    alloc: Global,
+) -> (Sight<J, M>, Option<Result<Names, AllocError>>)
+    ensures { MatchOption result.1 (result.0 ≡ sight) (λ found. IsPrefix sight result.0 × IfOk found (λ all. (all.0.items ≡ numbers_of (after result.0).connections) × AreNames (after result.0).registrations.claims all.1.items)) }
+{
+    match sight.enter() {
+        Ok(visit) => {
+            let found = all_in(visit.state(), alloc);
+            (visit.leave(), Some(found))
+        }
+        Err(sight) => (sight, None),
+    }
+}
+
+// The connections that own a name or wait for it.
+fn queue_in<M: Mailbox>(
+    state: &BusState<M>,
+    alloc: Global,
+    name: &WellKnown,
+) -> Result<Vec<u64>, AllocError>
+    ensures { IfOk result (λ queue. queue.items ≡ queue_of name.now state.now.registrations.claims) }
+{
+    state.queue_of(name.as_str()).collect(alloc)
+}
+
+/// Enters the published state, lists a name's queue, and leaves. None where the bus is gone.
+pub fn found_queue<J: Naming, M: Mailbox>(
+    sight: Sight<J, M>,
+    alloc: Global,
+    name: &WellKnown,
+) -> (Sight<J, M>, Option<Result<Vec<u64>, AllocError>>)
+    ensures { MatchOption result.1 (result.0 ≡ sight) (λ found. IsPrefix sight result.0 × IfOk found (λ queue. queue.items ≡ queue_of name.now (after result.0).registrations.claims)) }
+{
+    match sight.enter() {
+        Ok(visit) => {
+            let found = queue_in(visit.state(), alloc, name);
+            (visit.leave(), Some(found))
+        }
+        Err(sight) => (sight, None),
+    }
+}
+
+/// Enters the published state, finds a name's owner, and leaves. None where the bus is gone.
+pub fn found_owner<J: Naming, M: Mailbox>(
+    sight: Sight<J, M>,
+    name: &WellKnown,
+) -> (Sight<J, M>, Option<Option<u64>>)
+    ensures { MatchOption result.1 (result.0 ≡ sight) (λ found. IsPrefix sight result.0 × (found ≡ owner_of name.now (after result.0).registrations.claims)) }
+{
+    match sight.enter() {
+        Ok(visit) => {
+            let found = visit.state().owner_of(name.as_str());
+            (visit.leave(), Some(found))
+        }
+        Err(sight) => (sight, None),
+    }
+}

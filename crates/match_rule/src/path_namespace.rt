@@ -1,0 +1,62 @@
+// The path namespace that a rule asks for.
+
+ghost use Rattle.std.specs.Prelude.{◌≡◌, ◌↔◌, ◌<◌, ℕ, Bool, List, length, IsTrue, option_map};
+ghost use Rattle.message_view.specs.Message.{Message, path_of};
+ghost use Rattle.match_rule.specs.RuleTree.{RuleTree};
+ghost use Rattle.match_rule.specs.Holds.{Holds};
+ghost use Rattle.match_rule.specs.FixedTexts.{first_text};
+ghost use Rattle.match_rule.specs.PathNamespaces.{namespace_in, namespace_asked, HasPathIn, IsElsewhere};
+
+use crate::condition::Condition;
+use crate::namespace::is_in_path_namespace;
+use crate::rule::Rule;
+
+/// The path of the first condition on the path's namespace.
+fn first_namespace(conditions: &[Condition]) -> Option<&str>
+    ensures { option_map (λ text. text.now) result ≡ first_text namespace_in conditions.now }
+{
+    for condition in conditions {
+        if let Condition::PathNamespace(path) = condition {
+            return Some(path.as_str());
+        }
+    }
+    None
+}
+
+impl Rule {
+    /// The path namespace that the rule asks for, if it asks for one.
+    pub fn path_namespace(&self) -> Option<&str>
+        ensures { option_map (λ text. text.now) result ≡ namespace_asked self.now }
+    {
+        first_namespace(self.conditions())
+    }
+}
+
+/// Whether a path is there and lies in the namespace (D-Bus Specification, "Match Rules", `path_namespace`).
+pub fn has_path_in(path: Option<&str>, namespace: &str) -> bool
+    ensures { IsTrue result ↔ HasPathIn (option_map (λ text. text.now) path.entry) namespace.now }
+{
+    match path {
+        None => false,
+        Some(path) => is_in_path_namespace(path, namespace),
+    }
+}
+
+/// Whether a namespace of this length in bytes may have the path: the path is as long, or has a `/` there.
+pub fn may_have_path(path: Option<&str>, len: usize) -> bool
+    ensures { (namespace : List ℕ) → length namespace ≡ len → 1 < len → HasPathIn (option_map (λ text. text.now) path.entry) namespace → IsTrue result }
+{
+    let Some(path) = path else {
+        return false;
+    };
+    let bytes = path.as_bytes();
+    match bytes.get(len) {
+        Some(byte) => *byte == b'/',
+        None => bytes.len() == len,
+    }
+}
+
+/// Of a message whose path isn't in the namespace that a rule asks for the rule doesn't hold.
+pub fn not_elsewhere_where_it_holds()
+    ensures { (rule : RuleTree) (m : Message) (owned : List ℕ → Bool) → Holds rule m owned → IsElsewhere rule (path_of m) → ⊥ }
+{}

@@ -1,0 +1,94 @@
+-- Unicast messages.
+use Rattle.std.proofs.Common.{◌≡◌, ◌⊎◌, inl, inr, ℕ, ◌==◌, true, false, true≢false, List, [], ◌∷◌, Option, Some, None, refl, sym, ap, subst, ◌∙◌, eqb-true}
+use Rattle.std.specs.Prelude.{Result, Ok, Err, IfOk, IfErr, MatchResult, MatchOption}
+use mathlib.Core.List.{IsPrefix}
+use Rattle.outbox.specs.Seated.{OutboxId}
+use Rattle.program_table.specs.declared.command.Command.{Command}
+use Rattle.program_table.specs.Connections.{is_connected}
+use Rattle.program_table.specs.History.{after}
+use Rattle.program_table.specs.State.{State}
+use Rattle.routing.specs.SenderView.{RecipientView, StopView, SenderView}
+use Rattle.routing.specs.Stops.{is_in, shut_at, AllFit}
+use Rattle.lookups.specs.NameOwners.{IsOwner}
+use Rattle.lookups.specs.Addressees.{AreListed, IsAddressee}
+use Rattle.lookups.proofs.Newcomers.{or_cases, is_in-connected}
+use Rattle.passes.specs.declared.error.BusError.{BusError}
+use Rattle.passes.specs.declared.error.BusError.TheVariants as errors
+use Rattle.passes.specs.declared.unicasts.Sent.{Sent}
+use Rattle.passes.specs.declared.unicasts.Sent.TheVariants.{NoOwner}
+use Rattle.passes.specs.Passes.{PassState}
+use Rattle.passes.specs.Routes.{HasNotRouted}
+use Rattle.passes.specs.Sending.{AreReachable, KeepsThose, UnroutedThose, stays, IsDelivered}
+use Rattle.passes.specs.Unicasts.{Unicasts, IsUnsent}
+use Rattle.passes.proofs.Sending.{Turn, turned, saw, has_not_routed, has_seen}
+
+-- what was found, and what was not
+pub some_found : {A : Type 0} (o : Option A) (a : A) (N : Type 0) (P : A → Type 0) → o ≡ Some a → MatchOption o N P → P a
+some_found o a N P e h = let Q : Option _ → Type 0 = λ x. MatchOption x N P in subst Q e h
+
+pub none_found : {A : Type 0} (o : Option A) (N : Type 0) (P : A → Type 0) → o ≡ None → MatchOption o N P → N
+none_found o N P e h = let Q : Option _ → Type 0 = λ x. MatchOption x N P in subst Q e h
+
+module _ {M : Type 0} where
+  -- what became of it, where it was found
+  pub delivered : (outbox_of : M → OutboxId) (to : List ℕ) (v p q w : PassState M) (old new : SenderView) (n : ℕ) (newcomers : List RecipientView) (connected : Option (List ℕ)) (r : Result Sent BusError)
+      → Turn v p q w old new → IsPrefix p.seen q.seen → IsAddressee outbox_of (after q.seen) to old.stops n newcomers connected → KeepsThose connected newcomers old new → AllFit new.origin new.count new.stops → UnroutedThose connected old new
+      → IfOk r (IsDelivered n new.stops) → IfErr r (λ e. e ≡ errors.NoMemory)
+      → MatchResult r (λ sent. Unicasts outbox_of to v sent w) (λ e. IsUnsent outbox_of e v w)
+  delivered outbox_of to v p q w old new n newcomers connected r t begins found k fits u = go r
+    where
+      listed_stays : (c : Option (List ℕ)) → AreListed (after q.seen) c → (m : ℕ) → is_connected m (after q.seen).connections ≡ true → stays c m ≡ true
+      listed_stays None a m e = refl
+      listed_stays (Some numbers) a m e = ap (is_in m) a ∙ is_in-connected m (after q.seen).connections ∙ e
+
+      kept : HasNotRouted outbox_of v w
+      kept =
+          let K : SenderView → Type 0 = λ s. KeepsThose connected newcomers s new in
+          let U : SenderView → Type 0 = λ s. UnroutedThose connected s new in
+          has_not_routed outbox_of v w q.seen new newcomers connected (turned v p q w old new t) (saw v p q w old new t begins)
+          (record { stay = listed_stays connected found.listed; theirs = found.new.theirs }) (subst K t.is k) fits (subst U t.is u)
+
+      owner : IsOwner (after w.seen) to n
+      owner = let O : PassState M → Type 0 = λ x. IsOwner (after x.seen) to n in subst O (sym (turned v p q w old new t)) found.owner
+
+      go : (r : Result Sent BusError) → IfOk r (IsDelivered n new.stops) → IfErr r (λ e. e ≡ errors.NoMemory) → MatchResult r (λ sent. Unicasts outbox_of to v sent w) (λ e. IsUnsent outbox_of e v w)
+      go (Ok sent) (inl put) err = let S : Sent → Type 0 = λ s. Unicasts outbox_of to v s w in subst S (sym put) (kept, (n, owner))
+      go (Ok sent) (inr (full, shut)) err =
+          let S : Sent → Type 0 = λ s. Unicasts outbox_of to v s w in
+          let T : PassState M → Type 0 = λ x. shut_at n x.stops ≡ true in
+          subst S (sym full) (kept, (n, owner, subst T (sym (turned v p q w old new t)) shut))
+      go (Err e) ok err = inr (err, kept)
+
+  -- nobody owns the name
+  pub unowned : (outbox_of : M → OutboxId) (to : List ℕ) (v p q w : PassState M) (old : SenderView) → Turn v p q w old old → AllFit old.origin old.count old.stops → IsPrefix p.seen q.seen → ((n : ℕ) → IsOwner (after q.seen) to n → ⊥) → Unicasts outbox_of to v NoOwner w
+  unowned outbox_of to v p q w old t fits begins none =
+      let O : SenderView → Type 0 = λ s. w ≡ record v { seen = q.seen; count = s.count; stops = s.stops } in
+      let A : SenderView → Type 0 = λ s. AllFit s.origin s.count s.stops in
+      let N : PassState M → Type 0 = λ x. (n : ℕ) → IsOwner (after x.seen) to n → ⊥ in
+      (has_seen outbox_of v w q.seen (subst O t.is (turned v p q w old old t)) (saw v p q w old old t begins) (subst A t.is fits), subst N (sym (turned v p q w old old t)) none)
+
+  -- nothing was found
+  pub unsent : (outbox_of : M → OutboxId) (v p q w : PassState M) (old : SenderView) (e : BusError) → Turn v p q w old old → AllFit old.origin old.count old.stops → ((e ≡ errors.Closed) × (q.seen ≡ p.seen)) ⊎ ((e ≡ errors.NoMemory) × IsPrefix p.seen q.seen) → IsUnsent outbox_of e v w
+  unsent outbox_of v p q w old e t fits (inl (is, same)) =
+      let S : List (Command M) → Type 0 = λ l. w ≡ record v { seen = l; count = v.count; stops = v.stops } in
+      let O : SenderView → Type 0 = λ s. w ≡ record v { seen = q.seen; count = s.count; stops = s.stops } in
+      inl (is, subst S (same ∙ ap (λ (x : PassState M). x.seen) t.taken) (subst O t.is (turned v p q w old old t)))
+  unsent outbox_of v p q w old e t fits (inr (is, begins)) =
+      let O : SenderView → Type 0 = λ s. w ≡ record v { seen = q.seen; count = s.count; stops = s.stops } in
+      let A : SenderView → Type 0 = λ s. AllFit s.origin s.count s.stops in
+      inr (is, has_seen outbox_of v w q.seen (subst O t.is (turned v p q w old old t)) (saw v p q w old old t begins) (subst A t.is fits))
+
+  -- the owner's seat isn't given up, and it is among the newcomers where it has none
+  pub owner_reachable : (outbox_of : M → OutboxId) (s : State M) (to : List ℕ) (stops : List StopView) (n : ℕ) (newcomers : List RecipientView) (connected : Option (List ℕ)) → IsAddressee outbox_of s to stops n newcomers connected → AreReachable connected (n ∷ []) newcomers stops
+  owner_reachable outbox_of s to stops n newcomers connected found = record {
+    stay = λ m e. pick m (or_cases (n == m) false e);
+    all = found.new.all;
+  }
+    where
+      listed_stays : (c : Option (List ℕ)) → AreListed s c → stays c n ≡ true
+      listed_stays None a = refl
+      listed_stays (Some numbers) a = ap (is_in n) a ∙ is_in-connected n s.connections ∙ found.owner.1
+
+      pick : (m : ℕ) → ((n == m) ≡ true) ⊎ (false ≡ true) → stays connected m ≡ true
+      pick m (inl e) = let P : ℕ → Type 0 = λ j. stays connected j ≡ true in subst P (eqb-true n m e) (listed_stays connected found.listed)
+      pick m (inr e) = absurd (true≢false (sym e))

@@ -1,0 +1,9 @@
+pub mod Owned
+pub mod Done
+pub mod Commands
+pub mod Joining
+pub mod Finding
+pub mod Sending
+pub mod Admitted
+pub mod Adding
+pub mod Delivering

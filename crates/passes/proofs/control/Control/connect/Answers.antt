@@ -1,0 +1,53 @@
+use Rattle.std.proofs.Common.{◌≡◌, ◌++◌, ◌∷◌, [], Bool, true, sym, ap, ◌∙◌, inl, refl}
+use Rattle.std.specs.Prelude.{if◌then◌else◌}
+use Rattle.program_table.specs.declared.command.Command.TheVariants.{Connect}
+use Rattle.program_table.specs.declared.command.Reply.TheVariants.{Connected}
+use Rattle.program_table.specs.Does.{is_accepted, reply_to}
+use Rattle.program_table.specs.History.{after}
+use Rattle.published.specs.Publication.{Publication, with_next}
+use Rattle.published.proofs.Refused.{accepted}
+use Rattle.passes.specs.Passes.{PassState}
+use Rattle.passes.proofs.Commands.{IsTold, seen_all}
+use Rattle.passes.proofs.Joining.{IsFresh, room_for_one, first_own, joined, next_number, not_none}
+use Rattle.passes.proofs.control.Control.connect.Goals as goal
+
+pub count_in-requires : goal.count_in-requires
+count_in-requires g c =
+    let v = c.args.pass.now in
+    let b = c.args.self.now in
+    let l = b.history in
+    let x = Connect c.args.mailbox in
+    let n = c.in-Connected.number in
+    let told : IsTold v c.tell.new.pass c.in_ok-tell.field-0 b = record { told_is = c.in_ok-tell.ensures.0; begins = c.in_ok-tell.ensures.1; same = c.in_ok-tell.ensures.2 } in
+    let fresh : IsFresh v b c.connection-connection.result = record { legal = c.state.ensures.history; taken = c.took-took.ensures.own; at = c.connection-connection.ensures; none = c.if-connection-ne0.false } in
+    let said = c.in-Ok.ensures.reply ∙ ap (λ (p : Publication g.row.M.Denot). reply_to (after p.history) x) c.self.view_is in
+    let on : is_accepted (after l) x ≡ true = accepted (after l) x (λ refusal e. c.in_default.not-Refused refusal (said ∙ e)) in
+    let more : c.publish.new.self.history ≡ l ++ x ∷ [] =
+    c.in-Ok.ensures.history ∙ ap (λ (p : Publication g.row.M.Denot). with_next p.history x) c.self.view_is ∙ ap (λ (a : Bool). if a then l ++ x ∷ [] else l) on in
+    let named : reply_to (after l) x ≡ Connected n = sym said ∙ c.in-Connected.is in
+    let next = next_number (after l) c.args.mailbox n named in
+    record {
+      begins = (x ∷ [], ap (λ k. k ++ x ∷ []) (seen_all v c.tell.new.pass c.in_ok-tell.field-0 b told) ∙ sym more ∙ sym c.front.ensures);
+      room = room_for_one v c.tell.new.pass c.in_ok-tell.field-0 b c.connection-connection.result told fresh;
+      number = λ z. not_none (after l).last_connection n next z;
+      same = inl (ap (λ (p : PassState g.row.M.Denot). p.connection) c.in_ok-tell.ensures.2 ∙ sym c.connection-connection.ensures ∙ c.if-connection-ne0.false);
+      own = first_own v c.tell.new.pass c.in_ok-tell.field-0 c.front.result b c.publish.new.self c.connection-connection.result n c.args.mailbox told fresh named more c.front.ensures;
+    }
+
+pub returns : goal.returns
+returns g c =
+    let v = c.args.pass.now in
+    let b = c.args.self.now in
+    let l = b.history in
+    let x = Connect c.args.mailbox in
+    let n = c.in-Connected.number in
+    let told : IsTold v c.tell.new.pass c.in_ok-tell.field-0 b = record { told_is = c.in_ok-tell.ensures.0; begins = c.in_ok-tell.ensures.1; same = c.in_ok-tell.ensures.2 } in
+    let fresh : IsFresh v b c.connection-connection.result = record { legal = c.state.ensures.history; taken = c.took-took.ensures.own; at = c.connection-connection.ensures; none = c.if-connection-ne0.false } in
+    let said = c.in-Ok.ensures.reply ∙ ap (λ (p : Publication g.row.M.Denot). reply_to (after p.history) x) c.self.view_is in
+    let on : is_accepted (after l) x ≡ true = accepted (after l) x (λ refusal e. c.in_default.not-Refused refusal (said ∙ e)) in
+    let more : c.publish.new.self.history ≡ l ++ x ∷ [] =
+    c.in-Ok.ensures.history ∙ ap (λ (p : Publication g.row.M.Denot). with_next p.history x) c.self.view_is ∙ ap (λ (a : Bool). if a then l ++ x ∷ [] else l) on in (
+      joined v c.tell.new.pass c.count_in.new.self c.in_ok-tell.field-0 c.front.result b c.publish.new.self c.connection-connection.result n c.args.mailbox (Connected n) told fresh on (sym c.in-Connected.is ∙ said) refl more c.front.ensures c.count_in.ensures,
+      ap (λ (p : PassState g.row.M.Denot). Connected p.connection) (sym c.count_in.ensures),
+      ap (λ (p : PassState g.row.M.Denot). p.is_closed) c.count_in.ensures ∙ ap (λ (p : PassState g.row.M.Denot). p.is_closed) c.in_ok-tell.ensures.2 ∙ sym c.if-is_closed.ensures,
+    )

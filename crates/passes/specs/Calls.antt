@@ -1,0 +1,96 @@
+-- What the calls of a pass do, under the lock of the bus.
+use Rattle.std.specs.Prelude.{◌≡◌, ◌≢◌, ◌⊎◌, ◌+◌, ◌<◌, Bool, true, false, [], ◌∷◌, ◌++◌, length, Result, Ok, Err}
+use mathlib.Core.List.{IsPrefix}
+use Rattle.program_table.specs.declared.command.Command.{Command}
+use Rattle.program_table.specs.declared.command.Command.TheVariants.{Connect}
+use Rattle.program_table.specs.declared.command.Reply.{Reply}
+use Rattle.program_table.specs.declared.command.Reply.TheVariants.{Connected, Refused}
+use Rattle.program_table.specs.declared.refusal.Refusal.{Refusal}
+use Rattle.program_table.specs.Connections.{commands_of}
+use Rattle.program_table.specs.Does.{is_accepted, reply_to}
+use Rattle.program_table.specs.History.{after, own_commands}
+use Rattle.published.specs.Publication.{Publication}
+use Rattle.passes.specs.declared.error.BusError.{BusError}
+use Rattle.passes.specs.declared.error.BusError.TheVariants as errors
+use Rattle.passes.specs.Errors.{error_of}
+use Rattle.passes.specs.Passes.{PassState}
+
+module _ {M : Type 0} where
+  -- A command of w's connection is accepted after the history that is published, which begins with what the pass v had
+  -- seen. It is published and seen by the pass w. The commands of the connection that w has seen are those that v had
+  -- seen, and this one, and they are as many as it took.
+  pub record IsDone (v : PassState M) (before : Publication M) (command : Command M) (reply : Reply) (w : PassState M) (next : Publication M) : Type 0 where
+    pub begins : IsPrefix v.seen before.history
+    pub accepted : is_accepted (after before.history) command ≡ true
+    pub replies : reply ≡ reply_to (after before.history) command
+    pub published : next.history ≡ before.history ++ command ∷ []
+    pub seen : w.seen ≡ next.history
+    pub own : own_commands w.connection w.seen ≡ own_commands w.connection v.seen ++ command ∷ []
+    pub took : w.took ≡ v.took + 1
+    pub all : length (own_commands w.connection w.seen) ≡ w.took
+
+  -- The state refuses the command. The pass has seen what is published.
+  pub record IsRefused (v : PassState M) (before : Publication M) (command : Command M) (error : BusError) (w : PassState M) (next : Publication M) : Type 0 where
+    pub begins : IsPrefix v.seen before.history
+    pub refusal : Refusal
+    pub replies : reply_to (after before.history) command ≡ Refused refusal
+    pub error_is : error ≡ error_of refusal
+    pub published : next.history ≡ before.history
+    pub seen : w ≡ record v { seen = before.history }
+
+  -- of its own commands the pass finds those that it had seen, as many as it took
+  pub record KeepsOwn (v w : PassState M) : Type 0 where
+    pub own : own_commands v.connection w.seen ≡ own_commands v.connection v.seen
+    pub all : length (own_commands v.connection w.seen) ≡ w.took
+
+  -- why a call is Closed, whatever the state says
+  pub data IsShutOut (v : PassState M) (before next : Publication M) : Type 0 where
+    -- the pass was never connected
+    unconnected : v.connection ≡ 0 → IsShutOut v before next
+    -- its close was accepted
+    closed : v.is_closed ≡ true → IsShutOut v before next
+    -- the bus has ended
+    ended : next.has_ended ≡ true → IsShutOut v before next
+    -- other commands of its connection are published than it took
+    others : commands_of v.connection (after before.history).connections ≢ v.took → IsShutOut v before next
+    -- fewer commands are published than it has seen
+    fewer : length before.history < length v.seen → IsShutOut v before next
+
+  -- Nothing was published, and the pass has seen at least what it had.
+  pub record IsStopped (v : PassState M) (before : Publication M) (w : PassState M) (next : Publication M) : Type 0 where
+    pub begins : IsPrefix v.seen w.seen
+    pub same : w ≡ record v { seen = w.seen }
+    pub published : next.history ≡ before.history
+
+  -- it was stopped for want of memory, or shut out
+  abbrev pub IsClosed : PassState M → Publication M → BusError → PassState M → Publication M → Type 0
+  IsClosed v before error w next = IsStopped v before w next × (((error ≡ errors.Closed) × IsShutOut v before next) ⊎ (error ≡ errors.NoMemory))
+
+  -- a call that publishes a command of the pass's connection
+  abbrev pub Answers : Bool → PassState M → Publication M → Command M → Result Reply BusError → PassState M → Publication M → Type 0
+  Answers closes v before command (Ok reply) w next = IsDone v before command reply w next × (w.connection ≡ v.connection) × (w.is_closed ≡ closes)
+  Answers closes v before command (Err error) w next = (IsRefused v before command error w next × KeepsOwn v w) ⊎ IsClosed v before error w next
+
+  -- the same of a call through the bus, for what was published when it had the lock
+  abbrev pub AnswersOnce : Bool → PassState M → Command M → Result Reply BusError → PassState M → Type 0
+  AnswersOnce closes v command result w = (before : Publication M) × (next : Publication M) × Answers closes v before command result w next
+
+  -- why a Connect is Closed, whatever the state says
+  pub data IsPast (v : PassState M) (before next : Publication M) : Type 0 where
+    -- the pass was connected already
+    connected : v.connection ≢ 0 → IsPast v before next
+    -- its close was accepted
+    closed : v.is_closed ≡ true → IsPast v before next
+    -- the bus has ended
+    ended : next.has_ended ≡ true → IsPast v before next
+    -- fewer commands are published than it has seen
+    fewer : length before.history < length v.seen → IsPast v before next
+
+  -- the call that makes the pass's connection
+  abbrev pub Connects : PassState M → Publication M → M → Result Reply BusError → PassState M → Publication M → Type 0
+  Connects v before mailbox (Ok reply) w next = IsDone v before (Connect mailbox) reply w next × (reply ≡ Connected w.connection) × (w.is_closed ≡ false)
+  Connects v before mailbox (Err error) w next =
+      IsRefused v before (Connect mailbox) error w next ⊎ (IsStopped v before w next × (((error ≡ errors.Closed) × IsPast v before next) ⊎ (error ≡ errors.NoMemory)))
+
+  abbrev pub ConnectsOnce : PassState M → M → Result Reply BusError → PassState M → Type 0
+  ConnectsOnce v mailbox result w = (before : Publication M) × (next : Publication M) × Connects v before mailbox result w next

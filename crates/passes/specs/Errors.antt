@@ -1,0 +1,40 @@
+-- The errors of a bus.
+use Rattle.std.specs.Prelude.{ℕ}
+use Rattle.rule_compile.specs.declared.error.CompileError.{CompileError}
+use Rattle.rule_compile.specs.declared.error.CompileError.TheVariants as compile_errors
+use Rattle.program_table.specs.declared.refusal.Refusal.{Refusal}
+use Rattle.program_table.specs.declared.refusal.Refusal.TheVariants as refusals
+use Rattle.passes.specs.declared.error.BusError.{BusError}
+use Rattle.passes.specs.declared.error.BusError.TheVariants as errors
+
+-- The error of a command that the state refuses. A call never asks with a stale slot.
+abbrev pub error_of : Refusal → BusError
+error_of refusals.ConnectionsFull = errors.ConnectionsFull
+error_of refusals.EntriesFull = errors.EntriesFull
+error_of refusals.NamesFull = errors.NamesFull
+error_of refusals.QueueFull = errors.QueueFull
+error_of refusals.RuleNotFound = errors.RuleNotFound
+error_of refusals.NoAttachment = errors.NoAttachment
+error_of refusals.Closed = errors.Closed
+error_of refusals.Stale = errors.Closed
+
+-- the error of a rule that isn't compiled
+abbrev pub compile_error : CompileError → BusError
+compile_error compile_errors.TooLong = errors.TooLong
+compile_error compile_errors.NoMemory = errors.NoMemory
+
+abbrev pub bus_error_number : BusError → ℕ
+bus_error_number errors.NoMemory = 1
+bus_error_number errors.ConnectionsFull = 2
+bus_error_number errors.EntriesFull = 3
+bus_error_number errors.NamesFull = 4
+bus_error_number errors.QueueFull = 5
+bus_error_number errors.RuleNotFound = 6
+bus_error_number errors.NoAttachment = 7
+bus_error_number errors.Closed = 8
+bus_error_number (errors.Rule fault) = 9
+bus_error_number (errors.Program fault) = 10
+bus_error_number errors.TooLong = 11
+bus_error_number errors.Busy = 12
+bus_error_number (errors.Fan fault) = 13
+bus_error_number errors.Counts = 14

@@ -1,0 +1,14 @@
+pub use Rattle.lookups.specs.Names
+pub use Rattle.lookups.specs.NameOwners
+pub use Rattle.lookups.specs.Newcomers
+pub use Rattle.lookups.specs.Broadcasts
+pub mod Errors
+pub mod Passes
+pub mod Routes
+pub mod Sending
+pub mod Unicasts
+pub mod Calls
+pub mod Admission
+pub mod Readings
+pub mod Compiling
+pub mod Asking

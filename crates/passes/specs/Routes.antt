@@ -1,0 +1,63 @@
+-- Broadcasts of a pass.
+use Rattle.std.specs.Prelude.{◌≡◌, ◌⊎◌, ◌+◌, ℕ, Bool, true, cond, List, Some}
+use mathlib.Core.List.{IsPrefix}
+use Rattle.message_view.specs.Message.{Message}
+use Rattle.message_view.specs.Valid.{Valid}
+use Rattle.outbox.specs.Seated.{OutboxId}
+use Rattle.program_table.specs.Connections.{is_connected}
+use Rattle.program_table.specs.History.{after}
+use Rattle.program_table.specs.Recipients.{AreRecipients}
+use Rattle.routing.specs.Stops.{RisesFrom, last_at, outbox_at, shut_at, is_in, is_put, AllFit}
+use Rattle.lookups.specs.Newcomers.{IsOutboxOf}
+use Rattle.passes.specs.declared.error.BusError.{BusError}
+use Rattle.passes.specs.declared.error.BusError.TheVariants as errors
+use Rattle.passes.specs.declared.reading.Source.{Source}
+use Rattle.passes.specs.Passes.{PassState, sender_of}
+
+-- the greatest count of a broadcast
+abbrev pub max_count : ℕ
+max_count = 18446744073709551615
+
+module _ {M : Type 0} where
+  -- the connection is there in what the pass has seen
+  abbrev pub is_there : ℕ → PassState M → Bool
+  is_there n w = is_connected n (after w.seen).connections
+
+  -- What a pass keeps where it sends: of the connections that are there, each seat stays at its outbox, and what is known to be
+  -- shut stays so. A new seat is at the outbox of a connection that is there. Seats name the pass's connection as the origin of
+  -- their broadcasts, and none has a count above the pass's.
+  pub record KeepsSeats (outbox_of : M → OutboxId) (v w : PassState M) : Type 0 where
+    pub stay : (n : ℕ) (outbox : OutboxId) → is_there n w ≡ true → outbox_at n v.stops ≡ Some outbox → outbox_at n w.stops ≡ Some outbox
+    pub theirs : (n : ℕ) (outbox : OutboxId) → outbox_at n w.stops ≡ Some outbox → (outbox_at n v.stops ≡ Some outbox) ⊎ IsOutboxOf outbox_of (after w.seen) n outbox
+    pub shut : (n : ℕ) → is_there n w ≡ true → shut_at n v.stops ≡ true → shut_at n w.stops ≡ true
+    pub fits : AllFit w.connection w.count w.stops
+
+  -- What it has sent, it has seen: a history that begins with what it had seen.
+  pub record Sends (outbox_of : M → OutboxId) (v w : PassState M) : Type 0 where
+    pub begins : IsPrefix v.seen w.seen
+    pub same : w ≡ record v { seen = w.seen; count = w.count; stops = w.stops }
+    pub keeps : KeepsSeats outbox_of v w
+
+  -- One broadcast more, to the recipients of the message after what the pass has seen. At a recipient that isn't listed the seat's
+  -- last count is this broadcast's; at a listed one, and at each other connection that is there, it is what it was. A listed one
+  -- is a recipient whose outbox is shut, and where the seat knew that before, the recipient is listed.
+  pub record HasRouted (outbox_of : M → OutboxId) (source : Source) (bytes : List ℕ) (v : PassState M) (refused : List ℕ) (w : PassState M) : Type 0 where
+    pub sends : Sends outbox_of v w
+    pub recipients : List ℕ
+    pub are : (m : Message) → Valid bytes m → AreRecipients (after w.seen) (sender_of source v.connection) m recipients
+    pub count_is : w.count ≡ v.count + 1
+    pub lasts : (n : ℕ) → is_there n w ≡ true → last_at n w.stops ≡ cond (is_put n recipients refused) w.count (last_at n v.stops)
+    pub rising : RisesFrom 0 refused
+    pub listed : (n : ℕ) → is_in n refused ≡ true → (is_in n recipients ≡ true) × (shut_at n w.stops ≡ true)
+    pub again : (n : ℕ) → is_in n recipients ≡ true → shut_at n v.stops ≡ true → is_in n refused ≡ true
+
+  -- no broadcast was put, and the count isn't used
+  pub record HasNotRouted (outbox_of : M → OutboxId) (v w : PassState M) : Type 0 where
+    pub sends : Sends outbox_of v w
+    pub count_is : w.count ≡ v.count
+    pub lasts : (n : ℕ) → is_there n w ≡ true → last_at n w.stops ≡ last_at n v.stops
+
+  -- Nothing was put: where the pass is closed or the bus is gone it is as it was.
+  abbrev pub IsUnrouted : (M → OutboxId) → BusError → PassState M → PassState M → Type 0
+  IsUnrouted outbox_of error v w =
+      ((error ≡ errors.Closed) × (w ≡ v)) ⊎ (((error ≡ errors.NoMemory) ⊎ ((error ≡ errors.Counts) × (v.count ≡ max_count))) × HasNotRouted outbox_of v w)

@@ -1,0 +1,44 @@
+-- Inner: what a pass's sender makes of what was found.
+use Rattle.std.specs.Prelude.{◌≡◌, ◌⊎◌, ◌+◌, ℕ, Bool, true, cond, List, Option, Some, None, filter, map}
+use Rattle.outbox.specs.Seated.{OutboxId}
+use Rattle.routing.specs.SenderView.{RecipientView, StopView, SenderView}
+use Rattle.routing.specs.Stops.{RisesFrom, is_in, is_put, number_of, last_at, outbox_at, shut_at, HasStop, Lists}
+use Rattle.passes.specs.declared.unicasts.Sent.{Sent}
+use Rattle.passes.specs.declared.unicasts.Sent.TheVariants.{Put, Full}
+
+-- the stops that aren't given up
+abbrev pub kept_stops : Option (List ℕ) → List StopView → List StopView
+kept_stops None stops = stops
+kept_stops (Some connected) stops = filter (λ s. is_in s.recipient connected) stops
+
+-- its seat isn't given up
+abbrev pub stays : Option (List ℕ) → ℕ → Bool
+stays None n = true
+stays (Some connected) n = is_in n connected
+
+-- the recipients' seats aren't given up, and each that has none is among the newcomers
+pub record AreReachable (connected : Option (List ℕ)) (recipients : List ℕ) (newcomers : List RecipientView) (stops : List StopView) : Type 0 where
+  pub stay : (n : ℕ) → is_in n recipients ≡ true → stays connected n ≡ true
+  pub all : (n : ℕ) → is_in n recipients ≡ true → HasStop n stops ⊎ (is_in n (map number_of newcomers) ≡ true)
+
+-- what a sender keeps where it gives up seats and takes newcomers' seats: of those that aren't given up, each stays at its outbox
+pub record KeepsThose (connected : Option (List ℕ)) (newcomers : List RecipientView) (old new : SenderView) : Type 0 where
+  pub origin_is : new.origin ≡ old.origin
+  pub stay : (n : ℕ) (outbox : OutboxId) → stays connected n ≡ true → outbox_at n old.stops ≡ Some outbox → outbox_at n new.stops ≡ Some outbox
+  pub theirs : (n : ℕ) (outbox : OutboxId) → outbox_at n new.stops ≡ Some outbox → (outbox_at n old.stops ≡ Some outbox) ⊎ Lists newcomers n outbox
+  pub shut : (n : ℕ) → stays connected n ≡ true → shut_at n old.stops ≡ true → shut_at n new.stops ≡ true
+
+pub record UnroutedThose (connected : Option (List ℕ)) (old new : SenderView) : Type 0 where
+  pub count_is : new.count ≡ old.count
+  pub lasts : (n : ℕ) → stays connected n ≡ true → last_at n new.stops ≡ last_at n old.stops
+
+pub record RoutedThose (connected : Option (List ℕ)) (recipients refused : List ℕ) (old new : SenderView) : Type 0 where
+  pub count_is : new.count ≡ old.count + 1
+  pub lasts : (n : ℕ) → stays connected n ≡ true → last_at n new.stops ≡ cond (is_put n recipients refused) new.count (last_at n old.stops)
+  pub rising : RisesFrom 0 refused
+  pub listed : (n : ℕ) → is_in n refused ≡ true → (is_in n recipients ≡ true) × (shut_at n new.stops ≡ true)
+  pub again : (n : ℕ) → is_in n recipients ≡ true → shut_at n old.stops ≡ true → is_in n refused ≡ true
+
+-- it was put, or the outbox is shut
+abbrev pub IsDelivered : ℕ → List StopView → Sent → Type 0
+IsDelivered n stops sent = (sent ≡ Put) ⊎ ((sent ≡ Full) × (shut_at n stops ≡ true))

@@ -1,0 +1,66 @@
+// The calls that publish a command of a pass's connection.
+
+ghost use Rattle.std.specs.Prelude.{true, false};
+ghost use Rattle.program_table.specs.declared.command.Command.TheVariants.{Detach, Request, Release, DropOne, Close};
+ghost use Rattle.passes.specs.Calls.{Answers};
+
+use crate::control::Control;
+use crate::error::BusError;
+use crate::pass::Pass;
+use owners::WellKnown;
+use program_table::{Command, Mailbox, Reply};
+use published::Naming;
+use std::sync::Wait;
+
+impl<J: Naming, M: Mailbox, R: Wait + Drop> Control<J, M, R> {
+    /// Asks for a name (RequestName).
+    pub fn request_name(
+        &mut self,
+        pass: &mut Pass<J, M>,
+        name: &WellKnown,
+        flags: u32,
+    ) -> Result<Reply, BusError>
+        ensures { Answers false pass.old self.old (Request pass.old.connection name.now flags) result pass.new self.new }
+    {
+        let connection = pass.connection();
+        self.command(pass, Command::Request(connection, name.copy(), flags))
+    }
+
+    /// Gives up a claim on a name (ReleaseName).
+    pub fn release_name(
+        &mut self,
+        pass: &mut Pass<J, M>,
+        name: &WellKnown,
+    ) -> Result<Reply, BusError>
+        ensures { Answers false pass.old self.old (Release pass.old.connection name.now) result pass.new self.new }
+    {
+        let connection = pass.connection();
+        self.command(pass, Command::Release(connection, name.copy()))
+    }
+
+    /// Takes away the attached program of this id.
+    pub fn detach(&mut self, pass: &mut Pass<J, M>, id: u32) -> Result<Reply, BusError>
+        ensures { Answers false pass.old self.old (Detach pass.old.connection id) result pass.new self.new }
+    {
+        let connection = pass.connection();
+        self.command(pass, Command::Detach(connection, id))
+    }
+
+    /// Gives up the claim on the least of the connection's names in byte order.
+    pub fn drop_name(&mut self, pass: &mut Pass<J, M>) -> Result<Reply, BusError>
+        ensures { Answers false pass.old self.old (DropOne pass.old.connection) result pass.new self.new }
+    {
+        let connection = pass.connection();
+        self.command(pass, Command::DropOne(connection))
+    }
+
+    /// Closes the connection, with its entries and claims.
+    pub fn close(&mut self, pass: &mut Pass<J, M>) -> Result<Reply, BusError>
+        ensures { Answers true pass.old self.old (Close pass.old.connection) result pass.new self.new }
+    {
+        let connection = pass.connection();
+        let reply = self.command(pass, Command::Close(connection))?;
+        pass.close();
+        Ok(reply)
+    }
+}

@@ -1,0 +1,188 @@
+// What lies under the bus's lock.
+
+ghost use Rattle.std.specs.Prelude.{◌≡◌, ◌<◌, false, true, length, MatchResult, IfOk};
+ghost use mathlib.Core.List.{IsPrefix};
+ghost use Rattle.program_table.specs.State.{State};
+ghost use Rattle.program_table.specs.History.{after, is_command_of, IsHistory};
+ghost use Rattle.published.specs.Publication.{Publication, nothing_published};
+ghost use Rattle.passes.specs.Passes.{PassState, new_pass};
+ghost use Rattle.passes.specs.Calls.{Answers, Connects};
+ghost use Rattle.passes.specs.Admission.{Admits, IsReady};
+
+use crate::error::BusError;
+use crate::pass::Pass;
+use crossbeam_utils::rule::Protocol;
+use entry_table::IndexKey;
+use left_right::Absorb;
+use logbook::Rule;
+use program_table::{BusState, Command, Mailbox, Reply};
+use published::{Entry, Front, Law, Naming, Opened, PublishError, Published, Publisher, Shown};
+use std::alloc::{AllocError, Global};
+use std::collections::LinkedList;
+use std::marker::Model;
+use std::sync::Wait;
+
+/// How many readers there are places for.
+const READERS: usize = 512;
+
+/// What is dropped through its own type. A generic function can't drop a publisher by its name.
+#[derive(Drop)]
+struct Held<P: Drop> {
+    value: P,
+}
+
+/// The writer of the published state, as calls are lent it.
+#[derive(Drop)]
+pub struct Control<J: Naming, M: Mailbox, R: Wait + Drop>
+where
+    Published: Protocol<Shown<J, M>, LinkedList<Command<M>>>,
+    Shown<J, M>: Absorb<Entry<J, M>, State = LinkedList<Command<M>>>,
+    Law: Rule<Command<M>, u64>,
+{
+    publisher: Held<Publisher<J, M, R>>,
+}
+
+impl<J: Naming, M: Mailbox, R: Wait + Drop> Model for Control<J, M, R>
+where
+    Published: Protocol<Shown<J, M>, LinkedList<Command<M>>>,
+    Shown<J, M>: Absorb<Entry<J, M>, State = LinkedList<Command<M>>>,
+    Law: Rule<Command<M>, u64>,
+{
+    ghost use Rattle.published.specs.Publication.{Publication};
+
+    ghost Value = { Publication M };
+
+    ghost view = { λ c. c.publisher.value };
+}
+
+impl<J: Naming, M: Mailbox, R: Wait + Drop> Control<J, M, R> {
+    /// A bus to which nobody is connected. The key is that of its index of entries.
+    pub fn new(
+        rt: R,
+        alloc: Global,
+        key: IndexKey,
+        opened: Opened<M>,
+    ) -> Result<Control<J, M, R>, AllocError>
+        requires { opened ≡ J.book }
+        ensures { IfOk result (λ control. control ≡ nothing_published) }
+    {
+        Ok(Control {
+            publisher: Held {
+                value: Publisher::new(rt, alloc, key, opened, READERS)?,
+            },
+        })
+    }
+
+    /// A new pass, which has seen what is published.
+    pub fn pass(&mut self) -> Result<Pass<J, M>, BusError>
+        ensures same { self.new ≡ self.old }
+        ensures pass { MatchResult result (λ pass. pass ≡ new_pass self.old.history) (λ error. error ≡ BusError.Busy) }
+    {
+        match self.publisher.value.sight() {
+            Some(sight) => Ok(Pass::new(sight)),
+            None => Err(BusError::Busy),
+        }
+    }
+
+    /// Tells the published history, which the pass has then seen.
+    pub fn tell(&self, pass: &mut Pass<J, M>) -> Result<Front<J, M>, BusError>
+        ensures { MatchResult result
+            (λ told. (told ≡ self.now.history) × IsPrefix pass.old.seen told × (pass.new ≡ record pass.old { seen = told }))
+            (λ error. (error ≡ BusError.Closed) × (length self.now.history < length pass.old.seen) × (pass.new ≡ pass.old)) }
+    {
+        match self.publisher.value.tell(pass.seen()) {
+            Some(told) => {
+                pass.take_over(told.again());
+                Ok(told)
+            }
+            None => Err(BusError::Closed),
+        }
+    }
+
+    /// The published state.
+    pub(crate) fn state(&self) -> &BusState<M>
+        ensures state { result.now ≡ after self.now.history }
+        ensures history { IsHistory self.now.history }
+    {
+        self.publisher.value.state()
+    }
+
+    /// Whether the pass may ask for something. It has then seen what is published.
+    pub(crate) fn admit(&self, pass: &mut Pass<J, M>) -> Result<(), BusError>
+        ensures { Admits pass.old self.now result pass.new }
+    {
+        let connection = pass.connection();
+        let took = pass.took();
+        if connection == 0 || pass.is_closed() || self.publisher.value.has_ended() {
+            return Err(BusError::Closed);
+        }
+        self.tell(pass)?;
+        if self.state().commands_of(connection) != took {
+            return Err(BusError::Closed);
+        }
+        let _took = pass.took();
+        Ok(())
+    }
+
+    /// Publishes a command of a pass that was admitted, which the pass has then seen.
+    pub(crate) fn publish(
+        &mut self,
+        pass: &mut Pass<J, M>,
+        command: Command<M>,
+    ) -> Result<Reply, BusError>
+        requires ready { IsReady pass.old self.old }
+        requires own { (s : State M) → is_command_of s pass.old.connection command ≡ true }
+        ensures { Answers false pass.old self.old command result pass.new self.new }
+    {
+        let reply = match self.publisher.value.publish(command) {
+            Ok(reply) => reply,
+            Err(PublishError::NoMemory) => return Err(BusError::NoMemory),
+            Err(PublishError::Ended) => return Err(BusError::Closed),
+        };
+        if let Reply::Refused(refusal) = reply {
+            return Err(BusError::of(refusal));
+        }
+        let connection = pass.connection();
+        pass.count_in(self.publisher.value.front(), connection);
+        Ok(reply)
+    }
+
+    /// Publishes a command of the pass's connection, which the pass has then seen.
+    pub(crate) fn command(
+        &mut self,
+        pass: &mut Pass<J, M>,
+        command: Command<M>,
+    ) -> Result<Reply, BusError>
+        requires { (s : State M) → is_command_of s pass.old.connection command ≡ true }
+        ensures { Answers false pass.old self.old command result pass.new self.new }
+    {
+        self.admit(pass)?;
+        self.publish(pass, command)
+    }
+
+    /// Makes the connection of a pass that has none yet, whose messages go to the mailbox.
+    pub fn connect(&mut self, pass: &mut Pass<J, M>, mailbox: M) -> Result<Reply, BusError>
+        ensures { Connects pass.old self.old mailbox result pass.new self.new }
+    {
+        let connection = pass.connection();
+        let _took = pass.took();
+        if connection != 0 || pass.is_closed() {
+            return Err(BusError::Closed);
+        }
+        self.tell(pass)?;
+        let _commands = self.state().commands();
+        let reply = match self.publisher.value.publish(Command::Connect(mailbox)) {
+            Ok(reply) => reply,
+            Err(PublishError::NoMemory) => return Err(BusError::NoMemory),
+            Err(PublishError::Ended) => return Err(BusError::Closed),
+        };
+        if let Reply::Refused(refusal) = reply {
+            return Err(BusError::of(refusal));
+        }
+        let Reply::Connected(number) = reply else {
+            unreachable!()
+        };
+        pass.count_in(self.publisher.value.front(), number);
+        Ok(Reply::Connected(number))
+    }
+}

@@ -1,0 +1,70 @@
+// The readers of passes that are over, for passes to come.
+
+ghost use Rattle.std.specs.Prelude.{◌≡◌, ◌<◌, [], ◌∷◌, ◌++◌, length, nat_lt, if◌then◌else◌, IfOk, MatchOption};
+ghost use Rattle.passes.specs.Passes.{max_kept, new_pass};
+
+use crate::pass::Pass;
+use crossbeam_utils::rule::Protocol;
+use program_table::{Command, Mailbox};
+use published::{Naming, Published, Shown, Sight};
+use std::alloc::{AllocError, Global};
+use std::collections::LinkedList;
+use std::marker::Model;
+
+/// How many readers are kept at most.
+const KEPT: usize = 256;
+
+/// The readers of passes that are over, in room that is reserved. Contracts see what each has seen.
+#[derive(Drop)]
+pub struct KeptPasses<J: Naming, M: Mailbox>
+where
+    Published: Protocol<Shown<J, M>, LinkedList<Command<M>>>,
+{
+    sights: Vec<Sight<J, M>>,
+}
+
+impl<J: Naming, M: Mailbox> Model for KeptPasses<J, M>
+where
+    Published: Protocol<Shown<J, M>, LinkedList<Command<M>>>,
+{
+    ghost use Rattle.std.specs.Prelude.{◌≤◌, List};
+    ghost use Rattle.std.specs.Vec.{vec_capacity};
+    ghost use Rattle.program_table.specs.declared.command.Command.{Command};
+    ghost use Rattle.passes.specs.Passes.{max_kept};
+
+    ghost Value = { List (List (Command M)) };
+
+    ghost view = { λ k. k.sights.items };
+
+    ghost invariant = { λ k. max_kept ≤ vec_capacity k.sights };
+}
+
+impl<J: Naming, M: Mailbox> KeptPasses<J, M> {
+    /// None.
+    pub fn new(alloc: Global) -> Result<KeptPasses<J, M>, AllocError>
+        ensures { IfOk result (λ kept. kept ≡ []) }
+    {
+        Ok(KeptPasses {
+            sights: Vec::with_capacity(alloc, KEPT)?,
+        })
+    }
+
+    /// Keeps the reader of a pass that is over where there is room, and drops it else.
+    pub fn put(&mut self, pass: Pass<J, M>)
+        ensures { self.new ≡ (if nat_lt (length self.old) max_kept then self.old ++ pass.seen ∷ [] else self.old) }
+    {
+        if self.sights.len() < KEPT {
+            self.sights.push_reserved(pass.into_sight());
+        }
+    }
+
+    /// A new pass with the reader that was kept last, which has seen what that one had.
+    pub fn take(&mut self) -> Option<Pass<J, M>>
+        ensures { MatchOption result ((self.old ≡ []) × (self.new ≡ [])) (λ pass. (self.old ≡ self.new ++ pass.seen ∷ []) × (pass ≡ new_pass pass.seen)) }
+    {
+        match self.sights.pop() {
+            Some(sight) => Some(Pass::new(sight)),
+            None => None,
+        }
+    }
+}

@@ -1,0 +1,24 @@
+//! What one user of a bus sees, asks and sends. A `Pass` reads the published state without a lock and sends by it; a
+//! `Control`, which lies under the lock of the bus, publishes a pass's commands. The layer above uses that each call's reply
+//! is the table's after one history, which begins with all that its pass had seen, and that a pass's own commands are
+//! those that were accepted of it, each once and in order.
+#![tactic(auto)]
+
+mod by_workers;
+mod calls;
+mod control;
+mod error;
+mod kept;
+mod listing;
+mod pass;
+mod reading;
+mod routes;
+mod texts;
+mod unicasts;
+
+pub use control::Control;
+pub use error::BusError;
+pub use kept::KeptPasses;
+pub use pass::Pass;
+pub use reading::Source;
+pub use unicasts::Sent;

@@ -1,0 +1,362 @@
+// What one user of the bus has seen and done.
+
+ghost use Rattle.std.specs.Prelude.{ℕ, ◌≡◌, ◌≢◌, ◌⊎◌, ◌+◌, ◌≤◌, ◌<◌, ◌^◌, [], true, length, IfOk, MatchOption, MatchResult, option_map};
+ghost use mathlib.Core.List.{IsPrefix};
+ghost use Rattle.message_view.specs.Message.{Message};
+ghost use Rattle.message_view.specs.Valid.{Valid};
+ghost use Rattle.owners.specs.Queues.{owner_of, queue_of};
+ghost use Rattle.program_table.specs.Connections.{numbers_of};
+ghost use Rattle.program_table.specs.History.{after, own_commands};
+ghost use Rattle.program_table.specs.Recipients.{AreRecipients};
+ghost use Rattle.passes.specs.Passes.{PassState, HasTaken, new_pass, sending};
+ghost use Rattle.lookups.specs.NameOwners.{IsOwner};
+ghost use Rattle.lookups.specs.Addressees.{IsAddressee};
+ghost use Rattle.lookups.specs.Broadcasts.{AreFound, IsFound};
+ghost use Rattle.lookups.specs.Names.{AreNames};
+ghost use Rattle.passes.specs.Asking.{Tells, TellsByWorkers};
+
+use crate::error::BusError;
+use arrayvec::ArrayVec;
+use core::mem::replace_with;
+use crossbeam_utils::rule::Protocol;
+use fan_out::{FanError, Gate, MAX_RECIPIENTS, MAX_WORKERS};
+use lookups::{
+    Addressee, Audience, Names, found_addressee, found_by_workers, found_mailboxes, found_names,
+    found_owner, found_queue, found_recipients,
+};
+use message_view::View;
+use owners::WellKnown;
+use program_table::{Command, Mailbox};
+use published::{Front, Naming, Published, Shown, Sight};
+use routing::{Carrier, Sender};
+use std::alloc::{AllocError, Global};
+use std::collections::LinkedList;
+use std::marker::Model;
+use std::sync::Wait;
+use std::thread::Threads;
+
+/// One user of the bus: what it has seen of the history, its connection, and how many of its calls were accepted.
+#[derive(Drop)]
+pub struct Pass<J: Naming, M: Mailbox>
+where
+    Published: Protocol<Shown<J, M>, LinkedList<Command<M>>>,
+{
+    sight: Sight<J, M>,
+    // 0: none.
+    connection: u64,
+    is_closed: bool,
+    took: u64,
+    // What its messages are sent by, from the first one on.
+    sender: Option<Sender<M>>,
+}
+
+impl<J: Naming, M: Mailbox> Model for Pass<J, M>
+where
+    Published: Protocol<Shown<J, M>, LinkedList<Command<M>>>,
+{
+    ghost use Rattle.passes.specs.Passes.{PassState, HasTaken, SendsFor, count_in, stops_in};
+
+    ghost Value = { PassState M };
+
+    ghost view = { λ p. record { seen = p.sight; connection = p.connection; is_closed = p.is_closed; took = p.took; count = count_in p.sender; stops = stops_in p.sender } };
+
+    ghost invariant = { λ p. HasTaken (record { seen = p.sight; connection = p.connection; is_closed = p.is_closed; took = p.took; count = count_in p.sender; stops = stops_in p.sender }) × SendsFor p.connection p.sender };
+}
+
+impl<J: Naming, M: Mailbox> Pass<J, M> {
+    /// A pass that did nothing.
+    pub(crate) fn new(sight: Sight<J, M>) -> Pass<J, M>
+        ensures { result ≡ new_pass sight }
+    {
+        Pass {
+            sight,
+            connection: 0,
+            is_closed: false,
+            took: 0,
+            sender: None,
+        }
+    }
+
+    /// What was seen.
+    pub fn seen(&self) -> &Front<J, M>
+        ensures { result.now ≡ self.now.seen }
+    {
+        self.sight.seen()
+    }
+
+    /// The number of the connection that the pass's `connect` made, 0 before that.
+    pub fn connection(&self) -> u64
+        ensures { result ≡ self.now.connection }
+    {
+        self.connection
+    }
+
+    /// Whether the pass's `close` was accepted.
+    pub fn is_closed(&self) -> bool
+        ensures { result ≡ self.now.is_closed }
+    {
+        self.is_closed
+    }
+
+    /// How many of the pass's calls were accepted.
+    pub fn took(&self) -> u64
+        ensures took { result ≡ self.now.took }
+        ensures own { HasTaken self.now }
+    {
+        self.took
+    }
+
+    /// Takes over a told history: the longer of the two is then seen, and one of them begins the other.
+    pub fn learn(&mut self, told: &Front<J, M>)
+        ensures one { (self.new.seen ≡ self.old.seen) ⊎ (self.new.seen ≡ told.now) }
+        ensures this { IsPrefix self.old.seen self.new.seen }
+        ensures that { IsPrefix told.now self.new.seen }
+        ensures same { self.new ≡ record self.old { seen = self.new.seen } }
+    {
+        self.sight.learn(told);
+    }
+
+    /// Has then seen this history, which begins with what was seen.
+    pub(crate) fn take_over(&mut self, told: Front<J, M>)
+        requires { IsPrefix self.old.seen told }
+        ensures { self.new ≡ record self.old { seen = told } }
+    {
+        self.sight.take_over(told);
+    }
+
+    /// Has then seen this history, in which one more command of the connection was accepted.
+    pub(crate) fn count_in(&mut self, told: Front<J, M>, connection: u64)
+        requires begins { IsPrefix self.old.seen told }
+        requires room { self.old.took + 1 < 2 ^ 64 }
+        requires number { connection ≢ 0 }
+        requires same { (self.old.connection ≡ 0) ⊎ (connection ≡ self.old.connection) }
+        requires own { self.old.took + 1 ≤ length (own_commands connection told) }
+        ensures { self.new ≡ record self.old { seen = told; connection = connection; took = self.old.took + 1 } }
+    {
+        self.sight.take_over(told);
+        self.connection = connection;
+        self.took += 1;
+    }
+
+    /// Its connection was closed.
+    pub(crate) fn close(&mut self)
+        ensures { self.new ≡ record self.old { is_closed = true } }
+    {
+        self.is_closed = true;
+    }
+
+    /// What its messages are sent by. The pass has sent nothing then, until it is put back.
+    pub(crate) fn take_sender(&mut self, alloc: Global) -> Sender<M>
+        requires { self.old.connection ≢ 0 }
+        ensures sender { result ≡ sending self.old }
+        ensures same { self.new ≡ record self.old { count = 0; stops = [] } }
+    {
+        match self.sender.take() {
+            Some(sender) => sender,
+            None => Sender::new(alloc, self.connection),
+        }
+    }
+
+    /// Sends by this from now on.
+    pub(crate) fn put_back(&mut self, sender: Sender<M>)
+        requires number { self.old.connection ≢ 0 }
+        requires origin { sender.origin ≡ self.old.connection }
+        ensures { self.new ≡ record self.old { count = sender.count; stops = sender.stops } }
+    {
+        self.sender = Some(sender);
+    }
+
+    /// The reader, with what it has seen.
+    pub(crate) fn into_sight(self) -> Sight<J, M>
+        ensures { result ≡ self.seen }
+    {
+        let Self {
+            sight,
+            connection: _,
+            is_closed: _,
+            took: _,
+            sender: _,
+        } = self;
+        sight
+    }
+
+    // Enters the published state for the recipients.
+    pub(crate) fn look_for_recipients(
+        &mut self,
+        sender: Option<u64>,
+        view: &View<'_>,
+    ) -> Result<ArrayVec<u64, MAX_RECIPIENTS>, BusError>
+        ensures found { MatchResult result
+            (λ found. IsPrefix self.old.seen self.new.seen × ((m : Message) → Valid view.now m → AreRecipients (after self.new.seen) sender m found.items))
+            (λ error. (error ≡ BusError.Closed) × (self.new.seen ≡ self.old.seen)) }
+        ensures same { self.new ≡ record self.old { seen = self.new.seen } }
+    {
+        let found = replace_with(
+            &mut self.sight,
+            (sender, view),
+            |sight, asked| -> (Sight<J, M>, Option<ArrayVec<u64, MAX_RECIPIENTS>>)
+                ensures { MatchOption result.1 (result.0 ≡ sight) (λ found. IsPrefix sight result.0 × ((m : Message) → Valid asked.entry.1.now m → AreRecipients (after result.0) asked.entry.0 m found.items)) }
+            { found_recipients(sight, asked.0, asked.1) },
+        );
+        found.ok_or(BusError::Closed)
+    }
+
+    // Enters the published state for a name's owner.
+    pub(crate) fn look_for_owner(&mut self, name: &WellKnown) -> Result<Option<u64>, BusError>
+        ensures found { MatchResult result
+            (λ found. IsPrefix self.old.seen self.new.seen × (found ≡ owner_of name.now (after self.new.seen).registrations.claims))
+            (λ error. (error ≡ BusError.Closed) × (self.new.seen ≡ self.old.seen)) }
+        ensures same { self.new ≡ record self.old { seen = self.new.seen } }
+    {
+        let found = replace_with(
+            &mut self.sight,
+            name,
+            |sight, asked| -> (Sight<J, M>, Option<Option<u64>>)
+                ensures { MatchOption result.1 (result.0 ≡ sight) (λ found. IsPrefix sight result.0 × (found ≡ owner_of asked.entry.now (after result.0).registrations.claims)) }
+            { found_owner(sight, asked) },
+        );
+        found.ok_or(BusError::Closed)
+    }
+
+    // Enters the published state for the connections and names.
+    pub(crate) fn look_for_names(&mut self, alloc: Global) -> Result<Names, BusError>
+        ensures found { Tells self.old.seen (λ s found. (found.0.items ≡ numbers_of s.connections) × AreNames s.registrations.claims found.1.items) result self.new.seen }
+        ensures same { self.new ≡ record self.old { seen = self.new.seen } }
+    {
+        let found = replace_with(
+            &mut self.sight,
+            alloc,
+            |sight, alloc| -> (Sight<J, M>, Option<Result<Names, AllocError>>)
+                ensures { MatchOption result.1 (result.0 ≡ sight) (λ found. IsPrefix sight result.0 × IfOk found (λ all. (all.0.items ≡ numbers_of (after result.0).connections) × AreNames (after result.0).registrations.claims all.1.items)) }
+            { found_names(sight, alloc) },
+        );
+        match found {
+            Some(Ok(found)) => Ok(found),
+            Some(Err(_)) => Err(BusError::NoMemory),
+            None => Err(BusError::Closed),
+        }
+    }
+
+    // Enters the published state for a name's queue.
+    pub(crate) fn look_for_queue(
+        &mut self,
+        alloc: Global,
+        name: &WellKnown,
+    ) -> Result<Vec<u64>, BusError>
+        ensures found { Tells self.old.seen (λ s found. found.items ≡ queue_of name.now s.registrations.claims) result self.new.seen }
+        ensures same { self.new ≡ record self.old { seen = self.new.seen } }
+    {
+        let found = replace_with(
+            &mut self.sight,
+            (alloc, name),
+            |sight, asked| -> (Sight<J, M>, Option<Result<Vec<u64>, AllocError>>)
+                ensures { MatchOption result.1 (result.0 ≡ sight) (λ found. IsPrefix sight result.0 × IfOk found (λ queue. queue.items ≡ queue_of asked.entry.1.now (after result.0).registrations.claims)) }
+            { found_queue(sight, asked.0, asked.1) },
+        );
+        match found {
+            Some(Ok(found)) => Ok(found),
+            Some(Err(_)) => Err(BusError::NoMemory),
+            None => Err(BusError::Closed),
+        }
+    }
+}
+
+impl<J: Naming, M: Mailbox + Sync> Pass<J, M> {
+    // Enters the published state for the recipients, which workers find.
+    pub(crate) fn let_workers_look<G: Gate, R: Threads + Wait>(
+        &mut self,
+        rt: &R,
+        sender: Option<u64>,
+        view: &View<'_>,
+        workers: u32,
+        gate: &G,
+    ) -> Result<ArrayVec<u64, MAX_RECIPIENTS>, BusError>
+        requires { (0 < workers) × (workers ≤ MAX_WORKERS) }
+        ensures found { TellsByWorkers self.old.seen sender view.now workers result self.new.seen }
+        ensures same { self.new ≡ record self.old { seen = self.new.seen } }
+    {
+        let found = replace_with(
+            &mut self.sight,
+            (rt, sender, view, workers, gate),
+            |sight, asked| -> (
+                Sight<J, M>,
+                Option<Result<ArrayVec<u64, MAX_RECIPIENTS>, FanError>>,
+            )
+                requires { (0 < asked.3) × (asked.3 ≤ MAX_WORKERS) }
+                ensures { MatchOption result.1 (result.0 ≡ sight) (λ found. IsPrefix sight result.0 × AreFound (after result.0) asked.entry.1 asked.entry.2.now found) }
+            { found_by_workers(asked.0, sight, asked.1, asked.2, asked.3, asked.4) },
+        );
+        match found {
+            Some(Ok(found)) => Ok(found),
+            Some(Err(error)) => Err(BusError::Fan(error)),
+            None => Err(BusError::Closed),
+        }
+    }
+}
+
+impl<J: Naming, M: Mailbox + Carrier> Pass<J, M> {
+    // Writes out what stands in each outbox into which its sender has put since the last call.
+    pub(crate) fn push_out_sent<W: Wait>(&mut self, rt: &W)
+        ensures { self.new ≡ self.old }
+    {
+        if let Some(sender) = &mut self.sender {
+            sender.push_out(rt);
+        }
+    }
+
+    // Enters the published state for the recipients and what the sender needs for them.
+    pub(crate) fn look_for_mailboxes(
+        &mut self,
+        alloc: Global,
+        sender: &Sender<M>,
+        from: Option<u64>,
+        view: &View<'_>,
+    ) -> Result<Audience<M>, BusError>
+        ensures found { MatchResult result
+            (λ found. IsPrefix self.old.seen self.new.seen × IsFound M.outbox_of (after self.new.seen) from view.now sender.now.stops found.recipients.items found.newcomers.items (option_map (λ v. v.items) found.connected))
+            (λ error. ((error ≡ BusError.Closed) × (self.new.seen ≡ self.old.seen)) ⊎ ((error ≡ BusError.NoMemory) × IsPrefix self.old.seen self.new.seen)) }
+        ensures same { self.new ≡ record self.old { seen = self.new.seen } }
+    {
+        let found = replace_with(
+            &mut self.sight,
+            (alloc, sender, from, view),
+            |sight, asked| -> (Sight<J, M>, Option<Result<Audience<M>, AllocError>>)
+                ensures { MatchOption result.1 (result.0 ≡ sight) (λ found. IsPrefix sight result.0 × IfOk found (λ found. IsFound M.outbox_of (after result.0) asked.entry.2 asked.entry.3.now asked.entry.1.now.stops found.recipients.items found.newcomers.items (option_map (λ v. v.items) found.connected))) }
+            { found_mailboxes(sight, asked.0, asked.1, asked.2, asked.3) },
+        );
+        match found {
+            Some(Ok(found)) => Ok(found),
+            Some(Err(_)) => Err(BusError::NoMemory),
+            None => Err(BusError::Closed),
+        }
+    }
+
+    // Enters the published state for the owner of a name and what the sender needs for it.
+    pub(crate) fn look_for_addressee(
+        &mut self,
+        alloc: Global,
+        sender: &Sender<M>,
+        name: &str,
+    ) -> Result<Option<Addressee<M>>, BusError>
+        ensures found { MatchResult result
+            (λ found. IsPrefix self.old.seen self.new.seen × MatchOption found ((n : ℕ) → IsOwner (after self.new.seen) name.now n → ⊥) (λ a. IsAddressee M.outbox_of (after self.new.seen) name.now sender.now.stops a.number a.newcomers.items (option_map (λ v. v.items) a.connected)))
+            (λ error. ((error ≡ BusError.Closed) × (self.new.seen ≡ self.old.seen)) ⊎ ((error ≡ BusError.NoMemory) × IsPrefix self.old.seen self.new.seen)) }
+        ensures same { self.new ≡ record self.old { seen = self.new.seen } }
+    {
+        let found = replace_with(
+            &mut self.sight,
+            (alloc, sender, name),
+            |sight, asked| -> (
+                Sight<J, M>,
+                Option<Result<Option<Addressee<M>>, AllocError>>,
+            )
+                ensures { MatchOption result.1 (result.0 ≡ sight) (λ found. IsPrefix sight result.0 × IfOk found (λ found. MatchOption found ((n : ℕ) → IsOwner (after result.0) asked.entry.2.now n → ⊥) (λ a. IsAddressee M.outbox_of (after result.0) asked.entry.2.now asked.entry.1.now.stops a.number a.newcomers.items (option_map (λ v. v.items) a.connected)))) }
+            { found_addressee(sight, asked.0, asked.1, asked.2) },
+        );
+        match found {
+            Some(Ok(found)) => Ok(found),
+            Some(Err(_)) => Err(BusError::NoMemory),
+            None => Err(BusError::Closed),
+        }
+    }
+}

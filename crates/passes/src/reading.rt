@@ -1,0 +1,81 @@
+// What a pass reads in the published state, without the lock of the bus.
+
+ghost use Rattle.std.specs.Prelude.{◌≡◌, MatchResult};
+ghost use mathlib.Core.List.{IsPrefix};
+ghost use Rattle.message_view.specs.Message.{Message};
+ghost use Rattle.message_view.specs.Valid.{Valid};
+ghost use Rattle.owners.specs.Queues.{owner_of};
+ghost use Rattle.program_table.specs.History.{after};
+ghost use Rattle.program_table.specs.Recipients.{AreRecipients};
+ghost use Rattle.passes.specs.Passes.{PassState, sender_of};
+
+use crate::error::BusError;
+use crate::pass::Pass;
+use arrayvec::ArrayVec;
+use fan_out::MAX_RECIPIENTS;
+use message_view::View;
+use owners::WellKnown;
+use program_table::Mailbox;
+use published::Naming;
+
+/// Whose message a pass asks for.
+#[derive(Clone, Copy, Debug, PartialEq, Eq)]
+pub enum Source {
+    /// The pass's connection.
+    Own,
+    /// The bus.
+    Bus,
+}
+
+impl Source {
+    // The sender's number. None is the bus.
+    pub(crate) fn sender(self, connection: u64) -> Option<u64>
+        ensures { result ≡ sender_of self connection }
+    {
+        match self {
+            Source::Own => Some(connection),
+            Source::Bus => None,
+        }
+    }
+}
+
+impl<J: Naming, M: Mailbox> Pass<J, M> {
+    /// The recipients of a broadcast, by rising number, after a history that begins with what was seen, and is seen then.
+    ///
+    /// # Errors
+    ///
+    /// `Closed` where the pass was never connected, or was closed and the message isn't the bus's, or the bus is gone.
+    pub fn recipients(
+        &mut self,
+        source: Source,
+        view: &View<'_>,
+    ) -> Result<ArrayVec<u64, MAX_RECIPIENTS>, BusError>
+        ensures found { MatchResult result
+            (λ found. IsPrefix self.old.seen self.new.seen × ((m : Message) → Valid view.now m → AreRecipients (after self.new.seen) (sender_of source self.old.connection) m found.items))
+            (λ error. (error ≡ BusError.Closed) × (self.new.seen ≡ self.old.seen)) }
+        ensures same { self.new ≡ record self.old { seen = self.new.seen } }
+    {
+        if self.connection() == 0 || (source == Source::Own && self.is_closed()) {
+            return Err(BusError::Closed);
+        }
+        let sender = source.sender(self.connection());
+        self.look_for_recipients(sender, view)
+    }
+
+    /// The primary owner of a name, after a history that begins with what was seen, and is seen then.
+    ///
+    /// # Errors
+    ///
+    /// `Closed` where the pass was never connected, or was closed, or the bus is gone.
+    pub fn owner_of(&mut self, name: &WellKnown) -> Result<Option<u64>, BusError>
+        ensures found { MatchResult result
+            (λ found. IsPrefix self.old.seen self.new.seen × (found ≡ owner_of name.now (after self.new.seen).registrations.claims))
+            (λ error. (error ≡ BusError.Closed) × (self.new.seen ≡ self.old.seen)) }
+        ensures same { self.new ≡ record self.old { seen = self.new.seen } }
+    {
+        if self.connection() == 0 || self.is_closed() {
+            return Err(BusError::Closed);
+        }
+        self.look_for_owner(name)
+    }
+}

@@ -1,0 +1,124 @@
+// Broadcasts of a pass.
+
+ghost use Rattle.std.specs.Prelude.{◌≡◌, ◌⊎◌, IfOk, IfErr, OnOk, MatchResult, map, option_map};
+ghost use Rattle.routing.specs.Stops.{RisesFrom, number_of, AllHave};
+ghost use Rattle.passes.specs.Sending.{kept_stops, AreReachable, KeepsThose, UnroutedThose, RoutedThose};
+ghost use Rattle.passes.specs.Routes.{HasRouted, IsUnrouted};
+
+use crate::error::BusError;
+use crate::pass::Pass;
+use crate::reading::Source;
+use arrayvec::ArrayVec;
+use bytes::Bytes;
+use fan_out::MAX_RECIPIENTS;
+use lookups::Audience;
+use message_view::View;
+use program_table::Mailbox;
+use published::Naming;
+use routing::{Carrier, Gate, Recipient, RouteError, Sender};
+use std::alloc::{AllocError, Global};
+use std::sync::Wait;
+
+// Gives up the seats of those who aren't connected, where it is told who is.
+fn give_up<M: Carrier>(sender: &mut Sender<M>, connected: Option<Vec<u64>>)
+    ensures { sender.new ≡ record sender.old { stops = kept_stops (option_map (λ v. v.items) connected) sender.old.stops } }
+{
+    match connected {
+        Some(connected) => sender.retain(connected.as_slice()),
+        None => {}
+    }
+}
+
+/// Gives up seats, and takes the newcomers' seats.
+pub(crate) fn prepare<M: Carrier>(
+    sender: &mut Sender<M>,
+    connected: Option<Vec<u64>>,
+    newcomers: Vec<Recipient<M>>,
+) -> Result<(), AllocError>
+    ensures keeps { KeepsThose (option_map (λ v. v.items) connected) newcomers.items sender.old sender.new }
+    ensures unrouted { UnroutedThose (option_map (λ v. v.items) connected) sender.old sender.new }
+    ensures all { OnOk result (AllHave (map number_of newcomers.items) sender.new.stops) }
+{
+    give_up(sender, connected);
+    sender.take_seats(newcomers)
+}
+
+// Puts a broadcast to those who were found.
+fn broadcast<M: Carrier, W: Wait, G: Gate>(
+    rt: &W,
+    alloc: Global,
+    sender: &mut Sender<M>,
+    found: Audience<M>,
+    bytes: &Bytes,
+    gate: &G,
+) -> Result<ArrayVec<u64, MAX_RECIPIENTS>, BusError>
+    requires reachable { AreReachable (option_map (λ v. v.items) found.connected) found.recipients.items found.newcomers.items sender.old.stops }
+    requires rising { RisesFrom 0 found.recipients.items }
+    ensures keeps { KeepsThose (option_map (λ v. v.items) found.connected) found.newcomers.items sender.old sender.new }
+    ensures ok { IfOk result (λ refused. RoutedThose (option_map (λ v. v.items) found.connected) found.recipients.items refused.items sender.old sender.new) }
+    ensures err { IfErr result (λ error. ((error ≡ BusError.NoMemory) ⊎ ((error ≡ BusError.Counts) × (sender.old.count ≡ u64.MAX))) × UnroutedThose (option_map (λ v. v.items) found.connected) sender.old sender.new) }
+{
+    let Audience {
+        recipients,
+        newcomers,
+        connected,
+    } = found;
+    match prepare(sender, connected, newcomers) {
+        Ok(()) => {}
+        Err(_) => return Err(BusError::NoMemory),
+    }
+    match sender.route_gated(rt, alloc, recipients.as_slice(), bytes, gate) {
+        Ok(refused) => Ok(refused),
+        Err(RouteError::NoMemory) => Err(BusError::NoMemory),
+        Err(RouteError::Counts) => Err(BusError::Counts),
+    }
+}
+
+impl<J: Naming, M: Mailbox + Carrier> Pass<J, M> {
+    /// Finds the recipients of a broadcast, leaves the published state, and puts the message into their outboxes. Answers
+    /// those whose outbox refused it, a shut one included, by rising number. The view is that of the bytes.
+    /// `gate.before(0)` is called once the published state is left and the seats are there, before the first put, and
+    /// `gate.after(0)` after the last.
+    ///
+    /// # Errors
+    ///
+    /// Nothing was put then. `Closed` where the pass was never connected, or was closed and the message isn't the bus's, or
+    /// the bus is gone; `NoMemory`; `Counts` where the pass's last count was used.
+    pub fn broadcast<W: Wait, G: Gate>(
+        &mut self,
+        rt: &W,
+        alloc: Global,
+        source: Source,
+        view: &View<'_>,
+        bytes: &Bytes,
+        gate: &G,
+    ) -> Result<ArrayVec<u64, MAX_RECIPIENTS>, BusError>
+        ensures { MatchResult result (λ refused. HasRouted M.outbox_of source view.now self.old refused.items self.new) (λ error. IsUnrouted M.outbox_of error self.old self.new) }
+    {
+        let connection = self.connection();
+        if connection == 0 || (source == Source::Own && self.is_closed()) {
+            return Err(BusError::Closed);
+        }
+        let mut sender = self.take_sender(alloc);
+        let _ = sender.seats();
+        match self.look_for_mailboxes(alloc, &sender, source.sender(connection), view) {
+            Ok(found) => {
+                let answer = broadcast(rt, alloc, &mut sender, found, bytes, gate);
+                let _ = sender.seats();
+                self.put_back(sender);
+                answer
+            }
+            Err(error) => {
+                self.put_back(sender);
+                Err(error)
+            }
+        }
+    }
+
+    /// Writes out what stands in each outbox into which the pass has put since the last call.
+    pub fn push_out<W: Wait>(&mut self, rt: &W)
+        ensures { self.new ≡ self.old }
+    {
+        self.push_out_sent(rt);
+    }
+}

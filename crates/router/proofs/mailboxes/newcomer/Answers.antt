@@ -1,6 +1,0 @@
-use Rattle.router.proofs.Finding.{has_mailbox, entry_connected}
-use Rattle.router.proofs.mailboxes.newcomer.Goals as goal
-
-pub unreachable-requires : goal.unreachable-requires
-unreachable-requires g c =
-    has_mailbox c.args.number c.args.state.now.connections (entry_connected c.args.state.now c.args.number c.offered.ensures.state c.requires.entry) c.in-None.ensures
