@@ -3,7 +3,7 @@
 ghost use Rattle.std.specs.Prelude.{◌≡◌, ◌≤◌, length, MatchOption, IfOk};
 ghost use mathlib.Core.List.{IsPrefix};
 ghost use Rattle.owners.specs.Queues.{owner_of, queue_of};
-ghost use Rattle.program_table.specs.Connections.{numbers_of};
+ghost use Rattle.program_table.specs.Connections.{is_connected, numbers_of};
 ghost use Rattle.program_table.specs.History.{after};
 ghost use Rattle.lookups.specs.Names.{AreNames};
 
@@ -105,6 +105,30 @@ pub fn found_owner<J: Naming, M: Mailbox>(
     match sight.enter() {
         Ok(visit) => {
             let found = visit.state().owner_of(name.as_str());
+            (visit.leave(), Some(found))
+        }
+        Err(sight) => (sight, None),
+    }
+}
+
+// Whether there is a connection of this number.
+fn is_there<M: Mailbox>(state: &BusState<M>, number: u64) -> bool
+    ensures { result ≡ is_connected number state.now.connections }
+{
+    state.mailbox_of(number).is_some()
+}
+
+/// Enters the published state, tells whether there is a connection of this number, and leaves. None where the bus is
+/// gone.
+pub fn found_connection<J: Naming, M: Mailbox>(
+    sight: Sight<J, M>,
+    number: u64,
+) -> (Sight<J, M>, Option<bool>)
+    ensures { MatchOption result.1 (result.0 ≡ sight) (λ found. IsPrefix sight result.0 × (found ≡ is_connected number (after result.0).connections)) }
+{
+    match sight.enter() {
+        Ok(visit) => {
+            let found = is_there(visit.state(), number);
             (visit.leave(), Some(found))
         }
         Err(sight) => (sight, None),

@@ -5,7 +5,7 @@ ghost use mathlib.Core.List.{IsPrefix};
 ghost use Rattle.message_view.specs.Message.{Message};
 ghost use Rattle.message_view.specs.Valid.{Valid};
 ghost use Rattle.owners.specs.Queues.{owner_of, queue_of};
-ghost use Rattle.program_table.specs.Connections.{numbers_of};
+ghost use Rattle.program_table.specs.Connections.{is_connected, numbers_of};
 ghost use Rattle.program_table.specs.History.{after, own_commands};
 ghost use Rattle.program_table.specs.Recipients.{AreRecipients};
 ghost use Rattle.passes.specs.Passes.{PassState, HasTaken, new_pass, sending};
@@ -21,8 +21,8 @@ use core::mem::replace_with;
 use crossbeam_utils::rule::Protocol;
 use fan_out::{FanError, Gate, MAX_RECIPIENTS, MAX_WORKERS};
 use lookups::{
-    Addressee, Audience, Names, found_addressee, found_by_workers, found_mailboxes, found_names,
-    found_owner, found_queue, found_recipients,
+    Addressee, Audience, Names, found_addressee, found_by_workers, found_connection,
+    found_mailboxes, found_names, found_owner, found_queue, found_recipients,
 };
 use message_view::View;
 use owners::WellKnown;
@@ -214,6 +214,23 @@ impl<J: Naming, M: Mailbox> Pass<J, M> {
             |sight, asked| -> (Sight<J, M>, Option<Option<u64>>)
                 ensures { MatchOption result.1 (result.0 ≡ sight) (λ found. IsPrefix sight result.0 × (found ≡ owner_of asked.entry.now (after result.0).registrations.claims)) }
             { found_owner(sight, asked) },
+        );
+        found.ok_or(BusError::Closed)
+    }
+
+    // Enters the published state for a connection's number.
+    pub(crate) fn look_for_connection(&mut self, number: u64) -> Result<bool, BusError>
+        ensures found { MatchResult result
+            (λ found. IsPrefix self.old.seen self.new.seen × (found ≡ is_connected number (after self.new.seen).connections))
+            (λ error. (error ≡ BusError.Closed) × (self.new.seen ≡ self.old.seen)) }
+        ensures same { self.new ≡ record self.old { seen = self.new.seen } }
+    {
+        let found = replace_with(
+            &mut self.sight,
+            number,
+            |sight, number| -> (Sight<J, M>, Option<bool>)
+                ensures { MatchOption result.1 (result.0 ≡ sight) (λ found. IsPrefix sight result.0 × (found ≡ is_connected number.entry (after result.0).connections)) }
+            { found_connection(sight, number) },
         );
         found.ok_or(BusError::Closed)
     }

@@ -5,6 +5,7 @@ ghost use mathlib.Core.List.{IsPrefix};
 ghost use Rattle.message_view.specs.Message.{Message};
 ghost use Rattle.message_view.specs.Valid.{Valid};
 ghost use Rattle.owners.specs.Queues.{owner_of};
+ghost use Rattle.program_table.specs.Connections.{is_connected};
 ghost use Rattle.program_table.specs.History.{after};
 ghost use Rattle.program_table.specs.Recipients.{AreRecipients};
 ghost use Rattle.passes.specs.Passes.{PassState, sender_of};
@@ -77,5 +78,22 @@ impl<J: Naming, M: Mailbox> Pass<J, M> {
             return Err(BusError::Closed);
         }
         self.look_for_owner(name)
+    }
+
+    /// Whether there is a connection of this number, after a history that begins with what was seen, and is seen then.
+    ///
+    /// # Errors
+    ///
+    /// `Closed` where the pass was never connected, or was closed, or the bus is gone.
+    pub fn is_connected(&mut self, number: u64) -> Result<bool, BusError>
+        ensures found { MatchResult result
+            (λ found. IsPrefix self.old.seen self.new.seen × (found ≡ is_connected number (after self.new.seen).connections))
+            (λ error. (error ≡ BusError.Closed) × (self.new.seen ≡ self.old.seen)) }
+        ensures same { self.new ≡ record self.old { seen = self.new.seen } }
+    {
+        if self.connection() == 0 || self.is_closed() {
+            return Err(BusError::Closed);
+        }
+        self.look_for_connection(number)
     }
 }

@@ -9,7 +9,6 @@ use program_table::Mailbox;
 use published::Naming;
 use routing::Carrier;
 use signature::check_bus_name;
-use std::alloc::Global;
 
 /// A name's owner. The bus owns its own name, and each connected unique name owns itself.
 #[derive(Clone, Copy, Debug, PartialEq, Eq)]
@@ -45,13 +44,12 @@ impl AskedName {
 
 impl<J: Naming, M: Mailbox + Carrier> Connection<J, M> {
     /// The owner of the name that a text is, or why that can't be told.
-    pub(crate) fn owner(&mut self, alloc: Global, text: &str) -> Result<Option<Owner>, Refused> {
+    pub(crate) fn owner(&mut self, text: &str) -> Result<Option<Owner>, Refused> {
         match AskedName::read(text)? {
             AskedName::Bus => Ok(Some(Owner::Bus)),
             AskedName::Unique(None) => Ok(None),
             AskedName::Unique(Some(number)) => {
-                let (connections, _) = self.pass.names(alloc)?;
-                if connections.as_slice().contains(&number) {
+                if self.pass.is_connected(number)? {
                     Ok(Some(Owner::Connection(number)))
                 } else {
                     Ok(None)

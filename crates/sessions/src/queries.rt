@@ -24,7 +24,7 @@ impl<J: Naming, M: Mailbox + Carrier> Connection<J, M> {
         request: Request,
         name: &str,
     ) -> Result<(), SessionError> {
-        match self.owner(site.alloc, name) {
+        match self.owner(name) {
             Ok(Some(Owner::Bus)) => self.answer(site, home, request, Body::Text(BUS_NAME)),
             Ok(Some(Owner::Connection(number))) => {
                 let owner = UniqueName::new(number);
@@ -49,7 +49,7 @@ impl<J: Naming, M: Mailbox + Carrier> Connection<J, M> {
         request: Request,
         name: &str,
     ) -> Result<(), SessionError> {
-        match self.owner(site.alloc, name) {
+        match self.owner(name) {
             Ok(owner) => self.answer(site, home, request, Body::Truth(owner.is_some())),
             Err(why) => self.refuse(site, home, request, why),
         }
@@ -65,7 +65,7 @@ impl<J: Naming, M: Mailbox + Carrier> Connection<J, M> {
         found: Result<Body<'_>, ErrorName>,
         missing: ErrorName,
     ) -> Result<(), SessionError> {
-        let why = match (self.owner(site.alloc, name), found) {
+        let why = match (self.owner(name), found) {
             (Ok(Some(_)), Ok(body)) => return self.answer(site, home, request, body),
             (Ok(Some(_)), Err(error)) => Refused::Error(error),
             (Ok(None), _) => Refused::Error(missing),
@@ -155,7 +155,7 @@ impl<J: Naming, M: Mailbox + Carrier> Connection<J, M> {
     // A unique name's only claim is that of its connection.
     fn queue_of_one(&mut self, alloc: Global, name: &str) -> Result<Vec<u64>, Refused> {
         let mut queue = Vec::new(alloc);
-        if let Some(Owner::Connection(number)) = self.owner(alloc, name)? {
+        if let Some(Owner::Connection(number)) = self.owner(name)? {
             queue.push(number)?;
         }
         Ok(queue)
