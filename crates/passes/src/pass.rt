@@ -229,7 +229,7 @@ impl<J: Naming, M: Mailbox> Pass<J, M> {
             &mut self.sight,
             number,
             |sight, number| -> (Sight<J, M>, Option<bool>)
-                ensures { MatchOption result.1 (result.0 ≡ sight) (λ found. IsPrefix sight result.0 × (found ≡ is_connected number.entry (after result.0).connections)) }
+                ensures { MatchOption result.1 (result.0 ≡ sight) (λ found. IsPrefix sight result.0 × (found ≡ is_connected number (after result.0).connections)) }
             { found_connection(sight, number) },
         );
         found.ok_or(BusError::Closed)
