@@ -212,11 +212,13 @@ module _ (rule : RuleTree) (m : Message) (owned : List ℕ → Bool) (found : Ar
   )
 
 pub rest_compiled : (rule : RuleTree) (slot : Option ℕ) (tested : Tested) (program : List Ins) → ((c : Condition) → is_tested tested c ≡ is_left rule c) → IsCompiled (tested_of tested rule) slot program → IsRest rule slot program
-rest_compiled rule slot tested program same compiled = λ bytes m slots owned v n valid set agree found ends.
-    let fewer : AgreeOn (tested_of tested rule) slot owned slots = rw (same_sender tested rule) agree in
-    let tells = compiled bytes m slots owned v n valid set fewer ends in
-    let rest = rest_holds rule m owned found tested same in
-    ((λ less. rest.0 (tells.0 less)), (λ holds. tells.1 (rest.1 holds)))
+rest_compiled rule slot tested program same compiled = record {
+  decides = λ bytes m slots owned v n valid set agree found ends.
+      let fewer : AgreeOn (tested_of tested rule) slot owned slots = rw (same_sender tested rule) agree in
+      let tells = compiled bytes m slots owned v n valid set fewer ends in
+      let rest = rest_holds rule m owned found tested same in
+      ((λ less. rest.0 (tells.0 less)), (λ holds. tells.1 (rest.1 holds)));
+}
 
 -- of a result that is there
 pub ok_map : {A E : Type 0} (r : Result A E) (P Q : A → Type 0) → ((x : A) → P x → Q x) → IfOk r P → IfOk r Q

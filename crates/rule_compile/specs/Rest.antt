@@ -19,15 +19,14 @@ use Rattle.rule_compile.specs.Compiled.{AgreeOn}
 
 -- The program's verdict on the image, of edition 2, of a message that has the texts that the rule fixes is nonzero
 -- exactly where the rule holds of the message.
-abbrev pub IsRest : RuleTree → Option ℕ → List Ins → Type 0
-IsRest rule slot program =
-    (bytes : List ℕ) (m : Message) (slots : List ℕ) (owned : List ℕ → Bool) (v n : ℕ)
-    → Valid bytes m
-    → IsSet slots
-    → AgreeOn rule slot owned slots
-    → AreFound (fixed_texts rule) (texts_of m)
-    → Ends program (image_bytes Two m slots) v n
-    → (0 < v) ↔ Holds rule m owned
+pub record IsRest (rule : RuleTree) (slot : Option ℕ) (program : List Ins) : Type 0 where
+  pub decides : (bytes : List ℕ) (m : Message) (slots : List ℕ) (owned : List ℕ → Bool) (v n : ℕ)
+      → Valid bytes m
+      → IsSet slots
+      → AgreeOn rule slot owned slots
+      → AreFound (fixed_texts rule) (texts_of m)
+      → Ends program (image_bytes Two m slots) v n
+      → (0 < v) ↔ Holds rule m owned
 
 -- ---- which conditions such a program tests
 
