@@ -13,7 +13,6 @@ use Rattle.message_view.specs.Valid.{Valid}
 use Rattle.match_rule.specs.RuleTree.{sender_name_of}
 use Rattle.match_rule.specs.Holds.{Holds}
 use Rattle.match_rule.specs.FixedTexts.{fixed_texts, texts_of, AreFound}
-use Rattle.summary.specs.declared.edition.Edition.TheVariants.{Two}
 use Rattle.summary.specs.ImageBytes.{image_bytes}
 use Rattle.summary.specs.Sets.{has_slot}
 use Rattle.rule_compile.specs.Compiled.{AgreeOn}
