@@ -8,20 +8,22 @@ ghost use Rattle.entry_table.specs.TextKeys.{shape_of};
 use crate::texts::Texts;
 use bpf_verify::Verified;
 use match_rule::{Rule, has_path_in, may_have_path};
-use rule_compile::{CompileError, compile};
+use rule_compile::{CompileError, compile, compile_rest};
 use std::alloc::{AllocError, Global};
 use std::marker::Model;
 use std::sync::Arc;
 
-/// A rule, its slot and its program.
+/// A rule, its slot, its program, and the program of what is left of it beside the texts that it fixes.
 #[derive(Drop)]
 struct Parts {
     rule: Rule,
     slot: Option<u16>,
     program: Verified,
+    rest: Verified,
 }
 
-/// A rule with the program that it was compiled to, for images of edition 2. Shares are of one value. Which texts the
+/// A rule with the program that it was compiled to, for images of edition 2. Shares are of one value. A message that was
+/// looked up has the texts which the rule fixes, so a second program tests only what is left of the rule. Which texts the
 /// rule fixes and how long its path namespace is are asked of each entry of a list that a message is looked up in, so
 /// they are kept here, where no share has to be followed.
 #[derive(Drop)]
@@ -34,12 +36,13 @@ pub struct RuleProgram {
 impl Model for RuleProgram {
     ghost use Rattle.entry_table.specs.CompiledRule.{CompiledRule, IsFit};
     ghost use Rattle.entry_table.specs.RuleHints.{AreHints};
+    ghost use Rattle.rule_compile.specs.Rest.{IsRest};
 
     ghost Value = { CompiledRule };
 
     ghost view = { λ p. record { rule = p.parts.value.rule; slot = p.parts.value.slot; program = p.parts.value.program } };
 
-    ghost invariant = { λ p. IsFit (record { rule = p.parts.value.rule; slot = p.parts.value.slot; program = p.parts.value.program }) × AreHints p.parts.value.rule p.shape p.namespace_len };
+    ghost invariant = { λ p. IsFit (record { rule = p.parts.value.rule; slot = p.parts.value.slot; program = p.parts.value.program }) × IsRest p.parts.value.rule p.parts.value.slot p.parts.value.rest × AreHints p.parts.value.rule p.shape p.namespace_len };
 }
 
 /// The length of a text in bytes.
@@ -65,6 +68,7 @@ fn is_outside(path: Option<&str>, asked: Option<&str>) -> bool
 impl RuleProgram {
     ghost use Rattle.std.specs.Prelude.{IfOk, IfErr};
     ghost use Rattle.rule_compile.specs.Compiled.{IsSlotOf, IsRefusal};
+    ghost use Rattle.rule_compile.specs.Rest.{IsRest};
     ghost use Rattle.entry_table.specs.CompiledRule.{IsFit};
 
     /// Compiles a rule. A slot is given exactly where the rule asks for an owned name as the sender.
@@ -83,12 +87,14 @@ impl RuleProgram {
         ensures refused { IfErr result (IsRefusal rule) }
     {
         let program = compile(alloc, &rule, slot)?;
+        let rest = compile_rest(alloc, &rule, slot)?;
         let shape = Texts::of_rule(&rule).shape();
         let namespace_len = len_of(rule.path_namespace());
         let parts = Parts {
             rule,
             slot,
             program,
+            rest,
         };
         Ok(RuleProgram {
             parts: Arc::new(alloc, parts)?,
@@ -151,5 +157,13 @@ impl RuleProgram {
         ensures fit { IsFit self.now }
     {
         &self.parts.program
+    }
+
+    /// The program of what is left of the rule where a message has the texts that the rule fixes.
+    pub fn rest(&self) -> &Verified
+        // Its verdict on the image of such a message is nonzero exactly where the rule holds of the message.
+        ensures { IsRest self.now.rule self.now.slot result.now }
+    {
+        &self.parts.rest
     }
 }

@@ -1,5 +1,5 @@
 -- What is found among the entries that a message is offered to are the recipients.
-use Rattle.std.proofs.Common.{◌≡◌, inl, inr, ℕ, ◌≤◌, Bool, true, false, ◌&&◌, List, [], ◌∷◌, length, Option, Some, sym, ap, subst, ◌∙◌, arith}
+use Rattle.std.proofs.Common.{◌≡◌, inl, inr, ℕ, ◌≤◌, Bool, true, false, ◌&&◌, List, [], ◌∷◌, length, Option, sym, ap, subst, ◌∙◌, arith}
 use Rattle.std.specs.Prelude.{Contains, replicate, slice_get}
 use Rattle.std.specs.List.{list_all}
 use Rattle.std.proofs.lemmas.List.Sums.{length-filter, count_by-le-length}
@@ -42,7 +42,7 @@ module _ {M : Type 0} where
   offered_decided : (s : State M) (sender : Option ℕ) (m : Message) (bytes words : List ℕ) (offered : List Entry) → IsState s → AreOwnedSlots s.registrations sender words → Valid bytes m → EndInOneWay → AreOffered s.registrations.entries m offered → AreDecided s sender m bytes words offered
   offered_decided s sender m bytes words offered is owned valid one_way are = record {
     connected = λ e there. all_at (λ (x : Entry). is_connected x.connection s.connections) e s.registrations.entries is.of_connections ((are.exact e).0 there).0;
-    decided = λ e there answer answered. filter_decided s.registrations sender words owned bytes m valid one_way e.filter answer (all_at (has_own_slot s.registrations.slots) e s.registrations.entries is.registrations.own_slots ((are.exact e).0 there).0) answered;
+    decided = λ e there answer answered. filter_decided s.registrations sender words owned bytes m valid one_way e.filter answer (all_at (has_own_slot s.registrations.slots) e s.registrations.entries is.registrations.own_slots ((are.exact e).0 there).0) ((are.exact e).0 there).1 answered;
   }
 
   pub recipients_marked : (s : State M) (sender : Option ℕ) (m : Message) (bytes words : List ℕ) (part of : ℕ) (offered : List Entry) (marks : List Bool) → IsState s → AreOwnedSlots s.registrations sender words → Valid bytes m → EndInOneWay → FoundWhereItHolds → AreOffered s.registrations.entries m offered → (AreDecided s sender m bytes words offered → AreMarked s sender m part of offered marks) → AreMarkedRecipients s sender m part of marks

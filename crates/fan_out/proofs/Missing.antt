@@ -1,5 +1,5 @@
 -- What asks for another path namespace than that of a message's path doesn't match the message.
-use Rattle.std.proofs.Common.{◌≡◌, ℕ, Bool, true, List, Option, subst}
+use Rattle.std.proofs.Common.{◌≡◌, ℕ, Bool, List, Option, subst}
 use Rattle.message_view.specs.Message.{Message, path_of}
 use Rattle.message_view.specs.Valid.{Valid}
 use Rattle.match_rule.specs.RuleTree.{RuleTree}

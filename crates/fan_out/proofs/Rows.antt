@@ -1,12 +1,12 @@
 -- Marks in rows, and the remainders of the numbers of marked connections.
-use Rattle.std.proofs.Common.{◌≡◌, ℕ, zero, suc, ◌+◌, ◌*◌, ◌/◌, ◌%◌, ◌<◌, ◌≤◌, Bool, true, false, List, [], ◌∷◌, ◌++◌, length, get_or, drop, Some, refl, sym, ap, subst, ◌∙◌, add-one, arith}
+use Rattle.std.proofs.Common.{◌≡◌, ℕ, zero, suc, ◌+◌, ◌-◌, ◌*◌, ◌/◌, ◌%◌, ◌<◌, ◌≤◌, Bool, true, false, List, [], ◌∷◌, ◌++◌, length, get_or, drop, Some, refl, sym, ap, subst, ◌∙◌, add-one, arith}
 use Rattle.std.specs.Prelude.{MatchBool, Contains, slice_get}
 use Rattle.std.specs.List.Sorted.{IsStrictlyIncreasing}
 use Rattle.std.proofs.lemmas.List.{length-map, drop_all}
 use Rattle.std.proofs.lemmas.Option.{slice_get-get_or, slice_get_within}
 use Rattle.program_table.specs.declared.connection.Connection.{Connection}
 use Rattle.program_table.specs.Connections.{numbers_of}
-use Rattle.fan_out.specs.Marks.{AreInRows, AreNoted, IsMarked, IsUnmarked, marked_numbers}
+use Rattle.fan_out.specs.Marks.{AreInRows, AreWithin, AreNoted, IsMarked, IsUnmarked, marked_numbers}
 use Rattle.fan_out.proofs.Places.{contains_here, contains_later, rising_tail, rising_head}
 
 skip_mark : (ns : List ℕ) (ms : List Bool) (k : ℕ) → slice_get ms k ≡ Some false → marked_numbers (drop k ns) (drop k ms) ≡ marked_numbers (drop (suc k) ns) (drop (suc k) ms)
@@ -42,6 +42,34 @@ unmarked_row places rows row j size in_rows less unnoted from below = go (get_or
 
 pub row_passed : (places rows : List Bool) (row : ℕ) (ns : List ℕ) → length places ≡ 256 → AreInRows places rows → row < 16 → slice_get rows row ≡ Some false → marked_numbers (drop (16 * row) ns) (drop (16 * row) places) ≡ marked_numbers (drop (16 * row + 16) ns) (drop (16 * row + 16) places)
 row_passed places rows row ns size in_rows less unnoted = skip_marks 16 (16 * row) ns places (λ j from below. unmarked_row places rows row j size in_rows less unnoted from below)
+
+-- ---- the places between which all marks lie
+
+-- a place outside has no mark
+outside : (places : List Bool) (low high j : ℕ) → length places ≡ 256 → AreWithin places low high → j < 256 → ((low ≤ j) × (j < high) → ⊥) → slice_get places j ≡ Some false
+outside places low high j size within inside out = go (get_or places j false) (slice_get-get_or places j false (omega arith))
+  where
+    go : (b : Bool) → slice_get places j ≡ Some b → slice_get places j ≡ Some false
+    go false e = e
+    go true e = absurd (out (within j e))
+
+-- the rows before the first mark give no numbers
+pub first_rows : (places : List Bool) (low high : ℕ) (ns : List ℕ) → length places ≡ 256 → AreWithin places low high → low ≤ 256 → marked_numbers (drop (16 * (low / 16)) ns) (drop (16 * (low / 16)) places) ≡ marked_numbers ns places
+first_rows places low high ns size within small =
+    let start : ℕ = 16 * (low / 16) in
+    let e : 0 + start ≡ start = omega arith in
+    sym (rw e at (skip_marks start 0 ns places (λ j from below. outside places low high j size within (omega arith) (λ (b : (low ≤ j) × (j < high)). omega (arith, b.0)))))
+
+marked_nothing : (ns : List ℕ) → marked_numbers ns [] ≡ []
+marked_nothing [] = refl
+marked_nothing (n ∷ ns) = refl
+
+-- nor do those after the last mark
+pub last_rows : (places : List Bool) (low high row : ℕ) (ns : List ℕ) → length places ≡ 256 → AreWithin places low high → high ≤ 16 * row → marked_numbers (drop (16 * row) ns) (drop (16 * row) places) ≡ []
+last_rows places low high row ns size within past =
+    skip_marks (256 - 16 * row) (16 * row) ns places (λ j from below. outside places low high j size within (omega arith) (λ (b : (low ≤ j) × (j < high)). omega (arith, b.1)))
+    ∙ ap (λ (ms : List Bool). marked_numbers (drop (16 * row + (256 - 16 * row)) ns) ms) (drop_all (16 * row + (256 - 16 * row)) places (omega arith))
+    ∙ marked_nothing (drop (16 * row + (256 - 16 * row)) ns)
 
 module _ {M : Type 0} where
   -- behind the last connection there are no numbers

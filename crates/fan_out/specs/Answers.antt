@@ -7,7 +7,8 @@ use Rattle.message_view.specs.Valid.{Valid}
 use Rattle.summary.specs.declared.edition.Edition.{Edition}
 use Rattle.summary.specs.declared.edition.Edition.TheVariants.{Two}
 use Rattle.summary.specs.ImageBytes.{image_bytes}
-use Rattle.entry_table.specs.CompiledRule.{IsFit}
+use Rattle.rule_compile.specs.Rest.{IsRest}
+use Rattle.entry_table.specs.CompiledRule.{CompiledRule}
 use Rattle.entry_table.specs.declared.entry.Filter.{Filter}
 use Rattle.entry_table.specs.declared.entry.Filter.TheVariants.{Rule, Attached}
 
@@ -25,7 +26,13 @@ pub record Says (edition : Edition) (bytes words : List ℕ) (program : List Ins
   pub ends : HasVerdict edition bytes words program verdict
   pub same : IsTrue answer ↔ (0 < verdict)
 
--- what the filter's program says; a rule's program is the rule's
+-- the program of what is left of the rule beside the texts that it fixes says so
+pub record SaysRest (compiled : CompiledRule) (bytes words : List ℕ) (answer : Bool) : Type 0 where
+  pub program : List Ins
+  pub rest : IsRest compiled.rule compiled.slot program
+  pub says : Says Two bytes words program answer
+
+-- what the filter's program says
 abbrev pub IsAnswer : List ℕ → List ℕ → Filter → Bool → Type 0
-IsAnswer bytes words (Rule compiled) answer = IsFit compiled × Says Two bytes words compiled.program answer
+IsAnswer bytes words (Rule compiled) answer = SaysRest compiled bytes words answer
 IsAnswer bytes words (Attached attached) answer = Says attached.edition bytes words attached.program answer

@@ -1,5 +1,5 @@
 -- Inner: connections that are marked, by their places.
-use Rattle.std.specs.Prelude.{◌≡◌, ℕ, ◌/◌, ◌%◌, Bool, true, false, List, [], ◌∷◌, Some, count_by, slice_get, slice_set, if◌then◌else◌}
+use Rattle.std.specs.Prelude.{◌≡◌, ℕ, ◌/◌, ◌%◌, ◌<◌, ◌≤◌, Bool, true, false, List, [], ◌∷◌, Some, count_by, slice_get, slice_set, if◌then◌else◌}
 
 -- the number stands at a marked place
 abbrev pub IsMarked : List ℕ → List Bool → ℕ → Type 0
@@ -18,6 +18,10 @@ mark_count marks = count_by (λ mark. mark) marks
 -- a row with a marked place is noted
 abbrev pub AreInRows : List Bool → List Bool → Type 0
 AreInRows marks rows = (k : ℕ) → slice_get marks k ≡ Some true → slice_get rows (k / 16) ≡ Some true
+
+-- a marked place isn't below the first, and is below the second
+abbrev pub AreWithin : List Bool → ℕ → ℕ → Type 0
+AreWithin marks low high = (k : ℕ) → slice_get marks k ≡ Some true → (low ≤ k) × (k < high)
 
 -- the remainders of the numbers at marked places are noted
 abbrev pub AreNoted : List ℕ → List Bool → List Bool → Type 0

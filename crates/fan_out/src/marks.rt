@@ -1,7 +1,7 @@
 ghost use Rattle.std.specs.Prelude.{◌≡◌, ◌+◌, ◌*◌, ◌%◌, ◌<◌, ◌≤◌, ◌++◌, ℕ, [], Some, true, false, length, drop, replicate, slice_get, slice_set};
 ghost use Rattle.arrayvec.specs.ArrayVec.{array_vec_len};
 ghost use Rattle.program_table.specs.Connections.{numbers_of};
-ghost use Rattle.fan_out.specs.Marks.{AreInRows, marked_numbers};
+ghost use Rattle.fan_out.specs.Marks.{AreInRows, AreWithin, marked_numbers};
 ghost use Rattle.fan_out.specs.Joining.{AreBoth};
 
 use arrayvec::ArrayVec;
@@ -19,18 +19,42 @@ const ROWS: usize = 16;
 /// By how much numbers are divided for their remainders.
 const REMAINDERS: usize = 256;
 
+/// The lesser of two places.
+fn lesser(a: usize, b: usize) -> usize
+    ensures first { result ≤ a }
+    ensures second { result ≤ b }
+{
+    if a < b { a } else { b }
+}
+
+/// The greater of two places.
+fn greater(a: usize, b: usize) -> usize
+    ensures first { a ≤ result }
+    ensures second { b ≤ result }
+    ensures most { a ≤ 256 → b ≤ 256 → result ≤ 256 }
+{
+    if a < b { b } else { a }
+}
+
 /// Which connections are marked, by their places among the connections. So that few marks are found without a look at
-/// each place, rows with a mark are noted; and so that most connections without a mark are known without a search for
-/// their place, the remainders of the numbers of those that have one.
+/// each place, rows with a mark are noted, and between which places all marks lie; and so that most connections without a
+/// mark are known without a search for their place, the remainders of the numbers of those that have one.
 #[derive(Drop)]
 pub(crate) struct Marks {
     pub(crate) places: [bool; MAX_RECIPIENTS],
     rows: [bool; ROWS],
     pub(crate) remainders: [bool; REMAINDERS],
+    /// No mark lies before this place.
+    low: usize,
+    /// Nor at or after this one.
+    high: usize,
     ghost size: { length places ≡ 256 },
     ghost row_count: { length rows ≡ 16 },
     ghost remainder_count: { length remainders ≡ 256 },
     ghost in_rows: { AreInRows places rows },
+    ghost within: { AreWithin places low high },
+    ghost top: { high ≤ 256 },
+    ghost bottom: { low ≤ 256 },
 }
 
 impl Marks {
@@ -42,6 +66,8 @@ impl Marks {
             places: [false; MAX_RECIPIENTS],
             rows: [false; ROWS],
             remainders: [false; REMAINDERS],
+            low: MAX_RECIPIENTS,
+            high: 0,
         }
     }
 
@@ -59,6 +85,8 @@ impl Marks {
     {
         self.places[place] = true;
         self.rows[place / ROW] = true;
+        self.low = lesser(self.low, place);
+        self.high = greater(self.high, place + 1);
     }
 
     /// Whether the number of a marked connection leaves the same remainder.
@@ -145,7 +173,7 @@ impl Marks {
         requires none { numbers.old.items ≡ [] }
         ensures { numbers.new.items ≡ marked_numbers (numbers_of connections.now) self.now.places }
     {
-        for row in 0..ROWS {
+        for row in self.low / ROW..(self.high + ROW - 1) / ROW {
             self.list_row(row, connections, numbers);
         }
     }

@@ -116,7 +116,8 @@ impl<'v, 'a> Programs<'v, 'a> {
         }
     }
 
-    /// Whether a filter's program has a verdict other than 0.
+    /// Whether a filter's program has a verdict other than 0. Of a rule it is the program of what is left beside the
+    /// texts that the rule fixes, since a message that is offered to the rule has them.
     pub(crate) fn matches(&mut self, filter: &Filter) -> bool
         requires { self.old.tally.runs < max_entries }
         ensures view { self.new.view.now ≡ self.old.view.now }
@@ -125,7 +126,7 @@ impl<'v, 'a> Programs<'v, 'a> {
         ensures counted { self.new.tally.runs ≡ self.old.tally.runs + 1 }
     {
         match filter {
-            Filter::Rule(compiled) => self.verdict(Edition::Two, compiled.program()) != 0,
+            Filter::Rule(compiled) => self.verdict(Edition::Two, compiled.rest()) != 0,
             Filter::Attached(attached) => {
                 self.verdict(attached.edition(), attached.program()) != 0
             }

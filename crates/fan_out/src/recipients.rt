@@ -140,8 +140,8 @@ fn consider_offered<'a, M: Mailbox>(
     found_where_it_holds();
     let _ = view.raw();
     let owned = state.slots_of(sender);
-    let two = &Image::new(view, &owned, Edition::Two);
-    let programs = Programs::new(view, &owned, two);
+    let two = Image::new(view, &owned, Edition::Two);
+    let programs = Programs::new(view, &owned, &two);
     consider_all(state, piece, first, others, programs, marks)
 }
 

@@ -2,6 +2,7 @@ pub mod Code
 pub mod Folders
 pub mod RuleCode
 pub mod Compiled
+pub mod Rest
 pub mod Headline
 pub mod Items
 pub mod Drafting

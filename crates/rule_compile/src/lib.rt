@@ -10,8 +10,9 @@ mod folders;
 mod headline;
 mod piece;
 mod ranking;
+mod rest;
 mod text;
 
-pub use compiling::compile;
+pub use compiling::{compile, compile_rest};
 pub use error::CompileError;
 pub use headline::outcome_on;

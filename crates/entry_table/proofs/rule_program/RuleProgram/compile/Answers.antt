@@ -4,6 +4,7 @@ use Rattle.entry_table.specs.declared.rule_program.Parts.{Parts}
 use Rattle.entry_table.specs.CompiledRule.{IsFit}
 use Rattle.entry_table.specs.RuleHints.{AreHints}
 use Rattle.entry_table.specs.TextKeys.{shape_of}
+use Rattle.rule_compile.specs.Rest.{IsRest}
 use Rattle.entry_table.proofs.rule_program.RuleProgram.compile.Goals as goal
 
 pub invariant_of-result : goal.invariant_of-result
@@ -13,4 +14,5 @@ invariant_of-result c =
       same_shape = c.shape-shape.ensures.value ∙ ap shape_of c.of_rule.ensures;
       same_len = c.len_of-namespace_len.ensures ∙ ap (option_map length) c.path_namespace.ensures;
     } in
-    subst (λ (p : Parts). IsFit (record { rule = p.rule; slot = p.slot; program = p.program }) × AreHints p.rule c.shape-shape.result c.len_of-namespace_len.result) (sym c.in_ok-new.ensures.ok) (fit, hints)
+    let left : IsRest c.args.rule c.args.slot c.in_ok-rest.rest = c.in_ok-rest.ensures.rest in
+    subst (λ (p : Parts). IsFit (record { rule = p.rule; slot = p.slot; program = p.program }) × IsRest p.rule p.slot p.rest × AreHints p.rule c.shape-shape.result c.len_of-namespace_len.result) (sym c.in_ok-new.ensures.ok) (fit, left, hints)

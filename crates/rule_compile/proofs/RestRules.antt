@@ -1,0 +1,226 @@
+-- What is left of a rule, and where it holds.
+use Rattle.std.proofs.Common.{◌≡◌, ℕ, ◌≤◌, Bool, true, false, not, ◌&&◌, cond, List, [], ◌∷◌, filter, eqb, Option, Some, None, refl, ap, sym, subst, ◌∙◌, arith, All, IfSome}
+use Rattle.std.specs.Prelude.{◌↔◌, sum_by, option_map, slice_get, if◌then◌else◌, Result, Ok, Err, IfOk}
+use Rattle.std.specs.List.{list_any}
+use Rattle.std.proofs.lemmas.Bool.{false≢true, true≢false, eqb-true, and_parts, not-false}
+use Rattle.std.proofs.lemmas.List.Elements.{All-nil, All-cons, All-head, All-tail, All-filter}
+use Rattle.std.proofs.lemmas.List.Sums.{sum_by-cons}
+use Rattle.std.proofs.lemmas.Slice.Eq.{bytes_eq-Decides}
+use Rattle.message_value.specs.Arguments.{Argument}
+use Rattle.message_view.specs.Message.{Message, path_of, interface_of, member_of}
+use Rattle.message_view.specs.Spelling.{arguments_of}
+use Rattle.match_rule.specs.declared.condition.Condition.{Condition}
+use Rattle.match_rule.specs.declared.condition.Condition.TheVariants.{Kind, Sender, Interface, Member, Path, PathNamespace, Destination, Arg, ArgPath, Arg0Namespace}
+use Rattle.match_rule.specs.Arguments.{text_in}
+use Rattle.match_rule.specs.Condition.{value_of}
+use Rattle.message_value.specs.Words.{AreBytes}
+use Rattle.match_rule.specs.FixedTexts.{member_asked, interface_asked, path_asked, arg0_asked, arg0_of, string_in, fixed_texts, texts_of, AreFound}
+use Rattle.match_rule.specs.Parts.{is_sender, has_one_sender, has_small_number, have_small_numbers}
+use Rattle.match_rule.specs.RuleTree.{RuleTree, condition_weight, weight_of, owned_name_in, or_else, first_owned_name, sender_name_of}
+use Rattle.match_rule.specs.Holds.{Holds, ConditionHolds, HasArg}
+use Rattle.bpf_code.specs.declared.instruction.Ins.{Ins}
+use Rattle.rule_compile.specs.declared.rest.Tested.{Tested}
+use Rattle.rule_compile.specs.declared.rest.Tested.TheVariants.{All as AllTested, Left}
+use Rattle.rule_compile.specs.Compiled.{IsSlotOf, IsCompiled, AgreeOn}
+use Rattle.rule_compile.specs.Rest.{IsRest, is_fixed, is_left, is_tested, tested_of}
+use Rattle.rule_compile.specs.RuleCode.{condition_code, rank_of, of_rank}
+
+-- ---- the code of the conditions that are tested
+
+-- one more condition in front
+pub of_rank_more : (slot rank : ℕ) (p : Condition → Bool) (c : Condition) (cs : List Condition) (rest : List Ins) → (p c && eqb (rank_of c) rank) ≡ true → of_rank slot rank (filter p (c ∷ cs)) rest ≡ condition_code slot c (of_rank slot rank (filter p cs) rest)
+of_rank_more slot rank p c cs rest e =
+    let parts = and_parts (p c) (eqb (rank_of c) rank) e in
+    rw (parts.0, parts.1) refl
+
+pub of_rank_less : (slot rank : ℕ) (p : Condition → Bool) (c : Condition) (cs : List Condition) (rest : List Ins) → (p c && eqb (rank_of c) rank) ≡ false → of_rank slot rank (filter p (c ∷ cs)) rest ≡ of_rank slot rank (filter p cs) rest
+of_rank_less slot rank p c cs rest e = go (p c) (eqb (rank_of c) rank) refl e
+  where
+    go : (b d : Bool) → eqb (rank_of c) rank ≡ d → (b && d) ≡ false → of_rank slot rank (cond b (c ∷ filter p cs) (filter p cs)) rest ≡ of_rank slot rank (filter p cs) rest
+    go false d is f = refl
+    go true false is f = rw is refl
+    go true true is f = absurd (true≢false f)
+
+-- ---- what stays true of fewer conditions
+
+-- each condition on the sender is kept
+abbrev pub KeepsSenders : (Condition → Bool) → Type 0
+KeepsSenders p = (c : Condition) → is_sender c ≡ true → p c ≡ true
+
+name_kept : (c : Condition) (cs ds : List Condition) (b : Bool) → (is_sender c ≡ true → b ≡ true) → first_owned_name ds ≡ first_owned_name cs → first_owned_name (cond b (c ∷ ds) ds) ≡ first_owned_name (c ∷ cs)
+name_kept c cs ds true keeps same = ap (or_else (owned_name_in c)) same
+name_kept (Sender name) cs ds false keeps same = absurd (false≢true (keeps refl))
+name_kept (Kind kind) cs ds false keeps same = same
+name_kept (Interface name) cs ds false keeps same = same
+name_kept (Member name) cs ds false keeps same = same
+name_kept (Path path) cs ds false keeps same = same
+name_kept (PathNamespace value) cs ds false keeps same = same
+name_kept (Destination name) cs ds false keeps same = same
+name_kept (Arg n value) cs ds false keeps same = same
+name_kept (ArgPath n value) cs ds false keeps same = same
+name_kept (Arg0Namespace value) cs ds false keeps same = same
+
+names_kept : (p : Condition → Bool) → KeepsSenders p → (cs : List Condition) → first_owned_name (filter p cs) ≡ first_owned_name cs
+names_kept p keeps [] = refl
+names_kept p keeps (c ∷ cs) = name_kept c cs (filter p cs) (p c) (keeps c) (names_kept p keeps cs)
+
+fewer_any : (q : Condition → Bool) (c : Condition) (cs ds : List Condition) (b : Bool) → (list_any q cs ≡ false → list_any q ds ≡ false) → list_any q (c ∷ cs) ≡ false → list_any q (cond b (c ∷ ds) ds) ≡ false
+fewer_any q c cs ds b fewer none = go (q c) refl none
+  where
+    go : (here : Bool) → q c ≡ here → list_any q (c ∷ cs) ≡ false → list_any q (cond b (c ∷ ds) ds) ≡ false
+    go true is e = absurd (true≢false (rw is at e))
+    go false is e = in_both b (fewer (rw is at e))
+      where
+        in_both : (b : Bool) → list_any q ds ≡ false → list_any q (cond b (c ∷ ds) ds) ≡ false
+        in_both true f = rw is f
+        in_both false f = f
+
+none_kept : (q p : Condition → Bool) (cs : List Condition) → list_any q cs ≡ false → list_any q (filter p cs) ≡ false
+none_kept q p [] none = refl
+none_kept q p (c ∷ cs) none = fewer_any q c cs (filter p cs) (p c) (none_kept q p cs) none
+
+-- at most one condition asks for a sender
+one_of : (is others rest : Bool) → (not (is && others) && rest) ≡ true → rest ≡ true
+one_of is others rest e = (and_parts (not (is && others)) rest e).1
+
+still_one : (is others fewer rest : Bool) → (others ≡ false → fewer ≡ false) → (not (is && others) && rest) ≡ true → (more : Bool) → more ≡ true → (not (is && fewer) && more) ≡ true
+still_one false others fewer rest none e more is_true = is_true
+still_one true false fewer rest none e more is_true = rw (none refl) is_true
+still_one true true fewer rest none e more is_true = absurd (false≢true e)
+
+one_kept : (p : Condition → Bool) (cs : List Condition) → has_one_sender cs ≡ true → has_one_sender (filter p cs) ≡ true
+one_kept p [] one = refl
+one_kept p (c ∷ cs) one = go (p c) (one_kept p cs (one_of (is_sender c) (list_any is_sender cs) (has_one_sender cs) one))
+  where
+    go : (b : Bool) → has_one_sender (filter p cs) ≡ true → has_one_sender (cond b (c ∷ filter p cs) (filter p cs)) ≡ true
+    go true more = still_one (is_sender c) (list_any is_sender cs) (list_any is_sender (filter p cs)) (has_one_sender cs) (none_kept is_sender p cs) one (has_one_sender (filter p cs)) more
+    go false more = more
+
+and_true : (a b : Bool) → a ≡ true → b ≡ true → (a && b) ≡ true
+and_true true b p q = q
+and_true false b p q = absurd (false≢true p)
+
+numbers_kept : (p : Condition → Bool) (cs : List Condition) → have_small_numbers cs ≡ true → have_small_numbers (filter p cs) ≡ true
+numbers_kept p [] small = refl
+numbers_kept p (c ∷ cs) small = go (p c) (numbers_kept p cs (and_parts (has_small_number c) (have_small_numbers cs) small).1)
+  where
+    go : (b : Bool) → have_small_numbers (filter p cs) ≡ true → have_small_numbers (cond b (c ∷ filter p cs) (filter p cs)) ≡ true
+    go true more = and_true (has_small_number c) (have_small_numbers (filter p cs)) (and_parts (has_small_number c) (have_small_numbers cs) small).0 more
+    go false more = more
+
+weight_kept : (p : Condition → Bool) (cs : List Condition) → sum_by condition_weight (filter p cs) ≤ sum_by condition_weight cs
+weight_kept p [] = omega arith
+weight_kept p (c ∷ cs) = go (p c) (weight_kept p cs)
+  where
+    go : (b : Bool) → sum_by condition_weight (filter p cs) ≤ sum_by condition_weight cs → sum_by condition_weight (cond b (c ∷ filter p cs) (filter p cs)) ≤ sum_by condition_weight (c ∷ cs)
+    go true more = omega (arith, more, sum_by-cons condition_weight c (filter p cs), sum_by-cons condition_weight c cs)
+    go false more = omega (arith, more, sum_by-cons condition_weight c cs)
+
+-- ---- the conditions that are tested
+
+keeps_senders : (tested : Tested) → KeepsSenders (is_tested tested)
+keeps_senders AllTested c is = refl
+keeps_senders (Left rule) (Sender name) is = refl
+keeps_senders (Left rule) (Kind kind) is = absurd (false≢true is)
+keeps_senders (Left rule) (Interface name) is = absurd (false≢true is)
+keeps_senders (Left rule) (Member name) is = absurd (false≢true is)
+keeps_senders (Left rule) (Path path) is = absurd (false≢true is)
+keeps_senders (Left rule) (PathNamespace value) is = absurd (false≢true is)
+keeps_senders (Left rule) (Destination name) is = absurd (false≢true is)
+keeps_senders (Left rule) (Arg n value) is = absurd (false≢true is)
+keeps_senders (Left rule) (ArgPath n value) is = absurd (false≢true is)
+keeps_senders (Left rule) (Arg0Namespace value) is = absurd (false≢true is)
+
+pub same_sender : (tested : Tested) (rule : RuleTree) → sender_name_of (tested_of tested rule) ≡ sender_name_of rule
+same_sender tested rule = names_kept (is_tested tested) (keeps_senders tested) rule.conditions
+
+pub one_sender : (tested : Tested) (rule : RuleTree) → has_one_sender rule.conditions ≡ true → has_one_sender (tested_of tested rule).conditions ≡ true
+one_sender tested rule = one_kept (is_tested tested) rule.conditions
+
+pub small_numbers : (tested : Tested) (rule : RuleTree) → have_small_numbers rule.conditions ≡ true → have_small_numbers (tested_of tested rule).conditions ≡ true
+small_numbers tested rule = numbers_kept (is_tested tested) rule.conditions
+
+pub same_bytes : (tested : Tested) (rule : RuleTree) → All (λ c. AreBytes (value_of c)) rule.conditions → All (λ c. AreBytes (value_of c)) (tested_of tested rule).conditions
+same_bytes tested rule are = All-filter (is_tested tested) (λ c. AreBytes (value_of c)) rule.conditions are
+
+pub no_heavier : (tested : Tested) (rule : RuleTree) → weight_of (tested_of tested rule) ≤ weight_of rule
+no_heavier tested rule = omega (arith, weight_kept (is_tested tested) rule.conditions)
+
+pub same_slot : (tested : Tested) (rule : RuleTree) (slot : Option ℕ) → IsSlotOf slot rule → IsSlotOf slot (tested_of tested rule)
+same_slot tested rule slot is = record { given = rw (same_sender tested rule) is.given; small = is.small }
+
+-- all conditions are the rule's
+all_tested : (cs : List Condition) → filter (is_tested AllTested) cs ≡ cs
+all_tested [] = refl
+all_tested (c ∷ cs) = ap (λ (ds : List Condition). c ∷ ds) (all_tested cs)
+
+pub whole_rule : (rule : RuleTree) → tested_of AllTested rule ≡ rule
+whole_rule rule = ap (λ (cs : List Condition). record { conditions = cs; eavesdrops = rule.eavesdrops }) (all_tested rule.conditions)
+
+-- ---- where a rule holds
+
+-- a text that is fixed and found
+told : (fixed : Option (List ℕ)) (text : List ℕ) (Q : List ℕ → Type 0) → is_fixed fixed text ≡ true → IfSome fixed Q → Q text
+told None text Q is found = absurd (false≢true is)
+told (Some other) text Q is found = subst Q ((bytes_eq-Decides other text).0 is) found
+
+has_text : (o : Option (List ℕ)) (argument : Argument) (value : List ℕ) → argument.text ≡ o → string_in (option_map (λ text. (argument.code, text)) o) ≡ Some value → (argument.code ≡ 115) × (argument.text ≡ Some value)
+has_text None argument value is e = absurd cc
+has_text (Some text) argument value is e = go (eqb argument.code 115) refl e
+  where
+    go : (b : Bool) → eqb argument.code 115 ≡ b → (if b then Some text else None) ≡ Some value → (argument.code ≡ 115) × (argument.text ≡ Some value)
+    go true code f = (eqb-true argument.code 115 code, is ∙ f)
+    go false code f = absurd cc
+
+has_string : (o : Option Argument) (value : List ℕ) → string_in (text_in o) ≡ Some value → (argument : Argument) × (o ≡ Some argument) × (argument.code ≡ 115) × (argument.text ≡ Some value)
+has_string None value e = absurd cc
+has_string (Some argument) value e =
+    let has = has_text argument.text argument value refl e in
+    (argument, refl, has.0, has.1)
+
+module _ (rule : RuleTree) (m : Message) (owned : List ℕ → Bool) (found : AreFound (fixed_texts rule) (texts_of m)) where
+  arg0_holds : (n : ℕ) (value : List ℕ) → n ≡ 0 → arg0_of m ≡ Some value → HasArg m n 115 value
+  arg0_holds n value zeroth is = rw zeroth (has_string (slice_get (arguments_of m) 0) value is)
+
+  -- a condition that isn't left holds
+  not_left_holds : (c : Condition) → is_left rule c ≡ false → ConditionHolds c m owned
+  not_left_holds (Interface name) e = told (interface_asked rule) name (λ text. interface_of m ≡ Some text) (not-false _ e) found.interface
+  not_left_holds (Member name) e = told (member_asked rule) name (λ text. member_of m ≡ Some text) (not-false _ e) found.member
+  not_left_holds (Path path) e = told (path_asked rule) path (λ text. path_of m ≡ Some text) (not-false _ e) found.path
+  not_left_holds (Arg n value) e =
+      let both = and_parts (eqb n 0) (is_fixed (arg0_asked rule) value) (not-false _ e) in
+      arg0_holds n value (eqb-true n 0 both.0) (told (arg0_asked rule) value (λ text. arg0_of m ≡ Some text) both.1 found.arg0)
+  not_left_holds (Kind kind) e = absurd (true≢false e)
+  not_left_holds (Sender name) e = absurd (true≢false e)
+  not_left_holds (PathNamespace value) e = absurd (true≢false e)
+  not_left_holds (Destination name) e = absurd (true≢false e)
+  not_left_holds (ArgPath n value) e = absurd (true≢false e)
+  not_left_holds (Arg0Namespace value) e = absurd (true≢false e)
+
+  all_hold : (p : Condition → Bool) → ((c : Condition) → p c ≡ false → ConditionHolds c m owned) → (cs : List Condition) → All (λ c. ConditionHolds c m owned) (filter p cs) → All (λ c. ConditionHolds c m owned) cs
+  all_hold p others [] each = All-nil (λ c. ConditionHolds c m owned)
+  all_hold p others (c ∷ cs) each = go (p c) refl each (all_hold p others cs)
+    where
+      go : (b : Bool) → p c ≡ b → All (λ c. ConditionHolds c m owned) (cond b (c ∷ filter p cs) (filter p cs)) → (All (λ c. ConditionHolds c m owned) (filter p cs) → All (λ c. ConditionHolds c m owned) cs) → All (λ c. ConditionHolds c m owned) (c ∷ cs)
+      go true is h more = All-cons (λ c. ConditionHolds c m owned) c cs (All-head (λ c. ConditionHolds c m owned) c (filter p cs) h) (more (All-tail (λ c. ConditionHolds c m owned) c (filter p cs) h))
+      go false is h more = All-cons (λ c. ConditionHolds c m owned) c cs (others c is) (more h)
+
+  rest_holds : (tested : Tested) → ((c : Condition) → is_tested tested c ≡ is_left rule c) → (Holds (tested_of tested rule) m owned ↔ Holds rule m owned)
+  rest_holds tested same = (
+    (λ h. record { each = all_hold (is_tested tested) (λ c e. not_left_holds c (sym (same c) ∙ e)) rule.conditions h.each; offered = h.offered }),
+    (λ h. record { each = All-filter (is_tested tested) (λ c. ConditionHolds c m owned) rule.conditions h.each; offered = h.offered }),
+  )
+
+pub rest_compiled : (rule : RuleTree) (slot : Option ℕ) (tested : Tested) (program : List Ins) → ((c : Condition) → is_tested tested c ≡ is_left rule c) → IsCompiled (tested_of tested rule) slot program → IsRest rule slot program
+rest_compiled rule slot tested program same compiled = record {
+  decides = λ bytes m slots owned v n valid set agree found ends.
+      let fewer : AgreeOn (tested_of tested rule) slot owned slots = rw (same_sender tested rule) agree in
+      let tells = compiled bytes m slots owned v n valid set fewer ends in
+      let rest = rest_holds rule m owned found tested same in
+      ((λ less. rest.0 (tells.0 less)), (λ holds. tells.1 (rest.1 holds)));
+}
+
+-- of a result that is there
+pub ok_map : {A E : Type 0} (r : Result A E) (P Q : A → Type 0) → ((x : A) → P x → Q x) → IfOk r P → IfOk r Q
+ok_map (Ok x) P Q each h = each x h
+ok_map (Err e) P Q each h = tt
