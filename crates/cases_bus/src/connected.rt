@@ -92,8 +92,10 @@ impl<'a, J: Naming, R: Wait> Connected<'a, J, R> {
     fn connect(&mut self) -> Result<Reply, Stop> {
         let (pass, reply) = connect(self.rt, &self.bus)?;
         self.last = pass.connection();
-        self.passes.insert(self.last, pass)?;
-        Ok(reply)
+        match self.passes.insert(self.last, pass) {
+            Ok(_) => Ok(reply),
+            Err(_) => Err(Stop::Failed(PlayError::NoMemory)),
+        }
     }
 
     fn close(&mut self, connection: u64, event: &TextEvent<'_>) -> Result<Reply, Stop> {

@@ -64,10 +64,13 @@ impl Jobs {
 
     /// The recipients of a job in a part that was not asked for before.
     pub(crate) fn piece(&mut self, number: u64, part: u64) -> Result<Option<Vec<u64>>, AllocError> {
-        match self.jobs.get_mut(&number) {
-            Some(job) if job.take(part) => Ok(Some(job.part(self.alloc, part)?)),
-            _ => Ok(None),
+        let Some(job) = self.jobs.get_mut(&number) else {
+            return Ok(None);
+        };
+        if !job.take(part) {
+            return Ok(None);
         }
+        Ok(Some(job.part(self.alloc, part)?))
     }
 
     /// The job ends: its recipients.

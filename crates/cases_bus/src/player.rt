@@ -19,6 +19,7 @@ const KEY: IndexKey = IndexKey {
 };
 
 /// Plays each list on a bus of its own.
+#[derive(Drop)]
 pub(crate) struct Buses<'a, R: Wait> {
     pub(crate) rt: &'a R,
     pub(crate) alloc: Global,
