@@ -122,7 +122,7 @@ impl<'a, J: Naming, R: Wait> Connected<'a, J, R> {
         bytes: &[u8],
     ) -> Result<String, PlayError> {
         let found = match sender {
-            Some(connection) => self.recipients(connection, bytes),
+            Some(connection) => self.recipients(connection, Source::Own, bytes),
             None => self.recipients_of_bus(bytes),
         };
         match found {
@@ -134,9 +134,14 @@ impl<'a, J: Naming, R: Wait> Connected<'a, J, R> {
         }
     }
 
-    fn recipients(&mut self, connection: u64, bytes: &[u8]) -> Result<Recipients, Stop> {
+    fn recipients(
+        &mut self,
+        connection: u64,
+        source: Source,
+        bytes: &[u8],
+    ) -> Result<Recipients, Stop> {
         match self.passes.get_mut(&connection) {
-            Some(pass) => recipients(pass, Source::Own, bytes),
+            Some(pass) => recipients(pass, source, bytes),
             None => Err(Stop::closed()),
         }
     }
@@ -147,11 +152,14 @@ impl<'a, J: Naming, R: Wait> Connected<'a, J, R> {
             Some((connection, _)) => Some(*connection),
             None => None,
         };
-        let pass = match first {
-            Some(connection) => self.passes.get_mut(&connection),
-            None => self.closed.as_mut(),
-        };
-        match pass {
+        match first {
+            Some(connection) => self.recipients(connection, Source::Bus, bytes),
+            None => self.recipients_by_closed(bytes),
+        }
+    }
+
+    fn recipients_by_closed(&mut self, bytes: &[u8]) -> Result<Recipients, Stop> {
+        match &mut self.closed {
             Some(pass) => recipients(pass, Source::Bus, bytes),
             None => Err(Stop::closed()),
         }
