@@ -3,18 +3,18 @@
 ghost use Rattle.std.specs.Prelude.{◌<◌, IfOk, IfSome};
 ghost use Rattle.rule_compile.specs.Compiled.{IsSlotOf};
 
-use crate::answers::word_of;
 use bpf_code::decode;
 use bpf_verify::{Verified, VerifyError, verify};
 use entry_table::{Attachment, RuleProgram};
+use event_cases::{name_of, text_of_refusal};
 use match_rule::{Rule, RuleError};
-use owners::{ClaimError, MAX_NAMES, WellKnown};
+use owners::MAX_NAMES;
 use program_table::{Command, Refusal, Reply};
 use rule_compile::CompileError;
 use std::alloc::{AllocError, AllocFailed, Global};
 use summary::Edition;
 use world::{Event, World};
-use world_text::{ClaimWord, RefusalWord, TextAnswer, TextEvent};
+use world_text::{RefusalWord, TextAnswer, TextEvent};
 
 /// Why an event of a list is no event of the world.
 #[derive(Drop)]
@@ -22,6 +22,12 @@ pub(crate) enum Stop {
     /// It is answered before it reaches the world.
     Answered(TextAnswer<'static>),
     NoMemory,
+}
+
+impl From<TextAnswer<'static>> for Stop {
+    fn from(answer: TextAnswer<'static>) -> Stop {
+        Stop::Answered(answer)
+    }
 }
 
 impl From<AllocError> for Stop {
@@ -162,7 +168,7 @@ fn refused_as(
     otherwise: TextAnswer<'static>,
 ) -> Stop {
     match entry_refusal(alloc, world, connection) {
-        Ok(Some(refusal)) => Stop::Answered(TextAnswer::Refused(word_of(refusal))),
+        Ok(Some(refusal)) => Stop::Answered(text_of_refusal(refusal)),
         Ok(None) => Stop::Answered(otherwise),
         Err(stop) => stop,
     }
@@ -196,13 +202,5 @@ fn program_of(alloc: Global, bytes: &[u8]) -> Result<Verified, Stop> {
         Ok(program) => Ok(program),
         Err((VerifyError::NoMemory, _)) => Err(Stop::NoMemory),
         Err((fault, _)) => Err(Stop::Answered(TextAnswer::Program(fault))),
-    }
-}
-
-fn name_of(text: &str) -> Result<WellKnown, Stop> {
-    match WellKnown::read(text) {
-        Ok(name) => Ok(name),
-        Err(ClaimError::Reserved) => Err(Stop::Answered(TextAnswer::Claim(ClaimWord::Reserved))),
-        Err(_) => Err(Stop::Answered(TextAnswer::Claim(ClaimWord::BadName))),
     }
 }

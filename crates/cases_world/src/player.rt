@@ -1,10 +1,10 @@
 // The events of a list, played one after the other.
 
-use crate::answers::text_of;
 use crate::events::{Places, Stop, event_of};
 use entry_table::IndexKey;
+use event_cases::{PlayError, Player, text_of_reply};
 use std::alloc::{AllocError, Global};
-use world::{Event, World};
+use world::{Answer, Event, World};
 use world_text::{TextAnswer, TextEvent};
 
 /// The lists are no hostile ones: any key of the index serves.
@@ -13,17 +13,34 @@ const KEY: IndexKey = IndexKey {
     second: 2,
 };
 
+/// Plays each list in a world of its own.
+#[derive(Clone, Copy)]
+pub(crate) struct Worlds {
+    pub(crate) alloc: Global,
+}
+
+impl Player for Worlds {
+    fn play(&self, events: &[TextEvent<'_>]) -> Result<Vec<String>, PlayError> {
+        let mut playing = Playing::new(self.alloc)?;
+        let mut answers = Vec::new(self.alloc);
+        for event in events {
+            answers.push(playing.play(event)?)?;
+        }
+        Ok(answers)
+    }
+}
+
 /// A world, and where the events of the list stand among its own.
 #[derive(Drop)]
-pub(crate) struct Player {
+struct Playing {
     alloc: Global,
     world: World,
     places: Places,
 }
 
-impl Player {
-    pub(crate) fn new(alloc: Global) -> Result<Player, AllocError> {
-        Ok(Player {
+impl Playing {
+    fn new(alloc: Global) -> Result<Playing, AllocError> {
+        Ok(Playing {
             alloc,
             world: World::new(alloc, KEY)?,
             places: Places::new(alloc),
@@ -31,7 +48,7 @@ impl Player {
     }
 
     /// Plays the next event of the list: its answer as text. What stands before the world is answered without it.
-    pub(crate) fn play(&mut self, event: &TextEvent<'_>) -> Result<String, AllocError> {
+    fn play(&mut self, event: &TextEvent<'_>) -> Result<String, AllocError> {
         match event_of(self.alloc, &self.world, &self.places, event) {
             Ok(event) => {
                 self.places.add(Some(self.world.events()))?;
@@ -60,5 +77,14 @@ impl Player {
             None => TextAnswer::Begun,
         };
         answer.to_string(self.alloc)
+    }
+}
+
+fn text_of(answer: &Answer) -> TextAnswer<'_> {
+    match answer {
+        Answer::Reply(reply) => text_of_reply(reply),
+        Answer::Fault(fault) => TextAnswer::Fault(*fault),
+        Answer::Ignored => TextAnswer::Ignored,
+        Answer::Recipients(numbers) => TextAnswer::Recipients(numbers.as_slice()),
     }
 }

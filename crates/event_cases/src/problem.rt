@@ -1,6 +1,6 @@
 // Why a list or the files of cases aren't played to their end.
 
-use std::alloc::{AllocError, AllocFailed};
+use crate::player::PlayError;
 use std::error::Error;
 use std::{fmt, io};
 use world_text::ListError;
@@ -13,10 +13,12 @@ pub(crate) enum Problem {
     /// The line of this number in a file of cases, from 1, can't be read.
     CaseLine(&'static str, usize),
     NoMemory,
+    /// A list wasn't played to its end.
+    Play(PlayError),
     /// A file, standard input or standard output failed.
     Failed(io::Error),
-    /// There is an argument other than `-`.
-    Usage,
+    /// The program of this name has an argument other than `-`.
+    Usage(&'static str),
 }
 
 impl Problem {
@@ -24,8 +26,8 @@ impl Problem {
     pub(crate) fn status(&self) -> u8 {
         match self {
             Problem::List(ListError::Unreadable(_)) | Problem::CaseLine(_, _) => 2,
-            Problem::Usage => 3,
-            Problem::List(ListError::NoMemory) | Problem::NoMemory | Problem::Failed(_) => 4,
+            Problem::Usage(_) => 3,
+            _ => 4,
         }
     }
 }
@@ -36,8 +38,9 @@ impl fmt::Display for Problem {
             Problem::List(error) => write!(f, "{error}"),
             Problem::CaseLine(file, line) => write!(f, "{file}: line {line}: unreadable"),
             Problem::NoMemory => f.write_str("out of memory"),
+            Problem::Play(error) => write!(f, "{error}"),
             Problem::Failed(error) => write!(f, "{error}"),
-            Problem::Usage => f.write_str("usage: cases_world [-]"),
+            Problem::Usage(program) => write!(f, "usage: {program} [-]"),
         }
     }
 }
@@ -50,15 +53,9 @@ impl From<ListError> for Problem {
     }
 }
 
-impl From<AllocError> for Problem {
-    fn from(_refused: AllocError) -> Problem {
-        Problem::NoMemory
-    }
-}
-
-impl<T: Drop> From<AllocFailed<T>> for Problem {
-    fn from(_refused: AllocFailed<T>) -> Problem {
-        Problem::NoMemory
+impl From<PlayError> for Problem {
+    fn from(error: PlayError) -> Problem {
+        Problem::Play(error)
     }
 }
 

@@ -1,20 +1,11 @@
-// The world's answers as those of a list.
+// The replies of the table of commands as answers of a list.
 
 use owners::Change;
 use program_table::{Refusal, Reply};
-use world::Answer;
 use world_text::{Owner, RefusalWord, TextAnswer};
 
-pub(crate) fn text_of(answer: &Answer) -> TextAnswer<'_> {
-    match answer {
-        Answer::Reply(reply) => text_of_reply(reply),
-        Answer::Fault(fault) => TextAnswer::Fault(*fault),
-        Answer::Ignored => TextAnswer::Ignored,
-        Answer::Recipients(numbers) => TextAnswer::Recipients(numbers.as_slice()),
-    }
-}
-
-fn text_of_reply(reply: &Reply) -> TextAnswer<'_> {
+/// The answer that a reply is.
+pub fn text_of_reply(reply: &Reply) -> TextAnswer<'_> {
     match reply {
         Reply::Connected(connection) => TextAnswer::Connected(*connection),
         Reply::Entry(entry) => TextAnswer::Entry(*entry),
@@ -30,7 +21,7 @@ fn text_of_reply(reply: &Reply) -> TextAnswer<'_> {
         Reply::Nothing => TextAnswer::Nothing,
         Reply::Waiting => TextAnswer::Waiting,
         Reply::Changed(change) => text_of_change(change),
-        Reply::Refused(refusal) => TextAnswer::Refused(word_of(*refusal)),
+        Reply::Refused(refusal) => text_of_refusal(*refusal),
     }
 }
 
@@ -42,8 +33,9 @@ fn text_of_change(change: &Change) -> TextAnswer<'_> {
     }
 }
 
-pub(crate) fn word_of(refusal: Refusal) -> RefusalWord {
-    match refusal {
+/// The answer that a refusal is.
+pub fn text_of_refusal<'a>(refusal: Refusal) -> TextAnswer<'a> {
+    TextAnswer::Refused(match refusal {
         Refusal::ConnectionsFull => RefusalWord::ConnectionsFull,
         Refusal::EntriesFull => RefusalWord::EntriesFull,
         Refusal::NamesFull => RefusalWord::NamesFull,
@@ -52,5 +44,5 @@ pub(crate) fn word_of(refusal: Refusal) -> RefusalWord {
         Refusal::NoAttachment => RefusalWord::NoAttachment,
         Refusal::Closed => RefusalWord::Closed,
         Refusal::Stale => RefusalWord::Stale,
-    }
+    })
 }
