@@ -51,17 +51,23 @@ def copy_repository(root, kind):
         file.writelines(found[name][1] for name in seen)
 
 
+def copy_texts(old, new):
+    """Copies the files of a folder that end in `.txt`, without that end; those of folders below it too, where it is `proofs`."""
+    for folder, folders, names in os.walk(old):
+        place = os.path.join(new, os.path.relpath(folder, old))
+        os.makedirs(place, exist_ok=True)
+        for name in names:
+            if name.endswith(".txt"):
+                shutil.copy(os.path.join(folder, name), os.path.join(place, name.removesuffix(".txt")))
+        if os.path.basename(new) == "src":
+            folders.clear()
+
+
 def copy_program(root, kind):
     """The program's crate, with the files that all programs share."""
     crate = os.path.join(root, "crates", "bus_" + kind)
-    os.makedirs(os.path.join(crate, "src"))
-    for folder in ("common", kind):
-        for name in os.listdir(os.path.join(HERE, folder)):
-            path = os.path.join(HERE, folder, name)
-            if name.endswith(".rt.txt"):
-                shutil.copy(path, os.path.join(crate, "src", name.removesuffix(".txt")))
-            elif name in ("specs", "proofs"):
-                shutil.copytree(path, os.path.join(crate, name))
+    for folder, where in (("common", "src"), (kind, "src"), (os.path.join(kind, "proofs"), "proofs")):
+        copy_texts(os.path.join(HERE, folder), os.path.join(crate, where))
     with open(os.path.join(root, "crates.txt"), "a") as file:
         file.write("bus_%s: %s\n" % (kind, NAMES[kind]))
     return crate
@@ -69,11 +75,14 @@ def copy_program(root, kind):
 
 def build(kind, root):
     """The path of the program, which is proved and built below `root`, a folder that isn't there yet."""
+    rt = os.environ.get("RT", "rt")
+    # It is the highest of the libraries, so that all of them are proved then.
+    subprocess.run([rt, "lib"], cwd=os.path.join(ROOT, "crates", "router"), stdout=sys.stderr, check=True)
     copy_repository(root, kind)
     crate = copy_program(root, kind)
     program = os.path.join(crate, "out", "bus_" + kind)
     # With no argument the program ends at once.
-    done = subprocess.run([os.environ.get("RT", "rt"), "run"], cwd=crate, stdout=subprocess.PIPE, stderr=subprocess.STDOUT)
+    done = subprocess.run([rt, "run"], cwd=crate, stdout=subprocess.PIPE, stderr=subprocess.STDOUT)
     if not os.path.exists(program):
         sys.stderr.buffer.write(done.stdout)
         raise SystemExit("%s isn't built" % kind)
