@@ -1,0 +1,70 @@
+// Rules that are added and taken away.
+
+ghost use Rattle.std.specs.Prelude.{◌≡◌};
+
+use crate::fixture::{
+    MEMBER_C, connect_pass, expect_error, expect_recipients, expect_reply, new_bus,
+};
+use program_table::Reply;
+use published::{Naming, Opened};
+use router::{Bus, BusError, Pass};
+use std::alloc::Global;
+use std::marker::Brand;
+use std::process::Abort;
+use std::sync::Wait;
+
+#[test]
+fn own_recipient_once(rt: HostRuntime) {
+    add_twice::<Brand, _>(&rt, rt.alloc(), Opened::<()>::new());
+}
+
+fn add_twice<J: Naming, R: Wait + Abort>(rt: &R, alloc: Global, opened: Opened<()>)
+    requires { opened ≡ J.book }
+{
+    let bus = new_bus::<J, (), R>(rt, alloc, opened);
+    let mut pass = connect_pass(rt, &bus, ());
+    let first = bus.add_match(rt, alloc, &mut pass, MEMBER_C);
+    expect_reply(rt, first, Reply::Entry(1));
+    let second = bus.add_match(rt, alloc, &mut pass, MEMBER_C);
+    expect_reply(rt, second, Reply::Entry(2));
+    expect_recipients(rt, &mut pass, &[1]);
+    remove_both(rt, alloc, &bus, &mut pass);
+}
+
+fn remove_both<J: Naming, R: Wait + Abort>(
+    rt: &R,
+    alloc: Global,
+    bus: &Bus<J, (), &R>,
+    pass: &mut Pass<J, ()>,
+) {
+    let first = bus.remove_match(rt, alloc, pass, MEMBER_C);
+    expect_reply(rt, first, Reply::Done);
+    expect_recipients(rt, pass, &[1]);
+    let second = bus.remove_match(rt, alloc, pass, MEMBER_C);
+    expect_reply(rt, second, Reply::Done);
+    expect_recipients(rt, pass, &[]);
+    let third = bus.remove_match(rt, alloc, pass, MEMBER_C);
+    expect_error(rt, third, BusError::RuleNotFound);
+}
+
+const ONE_SPELLING: &str = r"arg0=''\''',arg1='\',arg2=',',arg3='\\'";
+
+const OTHER_SPELLING: &str = r"arg0=\',arg1=\,arg2=',',arg3=\\";
+
+#[test]
+fn two_spellings_one_rule(rt: HostRuntime) {
+    spell_twice::<Brand, _>(&rt, rt.alloc(), Opened::<()>::new());
+}
+
+fn spell_twice<J: Naming, R: Wait + Abort>(rt: &R, alloc: Global, opened: Opened<()>)
+    requires { opened ≡ J.book }
+{
+    let bus = new_bus::<J, (), R>(rt, alloc, opened);
+    let mut pass = connect_pass(rt, &bus, ());
+    let added = bus.add_match(rt, alloc, &mut pass, ONE_SPELLING);
+    expect_reply(rt, added, Reply::Entry(1));
+    let removed = bus.remove_match(rt, alloc, &mut pass, OTHER_SPELLING);
+    expect_reply(rt, removed, Reply::Done);
+    let again = bus.remove_match(rt, alloc, &mut pass, ONE_SPELLING);
+    expect_error(rt, again, BusError::RuleNotFound);
+}

@@ -1,0 +1,129 @@
+// A name that is taken over, and who gets the broadcasts of its owner, found by one thread and by workers.
+
+ghost use Rattle.std.specs.Prelude.{◌≡◌};
+
+use crate::fixture::{
+    S1, connect_pass, expect_recipients, expect_reply, name_a, new_bus, owner_reply,
+};
+use bytes::Bytes;
+use fan_out::Gate;
+use message_view::View;
+use owners::WellKnown;
+use program_table::{Mailbox, Reply};
+use published::{Naming, Opened};
+use router::{Bus, Letterbox, Pass, Sent, Source};
+use routing::Carrier;
+use std::alloc::Global;
+use std::marker::Brand;
+use std::process::Abort;
+use std::sync::Wait;
+use std::thread::Threads;
+
+#[test]
+fn takeover_through_passes(rt: HostRuntime) {
+    take_over::<Brand, _>(&rt, rt.alloc(), Opened::<Letterbox>::new());
+}
+
+fn take_over<J: Naming, R: Wait + Threads + Abort>(rt: &R, alloc: Global, opened: Opened<Letterbox>)
+    requires { opened ≡ J.book }
+{
+    let bus = new_bus::<J, Letterbox, R>(rt, alloc, opened);
+    let letterbox = new_letterbox(rt, alloc);
+    let mut one = connect_pass(rt, &bus, new_letterbox(rt, alloc));
+    let mut two = connect_pass(rt, &bus, letterbox.share().expect(rt, "a share"));
+    let mut three = connect_pass(rt, &bus, new_letterbox(rt, alloc));
+    let added = bus.add_match(rt, alloc, &mut three, "sender='com.example.A'");
+    expect_reply(rt, added, Reply::Entry(1));
+    let name = name_a(rt);
+    let first = bus.request_name(rt, &mut one, &name, 1);
+    expect_reply(rt, first, owner_reply(&name, None, 1));
+    expect_each_way(rt, &mut one, &[3]);
+    expect_each_way(rt, &mut two, &[]);
+    let second = bus.request_name(rt, &mut two, &name, 2);
+    expect_reply(rt, second, owner_reply(&name, Some(1), 2));
+    expect_each_way(rt, &mut one, &[]);
+    expect_each_way(rt, &mut two, &[3]);
+    look_up(rt, alloc, &mut one, &name);
+    send_s1(rt, alloc, &bus, &mut one);
+    expect_s1(rt, &letterbox);
+    expect_reply(rt, bus.close(rt, &mut two), Reply::Done);
+    expect_each_way(rt, &mut one, &[3]);
+}
+
+fn new_letterbox<R: Abort>(rt: &R, alloc: Global) -> Letterbox {
+    Letterbox::new(alloc).expect(rt, "a letterbox")
+}
+
+// Each way to find the recipients of S1 gives them.
+fn expect_each_way<J: Naming, R: Wait + Threads + Abort>(
+    rt: &R,
+    pass: &mut Pass<J, Letterbox>,
+    wanted: &[u64],
+) {
+    expect_recipients(rt, pass, wanted);
+    expect_by_workers(rt, pass, 1, wanted);
+    expect_by_workers(rt, pass, 2, wanted);
+    expect_by_workers(rt, pass, 16, wanted);
+}
+
+/// A gate that is always open.
+struct Open;
+
+impl Gate for Open {
+    fn before(&self, _piece: u32) {}
+
+    fn after(&self, _piece: u32) {}
+}
+
+// The recipients of S1 as a broadcast of the pass, found by so many workers.
+fn expect_by_workers<J: Naming, R: Wait + Threads + Abort>(
+    rt: &R,
+    pass: &mut Pass<J, Letterbox>,
+    workers: u32,
+    wanted: &[u64],
+) {
+    let view = View::read(&S1).expect(rt, "a message");
+    let found = pass
+        .recipients_many(rt, Source::Own, &view, workers, &Open)
+        .expect(rt, "the recipients");
+    assert_eq!(rt; found.as_slice(), wanted);
+}
+
+// The second of three connections owns the one name, and the first waits for it.
+fn look_up<J: Naming, R: Abort>(
+    rt: &R,
+    alloc: Global,
+    pass: &mut Pass<J, Letterbox>,
+    name: &WellKnown,
+) {
+    assert_eq!(rt; pass.owner_of(name), Ok(Some(2)));
+    let queue = pass.queued_owners(alloc, name).expect(rt, "the queue");
+    assert_eq!(rt; queue.as_slice(), [2, 1].as_slice());
+    let (numbers, names) = pass.names(alloc).expect(rt, "the names");
+    assert_eq!(rt; numbers.as_slice(), [1, 2, 3].as_slice());
+    assert_eq!(rt; names.len(), 1);
+    assert!(rt; names[0] == *name);
+}
+
+// Sends S1 to the owner of the name.
+fn send_s1<J: Naming, R: Wait + Abort>(
+    rt: &R,
+    alloc: Global,
+    bus: &Bus<J, Letterbox, &R>,
+    pass: &mut Pass<J, Letterbox>,
+) {
+    let bytes = Bytes::from_static(&S1);
+    let sent = bus
+        .unicast(rt, alloc, pass, "com.example.A", &bytes)
+        .expect(rt, "an answer");
+    assert_eq!(rt; sent, Sent::Put);
+}
+
+// The message in the letterbox is S1, and the only one.
+fn expect_s1<R: Wait + Abort>(rt: &R, letterbox: &Letterbox) {
+    let outbox = letterbox.outbox();
+    let mut seat = outbox.seat();
+    let item = outbox.take(rt, &mut seat).expect(rt, "a message");
+    assert_eq!(rt; item.bytes.as_slice(), S1.as_slice());
+    assert!(rt; outbox.take(rt, &mut seat).is_none());
+}
