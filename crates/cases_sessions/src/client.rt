@@ -42,7 +42,7 @@ impl<J: Naming> Client<J> {
     /// Plays a line of this client: what came, where it isn't what the line wants.
     pub(crate) fn act<R: Wait>(
         &mut self,
-        place: &Place<'_, J, R>,
+        place: &Place<'_, '_, J, R>,
         action: Action<'_>,
     ) -> Result<Option<String>, LineError> {
         match action {
@@ -64,12 +64,12 @@ impl<J: Naming> Client<J> {
     /// What it got that no line looked at.
     pub(crate) fn unread<R: Wait>(
         &mut self,
-        place: &Place<'_, J, R>,
+        place: &Place<'_, '_, J, R>,
     ) -> Result<Option<String>, LineError> {
         self.get(place, &Wanted::Nothing)
     }
 
-    fn send<R: Wait>(&mut self, place: &Place<'_, J, R>, bytes: &[u8]) {
+    fn send<R: Wait>(&mut self, place: &Place<'_, '_, J, R>, bytes: &[u8]) {
         if let Some(session) = &mut self.session {
             for piece in bytes.chunks(self.at_once.max(1)) {
                 treat(place, session, piece);
@@ -83,7 +83,7 @@ impl<J: Naming> Client<J> {
         }
     }
 
-    fn forget<R: Wait>(&mut self, place: &Place<'_, J, R>) -> Result<(), LineError> {
+    fn forget<R: Wait>(&mut self, place: &Place<'_, '_, J, R>) -> Result<(), LineError> {
         self.taker.take_all(place.rt, &mut self.received)?;
         self.received.clear();
         Ok(())
@@ -91,7 +91,7 @@ impl<J: Naming> Client<J> {
 
     fn get<R: Wait>(
         &mut self,
-        place: &Place<'_, J, R>,
+        place: &Place<'_, '_, J, R>,
         wanted: &Wanted<'_>,
     ) -> Result<Option<String>, LineError> {
         self.taker.take_all(place.rt, &mut self.received)?;
@@ -100,7 +100,7 @@ impl<J: Naming> Client<J> {
 
     fn end<R: Wait>(
         &mut self,
-        place: &Place<'_, J, R>,
+        place: &Place<'_, '_, J, R>,
         wanted: &str,
     ) -> Result<Option<String>, LineError> {
         match self.session.take() {
@@ -116,7 +116,7 @@ impl<J: Naming> Client<J> {
 
 /// Feeds a session, and lets it treat all that is there whole. Why it ends is told at its end.
 fn treat<J: Naming, R: Wait>(
-    place: &Place<'_, J, R>,
+    place: &Place<'_, '_, J, R>,
     session: &mut Session<J, Letterbox>,
     piece: &[u8],
 ) {

@@ -46,7 +46,7 @@ pub(crate) fn play<J: Naming, R: Wait>(
 }
 
 fn play_lines<J: Naming, R: Wait>(
-    place: &Place<'_, J, R>,
+    place: &Place<'_, '_, J, R>,
     lines: &[CaseLine<'_>],
 ) -> Result<Vec<Miss>, LineError> {
     let mut player = Player::new(place.alloc);

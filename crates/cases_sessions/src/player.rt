@@ -34,7 +34,7 @@ impl<J: Naming> Player<J> {
     /// Plays a line: what came, where it isn't what the line wants.
     pub(crate) fn play<R: Wait>(
         &mut self,
-        place: &Place<'_, J, R>,
+        place: &Place<'_, '_, J, R>,
         words: &str,
     ) -> Result<Option<String>, LineError> {
         let Ok(event) = Event::read(place.alloc, words) else {
@@ -48,7 +48,7 @@ impl<J: Naming> Player<J> {
 
     fn act<R: Wait>(
         &mut self,
-        place: &Place<'_, J, R>,
+        place: &Place<'_, '_, J, R>,
         number: usize,
         action: Action<'_>,
     ) -> Result<Option<String>, LineError> {
@@ -64,7 +64,7 @@ impl<J: Naming> Player<J> {
     /// What clients got that no line looked at.
     pub(crate) fn unread<R: Wait>(
         &mut self,
-        place: &Place<'_, J, R>,
+        place: &Place<'_, '_, J, R>,
     ) -> Result<Option<String>, LineError> {
         for client in self.clients.iter_mut() {
             if let Some(came) = client.unread(place)? {

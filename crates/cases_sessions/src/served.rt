@@ -31,7 +31,7 @@ impl Served {
     /// Plays a line of this client: what came, where it isn't what the line wants.
     pub(crate) fn act<J: Naming, R: Wait>(
         &mut self,
-        place: &Place<'_, J, R>,
+        place: &Place<'_, '_, J, R>,
         action: Action<'_>,
     ) -> Result<Option<String>, LineError> {
         match action {
@@ -52,7 +52,7 @@ impl Served {
         self.received.miss(alloc, &Wanted::Nothing)
     }
 
-    fn serve<J: Naming, R: Wait>(&mut self, place: &Place<'_, J, R>, serving: Serving) {
+    fn serve<J: Naming, R: Wait>(&mut self, place: &Place<'_, '_, J, R>, serving: Serving) {
         let reader = Input::new(self.script.as_slice(), serving);
         let writer = Output::new(&mut self.received, serving);
         let (outcome, rest) = serve_one(
