@@ -145,5 +145,9 @@ pub(crate) fn other_end(
     if has_rest {
         return Ok(Some(format!(in alloc; "{came} with a rest")?));
     }
-    Ok(if came.as_str() == wanted { None } else { Some(came) })
+    Ok(if came.as_str() == wanted {
+        None
+    } else {
+        Some(came)
+    })
 }

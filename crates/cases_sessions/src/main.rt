@@ -3,7 +3,6 @@
 #![tactic(auto)]
 
 mod client;
-mod files;
 mod memory;
 mod place;
 mod play;
@@ -11,9 +10,14 @@ mod player;
 mod served;
 mod taker;
 
-use files::judge_files;
+use play::OnNewBus;
+use session_text::judge_files;
 use std::process::ExitCode;
 
 fn main(rt: HostRuntime) -> ExitCode {
-    judge_files(&rt)
+    let play = OnNewBus {
+        rt: &rt,
+        alloc: rt.alloc(),
+    };
+    judge_files(&rt, &play)
 }

@@ -1,4 +1,4 @@
-// One case.
+// Cases, each on a new bus.
 
 ghost use Rattle.std.specs.Prelude.{◌≡◌};
 
@@ -8,8 +8,9 @@ use case_files::LineError;
 use entry_table::IndexKey;
 use published::{Naming, Opened};
 use router::{Bus, Letterbox};
-use session_text::{Case, CaseLine};
+use session_text::{Case, CaseLine, Miss, Play};
 use std::alloc::Global;
+use std::marker::Brand;
 use std::sync::Wait;
 
 /// The cases are no hostile ones: any key of the index serves.
@@ -18,15 +19,25 @@ const KEY: IndexKey = IndexKey {
     second: 2,
 };
 
-/// A line of a case that misses, and what came there.
+/// Plays each case on a bus of its own.
 #[derive(Drop)]
-pub(crate) struct Miss {
-    pub(crate) line: usize,
-    pub(crate) came: String,
+pub(crate) struct OnNewBus<'r, R: Wait> {
+    pub(crate) rt: &'r R,
+    pub(crate) alloc: Global,
 }
 
-/// What misses in a case.
-pub(crate) fn play<J: Naming, R: Wait>(
+impl<R: Wait> Play for OnNewBus<'_, R> {
+    fn misses(&self, case: &Case<'_>) -> Result<Vec<Miss>, LineError> {
+        on_new_bus(self.rt, self.alloc, case)
+    }
+}
+
+fn on_new_bus<R: Wait>(rt: &R, alloc: Global, case: &Case<'_>) -> Result<Vec<Miss>, LineError> {
+    let opened = Opened::<Letterbox>::new();
+    play::<Brand, R>(rt, alloc, opened, case)
+}
+
+fn play<J: Naming, R: Wait>(
     rt: &R,
     alloc: Global,
     opened: Opened<Letterbox>,
@@ -55,8 +66,8 @@ fn play_lines<J: Naming, R: Wait>(
         let came = player.play(place, line.words)?;
         add(&mut misses, line.number, came)?;
     }
-    let line = lines.last().map_or(0, |line| line.number);
-    add(&mut misses, line, player.unread(place)?)?;
+    let last = lines.last().map_or(0, |line| line.number);
+    add(&mut misses, last, player.unread(place)?)?;
     Ok(misses)
 }
 

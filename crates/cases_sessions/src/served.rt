@@ -55,14 +55,7 @@ impl Served {
     fn serve<J: Naming, R: Wait>(&mut self, place: &Place<'_, '_, J, R>, serving: Serving) {
         let reader = Input::new(self.script.as_slice(), serving);
         let writer = Output::new(&mut self.received, serving);
-        let (outcome, rest) = serve_one(
-            place.rt,
-            place.alloc,
-            place.bus,
-            GUID,
-            reader,
-            writer,
-        );
+        let (outcome, rest) = serve_one(place.rt, place.alloc, place.bus, GUID, reader, writer);
         self.ended = Some((outcome, rest.is_some()));
     }
 

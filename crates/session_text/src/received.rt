@@ -42,6 +42,15 @@ impl Received {
         self.bytes.clear();
     }
 
+    /// Whether more has to come before what comes next can be looked at.
+    pub fn lacks(&self, wanted: &Wanted<'_>) -> bool {
+        match wanted {
+            Wanted::Bytes(bytes) => self.bytes.len() < bytes.len(),
+            Wanted::Line(_) => self.bytes.len() < self.message_len(),
+            Wanted::Nothing => true,
+        }
+    }
+
     /// Looks at what came next: in words, where it isn't what is wanted.
     ///
     /// # Errors
@@ -82,11 +91,16 @@ impl Received {
 
     // The first message, or all where none is there whole.
     fn take_message(&mut self) -> Result<Vec<u8>, AllocError> {
-        let len = match frame_len(self.bytes.as_slice()) {
+        self.take(self.message_len())
+    }
+
+    // The first message's length, more than all where it can't be told yet, and all where none is there.
+    fn message_len(&self) -> usize {
+        match frame_len(self.bytes.as_slice()) {
             Ok(Some(len)) => usize::try_from(len).unwrap_or(usize::MAX),
-            _ => usize::MAX,
-        };
-        self.take(len)
+            Ok(None) => usize::MAX,
+            Err(_) => self.bytes.len(),
+        }
     }
 }
 
