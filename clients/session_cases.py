@@ -229,6 +229,18 @@ def most_connections():
     case("most_connections", *lines)
 
 
+def most_names():
+    """1,024 names have owners; the next request is refused, and heard once one is released."""
+    lines = ["1 enters"]
+    for number in range(1024):
+        lines.append(f"1 calls 2 RequestName s:a.n{number} u:0 flags=1")
+        lines += ["1 forgets"] if number % 500 == 499 else []
+    error = "error org.freedesktop.DBus -> :1.1 reply_serial=3 org.freedesktop.DBus.Error.LimitsExceeded (s) \"LimitsExceeded\""
+    lines += ["1 forgets", "1 calls 3 RequestName s:a.x u:0", f"1 reads {error}", "1 calls 4 ReleaseName s:a.n7 flags=1", "1 forgets",
+              "1 calls 5 RequestName s:a.x u:0", "1 reads method_return org.freedesktop.DBus -> :1.1 reply_serial=5 (u) 1", "1 forgets"]
+    case("most_names", *lines)
+
+
 def main():
     print(HEAD)
     examples()
@@ -237,6 +249,7 @@ def main():
     messages_of_the_bus()
     passed_on()
     most_connections()
+    most_names()
 
 
 if __name__ == "__main__":

@@ -52,10 +52,11 @@ impl<J: Naming> Player<J> {
         number: usize,
         action: Action<'_>,
     ) -> Result<Option<String>, LineError> {
-        if number == self.clients.len() + 1 {
+        let index = number.wrapping_sub(1);
+        if index == self.clients.len() {
             self.clients.push(Client::new(place.alloc)?)?;
         }
-        match self.clients.get_mut(number.wrapping_sub(1)) {
+        match self.clients.get_mut(index) {
             Some(client) => client.act(place, action),
             None => unreadable(place.alloc),
         }
