@@ -1,0 +1,81 @@
+// The clients of a case.
+
+use crate::client::Client;
+use crate::place::Place;
+use crate::served::Served;
+use case_files::LineError;
+use crossbeam_utils::rule::Protocol;
+use program_table::Command;
+use published::{Naming, Published, Shown};
+use router::Letterbox;
+use session_text::{Action, Event};
+use std::alloc::Global;
+use std::collections::LinkedList;
+use std::sync::Wait;
+
+/// The clients of a case, in the order of their first lines, and the served one.
+#[derive(Drop)]
+pub(crate) struct Player<J: Naming>
+where
+    Published: Protocol<Shown<J, Letterbox>, LinkedList<Command<Letterbox>>>,
+{
+    clients: Vec<Client<J>>,
+    served: Served,
+}
+
+impl<J: Naming> Player<J> {
+    pub(crate) fn new(alloc: Global) -> Player<J> {
+        Player {
+            clients: Vec::new(alloc),
+            served: Served::new(alloc),
+        }
+    }
+
+    /// Plays a line: what came, where it isn't what the line wants.
+    pub(crate) fn play<R: Wait>(
+        &mut self,
+        place: &Place<'_, '_, J, R>,
+        words: &str,
+    ) -> Result<Option<String>, LineError> {
+        let Ok(event) = Event::read(place.alloc, words) else {
+            return unreadable(place.alloc);
+        };
+        match event.client {
+            None => self.served.act(place, event.action),
+            Some(number) => self.act(place, number, event.action),
+        }
+    }
+
+    fn act<R: Wait>(
+        &mut self,
+        place: &Place<'_, '_, J, R>,
+        number: usize,
+        action: Action<'_>,
+    ) -> Result<Option<String>, LineError> {
+        let index = number.wrapping_sub(1);
+        if index == self.clients.len() {
+            self.clients.push(Client::new(place.alloc)?)?;
+        }
+        match self.clients.get_mut(index) {
+            Some(client) => client.act(place, action),
+            None => unreadable(place.alloc),
+        }
+    }
+
+    /// What clients got that no line looked at.
+    pub(crate) fn unread<R: Wait>(
+        &mut self,
+        place: &Place<'_, '_, J, R>,
+    ) -> Result<Option<String>, LineError> {
+        for client in self.clients.iter_mut() {
+            if let Some(came) = client.unread(place)? {
+                return Ok(Some(came));
+            }
+        }
+        self.served.unread(place.alloc)
+    }
+}
+
+fn unreadable(alloc: Global) -> Result<Option<String>, LineError> {
+    Ok(Some(String::from_str(alloc, "a line that can't be read")?))
+}
