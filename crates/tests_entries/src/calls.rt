@@ -78,25 +78,3 @@ fn entries_of_two_connections(rt: HostRuntime) -> Result<(), Fail> {
     assert_eq!(rt; table.last_id(), 4);
     Ok(())
 }
-
-/// Both entries of connection 1 are taken, in whichever order, and that of connection 2 stays.
-#[test]
-fn entries_one_by_one(rt: HostRuntime) -> Result<(), Fail> {
-    let alloc = rt.alloc();
-    let key = IndexKey {
-        first: 1,
-        second: 2,
-    };
-    let mut table = EntryTable::new(alloc, key)?;
-    for connection in [1, 2, 1] {
-        let filter = rule_entry(alloc, "member='c'")?;
-        assert!(rt; !table.is_full());
-        let _id = table.add(connection, filter);
-    }
-    let first = table.remove_any(1).map(|entry| entry.id);
-    let second = table.remove_any(1).map(|entry| entry.id);
-    assert!(rt; first == Some(1) && second == Some(3) || first == Some(3) && second == Some(1));
-    assert!(rt; table.remove_any(1).is_none());
-    assert_eq!(rt; offered_ids(alloc, &table)?.as_slice(), [2].as_slice());
-    Ok(())
-}
