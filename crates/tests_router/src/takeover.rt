@@ -5,13 +5,12 @@ ghost use Rattle.std.specs.Prelude.{◌≡◌};
 use crate::fixture::{
     S1, connect_pass, expect_recipients, expect_reply, name_a, new_bus, owner_reply,
 };
-use bytes::Bytes;
-use fan_out::Gate;
-use message_view::View;
+use crate::letters::{connect_with, new_letterbox, send_s1, take_all};
+use crate::workers::expect_by_workers;
 use owners::WellKnown;
-use program_table::{Mailbox, Reply};
+use program_table::Reply;
 use published::{Naming, Opened};
-use router::{Bus, Letterbox, Pass, Sent, Source};
+use router::{Letterbox, Pass, Sent};
 use routing::Carrier;
 use std::alloc::Global;
 use std::marker::Brand;
@@ -30,7 +29,7 @@ fn take_over<J: Naming, R: Wait + Threads + Abort>(rt: &R, alloc: Global, opened
     let bus = new_bus::<J, Letterbox, R>(rt, alloc, opened);
     let letterbox = new_letterbox(rt, alloc);
     let mut one = connect_pass(rt, &bus, new_letterbox(rt, alloc));
-    let mut two = connect_pass(rt, &bus, letterbox.share().expect(rt, "a share"));
+    let mut two = connect_with(rt, &bus, &letterbox);
     let mut three = connect_pass(rt, &bus, new_letterbox(rt, alloc));
     let added = bus.add_match(rt, alloc, &mut three, "sender='com.example.A'");
     expect_reply(rt, added, Reply::Entry(1));
@@ -44,14 +43,10 @@ fn take_over<J: Naming, R: Wait + Threads + Abort>(rt: &R, alloc: Global, opened
     expect_each_way(rt, &mut one, &[]);
     expect_each_way(rt, &mut two, &[3]);
     look_up(rt, alloc, &mut one, &name);
-    send_s1(rt, alloc, &bus, &mut one);
-    expect_s1(rt, &letterbox);
+    send_s1(rt, alloc, &bus, &mut one, "com.example.A", Sent::Put);
+    expect_s1(rt, alloc, &letterbox);
     expect_reply(rt, bus.close(rt, &mut two), Reply::Done);
     expect_each_way(rt, &mut one, &[3]);
-}
-
-fn new_letterbox<R: Abort>(rt: &R, alloc: Global) -> Letterbox {
-    Letterbox::new(alloc).expect(rt, "a letterbox")
 }
 
 // Each way to find the recipients of S1 gives them.
@@ -64,29 +59,6 @@ fn expect_each_way<J: Naming, R: Wait + Threads + Abort>(
     expect_by_workers(rt, pass, 1, wanted);
     expect_by_workers(rt, pass, 2, wanted);
     expect_by_workers(rt, pass, 16, wanted);
-}
-
-/// A gate that is always open.
-struct Open;
-
-impl Gate for Open {
-    fn before(&self, _piece: u32) {}
-
-    fn after(&self, _piece: u32) {}
-}
-
-// The recipients of S1 as a broadcast of the pass, found by so many workers.
-fn expect_by_workers<J: Naming, R: Wait + Threads + Abort>(
-    rt: &R,
-    pass: &mut Pass<J, Letterbox>,
-    workers: u32,
-    wanted: &[u64],
-) {
-    let view = View::read(&S1).expect(rt, "a message");
-    let found = pass
-        .recipients_many(rt, Source::Own, &view, workers, &Open)
-        .expect(rt, "the recipients");
-    assert_eq!(rt; found.as_slice(), wanted);
 }
 
 // The second of three connections owns the one name, and the first waits for it.
@@ -105,25 +77,9 @@ fn look_up<J: Naming, R: Abort>(
     assert!(rt; names[0] == *name);
 }
 
-// Sends S1 to the owner of the name.
-fn send_s1<J: Naming, R: Wait + Abort>(
-    rt: &R,
-    alloc: Global,
-    bus: &Bus<J, Letterbox, &R>,
-    pass: &mut Pass<J, Letterbox>,
-) {
-    let bytes = Bytes::from_static(&S1);
-    let sent = bus
-        .unicast(rt, alloc, pass, "com.example.A", &bytes)
-        .expect(rt, "an answer");
-    assert_eq!(rt; sent, Sent::Put);
-}
-
 // The message in the letterbox is S1, and the only one.
-fn expect_s1<R: Wait + Abort>(rt: &R, letterbox: &Letterbox) {
-    let outbox = letterbox.outbox();
-    let mut seat = outbox.seat();
-    let item = outbox.take(rt, &mut seat).expect(rt, "a message");
-    assert_eq!(rt; item.bytes.as_slice(), S1.as_slice());
-    assert!(rt; outbox.take(rt, &mut seat).is_none());
+fn expect_s1<R: Wait + Abort>(rt: &R, alloc: Global, letterbox: &Letterbox) {
+    let items = take_all(rt, alloc, letterbox.outbox());
+    assert_eq!(rt; items.len(), 1);
+    assert_eq!(rt; items[0].bytes.as_slice(), S1.as_slice());
 }
