@@ -81,10 +81,7 @@ impl<J: Naming, M: Mailbox + Carrier> Connection<J, M> {
         request: Request,
     ) -> Result<(), SessionError> {
         let id = self.identity.guid.map(|digit| digit.to_ascii_lowercase());
-        match str::from_utf8(&id) {
-            Ok(text) => self.answer(site, home, request, Body::Text(text)),
-            Err(_) => self.refuse(site, home, request, Refused::Error(ErrorName::Failed)),
-        }
+        self.answer_digits(site, home, request, id)
     }
 
     fn get_machine_id<W: Wait, R: Wait + Drop>(
@@ -93,8 +90,20 @@ impl<J: Naming, M: Mailbox + Carrier> Connection<J, M> {
         home: &mut Home<M>,
         request: Request,
     ) -> Result<(), SessionError> {
-        let id = self.identity.machine_id.unwrap_or([0xff; 32]);
-        match str::from_utf8(&id) {
+        match self.identity.machine_id {
+            Some(id) => self.answer_digits(site, home, request, id),
+            None => self.refuse(site, home, request, Refused::Error(ErrorName::Failed)),
+        }
+    }
+
+    fn answer_digits<W: Wait, R: Wait + Drop>(
+        &mut self,
+        site: &Site<'_, J, M, W, R>,
+        home: &mut Home<M>,
+        request: Request,
+        digits: [u8; 32],
+    ) -> Result<(), SessionError> {
+        match str::from_utf8(&digits) {
             Ok(text) => self.answer(site, home, request, Body::Text(text)),
             Err(_) => self.refuse(site, home, request, Refused::Error(ErrorName::Failed)),
         }
