@@ -27,11 +27,11 @@ pub(crate) struct Buses<'a, R: Wait> {
 
 impl<R: Wait> Player for Buses<'_, R> {
     fn play(&self, events: &[TextEvent<'_>]) -> Result<Vec<String>, PlayError> {
-        play(self.rt, self.alloc, events)
+        play_on_new_bus(self.rt, self.alloc, events)
     }
 }
 
-fn play<R: Wait>(
+fn play_on_new_bus<R: Wait>(
     rt: &R,
     alloc: Global,
     events: &[TextEvent<'_>],
