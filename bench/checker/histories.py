@@ -5,7 +5,8 @@ A log is a list of threads' lists, each begun by a line `b`, and `end` after eac
 `most` how many control calls had begun when it returned.
 
     k least len connection letterbox                       a connection was made; letterbox 0 is one that nobody empties
-    c least len connection kind argument flags answer      a control call; from 1000 on its answer is an error's number
+    c least len connection kind argument flags answer      a control call; kinds 1 and 5 give an entry's id, which no state
+                                                           here refuses to an open pass; else an error is 1000 and its number
     r least len most sender message recipients..           who gets a broadcast; sender 0 is the bus
     p least len most sender message connection refused..   a broadcast was put, by that connection's pass
     u least len most name message answer                   a message to a name: 0 put, 1 nobody, 2 full
@@ -22,6 +23,7 @@ NAMES = ("com.example.A", "com.example.B", "com.example.C")
 ERRORS = {"EntriesFull": 3, "NamesFull": 4, "QueueFull": 5, "RuleNotFound": 6, "NoAttachment": 7, "Closed": 8}
 # ld [20]; ret a: the number of arguments
 PROGRAM = bytes.fromhex("2000000014000000" "1600000000000000")
+ENTRY_KINDS = (1, 5)
 CLOSE = 7
 
 
@@ -143,7 +145,7 @@ class Judge:
             least, length = line[1], line[2]
             # A changer has several passes, each with what it has seen; all other lines of a thread are one pass's.
             seat = line[3] if word in "kc" else None
-            accepted = word == "k" or (word == "c" and line[7] < 1000)
+            accepted = word == "k" or (word == "c" and (line[4] in ENTRY_KINDS or line[7] < 1000))
             if word in "kc":
                 self.counts["changes"] += 1
                 early = length < least + accepted
