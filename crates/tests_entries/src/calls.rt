@@ -1,4 +1,4 @@
-// Entries of two connections.
+// Entries of two connections. A failure ends the test at once, so that a test has one way out.
 
 use bpf_code::Ins;
 use bpf_verify::{Verified, verify};
@@ -6,75 +6,92 @@ use entry_table::{Attachment, EntryTable, Filter, IndexKey, RuleProgram};
 use match_rule::Rule;
 use message_view::View;
 use std::alloc::Global;
-use std::test::Fail;
+use std::process::Abort;
 use summary::Edition;
 
 /// A signal with path `/a`, interface `a.b` and member `c`.
 const S1: &str =
     "6c04000100000000010000002a00000001016f00020000002f610000000000000201730003000000612e62000000000003017300010000006300000000000000";
 
-fn rule_entry(alloc: Global, text: &str) -> Result<Filter, Fail> {
-    let rule = Rule::read(alloc, text)?;
+const KEY: IndexKey = IndexKey {
+    first: 1,
+    second: 2,
+};
+
+// A rule without a sender, with its program.
+fn rule_entry<R: Abort>(rt: &R, alloc: Global, text: &str) -> Filter {
+    let rule = Rule::read(alloc, text).expect(rt, "a rule");
     if rule.sender_name().is_some() {
-        return Err(Fail::from("a rule without a sender was wanted"));
+        panic!(rt; "a rule without a sender was wanted")
     }
-    Ok(Filter::Rule(RuleProgram::compile(alloc, rule, None)?))
+    Filter::Rule(RuleProgram::compile(alloc, rule, None).expect(rt, "its program"))
 }
 
-/// `ret #1`
-fn one(alloc: Global) -> Result<Verified, Fail> {
+// `ret #1`
+fn one<R: Abort>(rt: &R, alloc: Global) -> Verified {
     let mut code = Vec::new(alloc);
     code.push(Ins {
         code: 0x06,
         jt: 0,
         jf: 0,
         k: 1,
-    })?;
+    })
+    .expect(rt, "memory");
     match verify(code) {
-        Ok(program) => Ok(program),
-        Err(_) => Err(Fail::from("ret #1 is a program")),
+        Ok(program) => program,
+        Err(_) => panic!(rt; "ret #1 is a program"),
     }
 }
 
-fn offered_ids(alloc: Global, table: &EntryTable) -> Result<Vec<u32>, Fail> {
-    let bytes = hex::decode(alloc, S1)?;
-    let view = View::read(bytes.as_slice())?;
+fn add<R: Abort>(rt: &R, alloc: Global, table: &mut EntryTable, connection: u64, text: &str) {
+    let filter = rule_entry(rt, alloc, text);
+    assert!(rt; !table.is_full());
+    let _ = table.add(connection, filter);
+}
+
+fn attach<R: Abort>(rt: &R, alloc: Global, table: &mut EntryTable) {
+    let attached = Attachment::new(alloc, Edition::One, one(rt, alloc));
+    let filter = Filter::Attached(attached.expect(rt, "an attachment"));
+    assert!(rt; !table.is_full());
+    assert_eq!(rt; table.add(1, filter), 4);
+}
+
+// The entries that S1 is offered to have these ids.
+fn expect_offered<R: Abort>(rt: &R, alloc: Global, table: &EntryTable, wanted: &[u32]) {
+    let bytes = hex::decode(alloc, S1).expect(rt, "bytes");
+    let view = View::read(bytes.as_slice()).expect(rt, "a message");
     let mut ids = Vec::new(alloc);
     for entry in table.offered(&view) {
-        ids.push(entry.id)?;
+        ids.push(entry.id).expect(rt, "memory");
     }
-    ids.sort()?;
-    Ok(ids)
+    ids.sort().expect(rt, "memory");
+    assert_eq!(rt; ids.as_slice(), wanted);
 }
 
-#[test]
-fn entries_of_two_connections(rt: HostRuntime) -> Result<(), Fail> {
-    let alloc = rt.alloc();
-    let key = IndexKey {
-        first: 1,
-        second: 2,
-    };
-    let mut table = EntryTable::new(alloc, key)?;
-    for (connection, text) in [(1, "member='c'"), (2, "member='d'"), (2, "path='/a'")] {
-        let filter = rule_entry(alloc, text)?;
-        assert!(rt; !table.is_full());
-        let _id = table.add(connection, filter);
-    }
-    let attached = Attachment::new(alloc, Edition::One, one(alloc)?).map_err(|_| "no memory")?;
-    assert!(rt; !table.is_full());
-    assert_eq!(rt; table.add(1, Filter::Attached(attached)), 4);
-    assert_eq!(rt;
-        offered_ids(alloc, &table)?.as_slice(),
-        [1, 3, 4].as_slice()
-    );
-    let same = Rule::read(alloc, " member=c,")?;
+fn expect_found<R: Abort>(rt: &R, alloc: Global, table: &EntryTable) {
+    let same = Rule::read(alloc, " member=c,").expect(rt, "a rule");
     assert_eq!(rt; table.find_rule(1, &same), Some(1));
     assert_eq!(rt; table.find_rule(2, &same), None);
     assert!(rt; table.has_attachment(1, 4) && !table.has_attachment(1, 1));
+}
+
+fn remove<R: Abort>(rt: &R, table: &mut EntryTable) {
     assert_eq!(rt; table.remove(1, 1).map(|entry| entry.id), Some(1));
     assert_eq!(rt; table.remove_oldest(2).map(|entry| entry.id), Some(2));
     table.remove_all(2);
-    assert_eq!(rt; offered_ids(alloc, &table)?.as_slice(), [4].as_slice());
+}
+
+#[test]
+fn entries_of_two_connections(rt: HostRuntime) {
+    let alloc = rt.alloc();
+    let mut table = EntryTable::new(alloc, KEY).expect(&rt, "a table");
+    add(&rt, alloc, &mut table, 1, "member='c'");
+    add(&rt, alloc, &mut table, 2, "member='d'");
+    add(&rt, alloc, &mut table, 2, "path='/a'");
+    attach(&rt, alloc, &mut table);
+    expect_offered(&rt, alloc, &table, &[1, 3, 4]);
+    expect_found(&rt, alloc, &table);
+    remove(&rt, &mut table);
+    expect_offered(&rt, alloc, &table, &[4]);
     assert_eq!(rt; table.last_id(), 4);
-    Ok(())
 }

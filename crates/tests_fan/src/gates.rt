@@ -1,12 +1,10 @@
 // Workers run at once.
 
-use crate::state::{KEY, S1};
+use crate::state::{S1, empty};
 use fan_out::{Gate, select_many};
 use message_view::View;
-use program_table::BusState;
 use std::process::Abort;
 use std::sync::atomic::{AtomicBool, Ordering};
-use std::test::Fail;
 use std::thread::yield_now;
 
 /// How often the first piece yields to the second.
@@ -41,16 +39,15 @@ impl Gate for SecondFirst {
 }
 
 #[test]
-fn workers_at_once(rt: HostRuntime) -> Result<(), Fail> {
-    let state: BusState<()> = BusState::new(rt.alloc(), KEY)?;
-    let view = View::read(&S1)?;
+fn workers_at_once(rt: HostRuntime) {
+    let state = empty(&rt, rt.alloc());
+    let view = View::read(&S1).expect(&rt, "a message");
     let gate = SecondFirst {
         second_done: AtomicBool::new(false),
         given_up: AtomicBool::new(false),
     };
-    let found = select_many(&rt, &state, None, &view, 2, &gate)?;
+    let found = select_many(&rt, &state, None, &view, 2, &gate).expect(&rt, "the recipients");
     assert!(rt; found.is_empty());
     assert!(rt; gate.second_done.load(Ordering::SeqCst));
     assert!(rt; !gate.given_up.load(Ordering::SeqCst));
-    Ok(())
 }

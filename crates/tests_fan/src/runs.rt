@@ -1,41 +1,54 @@
 // How many programs are run.
 
-use crate::state::{KEY, M7, accepted, compiled};
+use crate::state::{M7, accept, connect, empty, subscribe};
 use fan_out::select_counted;
 use match_rule::Rule;
 use message_view::View;
 use program_table::{BusState, Command};
 use std::alloc::Global;
 use std::process::Abort;
-use std::test::Fail;
 
-/// 250 connections with four rules each, of the members `m0` to `m999` in order, and an empty rule of the first one.
-fn subscribed(alloc: Global) -> Result<BusState<()>, Fail> {
-    let mut state = BusState::new(alloc, KEY)?;
-    for connection in 1..251u64 {
-        accepted(&mut state, Command::Connect(()))?;
-        for number in 0..4 {
-            let member = 4 * (connection - 1) + number;
-            let text = format!(in alloc; "member='m{member}'")?;
-            let program = compiled(alloc, text.as_str())?;
-            accepted(&mut state, Command::AddRule(connection, program))?;
-        }
+/// The next connection has four rules, of the members from four times its place on.
+fn subscribe_next<R: Abort>(rt: &R, alloc: Global, state: &mut BusState<()>, place: u64) {
+    connect(rt, state);
+    for number in 0..4u64 {
+        subscribe_member(rt, alloc, state, place + 1, 4 * place + number);
     }
-    accepted(&mut state, Command::AddRule(1, compiled(alloc, "")?))?;
-    Ok(state)
 }
 
+fn subscribe_member<R: Abort>(
+    rt: &R,
+    alloc: Global,
+    state: &mut BusState<()>,
+    connection: u64,
+    member: u64,
+) {
+    let text = format!(in alloc; "member='m{member}'").expect(rt, "a text");
+    subscribe(rt, alloc, state, connection, text.as_str());
+}
+
+fn expect_runs<R: Abort>(rt: &R, state: &BusState<()>, recipients: &[u64], runs: u32) {
+    let view = View::read(&M7).expect(rt, "a message");
+    let counted = select_counted(state, None, &view);
+    assert_eq!(rt; counted.recipients.as_slice(), recipients);
+    assert_eq!(rt; counted.runs, runs);
+}
+
+fn remove<R: Abort>(rt: &R, alloc: Global, state: &mut BusState<()>) {
+    let rule = Rule::read(alloc, "member='m7'").expect(rt, "a rule");
+    accept(rt, state, &Command::RemoveRule(2, rule));
+}
+
+/// 250 connections have four rules each, of the members `m0` to `m999` in order, and the first one an empty rule.
 #[test]
-fn index_runs(rt: HostRuntime) -> Result<(), Fail> {
-    let mut state = subscribed(rt.alloc())?;
-    let view = View::read(&M7)?;
-    let counted = select_counted(&state, None, &view);
-    assert_eq!(rt; counted.recipients.as_slice(), [1, 2].as_slice());
-    assert_eq!(rt; counted.runs, 2);
-    let rule = Rule::read(rt.alloc(), "member='m7'")?;
-    accepted(&mut state, Command::RemoveRule(2, rule))?;
-    let counted = select_counted(&state, None, &view);
-    assert_eq!(rt; counted.recipients.as_slice(), [1].as_slice());
-    assert_eq!(rt; counted.runs, 1);
-    Ok(())
+fn index_runs(rt: HostRuntime) {
+    let alloc = rt.alloc();
+    let mut state = empty(&rt, alloc);
+    for place in 0..250u64 {
+        subscribe_next(&rt, alloc, &mut state, place);
+    }
+    subscribe(&rt, alloc, &mut state, 1, "");
+    expect_runs(&rt, &state, &[1, 2], 2);
+    remove(&rt, alloc, &mut state);
+    expect_runs(&rt, &state, &[1], 1);
 }

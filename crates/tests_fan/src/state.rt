@@ -1,13 +1,14 @@
-// Commands of the tests, and the messages that are broadcast.
+// Commands of the tests, and the messages that are broadcast. A failure ends the test at once, so that a test has one way
+// out.
 
 use entry_table::{IndexKey, RuleProgram};
 use fan_out::Gate;
 use match_rule::Rule;
 use program_table::{BusState, Command, Reply};
 use std::alloc::Global;
-use std::test::Fail;
+use std::process::Abort;
 
-pub(crate) const KEY: IndexKey = IndexKey {
+const KEY: IndexKey = IndexKey {
     first: 1,
     second: 2,
 };
@@ -35,20 +36,42 @@ impl Gate for Open {
     fn after(&self, _piece: u32) {}
 }
 
+/// A state without connections.
+pub(crate) fn empty<R: Abort>(rt: &R, alloc: Global) -> BusState<()> {
+    BusState::new(alloc, KEY).expect(rt, "a state")
+}
+
 /// A rule with its program. The sender that it asks for, if any, has slot 0.
-pub(crate) fn compiled(alloc: Global, text: &str) -> Result<RuleProgram, Fail> {
-    let rule = Rule::read(alloc, text)?;
+fn compiled<R: Abort>(rt: &R, alloc: Global, text: &str) -> RuleProgram {
+    let rule = Rule::read(alloc, text).expect(rt, "a rule");
     if rule.sender_name().is_some() {
-        Ok(RuleProgram::compile(alloc, rule, Some(0))?)
+        RuleProgram::compile(alloc, rule, Some(0)).expect(rt, "its program")
     } else {
-        Ok(RuleProgram::compile(alloc, rule, None)?)
+        RuleProgram::compile(alloc, rule, None).expect(rt, "its program")
     }
 }
 
 /// Applies a command that is to be accepted.
-pub(crate) fn accepted(state: &mut BusState<()>, command: Command<()>) -> Result<(), Fail> {
-    match state.apply(&command)? {
-        Reply::Refused(_) => Err(Fail::from("a command was refused")),
-        _ => Ok(()),
+pub(crate) fn accept<R: Abort>(rt: &R, state: &mut BusState<()>, command: &Command<()>) {
+    let reply = state.apply(command).expect(rt, "memory");
+    if let Reply::Refused(_) = reply {
+        panic!(rt; "a command was refused")
     }
+}
+
+/// Connects the next connection.
+pub(crate) fn connect<R: Abort>(rt: &R, state: &mut BusState<()>) {
+    accept(rt, state, &Command::Connect(()));
+}
+
+/// Adds a rule of the connection.
+pub(crate) fn subscribe<R: Abort>(
+    rt: &R,
+    alloc: Global,
+    state: &mut BusState<()>,
+    connection: u64,
+    text: &str,
+) {
+    let command = Command::AddRule(connection, compiled(rt, alloc, text));
+    accept(rt, state, &command);
 }
