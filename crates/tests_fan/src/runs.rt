@@ -9,8 +9,9 @@ use std::alloc::Global;
 use std::process::Abort;
 
 /// The next connection has four rules, of the members from four times its place on.
-fn subscribe_next<R: Abort>(rt: &R, alloc: Global, state: &mut BusState<()>, place: u64) {
+fn subscribe_next<R: Abort>(rt: &R, alloc: Global, state: &mut BusState<()>, place: u8) {
     connect(rt, state);
+    let place = u64::from(place);
     for number in 0..4u64 {
         subscribe_member(rt, alloc, state, place + 1, 4 * place + number);
     }
@@ -44,7 +45,7 @@ fn remove<R: Abort>(rt: &R, alloc: Global, state: &mut BusState<()>) {
 fn index_runs(rt: HostRuntime) {
     let alloc = rt.alloc();
     let mut state = empty(&rt, alloc);
-    for place in 0..250u64 {
+    for place in 0..250u8 {
         subscribe_next(&rt, alloc, &mut state, place);
     }
     subscribe(&rt, alloc, &mut state, 1, "");
