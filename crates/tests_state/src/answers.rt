@@ -16,23 +16,28 @@ const KEY: IndexKey = IndexKey {
 };
 
 /// Does a command. It promises nothing, so that a test's body carries none of the command's clauses.
-fn done(state: &mut BusState<()>, command: &Command<()>) -> Result<Reply, Fail> {
-    Ok(state.apply(command)?)
+fn apply<R: Abort>(rt: &R, state: &mut BusState<()>, command: &Command<()>) -> Reply {
+    state.apply(command).expect(rt, "memory")
 }
 
-fn member_program(alloc: Global) -> Result<RuleProgram, Fail> {
-    let rule = Rule::read(alloc, "member='c'")?;
+/// A state to which nobody is connected.
+fn empty<R: Abort>(rt: &R, alloc: Global) -> BusState<()> {
+    BusState::new(alloc, KEY).expect(rt, "a state")
+}
+
+fn member_program<R: Abort>(rt: &R, alloc: Global) -> RuleProgram {
+    let rule = Rule::read(alloc, "member='c'").expect(rt, "a rule");
     if rule.sender_name().is_some() {
-        return Err(Fail::from("a rule without a sender was wanted"));
+        panic!(rt; "a rule without a sender was wanted")
     }
-    Ok(RuleProgram::compile(alloc, rule, None)?)
+    RuleProgram::compile(alloc, rule, None).expect(rt, "its program")
 }
 
 #[test]
 fn answers_before_anyone_connects(rt: HostRuntime) -> Result<(), Fail> {
-    let state: BusState<()> = BusState::new(rt.alloc(), KEY)?;
+    let state = empty(&rt, rt.alloc());
     assert_eq!(rt; state.answer(&Command::Connect(())), Reply::Connected(1));
-    let program = member_program(rt.alloc())?;
+    let program = member_program(&rt, rt.alloc());
     assert_eq!(rt;
         state.answer(&Command::AddRule(1, program)),
         Reply::Refused(Refusal::Closed)
@@ -50,39 +55,42 @@ fn answers_before_anyone_connects(rt: HostRuntime) -> Result<(), Fail> {
 
 #[test]
 fn each_command_is_done(rt: HostRuntime) -> Result<(), Fail> {
-    let mut state: BusState<()> = BusState::new(rt.alloc(), KEY)?;
-    some_commands(&rt, &mut state)
+    let mut state = empty(&rt, rt.alloc());
+    some_commands(&rt, &mut state);
+    Ok(())
 }
 
-fn some_commands<R: Abort>(rt: &R, state: &mut BusState<()>) -> Result<(), Fail> {
-    two_connect(rt, state)?;
-    name_is_taken_over(rt, state)?;
-    owner_is_closed(rt, state)?;
+fn some_commands<R: Abort>(rt: &R, state: &mut BusState<()>) {
+    two_connect(rt, state);
+    name_is_taken_over(rt, state);
+    owner_is_closed(rt, state);
     commands_are_counted(rt, state);
-    Ok(())
 }
 
-fn two_connect<R: Abort>(rt: &R, state: &mut BusState<()>) -> Result<(), Fail> {
-    assert_eq!(rt; done(state, &Command::Connect(()))?, Reply::Connected(1));
-    assert_eq!(rt; done(state, &Command::Connect(()))?, Reply::Connected(2));
-    Ok(())
+fn two_connect<R: Abort>(rt: &R, state: &mut BusState<()>) {
+    assert_eq!(rt;
+        apply(rt, state, &Command::Connect(())),
+        Reply::Connected(1)
+    );
+    assert_eq!(rt;
+        apply(rt, state, &Command::Connect(())),
+        Reply::Connected(2)
+    );
 }
 
-fn name_is_taken_over<R: Abort>(rt: &R, state: &mut BusState<()>) -> Result<(), Fail> {
-    let name = WellKnown::read("com.example.A")?;
-    let _ = done(state, &Command::Request(1, name.copy(), 1))?;
+fn name_is_taken_over<R: Abort>(rt: &R, state: &mut BusState<()>) {
+    let name = WellKnown::read("com.example.A").expect(rt, "a name");
+    let _ = apply(rt, state, &Command::Request(1, name.copy(), 1));
     assert_eq!(rt; state.owner_of("com.example.A"), Some(1));
-    let _ = done(state, &Command::Request(2, name, 2))?;
+    let _ = apply(rt, state, &Command::Request(2, name, 2));
     assert_eq!(rt; state.owner_of("com.example.A"), Some(2));
-    Ok(())
 }
 
-fn owner_is_closed<R: Abort>(rt: &R, state: &mut BusState<()>) -> Result<(), Fail> {
-    assert_eq!(rt; done(state, &Command::Close(2))?, Reply::Done);
+fn owner_is_closed<R: Abort>(rt: &R, state: &mut BusState<()>) {
+    assert_eq!(rt; apply(rt, state, &Command::Close(2)), Reply::Done);
     assert_eq!(rt; state.owner_of("com.example.A"), Some(1));
-    let again = done(state, &Command::DropOne(2))?;
+    let again = apply(rt, state, &Command::DropOne(2));
     assert_eq!(rt; again, Reply::Refused(Refusal::Closed));
-    Ok(())
 }
 
 fn commands_are_counted<R: Abort>(rt: &R, state: &BusState<()>) {
@@ -92,59 +100,59 @@ fn commands_are_counted<R: Abort>(rt: &R, state: &BusState<()>) {
 
 #[test]
 fn stale_slot(rt: HostRuntime) -> Result<(), Fail> {
-    let mut state: BusState<()> = BusState::new(rt.alloc(), KEY)?;
-    slot_is_stale(&rt, rt.alloc(), &mut state)
-}
-
-fn slot_is_stale<R: Abort>(rt: &R, alloc: Global, state: &mut BusState<()>) -> Result<(), Fail> {
-    let _ = done(state, &Command::Connect(()))?;
-    let program = sender_program(alloc, 1)?;
-    assert_eq!(rt; added(state, program)?, Reply::Refused(Refusal::Stale));
-    assert_eq!(rt; state.slot_next("com.example.A"), Some(0));
-    assert_eq!(rt; state.commands(), 1);
+    let mut state = empty(&rt, rt.alloc());
+    slot_is_stale(&rt, rt.alloc(), &mut state);
     Ok(())
 }
 
-/// The program of a rule with a sender, for this slot.
-fn sender_program(alloc: Global, slot: u16) -> Result<RuleProgram, Fail>
-    requires { slot < 1024 }
-{
-    let rule = Rule::read(alloc, "sender='com.example.A'")?;
-    if rule.sender_name().is_none() {
-        return Err(Fail::from("a rule with a sender was wanted"));
-    }
-    Ok(RuleProgram::compile(alloc, rule, Some(slot))?)
+fn slot_is_stale<R: Abort>(rt: &R, alloc: Global, state: &mut BusState<()>) {
+    let _ = apply(rt, state, &Command::Connect(()));
+    let program = sender_program(rt, alloc, 1);
+    assert_eq!(rt; add(rt, state, program), Reply::Refused(Refusal::Stale));
+    assert_eq!(rt; state.slot_next("com.example.A"), Some(0));
+    assert_eq!(rt; state.commands(), 1);
 }
 
-fn added(state: &mut BusState<()>, program: RuleProgram) -> Result<Reply, Fail> {
-    done(state, &Command::AddRule(1, program))
+/// The program of a rule with a sender, for this slot.
+fn sender_program<R: Abort>(rt: &R, alloc: Global, slot: u16) -> RuleProgram
+    requires { slot < 1024 }
+{
+    let rule = Rule::read(alloc, "sender='com.example.A'").expect(rt, "a rule");
+    if rule.sender_name().is_none() {
+        panic!(rt; "a rule with a sender was wanted")
+    }
+    RuleProgram::compile(alloc, rule, Some(slot)).expect(rt, "its program")
+}
+
+fn add<R: Abort>(rt: &R, state: &mut BusState<()>, program: RuleProgram) -> Reply {
+    apply(rt, state, &Command::AddRule(1, program))
 }
 
 #[test]
 fn places_of_connections(rt: HostRuntime) -> Result<(), Fail> {
-    let mut state: BusState<()> = BusState::new(rt.alloc(), KEY)?;
-    one_is_there(&rt, &mut state)
+    let mut state = empty(&rt, rt.alloc());
+    one_is_there(&rt, &mut state);
+    Ok(())
 }
 
-fn one_is_there<R: Abort>(rt: &R, state: &mut BusState<()>) -> Result<(), Fail> {
-    let _ = done(state, &Command::Connect(()))?;
+fn one_is_there<R: Abort>(rt: &R, state: &mut BusState<()>) {
+    let _ = apply(rt, state, &Command::Connect(()));
     assert_eq!(rt; state.place_of(1), Some(0));
     assert!(rt; state.mailbox_of(1).is_some());
     assert_eq!(rt; state.place_of(2), None);
-    Ok(())
 }
 
 #[test]
 fn names_that_are_owned(rt: HostRuntime) -> Result<(), Fail> {
-    let mut state: BusState<()> = BusState::new(rt.alloc(), KEY)?;
-    one_owns(&rt, &mut state)
+    let mut state = empty(&rt, rt.alloc());
+    one_owns(&rt, &mut state);
+    Ok(())
 }
 
-fn one_owns<R: Abort>(rt: &R, state: &mut BusState<()>) -> Result<(), Fail> {
-    let _ = done(state, &Command::Connect(()))?;
-    let name = WellKnown::read("com.example.A")?;
-    let _ = done(state, &Command::Request(1, name.copy(), 0))?;
+fn one_owns<R: Abort>(rt: &R, state: &mut BusState<()>) {
+    let _ = apply(rt, state, &Command::Connect(()));
+    let name = WellKnown::read("com.example.A").expect(rt, "a name");
+    let _ = apply(rt, state, &Command::Request(1, name.copy(), 0));
     assert!(rt; state.next_name(None).is_some_and(|least| least == name));
     assert!(rt; state.slots_of(Some(1)).contains(0));
-    Ok(())
 }

@@ -29,18 +29,18 @@ fn unchanged(answer: NameReply) -> Named {
 
 #[test]
 fn queue_of_one_name(rt: HostRuntime) -> Result<(), Fail> {
-    let mut claims = Claims::new(rt.alloc())?;
-    let name = name()?;
-    let first = claims.request(&name, 1, 0)?;
+    let mut claims = Claims::new(rt.alloc()).expect(&rt, "claims");
+    let name = name().expect(&rt, "a name");
+    let first = claims.request(&name, 1, 0).expect(&rt, "a reply");
     assert_eq!(rt;
         first,
         changed(NameReply::PrimaryOwner, &name, None, Some(1))
     );
-    let waits = claims.request(&name, 2, 2)?;
+    let waits = claims.request(&name, 2, 2).expect(&rt, "a reply");
     assert_eq!(rt; waits, unchanged(NameReply::InQueue));
-    let quits = claims.request(&name, 2, 4)?;
+    let quits = claims.request(&name, 2, 4).expect(&rt, "a reply");
     assert_eq!(rt; quits, unchanged(NameReply::Exists));
-    let again = claims.request(&name, 2, 0)?;
+    let again = claims.request(&name, 2, 0).expect(&rt, "a reply");
     assert_eq!(rt; again, unchanged(NameReply::InQueue));
     let released = claims.release(&name, 1);
     assert_eq!(rt;
@@ -58,14 +58,14 @@ fn queue_of_one_name(rt: HostRuntime) -> Result<(), Fail> {
 
 #[test]
 fn leaves_when_replaced(rt: HostRuntime) -> Result<(), Fail> {
-    let mut claims = Claims::new(rt.alloc())?;
-    let name = name()?;
-    let first = claims.request(&name, 1, 5)?;
+    let mut claims = Claims::new(rt.alloc()).expect(&rt, "claims");
+    let name = name().expect(&rt, "a name");
+    let first = claims.request(&name, 1, 5).expect(&rt, "a reply");
     assert_eq!(rt;
         first,
         changed(NameReply::PrimaryOwner, &name, None, Some(1))
     );
-    let replaces = claims.request(&name, 2, 2)?;
+    let replaces = claims.request(&name, 2, 2).expect(&rt, "a reply");
     assert_eq!(rt;
         replaces,
         changed(NameReply::PrimaryOwner, &name, Some(1), Some(2))
@@ -78,15 +78,15 @@ fn leaves_when_replaced(rt: HostRuntime) -> Result<(), Fail> {
 /// The connections and the owner of the name in takeover_and_close.
 #[test]
 fn takeover_and_close(rt: HostRuntime) -> Result<(), Fail> {
-    let mut claims = Claims::new(rt.alloc())?;
-    let name = name()?;
-    let first = claims.request(&name, 1, 1)?;
+    let mut claims = Claims::new(rt.alloc()).expect(&rt, "claims");
+    let name = name().expect(&rt, "a name");
+    let first = claims.request(&name, 1, 1).expect(&rt, "a reply");
     assert_eq!(rt;
         first,
         changed(NameReply::PrimaryOwner, &name, None, Some(1))
     );
     assert_eq!(rt; claims.owner_of("com.example.A"), Some(1));
-    let replaces = claims.request(&name, 2, 2)?;
+    let replaces = claims.request(&name, 2, 2).expect(&rt, "a reply");
     assert_eq!(rt;
         replaces,
         changed(NameReply::PrimaryOwner, &name, Some(1), Some(2))
@@ -104,12 +104,12 @@ fn takeover_and_close(rt: HostRuntime) -> Result<(), Fail> {
 /// The least name goes first, and a waiting claim changes no owner.
 #[test]
 fn drop_one_by_one(rt: HostRuntime) -> Result<(), Fail> {
-    let mut claims = Claims::new(rt.alloc())?;
-    let a = name()?;
-    let b = WellKnown::read("com.example.B")?;
-    let _ = claims.request(&b, 1, 0)?;
-    let _ = claims.request(&a, 2, 0)?;
-    let _ = claims.request(&a, 1, 0)?;
+    let mut claims = Claims::new(rt.alloc()).expect(&rt, "claims");
+    let a = name().expect(&rt, "a name");
+    let b = WellKnown::read("com.example.B").expect(&rt, "a name");
+    let _ = claims.request(&b, 1, 0).expect(&rt, "a reply");
+    let _ = claims.request(&a, 2, 0).expect(&rt, "a reply");
+    let _ = claims.request(&a, 1, 0).expect(&rt, "a reply");
     assert_eq!(rt; claims.drop_one_reply(1), Dropped::Waiting);
     assert_eq!(rt; claims.drop_one(1), Dropped::Waiting);
     let owned = claims.drop_one(1);
