@@ -27,12 +27,7 @@ fn four_at(text: &[u8], at: usize) -> u64
     requires { at + 4 ≤ length text.now }
     ensures { result ≡ four_at text.now at }
 {
-    u64::from(u32::from_le_bytes([
-        text[at],
-        text[at + 1],
-        text[at + 2],
-        text[at + 3],
-    ]))
+    u64::from(u32::from_le_bytes([text[at], text[at + 1], text[at + 2], text[at + 3]]))
 }
 
 /// The seven bytes of a text from a place on; there is an eighth.
