@@ -19,6 +19,9 @@ fn is_offered(shape: u16, found: &MessageTexts<'_>, entry: &Entry) -> bool
     if entry.filter.shape() != shape {
         return false;
     }
+    if shape == 0 {
+        return true;
+    }
     match &entry.filter {
         Filter::Rule(compiled) => found.has(shape, compiled.rule()),
         Filter::Attached(_) => true,
