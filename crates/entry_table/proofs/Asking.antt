@@ -1,18 +1,23 @@
 -- Which entries are offered, by their shapes.
-use Rattle.std.proofs.Common.{◌≡◌, ℕ, Bool, true, false, ◌&&◌, List, [], ◌∷◌, ◌++◌, cond, eqb, refl, sym, ap, ◌∙◌, subst, inl, inr, arith}
-use Rattle.std.proofs.lemmas.Bool.{and_from, eq-eqb, ne_eqb, cases_Bool}
+use Rattle.std.proofs.Common.{◌≡◌, ℕ, ◌<◌, ◌/◌, ◌%◌, Bool, true, false, ◌&&◌, List, [], ◌∷◌, ◌++◌, cond, eqb, refl, sym, ap, ◌∙◌, subst, inl, inr, arith}
+use Rattle.std.proofs.lemmas.Bool.{and_from, eqb-true, eq-eqb, ne_eqb, cases_Bool}
 use Rattle.std.proofs.lemmas.List.Elements.{Contains-append_left, Contains-push}
 use Rattle.std.specs.Prelude.{Option, Some, None, Contains, option_map, find}
-use Rattle.match_rule.specs.FixedTexts.{FixedTexts}
+use Rattle.message_view.specs.Message.{Message}
+use Rattle.match_rule.specs.FixedTexts.{FixedTexts, texts_of, arg0_of}
 use Rattle.entry_table.specs.declared.entry.Entry.{Entry}
 use Rattle.entry_table.specs.OfferedEntries.{texts_fixed}
-use Rattle.entry_table.specs.FoundTexts.{is_text_found, are_found, is_offered}
+use Rattle.entry_table.specs.FoundTexts.{is_text_found, are_found, is_offered, texts_read}
 use Rattle.entry_table.specs.PlacedEntries.{Placed, entry_at}
 use Rattle.entry_table.specs.Searching.{entries_of}
 use Rattle.entry_table.specs.TextKeys.{bit_of, shape_of}
 use Rattle.entry_table.proofs.Finding.{entries_of-cons, some_one}
 
-not_asked : (asked found : Option (List ℕ)) → bit_of asked ≡ 0 → is_text_found asked found ≡ true
+bit-low : (text : Option (List ℕ)) → bit_of text < 2
+bit-low None = omega arith
+bit-low (Some text) = omega arith
+
+pub not_asked : (asked found : Option (List ℕ)) → bit_of asked ≡ 0 → is_text_found asked found ≡ true
 not_asked None found e = refl
 not_asked (Some text) found e = absurd (omega (arith, e))
 
@@ -33,6 +38,32 @@ same_shape shape found e same = ap (λ (b : Bool). b && are_found (texts_fixed e
 
 pub no_shape : (shape : ℕ) (found : FixedTexts) (e : Entry) → shape_of (texts_fixed e.filter) ≡ shape → shape ≡ 0 → is_offered shape found e ≡ true
 no_shape shape found e same none = same_shape shape found e same ∙ none_asked (texts_fixed e.filter) found (same ∙ none)
+
+-- a text that a shape lacks is found anyhow
+pub no_member : (asked : FixedTexts) (shape : ℕ) (found : Option (List ℕ)) → shape_of asked ≡ shape → shape % 2 ≡ 0 → is_text_found asked.member found ≡ true
+no_member asked shape found same none = not_asked asked.member found (omega (arith, same, none, bit-low asked.member, bit-low asked.interface, bit-low asked.path, bit-low asked.arg0))
+
+pub no_interface : (asked : FixedTexts) (shape : ℕ) (found : Option (List ℕ)) → shape_of asked ≡ shape → shape / 2 % 2 ≡ 0 → is_text_found asked.interface found ≡ true
+no_interface asked shape found same none = not_asked asked.interface found (omega (arith, same, none, bit-low asked.member, bit-low asked.interface, bit-low asked.path, bit-low asked.arg0))
+
+pub no_path : (asked : FixedTexts) (shape : ℕ) (found : Option (List ℕ)) → shape_of asked ≡ shape → shape / 4 % 2 ≡ 0 → is_text_found asked.path found ≡ true
+no_path asked shape found same none = not_asked asked.path found (omega (arith, same, none, bit-low asked.member, bit-low asked.interface, bit-low asked.path, bit-low asked.arg0))
+
+pub no_arg0 : (asked : FixedTexts) (shape : ℕ) (found : Option (List ℕ)) → shape_of asked ≡ shape → shape / 8 % 2 ≡ 0 → is_text_found asked.arg0 found ≡ true
+no_arg0 asked shape found same none = not_asked asked.arg0 found (omega (arith, same, none, bit-low asked.member, bit-low asked.interface, bit-low asked.path, bit-low asked.arg0))
+
+-- an entry of a shape without argument 0 is offered whether argument 0 was read or not
+pub low_offered : (shape : ℕ) (m : Message) (e : Entry) → shape < 8 → is_offered shape (texts_read false m) e ≡ is_offered shape (texts_of m) e
+low_offered shape m e low =
+    let asked : FixedTexts = texts_fixed e.filter in
+    let found : FixedTexts = texts_of m in
+    elim (cases_Bool (eqb (shape_of asked) shape)) [
+      | inl is ↦ (
+          let same : shape_of asked ≡ shape = eqb-true (shape_of asked) shape is in
+          let none : bit_of asked.arg0 ≡ 0 = omega (arith, same, low, bit-low asked.arg0) in
+          ap (λ (b : Bool). eqb (shape_of asked) shape && (is_text_found asked.member found.member && is_text_found asked.interface found.interface && is_text_found asked.path found.path && b)) (not_asked asked.arg0 None none ∙ sym (not_asked asked.arg0 found.arg0 none)))
+      | inr other ↦ ap (λ (b : Bool). b && are_found asked (texts_read false m)) other ∙ sym (ap (λ (b : Bool). b && are_found asked found) other)
+    ]
 
 abbrev seen : ℕ → Placed → List Placed → Bool → Option Entry
 seen place x xs t = option_map {T = Placed} {U = Entry} (λ (y : Placed). y.1) (cond t (Some x) (find (λ (y : Placed). eqb place y.0) xs))

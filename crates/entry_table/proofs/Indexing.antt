@@ -8,7 +8,7 @@ use Rattle.std.specs.Prelude.{Some}
 use Rattle.place_lists.specs.PlaceLists.{PlaceLists, places_in, has_place, without, AreOnce}
 use Rattle.place_lists.proofs.Places.{AreOnce-without}
 use Rattle.entry_table.specs.declared.entry.Entry.{Entry}
-use Rattle.entry_table.specs.declared.index_key.IndexKey.{IndexKey}
+use Rattle.entry_table.specs.declared.text_points.TextPoints.{TextPoints}
 use Rattle.entry_table.specs.declared.index.Index.{Index}
 use Rattle.entry_table.specs.OfferedEntries.{texts_fixed}
 use Rattle.entry_table.specs.PlacedEntries.{Placed, places_of, entry_at, but_at, room}
@@ -24,17 +24,17 @@ use Rattle.entry_table.proofs.Lookups.{list_of-low}
 connection-low : (e : Entry) → connection_key e < connection_lists
 connection-low e = mod-lt e.connection (omega arith)
 
-texts-low : (key : IndexKey) (e : Entry) → texts_key key e < hash_lists + 1
-texts-low key e = list_of-low (shape_of (texts_fixed e.filter)) (joined_hash key (texts_fixed e.filter))
+texts-low : (points : TextPoints) (e : Entry) → texts_key points e < hash_lists + 1
+texts-low points e = list_of-low (shape_of (texts_fixed e.filter)) (joined_hash points (texts_fixed e.filter))
 
 shape-low : (e : Entry) → shape_key e < shape_count
 shape-low e = shape-below (texts_fixed e.filter)
 
-pub IsIndexed-empty : (key : IndexKey) → IsIndexed (empty_index key) []
-IsIndexed-empty key = record {
+pub IsIndexed-empty : (points : TextPoints) → IsIndexed (empty_index points) []
+IsIndexed-empty points = record {
   once = tt;
   connections = IsKeyed-empty connection_key connection_lists;
-  texts = IsKeyed-empty (texts_key key) (hash_lists + 1);
+  texts = IsKeyed-empty (texts_key points) (hash_lists + 1);
   shapes = record { long = length-replicate {A = ℕ} shape_count 0; each = λ shape low. get_or-replicate {A = ℕ} shape_count shape 0 0 low };
 }
 
@@ -59,41 +59,41 @@ AreCounted-take counts held place e once h at = record {
 }
 
 -- an entry is put at a place that none has
-pub IsIndexed-put : (index : Index) (held : List Placed) (place : ℕ) (e : Entry) → IsIndexed index held → has_place place (places_of held) ≡ false → IsIndexed (with_place place (standing_of index.key e) index) ((place, e) ∷ held)
+pub IsIndexed-put : (index : Index) (held : List Placed) (place : ℕ) (e : Entry) → IsIndexed index held → has_place place (places_of held) ≡ false → IsIndexed (with_place place (standing_of index.points e) index) ((place, e) ∷ held)
 IsIndexed-put index held place e h out = record {
   once = (out, h.once);
   connections = IsKeyed-put connection_key connection_lists index.by_connection held place e h.connections (connection-low e);
-  texts = IsKeyed-put (texts_key index.key) (hash_lists + 1) index.by_texts held place e h.texts (texts-low index.key e);
+  texts = IsKeyed-put (texts_key index.points) (hash_lists + 1) index.by_texts held place e h.texts (texts-low index.points e);
   shapes = AreCounted-put index.shapes held place e h.shapes;
 }
 
-pub CanStand-put : (index : Index) (held : List Placed) (place : ℕ) (e : Entry) → IsIndexed index held → has_place place (places_of held) ≡ false → place < room → length held < room → CanStand index place (standing_of index.key e)
+pub CanStand-put : (index : Index) (held : List Placed) (place : ℕ) (e : Entry) → IsIndexed index held → has_place place (places_of held) ≡ false → place < room → length held < room → CanStand index place (standing_of index.points e)
 CanStand-put index held place e h out low few = record {
   connection = omega (arith, h.connections.long, connection-low e);
   connection_place = omega (arith, h.connections.places, low);
   connection_free = IsKeyed-free connection_key connection_lists index.by_connection held place h.connections out;
-  texts = omega (arith, h.texts.long, texts-low index.key e);
+  texts = omega (arith, h.texts.long, texts-low index.points e);
   texts_place = omega (arith, h.texts.places, low);
-  texts_free = IsKeyed-free (texts_key index.key) (hash_lists + 1) index.by_texts held place h.texts out;
+  texts_free = IsKeyed-free (texts_key index.points) (hash_lists + 1) index.by_texts held place h.texts out;
   shape = omega (arith, h.shapes.long, shape-low e);
   shape_few = omega (arith, h.shapes.each (shape_key e) (shape-low e), keyed-few shape_key (shape_key e) held, few);
 }
 
 -- an entry is taken from its place
-pub IsIndexed-take : (index : Index) (held : List Placed) (place : ℕ) (e : Entry) → IsIndexed index held → entry_at place held ≡ Some e → IsIndexed (without_place place (standing_of index.key e) index) (but_at place held)
+pub IsIndexed-take : (index : Index) (held : List Placed) (place : ℕ) (e : Entry) → IsIndexed index held → entry_at place held ≡ Some e → IsIndexed (without_place place (standing_of index.points e) index) (but_at place held)
 IsIndexed-take index held place e h at = record {
   once = subst AreOnce (sym (places_of-but place held)) (AreOnce-without place (places_of held) h.once);
   connections = IsKeyed-take connection_key connection_lists index.by_connection held place e h.once h.connections (connection-low e) at;
-  texts = IsKeyed-take (texts_key index.key) (hash_lists + 1) index.by_texts held place e h.once h.texts (texts-low index.key e) at;
+  texts = IsKeyed-take (texts_key index.points) (hash_lists + 1) index.by_texts held place e h.once h.texts (texts-low index.points e) at;
   shapes = AreCounted-take index.shapes held place e h.once h.shapes at;
 }
 
-pub Stands-take : (index : Index) (held : List Placed) (place : ℕ) (e : Entry) → IsIndexed index held → entry_at place held ≡ Some e → Stands index place (standing_of index.key e)
+pub Stands-take : (index : Index) (held : List Placed) (place : ℕ) (e : Entry) → IsIndexed index held → entry_at place held ≡ Some e → Stands index place (standing_of index.points e)
 Stands-take index held place e h at = record {
   connection = omega (arith, h.connections.long, connection-low e);
   in_connection = IsKeyed-stands connection_key connection_lists index.by_connection held place e h.connections (connection-low e) at;
-  texts = omega (arith, h.texts.long, texts-low index.key e);
-  in_texts = IsKeyed-stands (texts_key index.key) (hash_lists + 1) index.by_texts held place e h.texts (texts-low index.key e) at;
+  texts = omega (arith, h.texts.long, texts-low index.points e);
+  in_texts = IsKeyed-stands (texts_key index.points) (hash_lists + 1) index.by_texts held place e h.texts (texts-low index.points e) at;
   shape = omega (arith, h.shapes.long, shape-low e);
   shape_some = omega (arith, h.shapes.each (shape_key e) (shape-low e), keyed-shrunk shape_key place e held h.once at);
 }

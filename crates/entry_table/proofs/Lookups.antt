@@ -12,12 +12,13 @@ use Rattle.place_lists.specs.PlaceLists.{PlaceLists, has_place, AreOnce}
 use Rattle.entry_table.specs.declared.entry.Entry.{Entry}
 use Rattle.entry_table.specs.declared.index.Index.{Index}
 use Rattle.entry_table.specs.OfferedEntries.{texts_fixed, AreOffered}
-use Rattle.entry_table.specs.FoundTexts.{are_found, is_offered, offered_of, IsLookedUp}
+use Rattle.entry_table.specs.FoundTexts.{are_found, is_offered, offered_of, texts_read, IsLookedUp}
 use Rattle.entry_table.specs.PlacedEntries.{Placed, places_of, entry_at}
 use Rattle.entry_table.specs.Searching.{entries_of, AreBelow, IdsFall}
 use Rattle.entry_table.specs.ShapeCounts.{is_in_use}
 use Rattle.entry_table.specs.TextKeys.{KeyedTexts, joined_hash, shape_of, in_shape, list_of, hash_lists}
 use Rattle.entry_table.specs.IndexLists.{keyed, IsKeyed, texts_key, shape_key, IsIndexed}
+use Rattle.entry_table.proofs.Asking.{low_offered}
 use Rattle.entry_table.proofs.Finding.{AreKept-all}
 use Rattle.entry_table.proofs.Keying.{keyed-here, keyed-other}
 use Rattle.entry_table.proofs.Offering.{in_list, contains-cons, contains-first, contains-later, filter-contains, contains-filter, reversed, turned_back, shape-below, AreFound-test, test-AreFound, in_own_shape}
@@ -34,25 +35,25 @@ list_of-low shape hash = low (eqb shape 0)
     low false = let small : hash % 32768 < 32768 = mod-lt hash (omega arith) in omega (arith, small)
 
 -- an entry of a shape that a message is offered to stands in the list of the message's texts
-stands-there : (found : KeyedTexts) (shape : ℕ) (e : Entry) → is_offered shape found.texts e ≡ true → texts_key found.key e ≡ list_of shape (joined_hash found.key (in_shape shape found.texts))
+stands-there : (found : KeyedTexts) (shape : ℕ) (e : Entry) → is_offered shape found.texts e ≡ true → texts_key found.points e ≡ list_of shape (joined_hash found.points (in_shape shape found.texts))
 stands-there found shape e h =
     let asked : FixedTexts = texts_fixed e.filter in
     let parts = and_parts (eqb (shape_of asked) shape) (are_found asked found.texts) h in
     let same : shape_of asked ≡ shape = eqb-true (shape_of asked) shape parts.0 in
     let own : in_shape shape found.texts ≡ asked = ap (λ (n : ℕ). in_shape n found.texts) (sym same) ∙ in_own_shape asked found.texts parts.1 in
-    ap (λ (n : ℕ). list_of n (joined_hash found.key asked)) same ∙ ap (λ (t : FixedTexts). list_of shape (joined_hash found.key t)) (sym own)
+    ap (λ (n : ℕ). list_of n (joined_hash found.points asked)) same ∙ ap (λ (t : FixedTexts). list_of shape (joined_hash found.points t)) (sym own)
 
 abbrev by_shapes : List Placed → FixedTexts → List ℕ → List Entry
 by_shapes held found [] = []
 by_shapes held found (shape ∷ shapes) = filter (is_offered shape found) (seen_in held) ++ by_shapes held found shapes
 
 -- the list of each shape gives all entries of the shape that the message is offered to
-offered_of-by_shapes : (held : List Placed) (all : PlaceLists) (found : KeyedTexts) → AreOnce (places_of held) → IsKeyed (texts_key found.key) (hash_lists + 1) all held → (shapes : List ℕ) → offered_of held all found shapes ≡ by_shapes held found.texts shapes
+offered_of-by_shapes : (held : List Placed) (all : PlaceLists) (found : KeyedTexts) → AreOnce (places_of held) → IsKeyed (texts_key found.points) (hash_lists + 1) all held → (shapes : List ℕ) → offered_of held all found shapes ≡ by_shapes held found.texts shapes
 offered_of-by_shapes held all found once h [] = refl
 offered_of-by_shapes held all found once h (shape ∷ shapes) =
-    let list : ℕ = list_of shape (joined_hash found.key (in_shape shape found.texts)) in
-    ap (λ (places : List ℕ). filter (is_offered shape found.texts) (entries places) ++ offered_of held all found shapes) (h.each list (list_of-low shape (joined_hash found.key (in_shape shape found.texts))))
-    ∙ ap (λ (es : List Entry). es ++ offered_of held all found shapes) (in_list (texts_key found.key) list (is_offered shape found.texts) (λ e passes. stands-there found shape e passes) held held (AreKept-all held once))
+    let list : ℕ = list_of shape (joined_hash found.points (in_shape shape found.texts)) in
+    ap (λ (places : List ℕ). filter (is_offered shape found.texts) (entries places) ++ offered_of held all found shapes) (h.each list (list_of-low shape (joined_hash found.points (in_shape shape found.texts))))
+    ∙ ap (λ (es : List Entry). es ++ offered_of held all found shapes) (in_list (texts_key found.points) list (is_offered shape found.texts) (λ e passes. stands-there found shape e passes) held held (AreKept-all held once))
     ∙ ap (λ (es : List Entry). filter (is_offered shape found.texts) (seen_in held) ++ es) (offered_of-by_shapes held all found once h shapes)
   where
     entries : List ℕ → List Entry
@@ -191,12 +192,34 @@ in_use index held used h same e stands =
           (same (shape_key e) ∙ and_from (ltb 0 (shape_key e)) (ltb 0 (get_or index.shapes (shape_key e) 0)) (lt-ltb 0 (shape_key e) (omega (arith, some))) (lt-ltb 0 (get_or index.shapes (shape_key e) 0) (omega (arith, h.shapes.each (shape_key e) low, counted held e stands))))
     ]
 
+filter_same : (p q : Entry → Bool) (es : List Entry) → ((e : Entry) → p e ≡ q e) → filter p es ≡ filter q es
+filter_same p q [] h = refl
+filter_same p q (e ∷ es) h = rw (h e, filter_same p q es h) refl
+
+-- argument 0 need not be read where no shape has it
+low_by_shapes : (held : List Placed) (m : Message) (shapes : List ℕ) → ((shape : ℕ) → has_place shape shapes ≡ true → shape < 8) → by_shapes held (texts_read false m) shapes ≡ by_shapes held (texts_of m) shapes
+low_by_shapes held m [] low = refl
+low_by_shapes held m (shape ∷ shapes) low =
+    let here : shape < 8 = low shape (or_left (eqb shape shape) (has_place shape shapes) (eq-eqb shape shape refl)) in
+    ap (λ (es : List Entry). es ++ by_shapes held (texts_read false m) shapes) (filter_same (is_offered shape (texts_read false m)) (is_offered shape (texts_of m)) (seen_in held) (λ e. low_offered shape m e here))
+    ∙ ap (λ (es : List Entry). filter (is_offered shape (texts_of m)) (seen_in held) ++ es) (low_by_shapes held m shapes (λ other has. low other (or_right (eqb other shape) (has_place other shapes) has)))
+
+read_by_shapes : (held : List Placed) (m : Message) (has_arg0 : Bool) (shapes : List ℕ) → (has_arg0 ≡ false → (shape : ℕ) → has_place shape shapes ≡ true → shape < 8) → by_shapes held (texts_read has_arg0 m) shapes ≡ by_shapes held (texts_of m) shapes
+read_by_shapes held m true shapes low = refl
+read_by_shapes held m false shapes low = low_by_shapes held m shapes (low refl)
+
+low_in_use : {index : Index} {held : List Placed} {m : Message} {offered : List Entry} (up : IsLookedUp index held m offered) → up.has_arg0 ≡ false → (shape : ℕ) → has_place shape (0 ∷ up.used) ≡ true → shape < 8
+low_in_use up none shape has = elim (or_cases (eqb shape 0) (has_place shape up.used) has) [
+  | inl zero ↦ omega (arith, eqb-true shape 0 zero)
+  | inr later ↦ up.without none shape (sym (up.same shape) ∙ later)
+]
+
 -- exactly the entries that a message is offered to, each once
 pub AreOffered-index : (index : Index) (held : List Placed) (m : Message) (offered : List Entry) → IsIndexed index held → IdsFall held → IsLookedUp index held m offered → AreOffered (entries_of held) m offered
 AreOffered-index index held m offered h falls up =
-    let found : KeyedTexts = record { key = index.key; texts = texts_of m } in
+    let found : KeyedTexts = record { points = index.points; texts = texts_read up.has_arg0 m } in
     let shapes : List ℕ = 0 ∷ up.used in
-    let is : offered ≡ by_shapes held (texts_of m) shapes = up.is ∙ offered_of-by_shapes held index.by_texts found h.once h.texts shapes in
+    let is : offered ≡ by_shapes held (texts_of m) shapes = up.is ∙ offered_of-by_shapes held index.by_texts found h.once h.texts shapes ∙ read_by_shapes held m up.has_arg0 shapes (λ none shape has. low_in_use up none shape has) in
     let zero_out : has_place 0 up.used ≡ false = up.same 0 in
     record {
       exact = λ e. (

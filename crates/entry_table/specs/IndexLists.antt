@@ -2,7 +2,7 @@
 use Rattle.std.specs.Prelude.{◌≡◌, ℕ, ◌+◌, ◌-◌, ◌%◌, ◌<◌, true, List, ◌∷◌, filter, length, replicate, ◌==◌, slice_index, slice_set}
 use Rattle.place_lists.specs.PlaceLists.{PlaceLists, places_in, has_place, without, AreOnce, IsFree, empty_lists}
 use Rattle.entry_table.specs.declared.entry.Entry.{Entry}
-use Rattle.entry_table.specs.declared.index_key.IndexKey.{IndexKey}
+use Rattle.entry_table.specs.declared.text_points.TextPoints.{TextPoints}
 use Rattle.entry_table.specs.declared.index.Index.{Index}
 use Rattle.entry_table.specs.declared.index.Standing.{Standing}
 use Rattle.entry_table.specs.OfferedEntries.{texts_fixed}
@@ -30,8 +30,8 @@ connection_key e = e.connection % connection_lists
 abbrev pub shape_key : Entry → ℕ
 shape_key e = shape_of (texts_fixed e.filter)
 
-abbrev pub texts_key : IndexKey → Entry → ℕ
-texts_key key e = list_of (shape_of (texts_fixed e.filter)) (joined_hash key (texts_fixed e.filter))
+abbrev pub texts_key : TextPoints → Entry → ℕ
+texts_key points e = list_of (shape_of (texts_fixed e.filter)) (joined_hash points (texts_fixed e.filter))
 
 -- the entries of each shape are counted
 pub record AreCounted (counts : List ℕ) (held : List Placed) : Type 0 where
@@ -42,12 +42,12 @@ pub record AreCounted (counts : List ℕ) (held : List Placed) : Type 0 where
 pub record IsIndexed (index : Index) (held : List Placed) : Type 0 where
   pub once : AreOnce (places_of held)
   pub connections : IsKeyed connection_key connection_lists index.by_connection held
-  pub texts : IsKeyed (texts_key index.key) (hash_lists + 1) index.by_texts held
+  pub texts : IsKeyed (texts_key index.points) (hash_lists + 1) index.by_texts held
   pub shapes : AreCounted index.shapes held
 
 -- where an entry stands
-abbrev pub standing_of : IndexKey → Entry → Standing
-standing_of key e = record { connection = connection_key e; texts = texts_key key e; shape = shape_key e }
+abbrev pub standing_of : TextPoints → Entry → Standing
+standing_of points e = record { connection = connection_key e; texts = texts_key points e; shape = shape_key e }
 
 abbrev pub put_in : ℕ → ℕ → PlaceLists → PlaceLists
 put_in list place all = record all { lists = slice_set all.lists list (place ∷ places_in all list) }
@@ -55,8 +55,8 @@ put_in list place all = record all { lists = slice_set all.lists list (place ∷
 abbrev pub taken_from : ℕ → ℕ → PlaceLists → PlaceLists
 taken_from list place all = record all { lists = slice_set all.lists list (without place (places_in all list)) }
 
-abbrev pub empty_index : IndexKey → Index
-empty_index key = record { key = key; by_connection = empty_lists connection_lists room; by_texts = empty_lists (hash_lists + 1) room; shapes = replicate shape_count 0 }
+abbrev pub empty_index : TextPoints → Index
+empty_index points = record { points = points; by_connection = empty_lists connection_lists room; by_texts = empty_lists (hash_lists + 1) room; shapes = replicate shape_count 0 }
 
 -- one place more
 abbrev pub with_place : ℕ → Standing → Index → Index

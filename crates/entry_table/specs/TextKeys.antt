@@ -1,25 +1,30 @@
 -- Inner: the shape of texts, and the list of the index in which entries with such texts stand.
-use Rattle.std.specs.Prelude.{◌≡◌, ℕ, ◌+◌, ◌*◌, ◌/◌, ◌%◌, List, Option, Some, None, bit_xor, ◌==◌, if◌then◌else◌}
+use Rattle.std.specs.Prelude.{◌≡◌, ℕ, ◌+◌, ◌*◌, ◌/◌, ◌%◌, ◌^◌, List, [], ◌∷◌, Option, Some, None, ◌==◌, if◌then◌else◌}
 use Rattle.std.specs.Option.{ForSome}
 use Rattle.core.specs.Hash.DefaultHasher.{with_keys, write, finish}
+use Rattle.text_hash.specs.Hashes.{prime, text_hash as hash_at}
 use Rattle.match_rule.specs.FixedTexts.{FixedTexts}
 use Rattle.entry_table.specs.declared.index_key.IndexKey.{IndexKey}
+use Rattle.entry_table.specs.declared.text_points.TextPoints.{TextPoints}
 
--- SipHash-1-3 of a text
-unfoldable pub hash_of : IndexKey → List ℕ → ℕ
-hash_of key text = finish (write (with_keys key.first key.second) text)
+-- the point at which texts of one of the four keys are hashed: SipHash-1-3 of the number of the key, modulo the prime
+unfoldable pub point_of : IndexKey → ℕ → ℕ
+point_of key number = finish (write (with_keys key.first key.second) (number ∷ [])) % prime
 
--- the same, or 0 where there is no text
-abbrev pub text_hash : IndexKey → Option (List ℕ) → ℕ
-text_hash key None = 0
-text_hash key (Some text) = hash_of key text
+abbrev pub points_of : IndexKey → TextPoints
+points_of key = record { member = point_of key 1; interface = point_of key 2; path = point_of key 3; arg0 = point_of key 4 }
 
--- four hashes joined: each gives other bits
+-- the hash of a text at a point, or 0 where there is no text
+abbrev pub text_hash : ℕ → Option (List ℕ) → ℕ
+text_hash point None = 0
+text_hash point (Some text) = hash_at point text
+
+-- the sum of four hashes
 abbrev pub joined : ℕ → ℕ → ℕ → ℕ → ℕ
-joined member interface path arg0 = bit_xor (bit_xor (bit_xor member (interface / 65536)) (path / 4294967296)) (arg0 / 281474976710656)
+joined member interface path arg0 = (((member + interface) % 2 ^ 64 + path) % 2 ^ 64 + arg0) % 2 ^ 64
 
-abbrev pub joined_hash : IndexKey → FixedTexts → ℕ
-joined_hash key texts = joined (text_hash key texts.member) (text_hash key texts.interface) (text_hash key texts.path) (text_hash key texts.arg0)
+abbrev pub joined_hash : TextPoints → FixedTexts → ℕ
+joined_hash points texts = joined (text_hash points.member texts.member) (text_hash points.interface texts.interface) (text_hash points.path texts.path) (text_hash points.arg0 texts.arg0)
 
 abbrev pub bit_of : Option (List ℕ) → ℕ
 bit_of None = 0
@@ -50,9 +55,9 @@ hash_lists = 32768
 abbrev pub list_of : ℕ → ℕ → ℕ
 list_of shape hash = if shape == 0 then hash_lists else hash % hash_lists
 
--- the texts of a message, and the key that they are hashed with
+-- the texts of a message, and the points at which they are hashed
 pub record KeyedTexts : Type 0 where
-  pub key : IndexKey
+  pub points : TextPoints
   pub texts : FixedTexts
 
 -- the four hashes, where they are known
@@ -64,7 +69,7 @@ pub record KnownHashes : Type 0 where
 
 -- a hash that is known is the text's
 pub record AreHashes (found : KeyedTexts) (known : KnownHashes) : Type 0 where
-  pub member : ForSome known.member (λ hash. hash ≡ text_hash found.key found.texts.member)
-  pub interface : ForSome known.interface (λ hash. hash ≡ text_hash found.key found.texts.interface)
-  pub path : ForSome known.path (λ hash. hash ≡ text_hash found.key found.texts.path)
-  pub arg0 : ForSome known.arg0 (λ hash. hash ≡ text_hash found.key found.texts.arg0)
+  pub member : ForSome known.member (λ hash. hash ≡ text_hash found.points.member found.texts.member)
+  pub interface : ForSome known.interface (λ hash. hash ≡ text_hash found.points.interface found.texts.interface)
+  pub path : ForSome known.path (λ hash. hash ≡ text_hash found.points.path found.texts.path)
+  pub arg0 : ForSome known.arg0 (λ hash. hash ≡ text_hash found.points.arg0 found.texts.arg0)

@@ -1,11 +1,11 @@
 // The lists by which entries are looked up.
 
 use crate::entry::Entry;
-use crate::index_key::IndexKey;
 use crate::offered::Offered;
 use crate::shapes::Shapes;
 use crate::shelf::Shelf;
 use crate::table::MAX_ENTRIES;
+use crate::text_points::TextPoints;
 use crate::texts::{HASH_LISTS, MessageTexts, Texts, list_of};
 use message_view::View;
 use place_lists::{Lists, Walk};
@@ -25,7 +25,7 @@ pub(crate) struct Standing {
 /// The places of entries, by connection and by the texts that they fix.
 #[derive(Drop)]
 pub(crate) struct Index {
-    key: IndexKey,
+    points: TextPoints,
     by_connection: Lists,
     by_texts: Lists,
     shapes: Shapes,
@@ -41,11 +41,11 @@ impl Index {
     ghost use Rattle.entry_table.specs.FoundTexts.{IsLookedUp};
 
     /// An index of no entries. Only this call takes memory.
-    pub(crate) fn new(alloc: Global, key: IndexKey) -> Result<Index, AllocError>
-        ensures { IfOk result (λ index. index ≡ empty_index key) }
+    pub(crate) fn new(alloc: Global, points: TextPoints) -> Result<Index, AllocError>
+        ensures { IfOk result (λ index. index ≡ empty_index points) }
     {
         Ok(Index {
-            key,
+            points,
             by_connection: Lists::new(alloc, CONNECTION_LISTS, MAX_ENTRIES as u16)?,
             by_texts: Lists::new(alloc, HASH_LISTS + 1, MAX_ENTRIES as u16)?,
             shapes: Shapes::new(alloc)?,
@@ -54,13 +54,13 @@ impl Index {
 
     /// Where an entry stands.
     pub(crate) fn standing_of(&self, entry: &Entry) -> Standing
-        ensures { result ≡ standing_of self.now.key entry.now }
+        ensures { result ≡ standing_of self.now.points entry.now }
     {
         let texts = Texts::of_filter(&entry.filter);
         let shape = texts.shape();
         Standing {
             connection: (entry.connection % CONNECTION_LISTS as u64) as usize,
-            texts: list_of(shape, texts.hash(self.key)),
+            texts: list_of(shape, texts.hash(self.points)),
             shape,
         }
     }
@@ -99,7 +99,8 @@ impl Index {
         requires { length self.now.by_texts.lists ≡ hash_lists + 1 }
         ensures { (m : Message) → Valid view.now m → IsLookedUp self.entry.now shelf.entry.now m result }
     {
-        let found = MessageTexts::new(self.key, view);
+        let has_arg0 = self.shapes.has_arg0();
+        let found = MessageTexts::new(self.points, view, has_arg0);
         Offered::new(shelf, &self.by_texts, found, self.shapes.in_use())
     }
 }

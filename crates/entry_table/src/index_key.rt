@@ -1,10 +1,14 @@
 // The key of the index.
 
-ghost use Rattle.std.specs.Prelude.{◌≡◌, option_map};
-ghost use Rattle.entry_table.specs.TextKeys.{text_hash};
+ghost use Rattle.std.specs.Prelude.{◌≡◌};
+ghost use Rattle.entry_table.specs.TextKeys.{point_of, points_of};
 
+use crate::text_points::TextPoints;
 use core::hash::keyed_hasher;
 use std::hash::Hasher;
+
+/// The prime by which points are reduced, 2^61 - 1.
+const PRIME: u64 = (1 << 61) - 1;
 
 /// The key of the hash by which texts are looked up. Whoever doesn't know it can't choose texts whose hashes meet.
 #[derive(Clone, Copy)]
@@ -14,18 +18,26 @@ pub struct IndexKey {
 }
 
 impl IndexKey {
-    /// SipHash-1-3 of a text, 0 where there is none.
-    #[tactic(auto, unfolding(crate::specs::TextKeys::hash_of))]
-    pub(crate) fn hash(self, text: Option<&str>) -> u64
-        ensures { result ≡ text_hash self (option_map (λ text. text.now) text.entry) }
+    /// A point for the texts of one of the four keys, by its number: SipHash-1-3 of the number, so that nobody who doesn't
+    /// know this key can tell the point from one that is drawn.
+    #[tactic(auto, unfolding(crate::specs::TextKeys::point_of))]
+    fn point(self, number: u8) -> u64
+        ensures { result ≡ point_of self number }
     {
-        match text {
-            None => 0,
-            Some(text) => {
-                let mut hasher = keyed_hasher(self.first, self.second);
-                hasher.write(text.as_bytes());
-                hasher.finish()
-            }
+        let mut hasher = keyed_hasher(self.first, self.second);
+        hasher.write(&[number]);
+        hasher.finish() % PRIME
+    }
+
+    /// The points for the texts of the four keys.
+    pub(crate) fn points(self) -> TextPoints
+        ensures { result ≡ points_of self }
+    {
+        TextPoints {
+            member: self.point(1),
+            interface: self.point(2),
+            path: self.point(3),
+            arg0: self.point(4),
         }
     }
 }

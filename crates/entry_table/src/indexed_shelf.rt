@@ -46,7 +46,7 @@ impl IndexedShelf {
     {
         Ok(IndexedShelf {
             shelf: Shelf::new(alloc)?,
-            index: Index::new(alloc, key)?,
+            index: Index::new(alloc, key.points())?,
         })
     }
 

@@ -16,6 +16,7 @@ mod search;
 mod shapes;
 mod shelf;
 mod table;
+mod text_points;
 mod texts;
 
 pub use attachment::Attachment;

@@ -4,9 +4,9 @@ ghost use Rattle.std.specs.Prelude.{◌≡◌, ◌∷◌, ◌+◌, [], length, M
 ghost use Rattle.entry_table.specs.TextKeys.{hash_lists};
 ghost use Rattle.entry_table.specs.FoundTexts.{is_offered, offered_at, coming};
 
-use crate::entry::Entry;
+use crate::entry::{Entry, Filter};
 use crate::shelf::Shelf;
-use crate::texts::{HASH_LISTS, MessageTexts, Texts};
+use crate::texts::{HASH_LISTS, MessageTexts};
 use place_lists::{Lists, Walk};
 use std::marker::Model;
 
@@ -22,7 +22,10 @@ fn is_offered(shape: u16, found: &MessageTexts<'_>, entry: &Entry) -> bool
     if shape == 0 {
         return true;
     }
-    found.has(&Texts::of_filter(&entry.filter))
+    match &entry.filter {
+        Filter::Rule(compiled) => found.has(shape, compiled.rule()),
+        Filter::Attached(_) => true,
+    }
 }
 
 /// The next of the entries of a shape at these places that a message with these texts is offered to.

@@ -1,11 +1,27 @@
 // The shapes of entries: which of the four texts they fix.
 
+ghost use Rattle.std.specs.Prelude.{ℕ, ◌<◌, ◌≤◌, length, slice_index};
+
 use place_lists::{Lists, Walk};
 use std::alloc::{AllocError, Global};
 use std::marker::Model;
 
 /// How many shapes there are.
 pub(crate) const SHAPES: u16 = 16;
+
+/// The least shape that has argument 0.
+const ARG0_SHAPE: usize = 8;
+
+/// The greatest of the counts from a place on.
+fn most_from(counts: &[u16], from: usize) -> u16
+    ensures { (k : ℕ) → from ≤ k → k < length counts.now → slice_index counts.now k ≤ result }
+{
+    let mut most = 0;
+    for place in from..counts.len() {
+        most = most.max(counts[place]);
+    }
+    most
+}
 
 /// How many entries have each shape, and the list of the shapes in use. Shape 0, that of entries that fix no text,
 /// is in no list: they are looked at for each message. Contracts see the counts.
@@ -27,7 +43,7 @@ impl Model for Shapes {
 }
 
 impl Shapes {
-    ghost use Rattle.std.specs.Prelude.{◌≡◌, ◌<◌, ◌+◌, ◌-◌, ℕ, length, replicate, slice_index, slice_set, IfOk};
+    ghost use Rattle.std.specs.Prelude.{◌≡◌, ◌<◌, ◌+◌, ◌-◌, ℕ, true, false, length, replicate, slice_index, slice_set, IfOk};
     ghost use Rattle.place_lists.specs.PlaceLists.{has_place, AreOnce};
     ghost use Rattle.entry_table.specs.ShapeCounts.{shape_count, is_in_use};
 
@@ -66,6 +82,13 @@ impl Shapes {
             self.used.remove(0, shape);
         }
         self.counts[usize::from(shape)] = count - 1;
+    }
+
+    /// Whether a shape in use has argument 0.
+    pub(crate) fn has_arg0(&self) -> bool
+        ensures { result ≡ false → (shape : ℕ) → is_in_use shape self.now ≡ true → shape < 8 }
+    {
+        most_from(self.counts.as_slice(), ARG0_SHAPE) != 0
     }
 
     /// The shapes in use.

@@ -6,16 +6,17 @@ ghost use Rattle.message_value.specs.ShownArguments.{shown_arg};
 ghost use Rattle.message_view.specs.Message.{Message};
 ghost use Rattle.message_view.specs.Valid.{Valid};
 ghost use Rattle.match_rule.specs.Arguments.{text_in};
-ghost use Rattle.match_rule.specs.FixedTexts.{FixedTexts, arg0_of, fixed_texts, string_in, texts_of};
+ghost use Rattle.match_rule.specs.FixedTexts.{FixedTexts, arg0_of, fixed_texts, string_in, member_asked, interface_asked, path_asked, arg0_asked};
 ghost use Rattle.entry_table.specs.OfferedEntries.{texts_fixed};
-ghost use Rattle.entry_table.specs.FoundTexts.{is_text_found, are_found};
+ghost use Rattle.entry_table.specs.FoundTexts.{is_text_found, are_found, texts_read};
 ghost use Rattle.entry_table.specs.TextKeys.{bit_of, shape_of, in_shape, where_bit, text_hash, joined, joined_hash, list_of, hash_lists};
 
 use crate::entry::Filter;
-use crate::index_key::IndexKey;
+use crate::text_points::TextPoints;
 use match_rule::Rule;
 use message_view::{Arg, View};
 use std::marker::Model;
+use text_hash::text_hash;
 
 /// How many lists there are for entries that fix a text, by the hash of their texts.
 pub(crate) const HASH_LISTS: usize = 32768;
@@ -72,6 +73,54 @@ fn is_text_found(asked: Option<&str>, found: Option<&str>) -> bool
     }
 }
 
+/// Whether the member is the one that a rule of this shape fixes, if it fixes one.
+#[tactic(auto, using(crate::proofs::Asking::no_member))]
+fn is_member_found(shape: u16, rule: &Rule, found: Option<&str>) -> bool
+    requires { shape_of (fixed_texts rule.now) ≡ shape }
+    ensures { result ≡ is_text_found (member_asked rule.now) (option_map (λ text. text.now) found.entry) }
+{
+    if shape % 2 == 0 {
+        return true;
+    }
+    is_text_found(rule.member(), found)
+}
+
+/// Whether the interface is the one that a rule of this shape fixes, if it fixes one.
+#[tactic(auto, using(crate::proofs::Asking::no_interface))]
+fn is_interface_found(shape: u16, rule: &Rule, found: Option<&str>) -> bool
+    requires { shape_of (fixed_texts rule.now) ≡ shape }
+    ensures { result ≡ is_text_found (interface_asked rule.now) (option_map (λ text. text.now) found.entry) }
+{
+    if shape / 2 % 2 == 0 {
+        return true;
+    }
+    is_text_found(rule.interface(), found)
+}
+
+/// Whether the path is the one that a rule of this shape fixes, if it fixes one.
+#[tactic(auto, using(crate::proofs::Asking::no_path))]
+fn is_path_found(shape: u16, rule: &Rule, found: Option<&str>) -> bool
+    requires { shape_of (fixed_texts rule.now) ≡ shape }
+    ensures { result ≡ is_text_found (path_asked rule.now) (option_map (λ text. text.now) found.entry) }
+{
+    if shape / 4 % 2 == 0 {
+        return true;
+    }
+    is_text_found(rule.path(), found)
+}
+
+/// Whether the argument 0 is the one that a rule of this shape fixes, if it fixes one.
+#[tactic(auto, using(crate::proofs::Asking::no_arg0))]
+fn is_arg0_found(shape: u16, rule: &Rule, found: Option<&str>) -> bool
+    requires { shape_of (fixed_texts rule.now) ≡ shape }
+    ensures { result ≡ is_text_found (arg0_asked rule.now) (option_map (λ text. text.now) found.entry) }
+{
+    if shape / 8 % 2 == 0 {
+        return true;
+    }
+    is_text_found(rule.arg0(), found)
+}
+
 /// 1 where there is a text.
 fn bit_of(text: Option<&str>) -> u16
     ensures value { result ≡ bit_of (option_map (λ text. text.now) text.entry) }
@@ -83,11 +132,25 @@ fn bit_of(text: Option<&str>) -> u16
     }
 }
 
-/// The hashes of four texts as one. Each gives other bits, so that equal texts don't cancel each other out.
+/// The hashes of four texts as one, their sum: texts of which one differs have hashes that differ by what the point of
+/// its key makes of it, whatever the others are.
 fn join_hashes(member: u64, interface: u64, path: u64, arg0: u64) -> u64
     ensures { result ≡ joined member interface path arg0 }
 {
-    member ^ (interface >> 16) ^ (path >> 32) ^ (arg0 >> 48)
+    member
+        .wrapping_add(interface)
+        .wrapping_add(path)
+        .wrapping_add(arg0)
+}
+
+/// The hash of a text at a point, 0 where there is no text.
+fn hash_of(point: u64, text: Option<&str>) -> u64
+    ensures { result ≡ text_hash point (option_map (λ text. text.now) text.entry) }
+{
+    match text {
+        None => 0,
+        Some(text) => text_hash(point, text),
+    }
 }
 
 /// The list of entries of a shape whose texts have this hash. Entries that fix no text have a list of their own.
@@ -140,24 +203,24 @@ impl<'a> Texts<'a> {
             + 8 * bit_of(self.arg0)
     }
 
-    /// The hash of the texts with this key.
-    pub(crate) fn hash(&self, key: IndexKey) -> u64
-        ensures { result ≡ joined_hash key self.now }
+    /// The hash of the texts at these points.
+    pub(crate) fn hash(&self, points: TextPoints) -> u64
+        ensures { result ≡ joined_hash points self.now }
     {
         join_hashes(
-            key.hash(self.member),
-            key.hash(self.interface),
-            key.hash(self.path),
-            key.hash(self.arg0),
+            hash_of(points.member, self.member),
+            hash_of(points.interface, self.interface),
+            hash_of(points.path, self.path),
+            hash_of(points.arg0, self.arg0),
         )
     }
 }
 
 /// The hash of a text where it is wanted, else 0. It is computed once.
-fn hash_once(wanted: bool, known: &mut Option<u64>, key: IndexKey, text: Option<&str>) -> u64
-    requires { ForSome known.old (λ hash. hash ≡ text_hash key (option_map (λ text. text.now) text)) }
-    ensures value { result ≡ text_hash key (if wanted then option_map (λ text. text.now) text.entry else None) }
-    ensures known { ForSome known.new (λ hash. hash ≡ text_hash key (option_map (λ text. text.now) text.entry)) }
+fn hash_once(wanted: bool, known: &mut Option<u64>, point: u64, text: Option<&str>) -> u64
+    requires { ForSome known.old (λ hash. hash ≡ text_hash point (option_map (λ text. text.now) text)) }
+    ensures value { result ≡ text_hash point (if wanted then option_map (λ text. text.now) text.entry else None) }
+    ensures known { ForSome known.new (λ hash. hash ≡ text_hash point (option_map (λ text. text.now) text.entry)) }
 {
     if !wanted {
         return 0;
@@ -165,17 +228,17 @@ fn hash_once(wanted: bool, known: &mut Option<u64>, key: IndexKey, text: Option<
     match *known {
         Some(hash) => hash,
         None => {
-            let hash = key.hash(text);
+            let hash = hash_of(point, text);
             *known = Some(hash);
             hash
         }
     }
 }
 
-/// The texts of a message, and the hashes of those that were wanted so far. Contracts see the texts and the key.
+/// The texts of a message, and the hashes of those that were wanted so far. Contracts see the texts and the points.
 #[derive(Drop)]
 pub(crate) struct MessageTexts<'a> {
-    key: IndexKey,
+    points: TextPoints,
     member: Option<&'a str>,
     interface: Option<&'a str>,
     path: Option<&'a str>,
@@ -192,22 +255,22 @@ impl<'a> Model for MessageTexts<'a> {
 
     ghost Value = { KeyedTexts };
 
-    ghost view = { λ m. record { key = m.key; texts = record { member = option_map (λ text. text.now) m.member; interface = option_map (λ text. text.now) m.interface; path = option_map (λ text. text.now) m.path; arg0 = option_map (λ text. text.now) m.arg0 } } };
+    ghost view = { λ m. record { points = m.points; texts = record { member = option_map (λ text. text.now) m.member; interface = option_map (λ text. text.now) m.interface; path = option_map (λ text. text.now) m.path; arg0 = option_map (λ text. text.now) m.arg0 } } };
 
-    ghost invariant = { λ m. AreHashes (record { key = m.key; texts = record { member = option_map (λ text. text.now) m.member; interface = option_map (λ text. text.now) m.interface; path = option_map (λ text. text.now) m.path; arg0 = option_map (λ text. text.now) m.arg0 } }) (record { member = m.member_hash; interface = m.interface_hash; path = m.path_hash; arg0 = m.arg0_hash }) };
+    ghost invariant = { λ m. AreHashes (record { points = m.points; texts = record { member = option_map (λ text. text.now) m.member; interface = option_map (λ text. text.now) m.interface; path = option_map (λ text. text.now) m.path; arg0 = option_map (λ text. text.now) m.arg0 } }) (record { member = m.member_hash; interface = m.interface_hash; path = m.path_hash; arg0 = m.arg0_hash }) };
 }
 
 impl<'a> MessageTexts<'a> {
-    /// The texts that a message has; no hash is known.
-    pub(crate) fn new(key: IndexKey, view: &View<'a>) -> MessageTexts<'a>
-        ensures { (m : Message) → Valid view.now m → result ≡ record { key = key; texts = texts_of m } }
+    /// The texts that a message has, argument 0 only where it is wanted; no hash is known.
+    pub(crate) fn new(points: TextPoints, view: &View<'a>, has_arg0: bool) -> MessageTexts<'a>
+        ensures { (m : Message) → Valid view.now m → result ≡ record { points = points; texts = texts_read has_arg0 m } }
     {
         MessageTexts {
-            key,
+            points,
             member: view.member(),
             interface: view.interface(),
             path: view.path(),
-            arg0: arg0_of(view),
+            arg0: if has_arg0 { arg0_of(view) } else { None },
             member_hash: None,
             interface_hash: None,
             path_hash: None,
@@ -217,30 +280,36 @@ impl<'a> MessageTexts<'a> {
 
     /// The list of the entries of a shape that fix the message's texts.
     pub(crate) fn list_of(&mut self, shape: u16) -> usize
-        ensures list { result ≡ list_of shape (joined_hash self.old.key (in_shape shape self.old.texts)) }
+        ensures list { result ≡ list_of shape (joined_hash self.old.points (in_shape shape self.old.texts)) }
         ensures below { result ≤ hash_lists }
         ensures same { self.new ≡ self.old }
     {
-        let key = self.key;
-        let member = hash_once(shape % 2 == 1, &mut self.member_hash, key, self.member);
+        let at = self.points;
+        let member = hash_once(
+            shape % 2 == 1,
+            &mut self.member_hash,
+            at.member,
+            self.member,
+        );
         let interface = hash_once(
             shape / 2 % 2 == 1,
             &mut self.interface_hash,
-            key,
+            at.interface,
             self.interface,
         );
-        let path = hash_once(shape / 4 % 2 == 1, &mut self.path_hash, key, self.path);
-        let arg0 = hash_once(shape / 8 % 2 == 1, &mut self.arg0_hash, key, self.arg0);
+        let path = hash_once(shape / 4 % 2 == 1, &mut self.path_hash, at.path, self.path);
+        let arg0 = hash_once(shape / 8 % 2 == 1, &mut self.arg0_hash, at.arg0, self.arg0);
         list_of(shape, join_hashes(member, interface, path, arg0))
     }
 
-    /// Whether each of the texts that an entry fixes is the message's.
-    pub(crate) fn has(&self, asked: &Texts<'_>) -> bool
-        ensures { result ≡ are_found asked.now self.now.texts }
+    /// Whether each of the texts that a rule of this shape fixes is the message's.
+    pub(crate) fn has(&self, shape: u16, rule: &Rule) -> bool
+        requires { shape_of (fixed_texts rule.now) ≡ shape }
+        ensures { result ≡ are_found (fixed_texts rule.now) self.now.texts }
     {
-        is_text_found(asked.member, self.member)
-            && is_text_found(asked.interface, self.interface)
-            && is_text_found(asked.path, self.path)
-            && is_text_found(asked.arg0, self.arg0)
+        is_member_found(shape, rule, self.member)
+            && is_interface_found(shape, rule, self.interface)
+            && is_path_found(shape, rule, self.path)
+            && is_arg0_found(shape, rule, self.arg0)
     }
 }

@@ -48,17 +48,16 @@ fn run_over_one<'a>(
     }
 }
 
-/// The images of a message that programs read, its path, and the count of the programs that were run. Rules read edition
-/// 2; the image of edition 1 is made when the first program reads it.
+/// The image of edition 2 of a message, which rules read, its path, and the count of the programs that were run. The image
+/// of edition 1 is made when the first program reads it. It is kept where the caller has room for it, since this is
+/// handed on by value.
 #[derive(Drop)]
 pub(crate) struct Programs<'v, 'a> {
     view: &'v View<'a>,
     owned: &'v Slots,
-    one: Option<Image<'a>>,
     two: &'v Image<'a>,
     path: Option<&'a str>,
     tally: Tally,
-    ghost first: { ForSome one (IsImage One view.now owned.now) },
     ghost second: { IsImage Two view.now owned.now two.now },
     ghost asked: { (m : Message) → Valid view.now m → option_map (λ text. text.now) path ≡ path_of m },
 }
@@ -74,7 +73,6 @@ impl<'v, 'a> Programs<'v, 'a> {
         Programs {
             view,
             owned,
-            one: None,
             two,
             path: view.path(),
             tally: Tally::new(),
@@ -97,38 +95,36 @@ impl<'v, 'a> Programs<'v, 'a> {
     }
 
     /// The verdict of a program on the image of an edition.
-    fn verdict(&mut self, edition: Edition, program: &Verified) -> u32
-        requires { self.old.tally.runs < max_entries }
+    fn verdict(&mut self, one: &mut Option<Image<'a>>, edition: Edition, program: &Verified) -> u32
+        requires room { self.old.tally.runs < max_entries }
+        requires one { ForSome one.old (IsImage One self.old.view.now self.old.owned.now) }
+        ensures one { ForSome one.new (IsImage One self.old.view.now self.old.owned.now) }
         ensures view { self.new.view.now ≡ self.old.view.now }
         ensures owned { self.new.owned.now ≡ self.old.owned.now }
         ensures verdict { HasVerdict edition self.old.view.now self.old.owned.now program.now result }
         ensures counted { self.new.tally.runs ≡ self.old.tally.runs + 1 }
     {
         match edition {
-            Edition::One => run_over_one(
-                &mut self.one,
-                self.view,
-                self.owned,
-                program,
-                &mut self.tally,
-            ),
+            Edition::One => run_over_one(one, self.view, self.owned, program, &mut self.tally),
             Edition::Two => self.tally.run(program, self.two),
         }
     }
 
     /// Whether a filter's program has a verdict other than 0. Of a rule it is the program of what is left beside the
     /// texts that the rule fixes, since a message that is offered to the rule has them.
-    pub(crate) fn matches(&mut self, filter: &Filter) -> bool
-        requires { self.old.tally.runs < max_entries }
+    pub(crate) fn matches(&mut self, one: &mut Option<Image<'a>>, filter: &Filter) -> bool
+        requires room { self.old.tally.runs < max_entries }
+        requires one { ForSome one.old (IsImage One self.old.view.now self.old.owned.now) }
+        ensures one { ForSome one.new (IsImage One self.old.view.now self.old.owned.now) }
         ensures view { self.new.view.now ≡ self.old.view.now }
         ensures owned { self.new.owned.now ≡ self.old.owned.now }
         ensures answer { IsAnswer self.old.view.now self.old.owned.now filter.now result }
         ensures counted { self.new.tally.runs ≡ self.old.tally.runs + 1 }
     {
         match filter {
-            Filter::Rule(compiled) => self.verdict(Edition::Two, compiled.rest()) != 0,
+            Filter::Rule(compiled) => self.verdict(one, Edition::Two, compiled.rest()) != 0,
             Filter::Attached(attached) => {
-                self.verdict(attached.edition(), attached.program()) != 0
+                self.verdict(one, attached.edition(), attached.program()) != 0
             }
         }
     }

@@ -1,14 +1,17 @@
 // The search for the recipients of a message.
 
 ghost use Rattle.std.specs.Prelude.{◌≡◌, ℕ, ◌+◌, ◌<◌, ◌≤◌, [], ◌∷◌, Option, MatchBool, Contains, true, false, length, replicate};
+ghost use Rattle.std.specs.Option.{ForSome};
 ghost use Rattle.message_view.specs.Message.{Message};
 ghost use Rattle.message_view.specs.Valid.{Valid};
+ghost use Rattle.summary.specs.declared.edition.Edition.TheVariants.{One};
 ghost use Rattle.entry_table.specs.declared.entry.Entry.{Entry};
 ghost use Rattle.entry_table.specs.OfferedEntries.{AreOffered};
 ghost use Rattle.program_table.specs.Answers.{max_entries};
 ghost use Rattle.program_table.specs.Connections.{numbers_of, is_connected};
 ghost use Rattle.program_table.specs.IsState.{IsState};
 ghost use Rattle.program_table.specs.Candidates.{candidates};
+ghost use Rattle.fan_out.specs.Answers.{IsImage};
 ghost use Rattle.fan_out.specs.Marks.{mark_count, AreNoted, IsMarked, IsMarkedMore, IsUnmarked};
 ghost use Rattle.fan_out.specs.Pieces.{ArePieceRecipients};
 ghost use Rattle.fan_out.specs.Marking.{Considers, AreDecided, AreMarked, AreMarkedRecipients};
@@ -59,17 +62,21 @@ fn mark<M: Mailbox>(state: &BusState<M>, marks: &mut Marks, connection: u64)
 
 /// Marks the connection of an entry of the piece where the entry matches. The program of an entry isn't run where the
 /// message's path tells that it doesn't match, nor where its connection is marked already.
-fn consider<M: Mailbox>(
+#[inline(always)]
+fn consider<'a, M: Mailbox>(
     state: &BusState<M>,
     piece: Piece,
     entry: &Entry,
-    programs: &mut Programs<'_, '_>,
+    programs: &mut Programs<'_, 'a>,
+    one: &mut Option<Image<'a>>,
     marks: &mut Marks,
 )
     requires state { IsState state.now }
     requires connected { is_connected entry.now.connection state.now.connections ≡ true }
     requires noted { AreNoted (numbers_of state.now.connections) marks.old.places marks.old.remainders }
     requires room { programs.old.tally.runs < max_entries }
+    requires one { ForSome one.old (IsImage One programs.old.view.now programs.old.owned.now) }
+    ensures one { ForSome one.new (IsImage One programs.old.view.now programs.old.owned.now) }
     ensures view { programs.new.view.now ≡ programs.old.view.now }
     ensures owned { programs.new.owned.now ≡ programs.old.owned.now }
     ensures noted { AreNoted (numbers_of state.now.connections) marks.new.places marks.new.remainders }
@@ -84,24 +91,26 @@ fn consider<M: Mailbox>(
     if is_marked(state, marks, entry.connection) {
         return;
     }
-    if programs.matches(&entry.filter) {
+    if programs.matches(one, &entry.filter) {
         mark(state, marks, entry.connection);
     }
 }
 
 /// Considers the entries that a message is offered to, one after the other, and tells how many programs were run.
-fn consider_all<M: Mailbox>(
+fn consider_all<'a, M: Mailbox>(
     state: &BusState<M>,
     piece: Piece,
     first: &Entry,
     others: Offered<'_>,
-    mut programs: Programs<'_, '_>,
+    mut programs: Programs<'_, 'a>,
+    one: &mut Option<Image<'a>>,
     marks: &mut Marks,
 ) -> u32
     requires state { IsState state.now }
     requires few { length others + 1 ≤ max_entries }
     requires connected { (e : Entry) → Contains (first.now ∷ others) e → is_connected e.connection state.now.connections ≡ true }
     requires none_run { programs.tally.runs ≡ 0 }
+    requires one { ForSome one.old (IsImage One programs.view.now programs.owned.now) }
     requires none_marked { marks.old.places ≡ replicate MAX_RECIPIENTS false }
     ensures few { result ≤ length others.entry + 1 }
     ensures enough { mark_count marks.new.places ≤ result }
@@ -110,9 +119,9 @@ fn consider_all<M: Mailbox>(
         → AreDecided state.now sender m programs.entry.view.now programs.entry.owned.now (first.now ∷ others.entry)
         → AreMarked state.now sender m piece.part piece.of (first.now ∷ others.entry) marks.new.places }
 {
-    consider(state, piece, first, &mut programs, marks);
+    consider(state, piece, first, &mut programs, one, marks);
     for entry in others {
-        consider(state, piece, entry, &mut programs, marks);
+        consider(state, piece, entry, &mut programs, one, marks);
     }
     programs.runs()
 }
@@ -141,8 +150,9 @@ fn consider_offered<'a, M: Mailbox>(
     let _ = view.raw();
     let owned = state.slots_of(sender);
     let two = Image::new(view, &owned, Edition::Two);
+    let mut one = None;
     let programs = Programs::new(view, &owned, &two);
-    consider_all(state, piece, first, others, programs, marks)
+    consider_all(state, piece, first, others, programs, &mut one, marks)
 }
 
 /// Marks the recipients of a message among the connections of a piece, and tells how many programs were run. Without a

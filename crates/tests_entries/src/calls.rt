@@ -95,3 +95,24 @@ fn entries_of_two_connections(rt: HostRuntime) {
     expect_offered(&rt, alloc, &table, &[4]);
     assert_eq!(rt; table.last_id(), 4);
 }
+
+// Some entry of the connection goes; its id.
+fn take_any<R: Abort>(rt: &R, table: &mut EntryTable, connection: u64) -> u32 {
+    match table.remove_any(connection) {
+        Some(entry) => entry.id,
+        None => panic!(rt; "an entry was wanted"),
+    }
+}
+
+#[test]
+fn entries_go_in_any_order(rt: HostRuntime) {
+    let alloc = rt.alloc();
+    let mut table = EntryTable::new(alloc, KEY).expect(&rt, "a table");
+    add(&rt, alloc, &mut table, 1, "member='c'");
+    add(&rt, alloc, &mut table, 2, "member='d'");
+    add(&rt, alloc, &mut table, 2, "path='/a'");
+    let ids = [take_any(&rt, &mut table, 2), take_any(&rt, &mut table, 2)];
+    assert!(rt; ids == [2, 3] || ids == [3, 2]);
+    assert!(rt; table.remove_any(2).is_none());
+    expect_offered(&rt, alloc, &table, &[1]);
+}

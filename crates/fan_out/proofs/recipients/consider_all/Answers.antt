@@ -17,6 +17,7 @@ loop-entry-init g c =
     record {
       view = c.consider.ensures.view;
       owned = c.consider.ensures.owned;
+      one = c.consider.ensures.one;
       noted = c.consider.ensures.noted;
       so_far = rw c.into_iter-entry-iterator.ensures.into_iter_gives
           (marks_more s c.args.piece.part c.args.piece.of view owned all c.args.others c.args.first.now c.args.marks.now.places c.consider.new.marks.places c.args.programs.tally.runs c.consider.new.programs.tally.runs
@@ -31,6 +32,10 @@ consider-requires-in-loop-entry-clause-connected g c =
 pub consider-requires-in-loop-entry-clause-noted : goal.consider-requires-in-loop-entry-clause-noted
 consider-requires-in-loop-entry-clause-noted g c = c.loop-entry.invariant.noted
 
+pub consider-requires-in-loop-entry-clause-one : goal.consider-requires-in-loop-entry-clause-one
+consider-requires-in-loop-entry-clause-one g c =
+    rw (c.loop-entry.invariant.view, c.loop-entry.invariant.owned) c.loop-entry.invariant.one
+
 pub consider-requires-in-loop-entry-clause-room : goal.consider-requires-in-loop-entry-clause-room
 consider-requires-in-loop-entry-clause-room g c =
     omega (arith, c.loop-entry.invariant.so_far.few, ap (λ (es : List Entry). length es) c.in-Some.ensures.steps, c.requires.few)
@@ -41,6 +46,7 @@ loop-entry-preserved g c =
     record {
       view = c.consider-in-loop-entry.ensures.view ∙ before.view;
       owned = c.consider-in-loop-entry.ensures.owned ∙ before.owned;
+      one = rw (before.view, before.owned) at c.consider-in-loop-entry.ensures.one;
       noted = c.consider-in-loop-entry.ensures.noted;
       so_far = marks_more c.args.state.now c.args.piece.part c.args.piece.of c.args.programs.view.now c.args.programs.owned.now (c.args.first.now ∷ c.args.others) c.next.new.self c.in-Some.entry.now c.loop-entry.marks.places c.consider-in-loop-entry.new.marks.places c.loop-entry.programs.tally.runs c.consider-in-loop-entry.new.programs.tally.runs (rw c.in-Some.ensures.steps at before.so_far) (rw (before.view, before.owned) at c.consider-in-loop-entry.ensures.considered);
     }

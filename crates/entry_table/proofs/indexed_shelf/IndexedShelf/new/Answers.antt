@@ -8,4 +8,4 @@ use Rattle.entry_table.proofs.indexed_shelf.IndexedShelf.new.Goals as goal
 pub invariant_of-result : goal.invariant_of-result
 invariant_of-result c =
     subst (λ (index : Index). IsIndexed index c.in_ok-new.field-0) (sym c.in_ok-new-2.ensures)
-    (subst (λ (held : List Placed). IsIndexed (empty_index c.args.key) held) (sym c.in_ok-new.ensures) (IsIndexed-empty c.args.key))
+    (subst (λ (held : List Placed). IsIndexed (empty_index c.points.result) held) (sym c.in_ok-new.ensures) (IsIndexed-empty c.points.result))

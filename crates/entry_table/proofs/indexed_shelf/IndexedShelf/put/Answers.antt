@@ -16,4 +16,4 @@ pub invariant_of-self : goal.invariant_of-self
 invariant_of-self c =
     let i = c.self.inside in
     subst (λ (index : Index). IsIndexed index c.put-place.new.self) (sym (c.add.ensures ∙ ap (λ (s : Standing). with_place c.put-place.result s i.index) c.standing_of-standing.ensures))
-    (subst (IsIndexed (with_place c.put-place.result (standing_of i.index.key c.args.entry) i.index)) (sym c.put-place.ensures.put) (IsIndexed-put i.index i.shelf c.put-place.result c.args.entry c.self.invariant c.put-place.ensures.fresh))
+    (subst (IsIndexed (with_place c.put-place.result (standing_of i.index.points c.args.entry) i.index)) (sym c.put-place.ensures.put) (IsIndexed-put i.index i.shelf c.put-place.result c.args.entry c.self.invariant c.put-place.ensures.fresh))

@@ -14,4 +14,4 @@ pub invariant_of-self : goal.invariant_of-self
 invariant_of-self c =
     let i = c.self.inside in
     subst (λ (index : Index). IsIndexed index c.take-entry.new.self) (sym (c.remove.ensures ∙ ap (λ (s : Standing). without_place c.args.place s i.index) c.standing_of-standing.ensures))
-    (subst (IsIndexed (without_place c.args.place (standing_of i.index.key c.take-entry.result) i.index)) (sym c.take-entry.ensures.rest) (IsIndexed-take i.index i.shelf c.args.place c.take-entry.result c.self.invariant c.take-entry.ensures.entry))
+    (subst (IsIndexed (without_place c.args.place (standing_of i.index.points c.take-entry.result) i.index)) (sym c.take-entry.ensures.rest) (IsIndexed-take i.index i.shelf c.args.place c.take-entry.result c.self.invariant c.take-entry.ensures.entry))
