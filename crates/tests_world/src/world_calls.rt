@@ -47,6 +47,8 @@ fn several_events(rt: HostRuntime) -> Result<(), Fail> {
     add_begin(&rt, rt.alloc(), &mut events);
     add(&rt, &mut events, Event::Command(Command::Close(1)));
     add(&rt, &mut events, Event::End(1));
+    assert_eq!(rt; world.events(), 0);
+    assert_eq!(rt; events.len(), 4);
     let mut answers = Vec::new(rt.alloc());
     assert_eq!(rt; world.run(events.as_slice(), &mut answers), Ok(()));
     assert_eq!(rt; answers.len(), 3);
