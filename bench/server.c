@@ -321,10 +321,65 @@ static void latency(void) {
     leave(1);
 }
 
+enum { PAIRS = 4, BATCH = 64, PAIR_TIMES = 40000, BEHIND = 512 };
+
+struct pair {
+    struct client *reader, *sender;
+    pthread_barrier_t *start;
+    char member[16];
+};
+
+/* Sends to its reader alone, BATCH signals at a write, at most BEHIND before they are read. */
+static void *play_pair(void *given) {
+    struct pair *pair = given;
+    unsigned char many[BATCH * 256];
+    pthread_barrier_wait(pair->start);
+    for (int sent = 0; sent < PAIR_TIMES; sent += BATCH) {
+        size_t len = 0;
+        for (int i = 0; i < BATCH; i++) {
+            struct message m = made(SIGNAL, ++pair->sender->serial, NULL, "/a", "a.b", pair->member, "text");
+            memcpy(many + len, m.bytes, m.len);
+            len += m.len;
+        }
+        put(pair->sender, many, len);
+        while ((int)pair->reader->signals < sent + BATCH - BEHIND) fill(pair->reader);
+    }
+    while (pair->reader->signals < PAIR_TIMES) fill(pair->reader);
+    return NULL;
+}
+
+/* Four senders at once, each with a reader of its own. The senders connect one after the other, so that the bus gives each to
+   another worker where it has as many. */
+static void pairs(const char *name) {
+    pthread_barrier_t start;
+    pthread_t threads[PAIRS];
+    struct pair all[PAIRS];
+    if (pthread_barrier_init(&start, NULL, PAIRS + 1)) fail("barrier");
+    for (int i = 0; i < 2 * PAIRS; i++) join(&clients[i]);
+    for (int i = 0; i < PAIRS; i++) {
+        char rule[32];
+        all[i] = (struct pair){.reader = &clients[i], .sender = &clients[PAIRS + i], .start = &start};
+        snprintf(all[i].member, sizeof all[i].member, "pair%d", i);
+        snprintf(rule, sizeof rule, "member='%s'", all[i].member);
+        add(all[i].reader, rule);
+        if (pthread_create(&threads[i], NULL, play_pair, &all[i])) fail("thread");
+    }
+    pthread_barrier_wait(&start);
+    double from = seconds(bus_clock), began = seconds(CLOCK_MONOTONIC);
+    for (int i = 0; i < PAIRS; i++) pthread_join(threads[i], NULL);
+    double cost = seconds(bus_clock) - from, took = seconds(CLOCK_MONOTONIC) - began;
+    printf("%-34s %9.2f %14.0f\n", name, cost / (PAIRS * PAIR_TIMES) * 1e6, PAIRS * PAIR_TIMES / took);
+    leave(2 * PAIRS);
+}
+
 int main(int words, char **word) {
-    if (words != 3) return fprintf(stderr, "usage: server SOCKET PID\n"), 2;
+    if (words != 3 && words != 4) return fprintf(stderr, "usage: server SOCKET PID [NAME]\n"), 2;
     path = word[1];
     bus_clock = (clockid_t)(~(unsigned)atoi(word[2]) << 3 | 2);
+    if (words == 4) {
+        pairs(word[3]);
+        return 0;
+    }
     printf("%-34s %9s %14s\n", "", "us of CPU", "deliveries/s");
     one_of_250("1 of 250 x 4 by member", "member='m%d'", "/a", "m500", "text");
     one_of_250("1 of 250 x 4 by arg0", "type='signal',interface='a.b',member='changed',arg0='com.example.N%d'", "/a", "changed", "com.example.N500");

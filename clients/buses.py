@@ -17,9 +17,10 @@ def program():
 
 
 class Bus:
-    """A bus in a process of its own, on a Unix socket or a TCP port."""
+    """A bus in a process of its own, on a Unix socket or a TCP port. Ours has a worker for each processor that it may run on
+    when it begins, or as many as are asked for."""
 
-    def __init__(self, kind, transport="unix", limit=None):
+    def __init__(self, kind, transport="unix", limit=None, workers=None):
         self.kind = kind
         self.folder = tempfile.mkdtemp(prefix="dbusfan-clients-")
         socket = os.path.join(self.folder, "bus")
@@ -31,11 +32,23 @@ class Bus:
             words = ["dbus-daemon", f"--config-file={self.config(wanted)}", "--nofork", "--print-address"]
         if limit:
             words = ["prlimit", f"--nofile={limit}", *words]
+        processors = os.sched_getaffinity(0)
+        if workers:
+            os.sched_setaffinity(0, sorted(processors)[:workers])
         self.process = subprocess.Popen(words, stdout=subprocess.PIPE, stderr=self.log, text=True)
         line = self.process.stdout.readline().strip()
+        os.sched_setaffinity(0, processors)
         self.address = line.removeprefix("listening ").split(",guid=")[0]
         if not self.address:
             raise SystemExit(f"{kind} didn't start: {' '.join(words)}")
+        if workers:
+            self.run_on(processors)
+
+    def run_on(self, processors):
+        """Lets each thread of a bus that has begun run on these processors."""
+        self.connect().close()
+        for thread in os.listdir(f"/proc/{self.process.pid}/task"):
+            os.sched_setaffinity(int(thread), processors)
 
     def config(self, wanted):
         path = os.path.join(self.folder, "config")
