@@ -1,7 +1,7 @@
 // Who owns a name that a client asks about.
 
 use crate::connection::Connection;
-use crate::dispatch::BUS_NAME;
+use crate::identity::BUS_NAME;
 use crate::refused::Refused;
 use bus_messages::{ErrorName, UniqueName};
 use owners::WellKnown;

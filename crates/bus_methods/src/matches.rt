@@ -1,7 +1,7 @@
 // The calls that change a client's rules and programs.
 
 use crate::connection::Connection;
-use crate::error::SessionError;
+use crate::error::AnswerError;
 use crate::home::Home;
 use crate::refused::Refused;
 use crate::request::Request;
@@ -22,7 +22,7 @@ impl<J: Naming, M: Mailbox + Carrier> Connection<J, M> {
         home: &mut Home<M>,
         request: Request,
         text: &str,
-    ) -> Result<(), SessionError> {
+    ) -> Result<(), AnswerError> {
         let added = site
             .bus
             .add_match(site.rt, site.alloc, &mut self.pass, text);
@@ -35,7 +35,7 @@ impl<J: Naming, M: Mailbox + Carrier> Connection<J, M> {
         home: &mut Home<M>,
         request: Request,
         text: &str,
-    ) -> Result<(), SessionError> {
+    ) -> Result<(), AnswerError> {
         let removed = site
             .bus
             .remove_match(site.rt, site.alloc, &mut self.pass, text);
@@ -48,7 +48,7 @@ impl<J: Naming, M: Mailbox + Carrier> Connection<J, M> {
         home: &mut Home<M>,
         request: Request,
         id: u32,
-    ) -> Result<(), SessionError> {
+    ) -> Result<(), AnswerError> {
         let detached = site.bus.detach(site.rt, &mut self.pass, id);
         self.confirm(site, home, request, detached)
     }
@@ -60,7 +60,7 @@ impl<J: Naming, M: Mailbox + Carrier> Connection<J, M> {
         home: &mut Home<M>,
         request: Request,
         reply: Result<Reply, BusError>,
-    ) -> Result<(), SessionError> {
+    ) -> Result<(), AnswerError> {
         match reply {
             Ok(_) => self.answer(site, home, request, Body::Nothing),
             Err(error) => self.refuse(site, home, request, Refused::from(error)),
@@ -74,7 +74,7 @@ impl<J: Naming, M: Mailbox + Carrier> Connection<J, M> {
         request: Request,
         edition: Edition,
         program: Vec<Ins>,
-    ) -> Result<(), SessionError> {
+    ) -> Result<(), AnswerError> {
         match site
             .bus
             .attach(site.rt, site.alloc, &mut self.pass, edition, program)

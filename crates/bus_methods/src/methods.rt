@@ -1,9 +1,9 @@
 // The methods of the bus.
 
 use crate::connection::Connection;
-use crate::dispatch::BUS_NAME;
-use crate::error::SessionError;
+use crate::error::AnswerError;
 use crate::home::Home;
+use crate::identity::BUS_NAME;
 use crate::refused::Refused;
 use crate::request::Request;
 use crate::site::Site;
@@ -22,13 +22,13 @@ impl<J: Naming, M: Mailbox + Carrier> Connection<J, M> {
     /// # Errors
     ///
     /// `Slow` where the answer has no room, and `NoMemory`.
-    pub(crate) fn perform<W: Wait, R: Wait + Drop>(
+    pub fn perform<W: Wait, R: Wait + Drop>(
         &mut self,
         site: &Site<'_, J, M, W, R>,
         home: &mut Home<M>,
         request: Request,
         call: Call<'_>,
-    ) -> Result<(), SessionError> {
+    ) -> Result<(), AnswerError> {
         match call {
             Call::Hello => self.refuse(site, home, request, Refused::Error(ErrorName::Failed)),
             Call::AddMatch(text) => self.add_match(site, home, request, text),
@@ -79,7 +79,7 @@ impl<J: Naming, M: Mailbox + Carrier> Connection<J, M> {
         site: &Site<'_, J, M, W, R>,
         home: &mut Home<M>,
         request: Request,
-    ) -> Result<(), SessionError> {
+    ) -> Result<(), AnswerError> {
         let id = self.identity.guid.map(|digit| digit.to_ascii_lowercase());
         self.answer_digits(site, home, request, id)
     }
@@ -89,7 +89,7 @@ impl<J: Naming, M: Mailbox + Carrier> Connection<J, M> {
         site: &Site<'_, J, M, W, R>,
         home: &mut Home<M>,
         request: Request,
-    ) -> Result<(), SessionError> {
+    ) -> Result<(), AnswerError> {
         match self.identity.machine_id {
             Some(id) => self.answer_digits(site, home, request, id),
             None => self.refuse(site, home, request, Refused::Error(ErrorName::Failed)),
@@ -102,7 +102,7 @@ impl<J: Naming, M: Mailbox + Carrier> Connection<J, M> {
         home: &mut Home<M>,
         request: Request,
         digits: [u8; 32],
-    ) -> Result<(), SessionError> {
+    ) -> Result<(), AnswerError> {
         match str::from_utf8(&digits) {
             Ok(text) => self.answer(site, home, request, Body::Text(text)),
             Err(_) => self.refuse(site, home, request, Refused::Error(ErrorName::Failed)),
@@ -114,7 +114,7 @@ impl<J: Naming, M: Mailbox + Carrier> Connection<J, M> {
         site: &Site<'_, J, M, W, R>,
         home: &mut Home<M>,
         request: Request,
-    ) -> Result<(), SessionError> {
+    ) -> Result<(), AnswerError> {
         match introspection(site.alloc) {
             Ok(text) => self.answer(site, home, request, Body::Text(text.as_str())),
             Err(refused) => self.refuse(site, home, request, Refused::from(refused)),

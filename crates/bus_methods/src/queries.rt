@@ -1,9 +1,9 @@
 // The calls that only ask.
 
 use crate::connection::Connection;
-use crate::dispatch::BUS_NAME;
-use crate::error::SessionError;
+use crate::error::AnswerError;
 use crate::home::Home;
+use crate::identity::BUS_NAME;
 use crate::owner::{AskedName, Owner};
 use crate::refused::Refused;
 use crate::request::Request;
@@ -23,7 +23,7 @@ impl<J: Naming, M: Mailbox + Carrier> Connection<J, M> {
         home: &mut Home<M>,
         request: Request,
         name: &str,
-    ) -> Result<(), SessionError> {
+    ) -> Result<(), AnswerError> {
         match self.owner(name) {
             Ok(Some(Owner::Bus)) => self.answer(site, home, request, Body::Text(BUS_NAME)),
             Ok(Some(Owner::Connection(number))) => {
@@ -48,7 +48,7 @@ impl<J: Naming, M: Mailbox + Carrier> Connection<J, M> {
         home: &mut Home<M>,
         request: Request,
         name: &str,
-    ) -> Result<(), SessionError> {
+    ) -> Result<(), AnswerError> {
         match self.owner(name) {
             Ok(owner) => self.answer(site, home, request, Body::Truth(owner.is_some())),
             Err(why) => self.refuse(site, home, request, why),
@@ -64,7 +64,7 @@ impl<J: Naming, M: Mailbox + Carrier> Connection<J, M> {
         name: &str,
         found: Result<Body<'_>, ErrorName>,
         missing: ErrorName,
-    ) -> Result<(), SessionError> {
+    ) -> Result<(), AnswerError> {
         let why = match (self.owner(name), found) {
             (Ok(Some(_)), Ok(body)) => return self.answer(site, home, request, body),
             (Ok(Some(_)), Err(error)) => Refused::Error(error),
@@ -79,7 +79,7 @@ impl<J: Naming, M: Mailbox + Carrier> Connection<J, M> {
         site: &Site<'_, J, M, W, R>,
         home: &mut Home<M>,
         request: Request,
-    ) -> Result<(), SessionError> {
+    ) -> Result<(), AnswerError> {
         let (connections, names) = match self.pass.names(site.alloc) {
             Ok(found) => found,
             Err(error) => return self.refuse(site, home, request, Refused::from(error)),
@@ -100,7 +100,7 @@ impl<J: Naming, M: Mailbox + Carrier> Connection<J, M> {
         request: Request,
         unique: &[UniqueName],
         names: &[WellKnown],
-    ) -> Result<(), SessionError> {
+    ) -> Result<(), AnswerError> {
         match listed(site.alloc, unique, names) {
             Ok(texts) => self.answer(site, home, request, Body::Texts(texts.as_slice())),
             Err(refused) => self.refuse(site, home, request, Refused::from(refused)),
@@ -113,7 +113,7 @@ impl<J: Naming, M: Mailbox + Carrier> Connection<J, M> {
         home: &mut Home<M>,
         request: Request,
         name: &str,
-    ) -> Result<(), SessionError> {
+    ) -> Result<(), AnswerError> {
         match self.queue(site.alloc, name) {
             Ok(Queue::Bus) => {
                 self.answer(site, home, request, Body::Texts([BUS_NAME].as_slice()))
@@ -131,7 +131,7 @@ impl<J: Naming, M: Mailbox + Carrier> Connection<J, M> {
         home: &mut Home<M>,
         request: Request,
         unique: &[UniqueName],
-    ) -> Result<(), SessionError> {
+    ) -> Result<(), AnswerError> {
         if unique.is_empty() {
             let why = Refused::Error(ErrorName::NameHasNoOwner);
             return self.refuse(site, home, request, why);

@@ -1,7 +1,7 @@
 // The calls that change who owns a name.
 
 use crate::connection::Connection;
-use crate::error::SessionError;
+use crate::error::AnswerError;
 use crate::home::Home;
 use crate::refused::Refused;
 use crate::request::Request;
@@ -22,7 +22,7 @@ impl<J: Naming, M: Mailbox + Carrier> Connection<J, M> {
         request: Request,
         name: &str,
         flags: u32,
-    ) -> Result<(), SessionError> {
+    ) -> Result<(), AnswerError> {
         let Ok(name) = WellKnown::read(name) else {
             return self.refuse(site, home, request, Refused::Error(ErrorName::InvalidArgs));
         };
@@ -37,7 +37,7 @@ impl<J: Naming, M: Mailbox + Carrier> Connection<J, M> {
         home: &mut Home<M>,
         request: Request,
         name: &str,
-    ) -> Result<(), SessionError> {
+    ) -> Result<(), AnswerError> {
         let Ok(name) = WellKnown::read(name) else {
             return self.refuse(site, home, request, Refused::Error(ErrorName::InvalidArgs));
         };
@@ -53,7 +53,7 @@ impl<J: Naming, M: Mailbox + Carrier> Connection<J, M> {
         home: &mut Home<M>,
         request: Request,
         reply: Result<Reply, BusError>,
-    ) -> Result<(), SessionError> {
+    ) -> Result<(), AnswerError> {
         match reply {
             Ok(Reply::Name(Named { answer, change })) => {
                 let answered = self.answer(site, home, request, Body::Number(answer.number()));

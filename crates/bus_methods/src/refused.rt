@@ -7,7 +7,7 @@ use std::alloc::{AllocError, AllocFailed};
 
 /// Why a call isn't answered as it asks for.
 #[derive(Clone, Copy, Debug)]
-pub(crate) enum Refused {
+pub enum Refused {
     /// It is answered with this error.
     Error(ErrorName),
     /// The bus has ended, and so does the session.

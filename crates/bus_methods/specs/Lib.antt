@@ -1,0 +1,2 @@
+pub mod Flags
+pub mod Serials
