@@ -1,6 +1,7 @@
 // A client's session.
 
-ghost use Rattle.std.specs.Prelude.{◌≡◌, None};
+ghost use Rattle.std.specs.Prelude.{◌≡◌, true, false, Some, None, Err, IfOk, IfErr};
+ghost use Rattle.sessions.specs.Sessions.{SessionState, EndsWith, SameStage};
 
 use crate::dispatch::treat;
 use crate::ending::{Rest, end};
@@ -17,6 +18,7 @@ use router::Bus;
 use routing::Carrier;
 use std::alloc::Global;
 use std::collections::LinkedList;
+use std::marker::Model;
 use std::sync::Wait;
 
 /// What a step came to.
@@ -43,13 +45,28 @@ where
     // None before Hello.
     connection: Option<Connection<J, M>>,
     fault: Option<SessionError>,
+}
+
+impl<J: Naming, M: Mailbox + Carrier> Model for Session<J, M>
+where
+    Published: Protocol<Shown<J, M>, LinkedList<Command<M>>>,
+{
+    ghost use Rattle.std.specs.Prelude.{◌≡◌, None, is_some};
+    ghost use Rattle.sessions.specs.Sessions.{SessionState};
+
+    ghost Value = { SessionState };
+
+    ghost view = { λ s. record { fault = s.fault; has_begun = s.talk.has_begun; is_connected = is_some s.connection } };
+
     // Faults of messages are kept here, and not there.
-    ghost is_clean: { input.fault ≡ None },
+    ghost invariant = { λ s. s.input.fault ≡ None };
 }
 
 impl<J: Naming, M: Mailbox + Carrier> Session<J, M> {
     /// A session before its first byte, of a bus with this GUID. All that it says goes to the mailbox.
-    pub fn new(alloc: Global, guid: [u8; 32], mailbox: M) -> Session<J, M> {
+    pub fn new(alloc: Global, guid: [u8; 32], mailbox: M) -> Session<J, M>
+        ensures { result ≡ record { fault = None; has_begun = false; is_connected = false } }
+    {
         Session {
             identity: Identity {
                 guid,
@@ -64,17 +81,23 @@ impl<J: Naming, M: Mailbox + Carrier> Session<J, M> {
     }
 
     /// Sets the machine's id, which GetMachineId answers once Hello came. Without one it is refused.
-    pub fn set_machine_id(&mut self, id: [u8; 32]) {
+    pub fn set_machine_id(&mut self, id: [u8; 32])
+        ensures { self.new ≡ self.old }
+    {
         self.identity.machine_id = Some(id);
     }
 
     /// Whether the talk is over and messages are read.
-    pub fn has_begun(&self) -> bool {
+    pub fn has_begun(&self) -> bool
+        ensures { result ≡ self.now.has_begun }
+    {
         self.talk.has_begun()
     }
 
     /// Whether Hello was accepted.
-    pub fn is_connected(&self) -> bool {
+    pub fn is_connected(&self) -> bool
+        ensures { result ≡ self.now.is_connected }
+    {
         self.connection.is_some()
     }
 
@@ -83,7 +106,10 @@ impl<J: Naming, M: Mailbox + Carrier> Session<J, M> {
     /// # Errors
     ///
     /// `NoMemory`, or what a step answered.
-    pub fn feed(&mut self, bytes: &[u8]) -> Result<(), SessionError> {
+    pub fn feed(&mut self, bytes: &[u8]) -> Result<(), SessionError>
+        ensures fault { EndsWith self.old self.new result }
+        ensures stage { SameStage self.old self.new }
+    {
         if let Some(fault) = self.fault {
             return Err(fault);
         }
@@ -103,7 +129,12 @@ impl<J: Naming, M: Mailbox + Carrier> Session<J, M> {
         rt: &W,
         alloc: Global,
         bus: &Bus<J, M, R>,
-    ) -> Result<Step, SessionError> {
+    ) -> Result<Step, SessionError>
+        ensures fault { EndsWith self.old self.new result }
+        // There is no way back.
+        ensures begun { self.old.has_begun ≡ true → self.new.has_begun ≡ true }
+        ensures connected { self.old.is_connected ≡ true → self.new.is_connected ≡ true }
+    {
         if let Some(fault) = self.fault {
             return Err(fault);
         }
@@ -122,7 +153,10 @@ impl<J: Naming, M: Mailbox + Carrier> Session<J, M> {
         }
     }
 
-    fn fail(&mut self, error: SessionError) -> SessionError {
+    fn fail(&mut self, error: SessionError) -> SessionError
+        ensures kept { self.new ≡ record self.old { fault = Some error } }
+        ensures told { result ≡ error }
+    {
         self.fault = Some(error);
         error
     }
@@ -130,7 +164,10 @@ impl<J: Naming, M: Mailbox + Carrier> Session<J, M> {
     fn take_line<W: Wait, R: Wait + Drop>(
         &mut self,
         site: &Site<'_, J, M, W, R>,
-    ) -> Result<Step, SessionError> {
+    ) -> Result<Step, SessionError>
+        ensures fault { self.new.fault ≡ self.old.fault }
+        ensures connected { self.new.is_connected ≡ self.old.is_connected }
+    {
         if self.input.is_empty() {
             return Ok(Step::Waits);
         }
@@ -145,7 +182,11 @@ impl<J: Naming, M: Mailbox + Carrier> Session<J, M> {
     fn take_message<W: Wait, R: Wait + Drop>(
         &mut self,
         site: &Site<'_, J, M, W, R>,
-    ) -> Result<Step, SessionError> {
+    ) -> Result<Step, SessionError>
+        ensures fault { self.new.fault ≡ self.old.fault }
+        ensures begun { self.new.has_begun ≡ self.old.has_begun }
+        ensures connected { self.old.is_connected ≡ true → self.new.is_connected ≡ true }
+    {
         let view = match self.input.front() {
             Ok(Some(view)) => view,
             Ok(None) => return Ok(Step::Waits),
@@ -166,7 +207,9 @@ impl<J: Naming, M: Mailbox + Carrier> Session<J, M> {
     }
 
     /// Writes out what the session has put, its own outbox's and that of others.
-    pub fn push_out<W: Wait>(&mut self, rt: &W) {
+    pub fn push_out<W: Wait>(&mut self, rt: &W)
+        ensures { self.new ≡ self.old }
+    {
         self.home.push_out(rt);
         if let Some(connection) = &mut self.connection {
             connection.pass.push_out(rt);
@@ -178,7 +221,11 @@ impl<J: Naming, M: Mailbox + Carrier> Session<J, M> {
     /// # Errors
     ///
     /// `Auth` before BEGIN, `Message(Short)` inside a message, or what a step answered.
-    pub fn end_of_input(&self) -> Result<(), SessionError> {
+    pub fn end_of_input(&self) -> Result<(), SessionError>
+        ensures ended { (fault : SessionError) → self.now.fault ≡ Some fault → result ≡ Err fault }
+        ensures before_begin { self.now.fault ≡ None → self.now.has_begun ≡ false → result ≡ Err SessionError.Auth }
+        ensures inside { self.now.fault ≡ None → self.now.has_begun ≡ true → IfErr result (λ error. error ≡ SessionError.Message MsgError.Short) }
+    {
         if let Some(fault) = self.fault {
             return Err(fault);
         }
