@@ -9,7 +9,7 @@ prime = 2305843009213693951
 abbrev pub less_prime : ℕ → ℕ
 less_prime n = if nat_le prime n then n - prime else n
 
--- the remainder of low + high * 2^64 by the prime: 2^61 leaves 1
+-- low + high * 2^64 but for multiples of the prime: 2^61 leaves 1. One multiple is taken away at the end
 abbrev pub reduced : ℕ → ℕ → ℕ
 reduced low high = less_prime (((low % 2 ^ 61 + low / 2 ^ 61) % 2 ^ 64 + high * 8 % 2 ^ 64) % 2 ^ 64)
 

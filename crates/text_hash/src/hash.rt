@@ -8,8 +8,9 @@ use crate::word::{last_word, seven_at};
 /// The prime 2^61 - 1.
 const PRIME: u64 = (1 << 61) - 1;
 
-/// The remainder by the prime of a number in two halves, the low one first, of which the number is below 2^122.
-/// 2^61 leaves 1, so what stands above the lowest 61 bits is added to them.
+/// A number with the same remainder by the prime as a number in two halves, the low one first. 2^61 leaves 1, so what stands
+/// above the lowest 61 bits is added to them. The prime is taken away once, so the remainder itself comes out where that sum
+/// is below twice the prime, as it always is of a number below 2^122.
 #[inline(always)]
 fn reduced(low: u64, high: u64) -> u64
     ensures { result ≡ reduced low high }
@@ -45,11 +46,12 @@ fn words_hash(point: u64, text: &[u8], words: usize) -> u64
     hash
 }
 
-/// The hash of a text at a point below the prime 2^61 - 1: of words w1 to wn the remainder of
-/// (1 + w1)·p^n + w2·p^(n-1) + .. + wn·p by the prime. Two texts of n words at most are two such polynomials, which
-/// differ and have no constant term; so for each difference there are at most n points where their hashes differ by it,
-/// and of all points about n in 2^(k-1) give them hashes with the same lowest k bits. Whoever doesn't know the point can
-/// therefore not choose texts whose hashes meet.
+/// The hash of a text at a point p below the prime 2^61 - 1. By the prime it leaves what
+/// (1 + w1)·p^n + w2·p^(n-1) + .. + wn·p leaves, of the text's words w1 to wn; it may be that remainder or a multiple of the
+/// prime above it, since each step takes the prime away once. Two texts of n words at most are two such polynomials,
+/// which differ and have no constant term; so for each difference of remainders there are at most n points that give it,
+/// and of all points a few times n in 2^k give the texts hashes with the same lowest k bits. Whoever doesn't know the point
+/// can therefore not choose texts whose hashes meet. This is an argument: proved is that the hash is that of its definition.
 pub fn text_hash(point: u64, text: &str) -> u64
     ensures { result ≡ text_hash point text.now }
 {
