@@ -1,17 +1,25 @@
--- A message of which a rule holds has the texts that the rule fixes.
-use Rattle.std.proofs.Common.{◌≡◌, ℕ, Bool, true, false, List, [], ◌∷◌, refl, ap, ◌∙◌, eqb}
-use Rattle.std.proofs.lemmas.Bool.{eqb-true}
+-- A message of which a rule holds has the texts that the rule asks for.
+use Rattle.std.proofs.Common.{◌≡◌, ℕ, Bool, true, false, List, [], ◌∷◌, refl, ap, ◌∙◌, subst}
 use Rattle.std.proofs.lemmas.List.Elements.{All-head, All-tail}
-use Rattle.std.specs.Prelude.{Option, Some, None, All, IfSome, option_map, slice_get, if◌then◌else◌}
-use Rattle.message_value.specs.Arguments.{Argument}
+use Rattle.std.specs.Prelude.{Option, Some, None, All, IfSome, IsSomeAnd, slice_get, if◌then◌else◌}
 use Rattle.message_view.specs.Message.{Message, member_of, interface_of, path_of}
 use Rattle.message_view.specs.Spelling.{arguments_of}
+use Rattle.match_rule.specs.declared.source.Field.TheVariants.{Interface, Member, Path}
+use Rattle.match_rule.specs.declared.source.Source.{Source}
+use Rattle.match_rule.specs.declared.source.Source.TheVariants.{Header, Arg}
+use Rattle.match_rule.specs.declared.relation.Relation.{Relation}
+use Rattle.match_rule.specs.declared.relation.Relation.TheVariants.{Equal}
+use Rattle.match_rule.specs.declared.key.Key.{Key}
+use Rattle.match_rule.specs.declared.key.Key.TheVariants as keys
 use Rattle.match_rule.specs.declared.condition.Condition.{Condition}
-use Rattle.match_rule.specs.declared.condition.Condition.TheVariants.{Kind, Sender, Interface, Member, Path, PathNamespace, Destination, Arg, ArgPath, Arg0Namespace}
+use Rattle.match_rule.specs.declared.condition.Condition.TheVariants.{Kind, Sender, Compares}
 use Rattle.match_rule.specs.Arguments.{text_in}
+use Rattle.match_rule.specs.Key.{key_eq}
+use Rattle.match_rule.specs.Condition.{key_of, value_of}
+use Rattle.match_rule.specs.Equality.{same_key}
 use Rattle.match_rule.specs.RuleTree.{RuleTree, or_else}
-use Rattle.match_rule.specs.Holds.{Holds, ConditionHolds, HasArg}
-use Rattle.match_rule.specs.FixedTexts.{fixed_texts, texts_of, AreFound, member_in, interface_in, path_in, arg0_in, arg0_of, string_in, first_text}
+use Rattle.match_rule.specs.Holds.{Holds, ConditionHolds, Relates, compared_text, text_at}
+use Rattle.match_rule.specs.FixedTexts.{fixed_texts, texts_of, AreFound, value_in, value_asked, arg0_of, string_in, first_text}
 
 in_either : (Q : List ℕ → Type 0) (a b : Option (List ℕ)) → IfSome a Q → IfSome b Q → IfSome (or_else a b) Q
 in_either Q (Some text) b first second = first
@@ -22,68 +30,48 @@ in_first text_of P Q each [] holds = tt
 in_first text_of P Q each (c ∷ cs) holds =
     in_either Q (text_of c) (first_text text_of cs) (each c (All-head P c cs holds)) (in_first text_of P Q each cs (All-tail P c cs holds))
 
+if_each : (o : Option (List ℕ)) (P Q : List ℕ → Type 0) → ((x : List ℕ) → P x → Q x) → IfSome o P → IfSome o Q
+if_each None P Q each h = tt
+if_each (Some x) P Q each h = each x h
+
+-- the message has a text at the source that stands in the relation to the value
+abbrev pub HasRelated : Message → Source → Relation → List ℕ → Type 0
+HasRelated m source relation value = IsSomeAnd (text_at source relation m) (λ text. Relates relation text value)
+
 module _ (m : Message) (owned : List ℕ → Bool) where
-  member_found : (c : Condition) → ConditionHolds c m owned → IfSome (member_in c) (λ text. member_of m ≡ Some text)
-  member_found (Member name) h = h
-  member_found (Kind kind) h = tt
-  member_found (Sender name) h = tt
-  member_found (Interface name) h = tt
-  member_found (Path path) h = tt
-  member_found (PathNamespace value) h = tt
-  member_found (Destination name) h = tt
-  member_found (Arg n value) h = tt
-  member_found (ArgPath n value) h = tt
-  member_found (Arg0Namespace value) h = tt
+  of_key : (source : Source) (relation : Relation) (c : Condition) → key_of c ≡ keys.Compares source relation → ConditionHolds c m owned → HasRelated m source relation (value_of c)
+  of_key source relation (Kind kind) e h = absurd cc
+  of_key source relation (Sender name) e h = absurd cc
+  of_key source relation (Compares s r value) e h =
+      let sources : s ≡ source = cc in
+      let relations : r ≡ relation = cc in
+      subst (λ (x : Source). HasRelated m x relation value) sources (subst (λ (x : Relation). HasRelated m s x value) relations h)
 
-  interface_found : (c : Condition) → ConditionHolds c m owned → IfSome (interface_in c) (λ text. interface_of m ≡ Some text)
-  interface_found (Interface name) h = h
-  interface_found (Kind kind) h = tt
-  interface_found (Sender name) h = tt
-  interface_found (Member name) h = tt
-  interface_found (Path path) h = tt
-  interface_found (PathNamespace value) h = tt
-  interface_found (Destination name) h = tt
-  interface_found (Arg n value) h = tt
-  interface_found (ArgPath n value) h = tt
-  interface_found (Arg0Namespace value) h = tt
+  value_found : (source : Source) (relation : Relation) (c : Condition) → ConditionHolds c m owned → IfSome (value_in (keys.Compares source relation) c) (HasRelated m source relation)
+  value_found source relation c h = go (key_eq (key_of c) (keys.Compares source relation)) refl
+    where
+      go : (b : Bool) → key_eq (key_of c) (keys.Compares source relation) ≡ b → IfSome (if b then Some (value_of c) else None) (HasRelated m source relation)
+      go true is = of_key source relation c (same_key (key_of c) (keys.Compares source relation) is) h
+      go false is = tt
 
-  path_found : (c : Condition) → ConditionHolds c m owned → IfSome (path_in c) (λ text. path_of m ≡ Some text)
-  path_found (Path path) h = h
-  path_found (Kind kind) h = tt
-  path_found (Sender name) h = tt
-  path_found (Interface name) h = tt
-  path_found (Member name) h = tt
-  path_found (PathNamespace value) h = tt
-  path_found (Destination name) h = tt
-  path_found (Arg n value) h = tt
-  path_found (ArgPath n value) h = tt
-  path_found (Arg0Namespace value) h = tt
+-- what a rule asks of a source is found there
+pub asked_found : (source : Source) (relation : Relation) (rule : RuleTree) (m : Message) (owned : List ℕ → Bool) → Holds rule m owned → IfSome (value_asked (keys.Compares source relation) rule) (HasRelated m source relation)
+asked_found source relation rule m owned h =
+    in_first (value_in (keys.Compares source relation)) (λ c. ConditionHolds c m owned) (HasRelated m source relation) (value_found m owned source relation) rule.conditions h.each
 
-  string_found : (o : Option Argument) (argument : Argument) (text : List ℕ) → o ≡ Some argument → argument.code ≡ 115 → argument.text ≡ Some text → string_in (text_in o) ≡ Some text
-  string_found o argument text is code t =
-      ap string_in (ap text_in is ∙ ap (option_map {U = ℕ × List ℕ} (λ (x : List ℕ). (argument.code, x))) t ∙ ap (λ (k : ℕ). Some (k, text)) code)
+-- a text that equals the value
+is_some : (found : Option (List ℕ)) (value : List ℕ) → IsSomeAnd found (λ text. text ≡ value) → found ≡ Some value
+is_some None value h = absurd h
+is_some (Some text) value h = ap (λ (x : List ℕ). Some x) h
 
-  at_zero : (b : Bool) (n : ℕ) (value : List ℕ) → (b ≡ true → n ≡ 0) → HasArg m n 115 value → IfSome (if b then Some value else None) (λ text. arg0_of m ≡ Some text)
-  at_zero false n value zeroth has = tt
-  at_zero true n value zeroth has =
-      string_found (slice_get (arguments_of m) 0) has.0 value (ap (slice_get (arguments_of m)) (let e = zeroth refl in cc) ∙ has.1) has.2 has.3
-
-  arg0_found : (c : Condition) → ConditionHolds c m owned → IfSome (arg0_in c) (λ text. arg0_of m ≡ Some text)
-  arg0_found (Arg n value) h = at_zero (eqb n 0) n value (eqb-true n 0) h
-  arg0_found (Kind kind) h = tt
-  arg0_found (Sender name) h = tt
-  arg0_found (Interface name) h = tt
-  arg0_found (Member name) h = tt
-  arg0_found (Path path) h = tt
-  arg0_found (PathNamespace value) h = tt
-  arg0_found (Destination name) h = tt
-  arg0_found (ArgPath n value) h = tt
-  arg0_found (Arg0Namespace value) h = tt
+pub same_string : (found : Option (ℕ × List ℕ)) → string_in found ≡ compared_text Equal found
+same_string None = refl
+same_string (Some found) = refl
 
 pub AreFound-Holds : (rule : RuleTree) (m : Message) (owned : List ℕ → Bool) → Holds rule m owned → AreFound (fixed_texts rule) (texts_of m)
 AreFound-Holds rule m owned h = record {
-  member = in_first member_in (λ c. ConditionHolds c m owned) (λ text. member_of m ≡ Some text) (member_found m owned) rule.conditions h.each;
-  interface = in_first interface_in (λ c. ConditionHolds c m owned) (λ text. interface_of m ≡ Some text) (interface_found m owned) rule.conditions h.each;
-  path = in_first path_in (λ c. ConditionHolds c m owned) (λ text. path_of m ≡ Some text) (path_found m owned) rule.conditions h.each;
-  arg0 = in_first arg0_in (λ c. ConditionHolds c m owned) (λ text. arg0_of m ≡ Some text) (arg0_found m owned) rule.conditions h.each;
+  member = if_each _ _ (λ value. member_of m ≡ Some value) (is_some (member_of m)) (asked_found (Header Member) Equal rule m owned h);
+  interface = if_each _ _ (λ value. interface_of m ≡ Some value) (is_some (interface_of m)) (asked_found (Header Interface) Equal rule m owned h);
+  path = if_each _ _ (λ value. path_of m ≡ Some value) (is_some (path_of m)) (asked_found (Header Path) Equal rule m owned h);
+  arg0 = if_each _ _ (λ value. arg0_of m ≡ Some value) (λ value found. same_string (text_in (slice_get (arguments_of m) 0)) ∙ is_some (text_at (Arg 0) Equal m) value found) (asked_found (Arg 0) Equal rule m owned h);
 }

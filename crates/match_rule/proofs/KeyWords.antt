@@ -1,6 +1,6 @@
 -- The words of keys have no blank, no `=` and no comma.
 use Rattle.std.proofs.Common.{◌≡◌, ℕ, Bool, true, false, cond, List, [], ◌∷◌, ◌++◌, drop, length, refl, ap, ◌∙◌, arith}
-use Rattle.std.specs.Prelude.{Result, Ok, Err, Some, None, codes, not, ◌==◌, ◌&&◌}
+use Rattle.std.specs.Prelude.{Result, Ok, Err, Option, Some, None, codes, not, ◌==◌, ◌&&◌}
 use Rattle.std.specs.List.{list_all}
 use Rattle.std.specs.Str.{bytes_eq}
 use Rattle.std.proofs.lemmas.Bool.{eqb-true}
@@ -12,10 +12,12 @@ use Rattle.signature.specs.Name.{is_digit}
 use Rattle.match_rule.specs.declared.fault.RuleError.{RuleError}
 use Rattle.match_rule.specs.declared.fault.RuleError.TheVariants.{UnknownKey}
 use Rattle.match_rule.specs.declared.key.Key.{Key}
-use Rattle.match_rule.specs.declared.key.Key.TheVariants as keys
-use Rattle.match_rule.specs.Key.{key_named, digits_of, behind_digits, arg_number, or_bad_number, namespace_key, arg_key, is_of_arg}
+use Rattle.match_rule.specs.declared.relation.Relation.{Relation}
+use Rattle.match_rule.specs.Rows.{row_of}
+use Rattle.match_rule.specs.Key.{key_words, arg_suffixes, key_named, digits_of, behind_digits, arg_number, suffixed_key, or_key, arg_key, is_of_arg}
 use Rattle.match_rule.specs.Grammar.{is_blank, comma, equals}
 use Rattle.match_rule.specs.Reading.{behind_blanks, word_at}
+use Rattle.match_rule.proofs.Rows.{row_found}
 
 -- a byte that may stand in the word of a key
 abbrev is_plain : ℕ → Bool
@@ -84,19 +86,14 @@ all_plain : (bytes : List ℕ) → list_all is_digit bytes ≡ true → list_all
 all_plain [] e = refl
 all_plain (b ∷ bs) e = let h = both (is_digit b) (list_all is_digit bs) e in both_true (is_plain b) (list_all is_plain bs) (digit_plain b h.0) (all_plain bs h.1)
 
-is_word : (a b : List ℕ) → bytes_eq a b ≡ true → a ≡ b
-is_word a b e = (bytes_eq-Decides a b).0 e
-
 -- what is behind the digits of a key
 suffix_plain : (digits suffix : List ℕ) (key : Key) → arg_key digits suffix ≡ Ok key → list_all is_plain suffix ≡ true
-suffix_plain digits suffix key e = go (length digits == 0) (length suffix == 0) refl (bytes_eq suffix (codes "path")) refl (bytes_eq suffix (codes "namespace")) refl e
+suffix_plain digits suffix key e = go (length digits == 0) (row_of arg_suffixes suffix) refl e
   where
-    go : (none bare : Bool) → (length suffix == 0) ≡ bare → (path : Bool) → bytes_eq suffix (codes "path") ≡ path → (space : Bool) → bytes_eq suffix (codes "namespace") ≡ space → cond none (Err UnknownKey) (cond bare (or_bad_number keys.Arg (arg_number digits)) (cond path (or_bad_number keys.ArgPath (arg_number digits)) (cond space (namespace_key (arg_number digits)) (Err UnknownKey)))) ≡ Ok key → list_all is_plain suffix ≡ true
-    go true bare b path p space n e = absurd cc
-    go false true b path p space n e = ap (list_all is_plain) (nil_from_length suffix (eqb-true (length suffix) 0 b))
-    go false false b true p space n e = ap (list_all is_plain) (is_word suffix (codes "path") p)
-    go false false b false p true n e = ap (list_all is_plain) (is_word suffix (codes "namespace") n)
-    go false false b false p false n e = absurd cc
+    go : (none : Bool) (row : Option (Relation × ℕ)) → row_of arg_suffixes suffix ≡ row → cond none (Err UnknownKey) (suffixed_key row (arg_number digits)) ≡ Ok key → list_all is_plain suffix ≡ true
+    go true row is e = absurd cc
+    go false None is e = absurd cc
+    go false (Some row) is e = row_found (λ (r : List ℕ × (Relation × ℕ)). list_all is_plain r.0) arg_suffixes suffix row refl is
 
 rest_plain : (rest : List ℕ) (key : Key) → arg_key (digits_of rest) (behind_digits rest) ≡ Ok key → list_all is_plain rest ≡ true
 rest_plain rest key e =
@@ -117,21 +114,12 @@ arg_plain (a ∷ b ∷ c ∷ rest) key e = go (a == 97) (b == 114) (c == 103) re
     go true false z p q r e = absurd cc
     go false y z p q r e = absurd cc
 
-named_plain : (word name : List ℕ) (named : Key) (b : Bool) (others : Result Key RuleError) (key : Key) → bytes_eq word name ≡ b → is_plain_word name ≡ true → cond b (Ok named) others ≡ Ok key → (others ≡ Ok key → is_plain_word word ≡ true) → is_plain_word word ≡ true
-named_plain word name named true others key is plain e more = ap is_plain_word (is_word word name is) ∙ plain
-named_plain word name named false others key is plain e more = more e
-
 pub known_plain : (word : List ℕ) (key : Key) → key_named word ≡ Ok key → is_plain_word word ≡ true
-known_plain word key e =
-    named_plain word (codes "type") keys.Kind _ _ key refl refl e (λ e.
-    named_plain word (codes "sender") keys.Sender _ _ key refl refl e (λ e.
-    named_plain word (codes "interface") keys.Interface _ _ key refl refl e (λ e.
-    named_plain word (codes "member") keys.Member _ _ key refl refl e (λ e.
-    named_plain word (codes "path") keys.Path _ _ key refl refl e (λ e.
-    named_plain word (codes "path_namespace") keys.PathNamespace _ _ key refl refl e (λ e.
-    named_plain word (codes "destination") keys.Destination _ _ key refl refl e (λ e.
-    named_plain word (codes "eavesdrop") keys.Eavesdrop _ _ key refl refl e (λ e.
-    arg_plain word key e))))))))
+known_plain word key e = go (row_of key_words word) refl e
+  where
+    go : (found : Option Key) → row_of key_words word ≡ found → or_key found (cond (is_of_arg word) (arg_key (digits_of (drop 3 word)) (behind_digits (drop 3 word))) (Err UnknownKey)) ≡ Ok key → is_plain_word word ≡ true
+    go (Some named) is e = row_found (λ (r : List ℕ × Key). is_plain_word r.0) key_words word named refl is
+    go None is e = arg_plain word key e
 
 -- a word that begins with `arg`
 pub arg_named : (word rest : List ℕ) → Some rest ≡ cond (is_of_arg word) (Some (drop 3 word)) None → key_named word ≡ arg_key (digits_of rest) (behind_digits rest)

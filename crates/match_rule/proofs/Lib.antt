@@ -1,5 +1,5 @@
 pub mod Steps
-pub mod Ascii
+pub mod Rows
 pub mod KeyWords
 pub mod PartReads
 pub mod Turns
@@ -12,6 +12,5 @@ pub mod SenderNames
 pub mod ValueBytes
 pub mod ReadRules
 pub mod Namespaces
-pub mod TextArgs
 pub mod FixedFound
 pub mod NamespaceFound

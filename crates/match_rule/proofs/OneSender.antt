@@ -6,7 +6,7 @@ use Rattle.std.proofs.lemmas.List.{get_or_read}
 use Rattle.std.proofs.lemmas.List.Folds.{list_any-append}
 use Rattle.match_rule.specs.declared.key.Key.TheVariants as keys
 use Rattle.match_rule.specs.declared.condition.Condition.{Condition}
-use Rattle.match_rule.specs.declared.condition.Condition.TheVariants.{Kind, Sender, Interface, Member, Path, PathNamespace, Destination, Arg, ArgPath, Arg0Namespace}
+use Rattle.match_rule.specs.declared.condition.Condition.TheVariants.{Kind, Sender, Compares}
 use Rattle.match_rule.specs.declared.term.Term.{Term}
 use Rattle.match_rule.specs.declared.term.Term.TheVariants.{Asks, Eavesdrop}
 use Rattle.match_rule.specs.Key.{is_twice}
@@ -30,14 +30,7 @@ or_right false b e = e
 sender_key : (c : Condition) → is_sender c ≡ true → key_of c ≡ keys.Sender
 sender_key (Sender name) e = refl
 sender_key (Kind kind) e = absurd cc
-sender_key (Interface name) e = absurd cc
-sender_key (Member name) e = absurd cc
-sender_key (Path path) e = absurd cc
-sender_key (PathNamespace path) e = absurd cc
-sender_key (Destination name) e = absurd cc
-sender_key (Arg n value) e = absurd cc
-sender_key (ArgPath n value) e = absurd cc
-sender_key (Arg0Namespace name) e = absurd cc
+sender_key (Compares source relation value) e = absurd cc
 
 -- behind a sender none is
 none_later : (front terms : List Term) → has_key keys.Sender front ≡ true → HaveOwnKeys front terms → list_any is_sender (conditions_in terms) ≡ false
@@ -67,14 +60,7 @@ own_keys_one_sender front (Asks c ∷ terms) own = go (is_sender c) refl (own_ke
 no_name : (c : Condition) → is_sender c ≡ false → owned_name_in c ≡ None
 no_name (Sender name) e = absurd cc
 no_name (Kind kind) e = refl
-no_name (Interface name) e = refl
-no_name (Member name) e = refl
-no_name (Path path) e = refl
-no_name (PathNamespace path) e = refl
-no_name (Destination name) e = refl
-no_name (Arg n value) e = refl
-no_name (ArgPath n value) e = refl
-no_name (Arg0Namespace name) e = refl
+no_name (Compares source relation value) e = refl
 
 or_parts : (a b : Bool) → (a || b) ≡ false → (a ≡ false) × (b ≡ false)
 or_parts true b e = absurd cc

@@ -5,7 +5,7 @@ use Rattle.std.proofs.lemmas.Bool.{eqb-true}
 use Rattle.std.specs.Str.{bytes_eq}
 use Rattle.std.proofs.lemmas.Slice.Eq.{bytes_eq-Decides}
 use Rattle.std.specs.Str.{is_utf8}
-use Rattle.signature.specs.Name.{is_interface, is_member, is_path, is_bus_name, is_namespace}
+use Rattle.signature.specs.Name.{is_bus_name}
 use Rattle.match_rule.specs.declared.fault.RuleError.{RuleError}
 use Rattle.match_rule.specs.declared.fault.RuleError.TheVariants.{UnknownKey, KeyTwice, PathTwice, BadValue}
 use Rattle.match_rule.specs.declared.key.Key.{Key}
@@ -15,16 +15,16 @@ use Rattle.match_rule.specs.declared.condition.Condition.TheVariants as conditio
 use Rattle.match_rule.specs.declared.term.Term.{Term}
 use Rattle.match_rule.specs.declared.term.Term.TheVariants.{Asks, Eavesdrop}
 use Rattle.match_rule.specs.declared.kind_name.KindName.{KindName}
-use Rattle.match_rule.specs.declared.kind_name.KindName.TheVariants.{Signal, MethodCall, MethodReturn, Error}
 use Rattle.match_rule.specs.declared.quoting.Quoting.{Quoting}
 use Rattle.match_rule.specs.declared.quoting.Quoting.TheVariants.{Outside, Inside, Escaped}
 use Rattle.match_rule.specs.declared.quoting.Step.{Step}
 use Rattle.match_rule.specs.declared.quoting.Step.TheVariants.{End, Skip, Take}
 use Rattle.match_rule.specs.Key.{key_named}
-use Rattle.match_rule.specs.Condition.{term_key, term_with, asks_if, key_of, value_of, has_key, has_path, kind_named, kind_word, flag_named}
+use Rattle.match_rule.specs.Condition.{term_key, term_of, term_with, is_value, asks_if, key_of, value_of, has_key, has_path, kind_words, kind_named, kind_word, flag_named}
 use Rattle.match_rule.specs.Bytes.{begins_with}
 use Rattle.match_rule.specs.Grammar.{equals, comma, apostrophe}
 use Rattle.match_rule.specs.Reading.{◌>>=◌, step, after_step, value_from, with_byte, word_at, key_at, own_key, part_at, or_fault, ended}
+use Rattle.match_rule.proofs.Rows.{row_found}
 
 pub bind_ok : {A B : Type 0} (r : Result A RuleError) (f : A → Result B RuleError) (y : B) → (r >>= f) ≡ Ok y → (x : A) × (r ≡ Ok x) × (f x ≡ Ok y)
 bind_ok (Ok x) f y e = (x, refl, e)
@@ -140,21 +140,10 @@ word_is (b ∷ bs) word rest e = go (b == equals) (b == comma) refl e (word_at b
         let h = pair_some (b ∷ f.0, f.1) (word, rest) (sym (ap (option_map (with_byte b)) has) ∙ e) in
         rw (← h.0, ← h.1) (ap (λ (x : List ℕ). b ∷ x) (more f.0 f.1 has))
 
--- ---- what a chain of tests of a word found
-
-is_word : (a b : List ℕ) → bytes_eq a b ≡ true → b ≡ a
-is_word a b e = sym ((bytes_eq-Decides a b).0 e)
-
-pub found_in : {A : Type 0} (F : A → List ℕ) (word name : List ℕ) (x : A) (b : Bool) (others : Option A) (y : A) → bytes_eq word name ≡ b → F x ≡ name → cond b (Some x) others ≡ Some y → (others ≡ Some y → F y ≡ word) → F y ≡ word
-found_in F word name x true others y is named e more = let same : x ≡ y = cc in ap F (sym same) ∙ named ∙ is_word word name is
-found_in F word name x false others y is named e more = more e
+-- ---- what a key and a value say
 
 kind_is : (word : List ℕ) (kind : KindName) → kind_named word ≡ Some kind → kind_word kind ≡ word
-kind_is word kind e =
-    found_in kind_word word (codes "signal") Signal _ _ kind refl refl e (λ e.
-    found_in kind_word word (codes "method_call") MethodCall _ _ kind refl refl e (λ e.
-    found_in kind_word word (codes "method_return") MethodReturn _ _ kind refl refl e (λ e.
-    found_in kind_word word (codes "error") Error _ _ kind refl refl e (λ e. absurd cc))))
+kind_is word kind e = (bytes_eq-Decides (kind_word kind) word).0 (row_found (λ (r : List ℕ × KindName). bytes_eq (kind_word r.1) r.0) kind_words word kind refl e)
 
 -- the bytes of the value of a condition
 abbrev pub term_value : Term → List ℕ
@@ -175,26 +164,30 @@ is_asked allowed condition key value term k v e =
     let len : length (term_value term) ≡ length value = ap (λ t. length (term_value t)) (sym same) ∙ ap length v in
     (ap term_key (sym same) ∙ k, omega arith)
 
-pub term_is : (key : Key) (value : List ℕ) (term : Term) → term_with key value ≡ Some term → (term_key term ≡ key) × (length (term_value term) ≤ length value)
-term_is keys.Kind value term e = go (kind_named value) refl e
+text_is : (key : Key) (text : List ℕ) (term : Term) → term_of key text ≡ Some term → IsOf key text term
+text_is keys.Kind text term e = go (kind_named text) refl e
   where
-    go : (o : Option KindName) → kind_named value ≡ o → option_map (λ kind. Asks (conditions.Kind kind)) o ≡ Some term → IsOf keys.Kind value term
+    go : (o : Option KindName) → kind_named text ≡ o → option_map (λ kind. Asks (conditions.Kind kind)) o ≡ Some term → IsOf keys.Kind text term
     go None is e = absurd cc
-    go (Some kind) is e = is_asked true (conditions.Kind kind) keys.Kind value term refl (kind_is value kind is) e
-term_is keys.Sender value term e = is_asked (is_bus_name value) (conditions.Sender value) keys.Sender value term refl refl e
-term_is keys.Interface value term e = is_asked (is_interface value) (conditions.Interface value) keys.Interface value term refl refl e
-term_is keys.Member value term e = is_asked (is_member value) (conditions.Member value) keys.Member value term refl refl e
-term_is keys.Path value term e = is_asked (is_path value) (conditions.Path value) keys.Path value term refl refl e
-term_is keys.PathNamespace value term e = is_asked (is_path value) (conditions.PathNamespace value) keys.PathNamespace value term refl refl e
-term_is keys.Destination value term e = is_asked (is_bus_name value) (conditions.Destination value) keys.Destination value term refl refl e
-term_is (keys.Arg n) value term e = is_asked (is_utf8 value) (conditions.Arg n value) (keys.Arg n) value term refl refl e
-term_is (keys.ArgPath n) value term e = is_asked (is_utf8 value) (conditions.ArgPath n value) (keys.ArgPath n) value term refl refl e
-term_is keys.Arg0Namespace value term e = is_asked (is_namespace value) (conditions.Arg0Namespace value) keys.Arg0Namespace value term refl refl e
-term_is keys.Eavesdrop value term e = go (flag_named value) e
+    go (Some kind) is e = is_asked true (conditions.Kind kind) keys.Kind text term refl (kind_is text kind is) e
+text_is keys.Sender text term e = is_asked (is_bus_name text) (conditions.Sender text) keys.Sender text term refl refl e
+text_is (keys.Compares source relation) text term e = is_asked (is_value source relation text) (conditions.Compares source relation text) (keys.Compares source relation) text term refl refl e
+text_is keys.Eavesdrop text term e = go (flag_named text) e
   where
-    go : (o : Option Bool) → option_map Eavesdrop o ≡ Some term → IsOf keys.Eavesdrop value term
+    go : (o : Option Bool) → option_map Eavesdrop o ≡ Some term → IsOf keys.Eavesdrop text term
     go None e = absurd cc
     go (Some flag) e = let same : Eavesdrop flag ≡ term = cc in let len : length (term_value term) ≡ 0 = ap (λ t. length (term_value t)) (sym same) in (ap term_key (sym same), omega arith)
+
+-- a value that says a term is a text that says it
+pub said_text : (key : Key) (value : List ℕ) (term : Term) → term_with key value ≡ Some term → (is_utf8 value ≡ true) × (term_of key value ≡ Some term)
+said_text key value term e = go (is_utf8 value) refl e
+  where
+    go : (b : Bool) → is_utf8 value ≡ b → cond b (term_of key value) None ≡ Some term → (is_utf8 value ≡ true) × (term_of key value ≡ Some term)
+    go true is e = (is, e)
+    go false is e = absurd cc
+
+pub term_is : (key : Key) (value : List ℕ) (term : Term) → term_with key value ≡ Some term → (term_key term ≡ key) × (length (term_value term) ≤ length value)
+term_is key value term e = text_is key value term (said_text key value term e).1
 
 -- ---- a value takes no more bytes than it has
 

@@ -3,11 +3,13 @@ use Rattle.std.proofs.Common.{◌≡◌, ℕ, zero, suc, ◌+◌, ◌*◌, ◌�
 use Rattle.std.specs.Prelude.{Result, Ok, Err, sum_by, ◌==◌}
 use Rattle.std.proofs.lemmas.List.Sums.{sum_by-append, sum_by-cons}
 use Rattle.match_rule.specs.declared.fault.RuleError.{RuleError}
-use Rattle.match_rule.specs.declared.condition.Condition.TheVariants.{Kind, Sender, Interface, Member, Path, PathNamespace, Destination, Arg, ArgPath, Arg0Namespace}
+use Rattle.match_rule.specs.declared.condition.Condition.TheVariants.{Kind, Sender, Compares}
+use Rattle.match_rule.specs.declared.relation.Relation.{Relation}
+use Rattle.match_rule.specs.declared.relation.Relation.TheVariants.{NestedPath}
 use Rattle.match_rule.specs.declared.term.Term.{Term}
 use Rattle.match_rule.specs.declared.term.Term.TheVariants.{Asks, Eavesdrop}
 use Rattle.match_rule.specs.Condition.{conditions_in}
-use Rattle.match_rule.specs.RuleTree.{slashes, condition_weight}
+use Rattle.match_rule.specs.RuleTree.{slashes, relation_weight, condition_weight}
 use Rattle.match_rule.specs.Grammar.{is_blank}
 use Rattle.match_rule.specs.Reading.{◌>>=◌, behind_blanks, part_at, parts_from, terms_at}
 use Rattle.match_rule.proofs.PartReads.{part_len, bind_ok, term_value}
@@ -75,18 +77,15 @@ slashes_le (b ∷ bs) =
     let sum = sum_by-cons (λ (byte : ℕ). cond (byte == 47) 1 0) b bs in
     omega arith
 
+relation_weight_le : (relation : Relation) (value : List ℕ) → relation_weight relation value ≤ 16 * length value
+relation_weight_le NestedPath value = let h = slashes_le value in omega arith
+relation_weight_le _ value = omega arith
+
 -- a byte of a value weighs at most 17
 term_weight_le : (term : Term) → term_weight term ≤ 24 + 17 * length (term_value term)
 term_weight_le (Asks (Kind kind)) = omega arith
 term_weight_le (Asks (Sender name)) = omega arith
-term_weight_le (Asks (Interface name)) = omega arith
-term_weight_le (Asks (Member name)) = omega arith
-term_weight_le (Asks (Path path)) = omega arith
-term_weight_le (Asks (PathNamespace path)) = omega arith
-term_weight_le (Asks (Destination name)) = omega arith
-term_weight_le (Asks (Arg n value)) = omega arith
-term_weight_le (Asks (ArgPath n value)) = let h = slashes_le value in omega arith
-term_weight_le (Asks (Arg0Namespace name)) = omega arith
+term_weight_le (Asks (Compares source relation value)) = let h = relation_weight_le relation value in omega arith
 term_weight_le (Eavesdrop flag) = omega arith
 
 -- each byte of a text weighs at most 41

@@ -2,22 +2,21 @@
 use Rattle.std.proofs.Common.{◌≡◌, ℕ, zero, suc, ◌+◌, ◌/◌, ◌<◌, Bool, true, false, cond, List, [], ◌∷◌, ◌++◌, refl, sym, ◌∙◌, subst, inl, inr, arith}
 use Rattle.std.specs.Prelude.{Some, All, nat_lt}
 use Rattle.std.specs.List.{list_all}
-use Rattle.std.specs.Str.{IsUtf8, is_utf8}
-use Rattle.std.proofs.lemmas.Bool.{and_parts, ltb-true, false≢true}
+use Rattle.std.specs.Str.{IsUtf8}
+use Rattle.std.proofs.lemmas.Bool.{and_parts, ltb-true}
 use Rattle.std.proofs.lemmas.List.Elements.{All-cons, All-nil}
-use Rattle.std.proofs.lemmas.Str.{IsUtf8-from_is_utf8, is_utf8-from_IsUtf8}
+use Rattle.std.proofs.lemmas.Str.{IsUtf8-from_is_utf8}
 use lib.Utf8.{scalar, scalars, next, encode, encodes, scalar_cases}
 use Rattle.message_value.specs.Words.{AreBytes}
-use Rattle.match_rule.specs.declared.key.Key.{Key}
 use Rattle.match_rule.specs.declared.kind_name.KindName.{KindName}
 use Rattle.match_rule.specs.declared.kind_name.KindName.TheVariants.{Signal, MethodCall, MethodReturn, Error}
 use Rattle.match_rule.specs.declared.condition.Condition.{Condition}
-use Rattle.match_rule.specs.declared.condition.Condition.TheVariants.{Kind, Sender, Interface, Member, Path, PathNamespace, Destination, Arg, ArgPath, Arg0Namespace}
+use Rattle.match_rule.specs.declared.condition.Condition.TheVariants.{Kind, Sender, Compares}
 use Rattle.match_rule.specs.declared.term.Term.{Term}
 use Rattle.match_rule.specs.declared.term.Term.TheVariants.{Asks, Eavesdrop}
-use Rattle.match_rule.specs.Condition.{key_of, kind_word, value_of, asks_if, term_with, conditions_in}
+use Rattle.match_rule.specs.Condition.{key_of, kind_word, value_of, asks_if, term_of, conditions_in}
 use Rattle.match_rule.specs.Grammar.{Part, pieces_value, AreParts}
-use Rattle.match_rule.proofs.Ascii.{not_text}
+use Rattle.match_rule.proofs.PartReads.{said_text}
 
 bytes_nil : AreBytes []
 bytes_nil zero = omega arith
@@ -68,13 +67,6 @@ text_bytes text u = subst AreBytes u.1.1 (encodes_bytes u.0 u.1.0)
 
 -- ---- values
 
-said_text : (key : Key) (value : List ℕ) (term : Term) → term_with key value ≡ Some term → IsUtf8 value
-said_text key value term e = go (is_utf8 value) refl
-  where
-    go : (b : Bool) → is_utf8 value ≡ b → IsUtf8 value
-    go true is = IsUtf8-from_is_utf8 value is
-    go false is = let none = not_text key value (λ u. false≢true (sym is ∙ is_utf8-from_IsUtf8 value u)) in absurd cc
-
 asks_same : (allowed : Bool) (said c : Condition) → asks_if allowed said ≡ Some (Asks c) → said ≡ c
 asks_same true said c e = cc
 asks_same false said c e = cc
@@ -93,17 +85,10 @@ word_bytes MethodCall = small_bytes (kind_word MethodCall) refl
 word_bytes MethodReturn = small_bytes (kind_word MethodReturn) refl
 word_bytes Error = small_bytes (kind_word Error) refl
 
-said_bytes : (c : Condition) (value : List ℕ) → term_with (key_of c) value ≡ Some (Asks c) → AreBytes value → AreBytes (value_of c)
-said_bytes (Kind kind) value e bytes = word_bytes kind
-said_bytes (Sender name) value e bytes = same_value _ (Sender value) (Sender name) e bytes
-said_bytes (Interface name) value e bytes = same_value _ (Interface value) (Interface name) e bytes
-said_bytes (Member name) value e bytes = same_value _ (Member value) (Member name) e bytes
-said_bytes (Path path) value e bytes = same_value _ (Path value) (Path path) e bytes
-said_bytes (PathNamespace path) value e bytes = same_value _ (PathNamespace value) (PathNamespace path) e bytes
-said_bytes (Destination name) value e bytes = same_value _ (Destination value) (Destination name) e bytes
-said_bytes (Arg n text) value e bytes = same_value _ (Arg n value) (Arg n text) e bytes
-said_bytes (ArgPath n text) value e bytes = same_value _ (ArgPath n value) (ArgPath n text) e bytes
-said_bytes (Arg0Namespace name) value e bytes = same_value _ (Arg0Namespace value) (Arg0Namespace name) e bytes
+said_bytes : (c : Condition) (text : List ℕ) → term_of (key_of c) text ≡ Some (Asks c) → AreBytes text → AreBytes (value_of c)
+said_bytes (Kind kind) text e bytes = word_bytes kind
+said_bytes (Sender name) text e bytes = same_value _ (Sender text) (Sender name) e bytes
+said_bytes (Compares source relation value) text e bytes = same_value _ (Compares source relation text) (Compares source relation value) e bytes
 
 pub parts_bytes_are : (parts : List Part) (terms : List Term) → AreParts parts terms → All (λ c. AreBytes (value_of c)) (conditions_in terms)
 parts_bytes_are [] [] said = All-nil (λ (c : Condition). AreBytes (value_of c))
@@ -112,5 +97,5 @@ parts_bytes_are (part ∷ parts) [] said = absurd said
 parts_bytes_are (part ∷ parts) (Eavesdrop flag ∷ terms) said = parts_bytes_are parts terms said.1
 parts_bytes_are (part ∷ parts) (Asks c ∷ terms) said =
     let value = pieces_value part.pieces in
-    let u = said_text (key_of c) value (Asks c) said.0.allowed in
-    All-cons (λ (c : Condition). AreBytes (value_of c)) c (conditions_in terms) (said_bytes c value said.0.allowed (text_bytes value u)) (parts_bytes_are parts terms said.1)
+    let is = said_text (key_of c) value (Asks c) said.0.allowed in
+    All-cons (λ (c : Condition). AreBytes (value_of c)) c (conditions_in terms) (said_bytes c value is.1 (text_bytes value (IsUtf8-from_is_utf8 value is.0))) (parts_bytes_are parts terms said.1)

@@ -5,14 +5,21 @@ use Rattle.std.specs.List.{list_any}
 use Rattle.signature.specs.Name.{is_interface, is_member, is_path, is_bus_name, is_namespace}
 use Rattle.message_view.specs.declared.kind.Kind as kinds
 use Rattle.message_view.specs.declared.kind.Kind.TheVariants as kinds_of
+use Rattle.match_rule.specs.declared.source.Field.{Field}
+use Rattle.match_rule.specs.declared.source.Field.TheVariants.{Interface, Member, Path, Destination}
+use Rattle.match_rule.specs.declared.source.Source.{Source}
+use Rattle.match_rule.specs.declared.source.Source.TheVariants.{Header, Arg}
+use Rattle.match_rule.specs.declared.relation.Relation.{Relation}
+use Rattle.match_rule.specs.declared.relation.Relation.TheVariants.{NameNamespace}
 use Rattle.match_rule.specs.declared.key.Key.{Key}
 use Rattle.match_rule.specs.declared.key.Key.TheVariants as keys
 use Rattle.match_rule.specs.declared.kind_name.KindName.{KindName}
 use Rattle.match_rule.specs.declared.kind_name.KindName.TheVariants.{Signal, MethodCall, MethodReturn, Error}
 use Rattle.match_rule.specs.declared.condition.Condition.{Condition}
-use Rattle.match_rule.specs.declared.condition.Condition.TheVariants.{Kind, Sender, Interface, Member, Path, PathNamespace, Destination, Arg, ArgPath, Arg0Namespace}
+use Rattle.match_rule.specs.declared.condition.Condition.TheVariants.{Kind, Sender, Compares}
 use Rattle.match_rule.specs.declared.term.Term.{Term}
 use Rattle.match_rule.specs.declared.term.Term.TheVariants.{Asks, Eavesdrop}
+use Rattle.match_rule.specs.Rows.{row_of}
 use Rattle.match_rule.specs.Key.{key_eq, is_twice, is_path_twice}
 
 -- the words for kinds
@@ -22,13 +29,12 @@ kind_word MethodCall = codes "method_call"
 kind_word MethodReturn = codes "method_return"
 kind_word Error = codes "error"
 
+abbrev pub kind_words : List (List ℕ × KindName)
+kind_words =
+    (codes "signal", Signal) ∷ (codes "method_call", MethodCall) ∷ (codes "method_return", MethodReturn) ∷ (codes "error", Error) ∷ []
+
 abbrev pub kind_named : List ℕ → Option KindName
-kind_named word =
-    if bytes_eq word (codes "signal") then Some Signal
-    else if bytes_eq word (codes "method_call") then Some MethodCall
-    else if bytes_eq word (codes "method_return") then Some MethodReturn
-    else if bytes_eq word (codes "error") then Some Error
-    else None
+kind_named word = row_of kind_words word
 
 -- the kind of message that a word names
 abbrev pub kind_meant : KindName → kinds.Kind
@@ -38,61 +44,61 @@ kind_meant MethodReturn = kinds_of.MethodReturn
 kind_meant Error = kinds_of.Error
 
 -- `true` and `false`
+abbrev pub flag_words : List (List ℕ × Bool)
+flag_words = (codes "true", true) ∷ (codes "false", false) ∷ []
+
 abbrev pub flag_named : List ℕ → Option Bool
-flag_named word =
-    if bytes_eq word (codes "true") then Some true
-    else if bytes_eq word (codes "false") then Some false
-    else None
+flag_named word = row_of flag_words word
 
 abbrev pub key_of : Condition → Key
 key_of (Kind kind) = keys.Kind
 key_of (Sender name) = keys.Sender
-key_of (Interface name) = keys.Interface
-key_of (Member name) = keys.Member
-key_of (Path path) = keys.Path
-key_of (PathNamespace path) = keys.PathNamespace
-key_of (Destination name) = keys.Destination
-key_of (Arg n value) = keys.Arg n
-key_of (ArgPath n value) = keys.ArgPath n
-key_of (Arg0Namespace name) = keys.Arg0Namespace
+key_of (Compares source relation value) = keys.Compares source relation
 
 -- the bytes of its value
 abbrev pub value_of : Condition → List ℕ
 value_of (Kind kind) = kind_word kind
 value_of (Sender name) = name
-value_of (Interface name) = name
-value_of (Member name) = name
-value_of (Path path) = path
-value_of (PathNamespace path) = path
-value_of (Destination name) = name
-value_of (Arg n value) = value
-value_of (ArgPath n value) = value
-value_of (Arg0Namespace name) = name
+value_of (Compares source relation value) = value
 
 -- what a part of a rule's text says: a condition, or whether the rule eavesdrops
 abbrev pub term_key : Term → Key
 term_key (Asks condition) = key_of condition
 term_key (Eavesdrop flag) = keys.Eavesdrop
 
+-- ---- the values that keys allow
+
+-- the texts that a field may be compared with
+abbrev pub is_field_value : Field → List ℕ → Bool
+is_field_value Interface text = is_interface text
+is_field_value Member text = is_member text
+is_field_value Path text = is_path text
+is_field_value Destination text = is_bus_name text
+
+-- the texts that an argument may be compared with: any, but for the namespace of a name
+abbrev pub is_arg_value : Relation → List ℕ → Bool
+is_arg_value NameNamespace text = is_namespace text
+is_arg_value _ text = true
+
+abbrev pub is_value : Source → Relation → List ℕ → Bool
+is_value (Header field) relation text = is_field_value field text
+is_value (Arg n) relation text = is_arg_value relation text
+
 -- a condition of a value that is allowed
 abbrev pub asks_if : Bool → Condition → Option Term
 asks_if true condition = Some (Asks condition)
 asks_if false condition = None
 
--- What a key and a value say, where the value is allowed for the key. Of an argument any text is; the values
--- of a text in UTF-8 are in UTF-8.
+-- what a key and a text say, where the text is allowed for the key
+abbrev pub term_of : Key → List ℕ → Option Term
+term_of keys.Kind text = option_map (λ kind. Asks (Kind kind)) (kind_named text)
+term_of keys.Sender text = asks_if (is_bus_name text) (Sender text)
+term_of (keys.Compares source relation) text = asks_if (is_value source relation text) (Compares source relation text)
+term_of keys.Eavesdrop text = option_map Eavesdrop (flag_named text)
+
+-- What a key and a value say: the value has to be a text, in UTF-8.
 abbrev pub term_with : Key → List ℕ → Option Term
-term_with keys.Kind value = option_map (λ kind. Asks (Kind kind)) (kind_named value)
-term_with keys.Sender value = asks_if (is_bus_name value) (Sender value)
-term_with keys.Interface value = asks_if (is_interface value) (Interface value)
-term_with keys.Member value = asks_if (is_member value) (Member value)
-term_with keys.Path value = asks_if (is_path value) (Path value)
-term_with keys.PathNamespace value = asks_if (is_path value) (PathNamespace value)
-term_with keys.Destination value = asks_if (is_bus_name value) (Destination value)
-term_with (keys.Arg n) value = asks_if (is_utf8 value) (Arg n value)
-term_with (keys.ArgPath n) value = asks_if (is_utf8 value) (ArgPath n value)
-term_with keys.Arg0Namespace value = asks_if (is_namespace value) (Arg0Namespace value)
-term_with keys.Eavesdrop value = option_map Eavesdrop (flag_named value)
+term_with key value = if is_utf8 value then term_of key value else None
 
 -- the same key and the same value
 abbrev pub condition_eq : Condition → Condition → Bool

@@ -1,5 +1,5 @@
 -- Equal conditions are one, and equal rules are the same set.
-use Rattle.std.specs.Prelude.{◌≡◌, ℕ, zero, suc, ◌+◌, ◌-◌, ◌*◌, Bool, true, false, List, Contains, slice_index_or, unwrap_or, ◌==◌, ◌&&◌, if◌then◌else◌}
+use Rattle.std.specs.Prelude.{◌≡◌, ◌<◌, ℕ, zero, suc, ◌+◌, ◌-◌, ◌*◌, Bool, true, false, List, Contains, slice_index_or, unwrap_or, ◌==◌, ◌&&◌, if◌then◌else◌}
 use Rattle.std.specs.List.{list_any}
 use Rattle.std.specs.Bool.{beq, Decides, one_answer}
 use Rattle.std.specs.Str.{bytes_eq}
@@ -10,81 +10,94 @@ use Rattle.std.proofs.lemmas.Slice.Eq.{bytes_eq-Decides}
 use Rattle.std.proofs.lemmas.List.Sums.{AllPass-from_list_all, list_all-from_AllPass}
 use Rattle.std.proofs.lemmas.List.Folds.{Any-from_list_any, list_any-from_Any}
 use Rattle.std.proofs.lemmas.List.Elements.{All-contains_itself}
+use Rattle.match_rule.specs.declared.source.Field.{Field}
+use Rattle.match_rule.specs.declared.source.Field.TheVariants.{Interface, Member, Path, Destination}
+use Rattle.match_rule.specs.declared.source.Source.{Source}
+use Rattle.match_rule.specs.declared.source.Source.TheVariants.{Header, Arg}
+use Rattle.match_rule.specs.declared.relation.Relation.{Relation}
+use Rattle.match_rule.specs.declared.relation.Relation.TheVariants.{Equal, PathNamespace, NameNamespace, NestedPath}
 use Rattle.match_rule.specs.declared.key.Key.{Key}
 use Rattle.match_rule.specs.declared.key.Key.TheVariants as keys
 use Rattle.match_rule.specs.declared.kind_name.KindName.TheVariants.{Signal, MethodCall, MethodReturn, Error}
 use Rattle.match_rule.specs.declared.condition.Condition.{Condition}
-use Rattle.match_rule.specs.declared.condition.Condition.TheVariants.{Kind, Sender, Interface, Member, Path, PathNamespace, Destination, Arg, ArgPath, Arg0Namespace}
-use Rattle.match_rule.specs.Key.{key_number, key_eq}
+use Rattle.match_rule.specs.declared.condition.Condition.TheVariants.{Kind, Sender, Compares}
+use Rattle.match_rule.specs.Key.{field_number, source_number, relation_number, key_number, key_eq}
 use Rattle.match_rule.specs.Condition.{kind_named, key_of, value_of, condition_eq}
 use Rattle.match_rule.specs.RuleTree.{RuleTree, are_among, rule_eq, AreSame}
 
-next_arg : Key → Key
-next_arg (keys.Arg n) = keys.Arg (suc n)
-next_arg (keys.ArgPath n) = keys.ArgPath (suc n)
-next_arg key = key
+-- ---- the numbers tell keys apart
 
--- the keys of arguments, in turn
-arg_key_with : ℕ → Key
-arg_key_with zero = keys.Arg 0
-arg_key_with (suc zero) = keys.ArgPath 0
-arg_key_with (suc (suc n)) = next_arg (arg_key_with n)
+relation_with : ℕ → Relation
+relation_with n =
+    if n == 0 then Equal
+    else if n == 1 then PathNamespace
+    else if n == 2 then NameNamespace
+    else NestedPath
 
-arg_key-even : (n : ℕ) → arg_key_with (2 * n) ≡ keys.Arg n
-unfolding arg_key_with next_arg
-arg_key-even zero = refl
-arg_key-even (suc n) = let e : 2 * suc n ≡ suc (suc (2 * n)) = omega arith in rw e (ap next_arg (arg_key-even n))
+relation_with-number : (relation : Relation) → relation_with (relation_number relation) ≡ relation
+unfolding relation_with
+relation_with-number Equal = refl
+relation_with-number PathNamespace = refl
+relation_with-number NameNamespace = refl
+relation_with-number NestedPath = refl
 
-arg_key-odd : (n : ℕ) → arg_key_with (suc (2 * n)) ≡ keys.ArgPath n
-unfolding arg_key_with next_arg
-arg_key-odd zero = refl
-arg_key-odd (suc n) = let e : suc (2 * suc n) ≡ suc (suc (suc (2 * n))) = omega arith in rw e (ap next_arg (arg_key-odd n))
+relation_small : (relation : Relation) → relation_number relation < 4
+relation_small Equal = omega arith
+relation_small PathNamespace = omega arith
+relation_small NameNamespace = omega arith
+relation_small NestedPath = omega arith
 
-key_with : ℕ → Key
-key_with n =
-    if n == 0 then keys.Kind
-    else if n == 1 then keys.Sender
-    else if n == 2 then keys.Interface
-    else if n == 3 then keys.Member
-    else if n == 4 then keys.Path
-    else if n == 5 then keys.PathNamespace
-    else if n == 6 then keys.Destination
-    else if n == 7 then keys.Arg0Namespace
-    else if n == 8 then keys.Eavesdrop
-    else arg_key_with (n - 9)
+field_with : ℕ → Field
+field_with n =
+    if n == 0 then Interface
+    else if n == 1 then Member
+    else if n == 2 then Path
+    else Destination
 
-key_with-past : (n k : ℕ) → n ≡ 9 + k → key_with n ≡ arg_key_with k
-unfolding key_with
-key_with-past n k e =
-    let rest : n - 9 ≡ k = omega arith in
-    rw (ne_eqb n 0 (λ h. omega arith), ne_eqb n 1 (λ h. omega arith), ne_eqb n 2 (λ h. omega arith), ne_eqb n 3 (λ h. omega arith), ne_eqb n 4 (λ h. omega arith), ne_eqb n 5 (λ h. omega arith), ne_eqb n 6 (λ h. omega arith), ne_eqb n 7 (λ h. omega arith), ne_eqb n 8 (λ h. omega arith), rest) refl
+field_with-number : (field : Field) → field_with (field_number field) ≡ field
+unfolding field_with
+field_with-number Interface = refl
+field_with-number Member = refl
+field_with-number Path = refl
+field_with-number Destination = refl
 
-key_with-number : (key : Key) → key_with (key_number key) ≡ key
-unfolding key_with
-key_with-number keys.Kind = refl
-key_with-number keys.Sender = refl
-key_with-number keys.Interface = refl
-key_with-number keys.Member = refl
-key_with-number keys.Path = refl
-key_with-number keys.PathNamespace = refl
-key_with-number keys.Destination = refl
-key_with-number keys.Arg0Namespace = refl
-key_with-number keys.Eavesdrop = refl
-key_with-number (keys.Arg n) = key_with-past (9 + 2 * n) (2 * n) refl ∙ arg_key-even n
-key_with-number (keys.ArgPath n) = key_with-past (10 + 2 * n) (suc (2 * n)) (omega arith) ∙ arg_key-odd n
+field_small : (field : Field) → field_number field < 4
+field_small Interface = omega arith
+field_small Member = omega arith
+field_small Path = omega arith
+field_small Destination = omega arith
+
+same_source : (a b : Source) → source_number a ≡ source_number b → a ≡ b
+same_source (Header f) (Header g) e = ap Header (sym (field_with-number f) ∙ ap field_with e ∙ field_with-number g)
+same_source (Header f) (Arg n) e = let small = field_small f in absurd (omega arith)
+same_source (Arg n) (Header g) e = let small = field_small g in absurd (omega arith)
+same_source (Arg n) (Arg k) e = let same : n ≡ k = omega arith in ap Arg same
+
+same_relation : (a b : Relation) → relation_number a ≡ relation_number b → a ≡ b
+same_relation a b e = sym (relation_with-number a) ∙ ap relation_with e ∙ relation_with-number b
+
+same_number : (a b : Key) → key_number a ≡ key_number b → a ≡ b
+same_number keys.Kind keys.Kind e = refl
+same_number keys.Sender keys.Sender e = refl
+same_number keys.Eavesdrop keys.Eavesdrop e = refl
+same_number (keys.Compares s r) (keys.Compares t q) e =
+    let r_small = relation_small r in
+    let q_small = relation_small q in
+    let sources : source_number s ≡ source_number t = omega arith in
+    let relations : relation_number r ≡ relation_number q = omega arith in
+    ap (λ (x : Source). keys.Compares x r) (same_source s t sources) ∙ ap (keys.Compares t) (same_relation r q relations)
+same_number _ _ e = absurd (omega arith)
+
+pub same_key : (a b : Key) → key_eq a b ≡ true → a ≡ b
+same_key a b e = same_number a b (eqb-true (key_number a) (key_number b) e)
+
+-- ---- conditions
 
 -- the condition of a key and a value, allowed or not; for what asks nothing any
 condition_of : Key → List ℕ → Condition
 condition_of keys.Kind value = Kind (unwrap_or (kind_named value) Signal)
 condition_of keys.Sender value = Sender value
-condition_of keys.Interface value = Interface value
-condition_of keys.Member value = Member value
-condition_of keys.Path value = Path value
-condition_of keys.PathNamespace value = PathNamespace value
-condition_of keys.Destination value = Destination value
-condition_of (keys.Arg n) value = Arg n value
-condition_of (keys.ArgPath n) value = ArgPath n value
-condition_of keys.Arg0Namespace value = Arg0Namespace value
+condition_of (keys.Compares source relation) value = Compares source relation value
 condition_of keys.Eavesdrop value = Kind Signal
 
 condition_of-parts : (c : Condition) → condition_of (key_of c) (value_of c) ≡ c
@@ -94,14 +107,7 @@ condition_of-parts (Kind MethodCall) = refl
 condition_of-parts (Kind MethodReturn) = refl
 condition_of-parts (Kind Error) = refl
 condition_of-parts (Sender name) = refl
-condition_of-parts (Interface name) = refl
-condition_of-parts (Member name) = refl
-condition_of-parts (Path path) = refl
-condition_of-parts (PathNamespace path) = refl
-condition_of-parts (Destination name) = refl
-condition_of-parts (Arg n value) = refl
-condition_of-parts (ArgPath n value) = refl
-condition_of-parts (Arg0Namespace name) = refl
+condition_of-parts (Compares source relation value) = refl
 
 both : (a b : Bool) → (a && b) ≡ true → (a ≡ true) × (b ≡ true)
 both true b e = (refl, e)
@@ -110,9 +116,6 @@ both false b e = absurd cc
 both_true : (a b : Bool) → a ≡ true → b ≡ true → (a && b) ≡ true
 both_true true b p q = q
 both_true false b p q = p
-
-same_key : (a b : Key) → key_eq a b ≡ true → a ≡ b
-same_key a b e = sym (key_with-number a) ∙ ap key_with (eqb-true (key_number a) (key_number b) e) ∙ key_with-number b
 
 -- conditions that test as equal are one
 pub condition_decides : (a b : Condition) → Decides (condition_eq a b) (a ≡ b)

@@ -3,7 +3,13 @@ use Rattle.std.specs.Prelude.{◌≡◌, ℕ, List, [], ◌∷◌, Option, Some,
 use Rattle.message_view.specs.Message.{Message, path_of, interface_of, member_of}
 use Rattle.message_view.specs.Spelling.{arguments_of}
 use Rattle.match_rule.specs.declared.condition.Condition.{Condition}
-use Rattle.match_rule.specs.declared.condition.Condition.TheVariants.{Interface, Member, Path, Arg}
+use Rattle.match_rule.specs.declared.source.Field.TheVariants.{Interface, Member, Path}
+use Rattle.match_rule.specs.declared.source.Source.TheVariants.{Header, Arg}
+use Rattle.match_rule.specs.declared.relation.Relation.TheVariants.{Equal}
+use Rattle.match_rule.specs.declared.key.Key.{Key}
+use Rattle.match_rule.specs.declared.key.Key.TheVariants as keys
+use Rattle.match_rule.specs.Key.{key_eq}
+use Rattle.match_rule.specs.Condition.{key_of, value_of}
 use Rattle.match_rule.specs.Arguments.{text_in}
 use Rattle.match_rule.specs.RuleTree.{RuleTree, or_else}
 
@@ -18,38 +24,30 @@ pub record FixedTexts : Type 0 where
 abbrev pub no_texts : FixedTexts
 no_texts = record { member = None; interface = None; path = None; arg0 = None }
 
-abbrev pub member_in : Condition → Option (List ℕ)
-member_in (Member name) = Some name
-member_in _ = None
-
-abbrev pub interface_in : Condition → Option (List ℕ)
-interface_in (Interface name) = Some name
-interface_in _ = None
-
-abbrev pub path_in : Condition → Option (List ℕ)
-path_in (Path path) = Some path
-path_in _ = None
-
-abbrev pub arg0_in : Condition → Option (List ℕ)
-arg0_in (Arg n value) = if n == 0 then Some value else None
-arg0_in _ = None
+-- the value of a condition with this key
+abbrev pub value_in : Key → Condition → Option (List ℕ)
+value_in key c = if key_eq (key_of c) key then Some (value_of c) else None
 
 -- the text of the first condition that has one
 abbrev pub first_text : (Condition → Option (List ℕ)) → List Condition → Option (List ℕ)
 first_text text_of [] = None
 first_text text_of (c ∷ cs) = or_else (text_of c) (first_text text_of cs)
 
+-- the value of the first condition with this key
+abbrev pub value_asked : Key → RuleTree → Option (List ℕ)
+value_asked key rule = first_text (value_in key) rule.conditions
+
 abbrev pub member_asked : RuleTree → Option (List ℕ)
-member_asked rule = first_text member_in rule.conditions
+member_asked rule = value_asked (keys.Compares (Header Member) Equal) rule
 
 abbrev pub interface_asked : RuleTree → Option (List ℕ)
-interface_asked rule = first_text interface_in rule.conditions
+interface_asked rule = value_asked (keys.Compares (Header Interface) Equal) rule
 
 abbrev pub path_asked : RuleTree → Option (List ℕ)
-path_asked rule = first_text path_in rule.conditions
+path_asked rule = value_asked (keys.Compares (Header Path) Equal) rule
 
 abbrev pub arg0_asked : RuleTree → Option (List ℕ)
-arg0_asked rule = first_text arg0_in rule.conditions
+arg0_asked rule = value_asked (keys.Compares (Arg 0) Equal) rule
 
 -- the texts that a rule fixes
 abbrev pub fixed_texts : RuleTree → FixedTexts

@@ -1,11 +1,17 @@
 -- Where a rule holds of a message (D-Bus Specification, "Match Rules").
-use Rattle.std.specs.Prelude.{◌≡◌, ◌⊎◌, ℕ, Bool, true, List, [], ◌∷◌, ◌++◌, Some, None, All, IfSome, MatchBool, slice_get}
-use Rattle.message_value.specs.Arguments.{Argument}
+use Rattle.std.specs.Prelude.{◌≡◌, ◌⊎◌, ◌==◌, ◌||◌, ℕ, Bool, true, List, [], ◌∷◌, ◌++◌, Option, Some, None, All, IfSome, IsSomeAnd, MatchBool, slice_get, if◌then◌else◌}
 use Rattle.message_view.specs.Message.{Message, path_of, interface_of, member_of, destination_of, sender_of}
 use Rattle.message_view.specs.Spelling.{arguments_of}
 use Rattle.match_rule.specs.declared.condition.Condition.{Condition}
-use Rattle.match_rule.specs.declared.condition.Condition.TheVariants.{Kind, Sender, Interface, Member, Path, PathNamespace, Destination, Arg, ArgPath, Arg0Namespace}
+use Rattle.match_rule.specs.declared.condition.Condition.TheVariants.{Kind, Sender, Compares}
+use Rattle.match_rule.specs.declared.source.Field.{Field}
+use Rattle.match_rule.specs.declared.source.Field.TheVariants.{Interface, Member, Path, Destination}
+use Rattle.match_rule.specs.declared.source.Source.{Source}
+use Rattle.match_rule.specs.declared.source.Source.TheVariants.{Header, Arg}
+use Rattle.match_rule.specs.declared.relation.Relation.{Relation}
+use Rattle.match_rule.specs.declared.relation.Relation.TheVariants.{Equal, PathNamespace, NameNamespace, NestedPath}
 use Rattle.match_rule.specs.Condition.{kind_meant}
+use Rattle.match_rule.specs.Arguments.{text_in}
 use Rattle.match_rule.specs.Bytes.{ends_with}
 use Rattle.match_rule.specs.RuleTree.{RuleTree, is_owned_name, sender_name_of}
 
@@ -29,23 +35,40 @@ IsFolderOf folder path = (ends_with 47 folder ≡ true) × Begins path folder
 abbrev pub AreNested : List ℕ → List ℕ → Type 0
 AreNested text value = (text ≡ value) ⊎ IsFolderOf text value ⊎ IsFolderOf value text
 
--- argument n of a message has the type of this code, and this text
-abbrev pub HasArg : Message → ℕ → ℕ → List ℕ → Type 0
-HasArg m n code text =
-    (argument : Argument) × (slice_get (arguments_of m) n ≡ Some argument) × (argument.code ≡ code) × (argument.text ≡ Some text)
+-- the text stands in the relation to the value
+abbrev pub Relates : Relation → List ℕ → List ℕ → Type 0
+Relates Equal text value = text ≡ value
+Relates PathNamespace text value = InPathNamespace text value
+Relates NameNamespace text value = InNamespace text value
+Relates NestedPath text value = AreNested text value
+
+-- the text of a header field
+abbrev pub field_of : Field → Message → Option (List ℕ)
+field_of Interface m = interface_of m
+field_of Member m = member_of m
+field_of Path m = path_of m
+field_of Destination m = destination_of m
+
+-- the types of arguments that a relation compares: a string, and for `argNpath` an object path too
+abbrev pub is_compared : Relation → ℕ → Bool
+is_compared NestedPath code = code == 115 || code == 111
+is_compared _ code = code == 115
+
+-- the text of a type that the relation compares
+abbrev pub compared_text : Relation → Option (ℕ × List ℕ) → Option (List ℕ)
+compared_text relation None = None
+compared_text relation (Some found) = if is_compared relation found.0 then Some found.1 else None
+
+-- the text that a message has at a source, if it has one that the relation compares
+abbrev pub text_at : Source → Relation → Message → Option (List ℕ)
+text_at (Header field) relation m = field_of field m
+text_at (Arg n) relation m = compared_text relation (text_in (slice_get (arguments_of m) n))
 
 -- what a condition says of a message, whose sender is the primary owner of the owned names
 abbrev pub ConditionHolds : Condition → Message → (List ℕ → Bool) → Type 0
 ConditionHolds (Kind kind) m owned = m.kind ≡ kind_meant kind
 ConditionHolds (Sender name) m owned = MatchBool (is_owned_name name) (owned name ≡ true) (sender_of m ≡ Some name)
-ConditionHolds (Interface name) m owned = interface_of m ≡ Some name
-ConditionHolds (Member name) m owned = member_of m ≡ Some name
-ConditionHolds (Path path) m owned = path_of m ≡ Some path
-ConditionHolds (PathNamespace value) m owned = (path : List ℕ) × (path_of m ≡ Some path) × InPathNamespace path value
-ConditionHolds (Destination name) m owned = destination_of m ≡ Some name
-ConditionHolds (Arg n value) m owned = HasArg m n 115 value
-ConditionHolds (ArgPath n value) m owned = (text : List ℕ) × (HasArg m n 115 text ⊎ HasArg m n 111 text) × AreNested text value
-ConditionHolds (Arg0Namespace value) m owned = (text : List ℕ) × HasArg m 0 115 text × InNamespace text value
+ConditionHolds (Compares source relation value) m owned = IsSomeAnd (text_at source relation m) (λ text. Relates relation text value)
 
 -- each condition holds, and the message has no destination or the rule eavesdrops
 pub record Holds (rule : RuleTree) (m : Message) (owned : List ℕ → Bool) : Type 0 where

@@ -1,11 +1,44 @@
 -- The keys of rules (D-Bus Specification, "Match Rules").
-use Rattle.std.specs.Prelude.{ℕ, ◌+◌, ◌-◌, ◌*◌, Bool, true, false, ◌&&◌, List, [], ◌∷◌, drop, length, Option, Some, None, Result, Ok, Err, codes, nat_le, ◌==◌, if◌then◌else◌}
-use Rattle.std.specs.Str.{bytes_eq}
+use Rattle.std.specs.Prelude.{ℕ, ◌+◌, ◌-◌, ◌*◌, Bool, true, false, ◌&&◌, ◌||◌, List, [], ◌∷◌, drop, length, Option, Some, None, Result, Ok, Err, codes, nat_le, ◌==◌, if◌then◌else◌}
 use Rattle.signature.specs.Name.{is_digit}
 use Rattle.match_rule.specs.declared.fault.RuleError.{RuleError}
 use Rattle.match_rule.specs.declared.fault.RuleError.TheVariants.{UnknownKey, ArgNumber}
+use Rattle.match_rule.specs.declared.source.Field.{Field}
+use Rattle.match_rule.specs.declared.source.Field.TheVariants.{Interface, Member, Path, Destination}
+use Rattle.match_rule.specs.declared.source.Source.{Source}
+use Rattle.match_rule.specs.declared.source.Source.TheVariants.{Header, Arg}
+use Rattle.match_rule.specs.declared.relation.Relation.{Relation}
+use Rattle.match_rule.specs.declared.relation.Relation.TheVariants.{Equal, PathNamespace, NameNamespace, NestedPath}
 use Rattle.match_rule.specs.declared.key.Key.{Key}
-use Rattle.match_rule.specs.declared.key.Key.TheVariants.{Kind, Sender, Interface, Member, Path, PathNamespace, Destination, Arg, ArgPath, Arg0Namespace, Eavesdrop}
+use Rattle.match_rule.specs.declared.key.Key.TheVariants.{Kind, Sender, Eavesdrop, Compares}
+use Rattle.match_rule.specs.Rows.{row_of}
+
+-- ---- the words of keys
+
+-- the keys that are one word
+abbrev pub key_words : List (List ℕ × Key)
+key_words =
+    (codes "type", Kind)
+    ∷ (codes "sender", Sender)
+    ∷ (codes "interface", Compares (Header Interface) Equal)
+    ∷ (codes "member", Compares (Header Member) Equal)
+    ∷ (codes "path", Compares (Header Path) Equal)
+    ∷ (codes "path_namespace", Compares (Header Path) PathNamespace)
+    ∷ (codes "destination", Compares (Header Destination) Equal)
+    ∷ (codes "eavesdrop", Eavesdrop)
+    ∷ []
+
+-- the greatest number of an argument that a rule may ask for
+abbrev pub max_arg : ℕ
+max_arg = 63
+
+-- what may stand behind the number of an argument: the relation, and the greatest number that it may have
+abbrev pub arg_suffixes : List (List ℕ × (Relation × ℕ))
+arg_suffixes =
+    ([], (Equal, max_arg))
+    ∷ (codes "path", (NestedPath, max_arg))
+    ∷ (codes "namespace", (NameNamespace, 0))
+    ∷ []
 
 -- the longest run of digits in front
 abbrev pub digits_of : List ℕ → List ℕ
@@ -17,84 +50,91 @@ abbrev pub behind_digits : List ℕ → List ℕ
 behind_digits [] = []
 behind_digits (b ∷ bs) = if is_digit b then behind_digits bs else b ∷ bs
 
--- the greatest number of an argument that a rule may ask for
-abbrev pub max_arg : ℕ
-max_arg = 63
-
 abbrev pub up_to_max : ℕ → Option ℕ
 up_to_max n = if nat_le n max_arg then Some n else None
 
 -- the number of an argument, of one digit or of two of which the first isn't 0
 abbrev pub arg_number : List ℕ → Option ℕ
-arg_number (d ∷ []) = Some (d - 48)
+arg_number (d ∷ []) = up_to_max (d - 48)
 arg_number (d ∷ e ∷ []) = if d == 48 then None else up_to_max (10 * (d - 48) + (e - 48))
 arg_number _ = None
 
-abbrev pub or_bad_number : (ℕ → Key) → Option ℕ → Result Key RuleError
-or_bad_number key (Some n) = Ok (key n)
-or_bad_number key None = Err ArgNumber
+-- the key of an argument's number, beside a relation and the greatest number that it may have
+abbrev pub numbered_key : Relation × ℕ → Option ℕ → Result Key RuleError
+numbered_key row None = Err ArgNumber
+numbered_key row (Some n) = if nat_le n row.1 then Ok (Compares (Arg n) row.0) else Err ArgNumber
 
--- `arg0namespace` alone
-abbrev pub namespace_key : Option ℕ → Result Key RuleError
-namespace_key (Some n) = if n == 0 then Ok Arg0Namespace else Err ArgNumber
-namespace_key None = Err ArgNumber
+abbrev pub suffixed_key : Option (Relation × ℕ) → Option ℕ → Result Key RuleError
+suffixed_key None number = Err UnknownKey
+suffixed_key (Some row) number = numbered_key row number
 
 -- the key of digits and what stands behind them
 abbrev pub arg_key : List ℕ → List ℕ → Result Key RuleError
 arg_key digits suffix =
-    if length digits == 0 then Err UnknownKey
-    else if length suffix == 0 then or_bad_number Arg (arg_number digits)
-    else if bytes_eq suffix (codes "path") then or_bad_number ArgPath (arg_number digits)
-    else if bytes_eq suffix (codes "namespace") then namespace_key (arg_number digits)
-    else Err UnknownKey
+    if length digits == 0 then Err UnknownKey else suffixed_key (row_of arg_suffixes suffix) (arg_number digits)
 
 -- whether the word begins with `arg`
 abbrev pub is_of_arg : List ℕ → Bool
 is_of_arg (a ∷ b ∷ c ∷ rest) = a == 97 && b == 114 && c == 103
 is_of_arg _ = false
 
+abbrev pub or_key : Option Key → Result Key RuleError → Result Key RuleError
+or_key (Some key) other = Ok key
+or_key None other = other
+
 -- the key of a word, or why it is none
 abbrev pub key_named : List ℕ → Result Key RuleError
 key_named word =
-    if bytes_eq word (codes "type") then Ok Kind
-    else if bytes_eq word (codes "sender") then Ok Sender
-    else if bytes_eq word (codes "interface") then Ok Interface
-    else if bytes_eq word (codes "member") then Ok Member
-    else if bytes_eq word (codes "path") then Ok Path
-    else if bytes_eq word (codes "path_namespace") then Ok PathNamespace
-    else if bytes_eq word (codes "destination") then Ok Destination
-    else if bytes_eq word (codes "eavesdrop") then Ok Eavesdrop
-    else if is_of_arg word then arg_key (digits_of (drop 3 word)) (behind_digits (drop 3 word))
-    else Err UnknownKey
+    or_key (row_of key_words word) (if is_of_arg word then arg_key (digits_of (drop 3 word)) (behind_digits (drop 3 word)) else Err UnknownKey)
 
--- a number for each key
+-- ---- keys beside one another
+
+-- a number for each field, each source, each relation and each key
+abbrev pub field_number : Field → ℕ
+field_number Interface = 0
+field_number Member = 1
+field_number Path = 2
+field_number Destination = 3
+
+abbrev pub source_number : Source → ℕ
+source_number (Header field) = field_number field
+source_number (Arg n) = 4 + n
+
+abbrev pub relation_number : Relation → ℕ
+relation_number Equal = 0
+relation_number PathNamespace = 1
+relation_number NameNamespace = 2
+relation_number NestedPath = 3
+
 abbrev pub key_number : Key → ℕ
 key_number Kind = 0
 key_number Sender = 1
-key_number Interface = 2
-key_number Member = 3
-key_number Path = 4
-key_number PathNamespace = 5
-key_number Destination = 6
-key_number Arg0Namespace = 7
-key_number Eavesdrop = 8
-key_number (Arg n) = 9 + 2 * n
-key_number (ArgPath n) = 10 + 2 * n
+key_number Eavesdrop = 2
+key_number (Compares source relation) = 3 + 4 * source_number source + relation_number relation
 
 abbrev pub key_eq : Key → Key → Bool
 key_eq a b = key_number a == key_number b
 
--- A number for each key that a rule may have once: `argN` and `argNpath` of one N have one.
-abbrev pub once_number : Key → ℕ
-once_number (ArgPath n) = 9 + 2 * n
-once_number key = key_number key
+-- `argN` and `argNpath` of one N stand for one another
+abbrev pub once_relation : Relation → Relation
+once_relation NestedPath = Equal
+once_relation relation = relation
+
+-- the key that stands for all those of which a rule may have one
+abbrev pub once_key : Key → Key
+once_key (Compares source relation) = Compares source (once_relation relation)
+once_key key = key
 
 -- a rule may not have both
 abbrev pub is_twice : Key → Key → Bool
-is_twice a b = once_number a == once_number b
+is_twice a b = key_eq (once_key a) (once_key b)
+
+abbrev pub path_key : Key
+path_key = Compares (Header Path) Equal
+
+abbrev pub path_namespace_key : Key
+path_namespace_key = Compares (Header Path) PathNamespace
 
 -- `path` and `path_namespace`
 abbrev pub is_path_twice : Key → Key → Bool
-is_path_twice Path PathNamespace = true
-is_path_twice PathNamespace Path = true
-is_path_twice _ _ = false
+is_path_twice a b = key_eq a path_key && key_eq b path_namespace_key || key_eq a path_namespace_key && key_eq b path_key

@@ -1,5 +1,6 @@
 pub mod Bytes
 pub mod Fault
+pub mod Rows
 pub mod Key
 pub mod Condition
 pub mod RuleTree

@@ -4,7 +4,9 @@ use Rattle.std.specs.List.{list_all, list_any}
 use Rattle.signature.specs.Name.{is_bus_name}
 use Rattle.match_rule.specs.declared.fault.RuleError.{RuleError}
 use Rattle.match_rule.specs.declared.condition.Condition.{Condition}
-use Rattle.match_rule.specs.declared.condition.Condition.TheVariants.{Sender, Arg, ArgPath}
+use Rattle.match_rule.specs.declared.condition.Condition.TheVariants.{Sender, Compares}
+use Rattle.match_rule.specs.declared.source.Source.{Source}
+use Rattle.match_rule.specs.declared.source.Source.TheVariants.{Header, Arg}
 use Rattle.match_rule.specs.declared.term.Term.{Term}
 use Rattle.match_rule.specs.declared.term.Term.TheVariants.{Asks, Eavesdrop}
 use Rattle.match_rule.specs.declared.parts.Parts.{Parts}
@@ -44,9 +46,12 @@ has_one_sender [] = true
 has_one_sender (c ∷ cs) = not (is_sender c && list_any is_sender cs) && has_one_sender cs
 
 -- an argument that a condition is about has a number that a rule may ask for
+abbrev pub is_small_source : Source → Bool
+is_small_source (Header field) = true
+is_small_source (Arg n) = nat_le n max_arg
+
 abbrev pub has_small_number : Condition → Bool
-has_small_number (Arg n value) = nat_le n max_arg
-has_small_number (ArgPath n value) = nat_le n max_arg
+has_small_number (Compares source relation value) = is_small_source source
 has_small_number _ = true
 
 abbrev pub have_small_numbers : List Condition → Bool

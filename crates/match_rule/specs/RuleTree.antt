@@ -4,7 +4,9 @@ use Rattle.std.specs.List.{list_all, list_any}
 use Rattle.std.specs.Bool.{beq}
 use Rattle.std.specs.Str.{bytes_eq}
 use Rattle.match_rule.specs.declared.condition.Condition.{Condition}
-use Rattle.match_rule.specs.declared.condition.Condition.TheVariants.{Sender, ArgPath}
+use Rattle.match_rule.specs.declared.condition.Condition.TheVariants.{Sender, Compares}
+use Rattle.match_rule.specs.declared.relation.Relation.{Relation}
+use Rattle.match_rule.specs.declared.relation.Relation.TheVariants.{NestedPath}
 use Rattle.match_rule.specs.Bytes.{begins_with}
 use Rattle.match_rule.specs.Condition.{value_of, condition_eq}
 
@@ -17,9 +19,14 @@ pub record RuleTree : Type 0 where
 abbrev pub slashes : List ℕ → ℕ
 slashes text = sum_by (λ byte. if byte == 47 then 1 else 0) text
 
--- what a condition weighs: 24 and the bytes of its value, and for an `argNpath` 16 for each `/` of it
+-- what a relation adds to the weight of a value: for an `argNpath` 16 for each `/` of it
+abbrev pub relation_weight : Relation → List ℕ → ℕ
+relation_weight NestedPath value = 16 * slashes value
+relation_weight _ value = 0
+
+-- what a condition weighs: 24 and the bytes of its value, and what its relation adds
 abbrev pub condition_weight : Condition → ℕ
-condition_weight (ArgPath n value) = 24 + length value + 16 * slashes value
+condition_weight (Compares source relation value) = 24 + length value + relation_weight relation value
 condition_weight c = 24 + length (value_of c)
 
 -- 8, and what each condition weighs

@@ -1,12 +1,15 @@
-// The keys of arguments: `argN`, `argNpath` and `arg0namespace`.
+// The keys of arguments: `arg`, a number, and what stands behind it.
 
 ghost use Rattle.std.specs.Prelude.{◌≡◌, true, drop, None, Some, option_map, if◌then◌else◌};
 ghost use Rattle.std.specs.List.{list_all};
 ghost use Rattle.signature.specs.Name.{is_digit};
-ghost use Rattle.match_rule.specs.Key.{digits_of, behind_digits, arg_number, arg_key, is_of_arg};
+ghost use Rattle.match_rule.specs.Rows.{row_of};
+ghost use Rattle.match_rule.specs.Key.{arg_suffixes, digits_of, behind_digits, up_to_max, arg_number, numbered_key, arg_key, is_of_arg};
 
 use crate::fault::RuleError;
 use crate::key::Key;
+use crate::relation::Relation;
+use crate::source::Source;
 
 /// The greatest number of an argument that a rule may ask for.
 const MAX_ARG: u8 = 63;
@@ -40,19 +43,54 @@ fn split_digits(bytes: &[u8]) -> (&[u8], &[u8])
     (bytes, &[])
 }
 
+/// A number that a rule may ask for.
+fn up_to_max(n: u8) -> Option<u8>
+    ensures { result ≡ up_to_max n }
+{
+    if n <= MAX_ARG { Some(n) } else { None }
+}
+
 /// The number of an argument, of one digit or of two of which the first isn't 0.
 fn arg_number(digits: &[u8]) -> Option<u8>
     requires { list_all is_digit digits.now ≡ true }
     ensures { result ≡ arg_number digits.now }
 {
     match digits {
-        [d] => Some(*d - b'0'),
+        [d] => up_to_max(*d - b'0'),
         [b'0', _] => None,
-        [d, e] => {
-            let n = 10 * (*d - b'0') + (*e - b'0');
-            if n <= MAX_ARG { Some(n) } else { None }
-        }
+        [d, e] => up_to_max(10 * (*d - b'0') + (*e - b'0')),
         _ => None,
+    }
+}
+
+/// The relation of what stands behind the number of an argument, and the greatest number that it may have.
+fn relation_of_suffix(suffix: &[u8]) -> Option<(Relation, u8)>
+    ensures { result ≡ row_of arg_suffixes suffix.now }
+{
+    if suffix == b"".as_slice() {
+        Some((Relation::Equal, MAX_ARG))
+    } else if suffix == b"path".as_slice() {
+        Some((Relation::NestedPath, MAX_ARG))
+    } else if suffix == b"namespace".as_slice() {
+        Some((Relation::NameNamespace, 0))
+    } else {
+        None
+    }
+}
+
+/// The key of an argument's number, beside a relation and the greatest number that it may have.
+fn numbered_key(relation: Relation, greatest: u8, number: Option<u8>) -> Result<Key, RuleError>
+    ensures { result ≡ numbered_key (relation, greatest) number }
+{
+    match number {
+        None => Err(RuleError::ArgNumber),
+        Some(n) => {
+            if n <= greatest {
+                Ok(Key::Compares(Source::Arg(n), relation))
+            } else {
+                Err(RuleError::ArgNumber)
+            }
+        }
     }
 }
 
@@ -64,17 +102,8 @@ pub(crate) fn arg_key(rest: &[u8]) -> Result<Key, RuleError>
     if digits.is_empty() {
         return Err(RuleError::UnknownKey);
     }
-    let number = arg_number(digits);
-    if suffix.is_empty() {
-        number.map(|n| Key::Arg(n)).ok_or(RuleError::ArgNumber)
-    } else if suffix == b"path".as_slice() {
-        number.map(|n| Key::ArgPath(n)).ok_or(RuleError::ArgNumber)
-    } else if suffix == b"namespace".as_slice() {
-        match number {
-            Some(0) => Ok(Key::Arg0Namespace),
-            _ => Err(RuleError::ArgNumber),
-        }
-    } else {
-        Err(RuleError::UnknownKey)
+    match relation_of_suffix(suffix) {
+        None => Err(RuleError::UnknownKey),
+        Some((relation, greatest)) => numbered_key(relation, greatest, arg_number(digits)),
     }
 }

@@ -6,39 +6,28 @@ ghost use Rattle.match_rule.specs.RuleTree.{are_among};
 
 use crate::key::Key;
 use crate::kind_name::KindName;
+use crate::relation::Relation;
+use crate::source::Source;
 use crate::text::Text;
 
-/// One thing that a rule asks of a message (D-Bus Specification, "Match Rules").
+/// One thing that a rule asks of a message: a kind, a sender, or that the text at a source stands in a relation to a
+/// value (D-Bus Specification, "Match Rules").
 #[derive(Debug, Drop)]
 pub enum Condition {
     Kind(KindName),
     Sender(Text),
-    Interface(Text),
-    Member(Text),
-    Path(Text),
-    PathNamespace(Text),
-    Destination(Text),
-    Arg(u8, Text),
-    ArgPath(u8, Text),
-    Arg0Namespace(Text),
+    Compares(Source, Relation, Text),
 }
 
 impl Condition {
-    /// What it is about.
+    /// The key that asks for it.
     pub fn key(&self) -> Key
         ensures { result ≡ key_of self.now }
     {
         match self {
             Condition::Kind(_) => Key::Kind,
             Condition::Sender(_) => Key::Sender,
-            Condition::Interface(_) => Key::Interface,
-            Condition::Member(_) => Key::Member,
-            Condition::Path(_) => Key::Path,
-            Condition::PathNamespace(_) => Key::PathNamespace,
-            Condition::Destination(_) => Key::Destination,
-            Condition::Arg(n, _) => Key::Arg(*n),
-            Condition::ArgPath(n, _) => Key::ArgPath(*n),
-            Condition::Arg0Namespace(_) => Key::Arg0Namespace,
+            Condition::Compares(source, relation, _) => Key::Compares(*source, *relation),
         }
     }
 
@@ -49,14 +38,7 @@ impl Condition {
         match self {
             Condition::Kind(kind) => kind.word(),
             Condition::Sender(name) => name.as_str(),
-            Condition::Interface(name) => name.as_str(),
-            Condition::Member(name) => name.as_str(),
-            Condition::Path(path) => path.as_str(),
-            Condition::PathNamespace(path) => path.as_str(),
-            Condition::Destination(name) => name.as_str(),
-            Condition::Arg(_, value) => value.as_str(),
-            Condition::ArgPath(_, value) => value.as_str(),
-            Condition::Arg0Namespace(name) => name.as_str(),
+            Condition::Compares(_, _, value) => value.as_str(),
         }
     }
 }

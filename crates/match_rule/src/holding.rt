@@ -7,11 +7,13 @@ ghost use Rattle.message_view.specs.Spelling.{arguments_of};
 ghost use Rattle.message_view.specs.Valid.{Valid};
 ghost use Rattle.match_rule.specs.RuleTree.{is_owned_name, owned_name_in};
 ghost use Rattle.match_rule.specs.Arguments.{text_in};
-ghost use Rattle.match_rule.specs.Holds.{ConditionHolds, InPathNamespace, InNamespace, AreNested};
+ghost use Rattle.match_rule.specs.Holds.{Relates, field_of, is_compared, compared_text, text_at, ConditionHolds};
 
 use crate::condition::Condition;
 use crate::namespace::{are_nested, is_in_namespace, is_in_path_namespace};
+use crate::relation::Relation;
 use crate::sender::is_owned_name;
+use crate::source::{Field, Source};
 use message_view::{Arg, View};
 
 /// An argument that is a text: the code of its type, and its characters.
@@ -45,33 +47,73 @@ fn argument<'a>(view: &View<'a>, n: u8) -> Option<TextArg<'a>>
     }
 }
 
-/// Whether an argument is the string.
-fn is_string(argument: Option<TextArg<'_>>, value: &str) -> bool
-    ensures { IsTrue result ↔ IsSomeAnd argument.entry (λ a. (a.code ≡ 115) × (a.text.now ≡ value.now)) }
+/// Whether a relation compares arguments of the type of this code.
+fn is_compared(relation: Relation, code: u8) -> bool
+    ensures { result ≡ is_compared relation code }
 {
-    match argument {
-        None => false,
-        Some(argument) => argument.code == b's' && argument.text == value,
+    match relation {
+        Relation::NestedPath => matches!(code, b's' | b'o'),
+        Relation::Equal | Relation::PathNamespace | Relation::NameNamespace => code == b's',
     }
 }
 
-/// Whether an argument is a string or an object path, and one of both lies in the other.
-fn is_nested(argument: Option<TextArg<'_>>, value: &str) -> bool
-    ensures { IsTrue result ↔ IsSomeAnd argument.entry (λ a. (a.code ≡ 115 ⊎ a.code ≡ 111) × AreNested a.text.now value.now) }
+/// The text of an argument, where it is of a type that the relation compares.
+fn compared_text<'a>(relation: Relation, argument: Option<TextArg<'a>>) -> Option<&'a str>
+    ensures { option_map (λ text. text.now) result ≡ compared_text relation (option_map (λ a. (a.code, a.text.now)) argument.entry) }
 {
     match argument {
-        None => false,
-        Some(argument) => matches!(argument.code, b's' | b'o') && are_nested(argument.text, value),
+        None => None,
+        Some(argument) => {
+            if is_compared(relation, argument.code) {
+                Some(argument.text)
+            } else {
+                None
+            }
+        }
     }
 }
 
-/// Whether an argument is a string in the namespace.
-fn is_name_in(argument: Option<TextArg<'_>>, value: &str) -> bool
-    ensures { IsTrue result ↔ IsSomeAnd argument.entry (λ a. (a.code ≡ 115) × InNamespace a.text.now value.now) }
+/// The text of a header field.
+fn field_of<'a>(field: Field, view: &View<'a>) -> Option<&'a str>
+    ensures { (m : Message) → Valid view.now m → option_map (λ text. text.now) result ≡ field_of field m }
 {
-    match argument {
+    match field {
+        Field::Interface => view.interface(),
+        Field::Member => view.member(),
+        Field::Path => view.path(),
+        Field::Destination => view.destination(),
+    }
+}
+
+/// The text that a message has at a source, if it has one that the relation compares.
+fn text_at<'a>(source: Source, relation: Relation, view: &View<'a>) -> Option<&'a str>
+    ensures { (m : Message) → Valid view.now m → option_map (λ text. text.now) result ≡ text_at source relation m }
+{
+    match source {
+        Source::Header(field) => field_of(field, view),
+        Source::Arg(n) => compared_text(relation, argument(view, n)),
+    }
+}
+
+/// Whether a text stands in the relation to the value.
+fn relates(relation: Relation, text: &str, value: &str) -> bool
+    ensures { IsTrue result ↔ Relates relation text.now value.now }
+{
+    match relation {
+        Relation::Equal => text == value,
+        Relation::PathNamespace => is_in_path_namespace(text, value),
+        Relation::NameNamespace => is_in_namespace(text, value),
+        Relation::NestedPath => are_nested(text, value),
+    }
+}
+
+/// Whether a text is there and stands in the relation to the value.
+fn is_related(relation: Relation, found: Option<&str>, value: &str) -> bool
+    ensures { IsTrue result ↔ IsSomeAnd (option_map (λ text. text.now) found.entry) (λ text. Relates relation text value.now) }
+{
+    match found {
         None => false,
-        Some(argument) => argument.code == b's' && is_in_namespace(argument.text, value),
+        Some(text) => relates(relation, text, value),
     }
 }
 
@@ -82,16 +124,6 @@ fn is_equal(found: Option<&str>, text: &str) -> bool
     match found {
         None => false,
         Some(name) => name == text,
-    }
-}
-
-/// Whether a path is there and lies in the namespace.
-fn is_path_in(found: Option<&str>, value: &str) -> bool
-    ensures { IsTrue result ↔ IsSomeAnd found.entry (λ path. InPathNamespace path.now value.now) }
-{
-    match found {
-        None => false,
-        Some(path) => is_in_path_namespace(path, value),
     }
 }
 
@@ -114,14 +146,9 @@ fn holds(condition: &Condition, view: &View<'_>, owns: bool) -> bool
     match condition {
         Condition::Kind(kind) => view.kind() == kind.kind(),
         Condition::Sender(name) => is_sent_by(view.sender(), name.as_str(), owns),
-        Condition::Interface(name) => is_equal(view.interface(), name.as_str()),
-        Condition::Member(name) => is_equal(view.member(), name.as_str()),
-        Condition::Path(path) => is_equal(view.path(), path.as_str()),
-        Condition::PathNamespace(path) => is_path_in(view.path(), path.as_str()),
-        Condition::Destination(name) => is_equal(view.destination(), name.as_str()),
-        Condition::Arg(n, value) => is_string(argument(view, *n), value.as_str()),
-        Condition::ArgPath(n, value) => is_nested(argument(view, *n), value.as_str()),
-        Condition::Arg0Namespace(name) => is_name_in(argument(view, 0), name.as_str()),
+        Condition::Compares(source, relation, value) => {
+            is_related(*relation, text_at(*source, *relation, view), value.as_str())
+        }
     }
 }
 

@@ -1,82 +1,97 @@
 // The keys of rules.
 
 ghost use Rattle.std.specs.Prelude.{◌≡◌};
-ghost use Rattle.match_rule.specs.Key.{key_named, key_number, once_number, is_twice, is_path_twice};
+ghost use Rattle.match_rule.specs.Rows.{row_of};
+ghost use Rattle.match_rule.specs.Key.{key_words, key_named, key_number, once_key, is_twice, path_key, path_namespace_key, is_path_twice};
 
 use crate::arg_key::{arg_key, behind_arg};
 use crate::fault::RuleError;
+use crate::relation::Relation;
+use crate::source::{Field, Source};
 
 /// What a part of a rule's text is about (D-Bus Specification, "Match Rules").
 #[derive(Clone, Copy, Debug)]
 pub enum Key {
     Kind,
     Sender,
-    Interface,
-    Member,
-    Path,
-    PathNamespace,
-    Destination,
-    Arg(u8),
-    ArgPath(u8),
-    Arg0Namespace,
     Eavesdrop,
+    Compares(Source, Relation),
+}
+
+/// The key that is one word.
+fn key_of_word(word: &[u8]) -> Option<Key>
+    ensures { result ≡ row_of key_words word.now }
+{
+    if word == b"type".as_slice() {
+        Some(Key::Kind)
+    } else if word == b"sender".as_slice() {
+        Some(Key::Sender)
+    } else if word == b"interface".as_slice() {
+        Some(Key::Compares(Source::Header(Field::Interface), Relation::Equal))
+    } else if word == b"member".as_slice() {
+        Some(Key::Compares(Source::Header(Field::Member), Relation::Equal))
+    } else if word == b"path".as_slice() {
+        Some(Key::path())
+    } else if word == b"path_namespace".as_slice() {
+        Some(Key::path_namespace())
+    } else if word == b"destination".as_slice() {
+        Some(Key::Compares(Source::Header(Field::Destination), Relation::Equal))
+    } else if word == b"eavesdrop".as_slice() {
+        Some(Key::Eavesdrop)
+    } else {
+        None
+    }
 }
 
 impl Key {
+    /// The key `path`.
+    pub(crate) fn path() -> Self
+        ensures { result ≡ path_key }
+    {
+        Key::Compares(Source::Header(Field::Path), Relation::Equal)
+    }
+
+    /// The key `path_namespace`.
+    pub(crate) fn path_namespace() -> Self
+        ensures { result ≡ path_namespace_key }
+    {
+        Key::Compares(Source::Header(Field::Path), Relation::PathNamespace)
+    }
+
     /// The key of a word.
     pub(crate) fn named(word: &[u8]) -> Result<Self, RuleError>
         ensures { result ≡ key_named word.now }
     {
-        if word == b"type".as_slice() {
-            Ok(Key::Kind)
-        } else if word == b"sender".as_slice() {
-            Ok(Key::Sender)
-        } else if word == b"interface".as_slice() {
-            Ok(Key::Interface)
-        } else if word == b"member".as_slice() {
-            Ok(Key::Member)
-        } else if word == b"path".as_slice() {
-            Ok(Key::Path)
-        } else if word == b"path_namespace".as_slice() {
-            Ok(Key::PathNamespace)
-        } else if word == b"destination".as_slice() {
-            Ok(Key::Destination)
-        } else if word == b"eavesdrop".as_slice() {
-            Ok(Key::Eavesdrop)
-        } else {
-            match behind_arg(word) {
-                Some(rest) => arg_key(rest),
-                None => Err(RuleError::UnknownKey),
-            }
+        if let Some(key) = key_of_word(word) {
+            return Ok(key);
+        }
+        match behind_arg(word) {
+            Some(rest) => arg_key(rest),
+            None => Err(RuleError::UnknownKey),
         }
     }
 
     /// A number of its own.
-    fn number(self) -> u16
+    fn number(self) -> u32
         ensures { result ≡ key_number self }
     {
         match self {
             Key::Kind => 0,
             Key::Sender => 1,
-            Key::Interface => 2,
-            Key::Member => 3,
-            Key::Path => 4,
-            Key::PathNamespace => 5,
-            Key::Destination => 6,
-            Key::Arg0Namespace => 7,
-            Key::Eavesdrop => 8,
-            Key::Arg(n) => 9 + 2 * u16::from(n),
-            Key::ArgPath(n) => 10 + 2 * u16::from(n),
+            Key::Eavesdrop => 2,
+            Key::Compares(source, relation) => {
+                3 + 4 * u32::from(source.number()) + u32::from(relation.number())
+            }
         }
     }
 
-    /// A number that no other key has which a rule may have beside it: `argN` and `argNpath` of one N share one.
-    fn once_number(self) -> u16
-        ensures { result ≡ once_number self }
+    /// The key that stands for all those of which a rule may have one.
+    fn once(self) -> Key
+        ensures { result ≡ once_key self }
     {
         match self {
-            Key::ArgPath(n) => 9 + 2 * u16::from(n),
-            key => key.number(),
+            Key::Compares(source, relation) => Key::Compares(source, relation.once()),
+            key => key,
         }
     }
 
@@ -84,17 +99,15 @@ impl Key {
     pub(crate) fn is_twice(self, other: Key) -> bool
         ensures { result ≡ is_twice self other }
     {
-        self.once_number() == other.once_number()
+        self.once() == other.once()
     }
 
     /// Whether one is `path` and the other `path_namespace`.
     pub(crate) fn is_path_twice(self, other: Key) -> bool
         ensures { result ≡ is_path_twice self other }
     {
-        match (self, other) {
-            (Key::Path, Key::PathNamespace) | (Key::PathNamespace, Key::Path) => true,
-            _ => false,
-        }
+        self == Key::path() && other == Key::path_namespace()
+            || self == Key::path_namespace() && other == Key::path()
     }
 }
 

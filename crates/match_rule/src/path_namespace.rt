@@ -4,31 +4,19 @@ ghost use Rattle.std.specs.Prelude.{◌≡◌, ◌↔◌, ◌<◌, ℕ, Bool, Li
 ghost use Rattle.message_view.specs.Message.{Message, path_of};
 ghost use Rattle.match_rule.specs.RuleTree.{RuleTree};
 ghost use Rattle.match_rule.specs.Holds.{Holds};
-ghost use Rattle.match_rule.specs.FixedTexts.{first_text};
-ghost use Rattle.match_rule.specs.PathNamespaces.{namespace_in, namespace_asked, HasPathIn, IsElsewhere};
+ghost use Rattle.match_rule.specs.PathNamespaces.{namespace_asked, HasPathIn, IsElsewhere};
 
-use crate::condition::Condition;
+use crate::fixed::first_value;
+use crate::key::Key;
 use crate::namespace::is_in_path_namespace;
 use crate::rule::Rule;
-
-/// The path of the first condition on the path's namespace.
-fn first_namespace(conditions: &[Condition]) -> Option<&str>
-    ensures { option_map (λ text. text.now) result ≡ first_text namespace_in conditions.now }
-{
-    for condition in conditions {
-        if let Condition::PathNamespace(path) = condition {
-            return Some(path.as_str());
-        }
-    }
-    None
-}
 
 impl Rule {
     /// The path namespace that the rule asks for, if it asks for one.
     pub fn path_namespace(&self) -> Option<&str>
         ensures { option_map (λ text. text.now) result ≡ namespace_asked self.now }
     {
-        first_namespace(self.conditions())
+        first_value(self.conditions(), Key::path_namespace())
     }
 }
 

@@ -3,13 +3,15 @@
 ghost use Rattle.std.specs.Prelude.{◌≡◌};
 ghost use Rattle.std.specs.String.{string_bytes};
 ghost use Rattle.match_rule.specs.declared.fault.RuleError.TheVariants.{BadValue};
-ghost use Rattle.match_rule.specs.Condition.{flag_named, asks_if, term_with};
+ghost use Rattle.match_rule.specs.Condition.{flag_named, is_field_value, is_arg_value, is_value, asks_if, term_of, term_with};
 ghost use Rattle.match_rule.specs.Reading.{Gives, or_fault};
 
 use crate::condition::Condition;
 use crate::fault::RuleError;
 use crate::key::Key;
 use crate::kind_name::KindName;
+use crate::relation::Relation;
+use crate::source::{Field, Source};
 use crate::text::Text;
 use signature::{check_bus_name, check_interface, check_member, check_namespace, check_path};
 
@@ -44,9 +46,41 @@ fn asks_if(allowed: bool, condition: Condition) -> Option<Term>
     }
 }
 
+/// Whether a field may be compared with the text.
+fn is_field_value(field: Field, text: &str) -> bool
+    ensures { result ≡ is_field_value field text.now }
+{
+    match field {
+        Field::Interface => check_interface(text),
+        Field::Member => check_member(text),
+        Field::Path => check_path(text),
+        Field::Destination => check_bus_name(text),
+    }
+}
+
+/// Whether an argument may be compared with the text.
+fn is_arg_value(relation: Relation, text: &str) -> bool
+    ensures { result ≡ is_arg_value relation text.now }
+{
+    match relation {
+        Relation::NameNamespace => check_namespace(text),
+        Relation::Equal | Relation::PathNamespace | Relation::NestedPath => true,
+    }
+}
+
+/// Whether a condition may compare with the text.
+fn is_value(source: Source, relation: Relation, text: &str) -> bool
+    ensures { result ≡ is_value source relation text.now }
+{
+    match source {
+        Source::Header(field) => is_field_value(field, text),
+        Source::Arg(_) => is_arg_value(relation, text),
+    }
+}
+
 /// What a key and a text say, where the text is allowed for the key.
-fn term_of_text(key: Key, text: String) -> Option<Term>
-    ensures { result ≡ term_with key (string_bytes text) }
+fn term_of(key: Key, text: String) -> Option<Term>
+    ensures { result ≡ term_of key (string_bytes text) }
 {
     let text = Text::new(text);
     match key {
@@ -54,16 +88,9 @@ fn term_of_text(key: Key, text: String) -> Option<Term>
             Condition::Kind(kind),
         )),
         Key::Sender => asks_if(check_bus_name(text.as_str()), Condition::Sender(text)),
-        Key::Interface => asks_if(check_interface(text.as_str()), Condition::Interface(text)),
-        Key::Member => asks_if(check_member(text.as_str()), Condition::Member(text)),
-        Key::Path => asks_if(check_path(text.as_str()), Condition::Path(text)),
-        Key::PathNamespace => asks_if(check_path(text.as_str()), Condition::PathNamespace(text)),
-        Key::Destination => asks_if(check_bus_name(text.as_str()), Condition::Destination(text)),
-        Key::Arg(n) => Some(Term::Asks(Condition::Arg(n, text))),
-        Key::ArgPath(n) => Some(Term::Asks(Condition::ArgPath(n, text))),
-        Key::Arg0Namespace => asks_if(
-            check_namespace(text.as_str()),
-            Condition::Arg0Namespace(text),
+        Key::Compares(source, relation) => asks_if(
+            is_value(source, relation, text.as_str()),
+            Condition::Compares(source, relation, text),
         ),
         Key::Eavesdrop => flag_named(text.as_str().as_bytes()).map(|flag| Term::Eavesdrop(flag)),
     }
@@ -76,5 +103,5 @@ pub(crate) fn term_with(key: Key, value: Vec<u8>) -> Result<Term, RuleError>
     let Ok(text) = String::from_utf8(value) else {
         return Err(RuleError::BadValue);
     };
-    term_of_text(key, text).ok_or(RuleError::BadValue)
+    term_of(key, text).ok_or(RuleError::BadValue)
 }

@@ -1,9 +1,10 @@
 // How large a program for a rule may become.
 
 ghost use Rattle.std.specs.Prelude.{◌≡◌, ◌+◌, ◌≤◌, sum_by};
-ghost use Rattle.match_rule.specs.RuleTree.{slashes, condition_weight};
+ghost use Rattle.match_rule.specs.RuleTree.{slashes, relation_weight, condition_weight};
 
 use crate::condition::Condition;
+use crate::relation::Relation;
 
 /// How many `/` a text has.
 fn slashes(text: &str) -> u64
@@ -18,15 +19,27 @@ fn slashes(text: &str) -> u64
     count
 }
 
-/// What a condition weighs: 24 and the bytes of its value, and for an `argNpath` 16 for each `/` of it.
+/// What a relation adds to the weight of a value: for an `argNpath` 16 for each `/` of it.
+fn relation_weight(relation: Relation, value: &str) -> u64
+    requires { relation_weight relation value.now ≤ 41984 }
+    ensures { result ≡ relation_weight relation value.now }
+{
+    match relation {
+        Relation::NestedPath => 16 * slashes(value),
+        Relation::Equal | Relation::PathNamespace | Relation::NameNamespace => 0,
+    }
+}
+
+/// What a condition weighs: 24 and the bytes of its value, and what its relation adds.
 fn condition_weight(condition: &Condition) -> u64
     requires { condition_weight condition.now ≤ 41984 }
     ensures { result ≡ condition_weight condition.now }
 {
-    let value = condition.value();
-    let plain = 24 + value.len() as u64;
+    let plain = 24 + condition.value().len() as u64;
     match condition {
-        Condition::ArgPath(_, _) => plain + 16 * slashes(value),
+        Condition::Compares(_, relation, value) => {
+            plain + relation_weight(*relation, value.as_str())
+        }
         _ => plain,
     }
 }
