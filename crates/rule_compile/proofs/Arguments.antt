@@ -1,32 +1,33 @@
 -- The pieces that test an argument: its type, and then its text.
-use Rattle.std.proofs.Common.{◌≡◌, ℕ, ◌+◌, List, [], ◌∷◌, eqb, Option, Some, None, inl, inr, refl, sym, ◌∙◌, subst, IfSome}
-use Rattle.std.proofs.lemmas.Bool.{cases_Bool, eqb-true, eqb-false, eq-eqb, ne_eqb}
+use Rattle.std.proofs.Common.{◌≡◌, ℕ, ◌+◌, Bool, true, false, List, [], ◌∷◌, eqb, Option, Some, None, ◌↔◌, inl, inr, refl, sym, subst, arith, IfSome, if◌then◌else◌}
+use Rattle.std.specs.Prelude.{◌==◌, ◌||◌, IsSomeAnd, option_map}
+use Rattle.std.proofs.lemmas.Bool.{false≢true, cases_Bool, eqb-true, eqb-false, eq-eqb, ne_eqb}
 use Rattle.bpf_code.specs.declared.instruction.Ins.{Ins}
 use Rattle.bpf_code.specs.declared.operation.Test.TheVariants.{Equal}
 use Rattle.bpf_code.specs.Loads.{load_word}
 use Rattle.message_value.specs.Arguments.{Argument}
+use Rattle.match_rule.specs.declared.relation.Relation.{Relation}
+use Rattle.match_rule.specs.declared.relation.Relation.TheVariants as relations
+use Rattle.match_rule.specs.Arguments.{text_in}
+use Rattle.match_rule.specs.Holds.{is_compared, compared_text}
 use Rattle.summary.specs.Shown.{Tells, ShowsArgument}
 use Rattle.rule_compile.specs.Code.{image_word, want, settle}
-use Rattle.rule_compile.specs.RuleCode.{argument_at, has_type, has_text_type}
+use Rattle.rule_compile.specs.RuleCode.{argument_at, has_type, has_text_type, type_code}
 use Rattle.rule_compile.proofs.Pieces.{Any, Tests}
 use Rattle.rule_compile.proofs.Runs.{runs_image_word, runs_want, stops_want, runs_settle, stays_settle}
-use Rattle.rule_compile.proofs.Combined.{Extends, extends_more, extends_want, extends_settle, guards, tests_same, tests_then, tests_word}
+use Rattle.rule_compile.proofs.Combined.{Extends, extends_more, extends_then, extends_want, extends_settle, guards, tests_same, tests_then, tests_word}
 use Rattle.rule_compile.proofs.TextArguments.{IsText}
 
 -- ---- the type
 
-pub extends_has_type : (n code : ℕ) → Extends (has_type n code)
+extends_has_type : (n code : ℕ) → Extends (has_type n code)
 extends_has_type n code = extends_more (want Equal code) (λ _. image_word (argument_at n)) (extends_want Equal code)
 
-pub tests_has_type : (image : List ℕ) (n code w : ℕ) → load_word image (argument_at n) ≡ Some w → Tests image Any (w ≡ code) (has_type n code)
-tests_has_type image n code w is =
-    tests_same image Any _ _ (has_type n code) (eqb-true w code, eq-eqb w code) (tests_word image Any (argument_at n) w Equal code is)
-
-pub extends_has_text_type : (n : ℕ) → Extends (has_text_type n)
+extends_has_text_type : (n : ℕ) → Extends (has_text_type n)
 extends_has_text_type n = extends_settle (want Equal 111) (argument_at n) Equal 115 (extends_want Equal 111)
 
 -- A has the code behind the first comparison too
-pub tests_has_text_type : (image : List ℕ) (n w : ℕ) → load_word image (argument_at n) ≡ Some w → Tests image Any (IsText w) (has_text_type n)
+tests_has_text_type : (image : List ℕ) (n w : ℕ) → load_word image (argument_at n) ≡ Some w → Tests image Any (IsText w) (has_text_type n)
 tests_has_text_type image n w is = elim (cases_Bool (eqb w 115)) [
   | inl string ↦ record {
     decided = inl (inl (eqb-true w 115 string));
@@ -45,27 +46,62 @@ tests_has_text_type image n w is = elim (cases_Bool (eqb w 115)) [
   }
 ]
 
+-- ---- the types that a relation compares
+
+compared_text_type : (w : ℕ) → IsText w ↔ ((w == 115 || w == 111) ≡ true)
+compared_text_type w = (forth, go (w == 115) (w == 111) refl refl)
+  where
+    forth : IsText w → (w == 115 || w == 111) ≡ true
+    forth (inl e) = rw e refl
+    forth (inr e) = rw e refl
+
+    go : (x y : Bool) → (w == 115) ≡ x → (w == 111) ≡ y → (x || y) ≡ true → IsText w
+    go true y p q e = inl (eqb-true w 115 p)
+    go false true p q e = inr (eqb-true w 111 q)
+    go false false p q e = absurd cc
+
+-- what a relation compares is a string or an object path
+compared_is_text : (relation : Relation) (code : ℕ) → is_compared relation code ≡ true → IsText code
+compared_is_text relations.NestedPath code e = (compared_text_type code).1 e
+compared_is_text _ code e = inl (eqb-true code 115 e)
+
+extends_type : (relation : Relation) (n : ℕ) → Extends (type_code relation n)
+extends_type relations.NestedPath n = extends_has_text_type n
+extends_type _ n = extends_has_type n 115
+
+tests_type : (relation : Relation) (image : List ℕ) (n w : ℕ) → load_word image (argument_at n) ≡ Some w → Tests image Any (is_compared relation w ≡ true) (type_code relation n)
+tests_type relations.NestedPath image n w is = tests_same image Any _ _ (has_text_type n) (compared_text_type w) (tests_has_text_type image n w is)
+tests_type _ image n w is = tests_word image Any (argument_at n) w Equal 115 is
+
 -- ---- the type, and then the text
 
--- an argument that is there has a type that passes, and a text of which something holds
-abbrev pub Passes : Option Argument → (ℕ → Type 0) → (List ℕ → Type 0) → Type 0
-Passes o C Q = (a : Argument) × (t : List ℕ) × (o ≡ Some a) × C a.code × (a.text ≡ Some t) × Q t
+either : (b : Bool) (text : List ℕ) (Q : List ℕ → Type 0) → ((b ≡ true) × Q text) ↔ IsSomeAnd (if b then Some text else None) Q
+either true text Q = (λ both. both.1, λ q. (refl, q))
+either false text Q = (λ both. false≢true both.0, λ none. absurd none)
 
-same_argument : (a b : Argument) → Some a ≡ Some b → a ≡ b
-same_argument a b h = cc
+-- the text of an argument whose type is compared
+compared_argument : (relation : Relation) (a : Argument) (Q : List ℕ → Type 0) → ((is_compared relation a.code ≡ true) × IsSomeAnd a.text Q) ↔ IsSomeAnd (compared_text relation (text_in (Some a))) Q
+compared_argument relation a Q = go a.text
+  where
+    go : (t : Option (List ℕ)) → ((is_compared relation a.code ≡ true) × IsSomeAnd t Q) ↔ IsSomeAnd (compared_text relation (option_map {U = ℕ × List ℕ} (λ (text : List ℕ). (a.code, text)) t)) Q
+    go None = (λ both. both.1, λ none. absurd none)
+    go (Some text) = either (is_compared relation a.code) text Q
 
-same_text : (a b : List ℕ) → Some a ≡ Some b → a ≡ b
-same_text a b h = cc
+not_compared : (relation : Relation) → is_compared relation 0 ≡ true → ⊥
+not_compared relation e = elim (compared_is_text relation 0 e) [ inl is ↦ omega arith | inr is ↦ omega arith ]
 
-pub tests_argument : (image : List ℕ) (at : ℕ) (o : Option Argument) (C : ℕ → Type 0) (Q : List ℕ → Type 0) (h f : List Ins → List Ins) → ShowsArgument image at o → ((w : ℕ) → load_word image at ≡ Some w → Tests image Any (C w) h) → (C 0 → ⊥) → ((a : Argument) → o ≡ Some a → C a.code → (t : List ℕ) × (a.text ≡ Some t)) → Extends f → ((t : List ℕ) → Tells image (at + 4) t → Tests image Any (Q t) f) → Tests image Any (Passes o C Q) (λ rest. h (f rest))
-tests_argument image at None C Q h f shows head absent has extends tail =
-    tests_same image Any _ _ (λ rest. h (f rest)) (λ both. absurd (absent both.0), λ p. let e = p.2 in absurd cc) (tests_then image Any (C 0) (Passes None C Q) h f (head 0 shows) extends (λ c. absurd (absent c)))
-tests_argument image at (Some a) C Q h f shows head absent has extends tail =
-    tests_same image Any _ _ (λ rest. h (f rest)) (
-      λ both. (a, both.1.0, refl, both.0, both.1.1, both.1.2),
-      λ p. let e : p.0 ≡ a = sym (same_argument a p.0 p.2) in
-          (subst (λ (b : Argument). C b.code) e p.3, (p.1, subst (λ (b : Argument). b.text ≡ Some p.1) e p.4, p.5)),
-    ) (tests_then image Any (C a.code) ((t : List ℕ) × (a.text ≡ Some t) × Q t) h f (head a.code shows.0) extends (λ c. let t = has a refl c in tests_same image Any (Q t.0) _ f (
-      λ q. (t.0, t.1, q),
-      λ r. subst Q (same_text r.0 t.0 (sym r.1 ∙ t.1)) r.2,
-    ) (tail t.0 (subst (λ (o : Option (List ℕ)). IfSome o (Tells image (at + 4))) t.1 shows.1))))
+-- an argument is there and has a text that the relation compares, of which something holds
+pub tests_argument : (image : List ℕ) (n : ℕ) (relation : Relation) (o : Option Argument) (Q : List ℕ → Type 0) (f : List Ins → List Ins) → ShowsArgument image (argument_at n) o → ((a : Argument) → o ≡ Some a → IsText a.code → (t : List ℕ) × (a.text ≡ Some t)) → Extends f → ((t : List ℕ) → Tells image (argument_at n + 4) t → Tests image Any (Q t) f) → Tests image Any (IsSomeAnd (compared_text relation (text_in o)) Q) (λ rest. type_code relation n (f rest))
+tests_argument image n relation None Q f shows has extends tail =
+    tests_same image Any _ _ (λ rest. type_code relation n (f rest)) (λ both. both.1, λ none. absurd none) (tests_then image Any (is_compared relation 0 ≡ true) ⊥ (type_code relation n) f (tests_type relation image n 0 shows) extends (λ c. absurd (not_compared relation c)))
+tests_argument image n relation (Some a) Q f shows has extends tail =
+    tests_same image Any _ _ (λ rest. type_code relation n (f rest)) (compared_argument relation a Q)
+    (tests_then image Any (is_compared relation a.code ≡ true) (IsSomeAnd a.text Q) (type_code relation n) f (tests_type relation image n a.code shows.0) extends (λ c.
+    let t = has a refl (compared_is_text relation a.code c) in
+    tests_same image Any (Q t.0) (IsSomeAnd a.text Q) f (
+      λ q. subst (λ (o : Option (List ℕ)). IsSomeAnd o Q) (sym t.1) q,
+      λ q. subst (λ (o : Option (List ℕ)). IsSomeAnd o Q) t.1 q,
+    ) (tail t.0 (subst (λ (o : Option (List ℕ)). IfSome o (Tells image (argument_at n + 4))) t.1 shows.1))))
+
+pub extends_argument : (relation : Relation) (n : ℕ) (f : List Ins → List Ins) → Extends f → Extends (λ rest. type_code relation n (f rest))
+extends_argument relation n f extends = extends_then (type_code relation n) f (extends_type relation n) extends

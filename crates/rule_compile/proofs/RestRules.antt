@@ -1,29 +1,35 @@
 -- What is left of a rule, and where it holds.
 use Rattle.std.proofs.Common.{◌≡◌, ℕ, ◌≤◌, Bool, true, false, not, ◌&&◌, cond, List, [], ◌∷◌, filter, eqb, Option, Some, None, refl, ap, sym, subst, ◌∙◌, arith, All, IfSome}
-use Rattle.std.specs.Prelude.{◌↔◌, sum_by, option_map, slice_get, if◌then◌else◌, Result, Ok, Err, IfOk}
+use Rattle.std.specs.Prelude.{◌↔◌, ◌==◌, IsSomeAnd, sum_by, slice_get, if◌then◌else◌, Result, Ok, Err, IfOk}
 use Rattle.std.specs.List.{list_any}
 use Rattle.std.proofs.lemmas.Bool.{false≢true, true≢false, eqb-true, and_parts, not-false}
 use Rattle.std.proofs.lemmas.List.Elements.{All-nil, All-cons, All-head, All-tail, All-filter}
 use Rattle.std.proofs.lemmas.List.Sums.{sum_by-cons}
 use Rattle.std.proofs.lemmas.Slice.Eq.{bytes_eq-Decides}
-use Rattle.message_value.specs.Arguments.{Argument}
 use Rattle.message_view.specs.Message.{Message, path_of, interface_of, member_of}
 use Rattle.message_view.specs.Spelling.{arguments_of}
+use Rattle.match_rule.specs.declared.source.Field.{Field}
+use Rattle.match_rule.specs.declared.source.Field.TheVariants.{Interface, Member, Path, Destination}
+use Rattle.match_rule.specs.declared.source.Source.{Source}
+use Rattle.match_rule.specs.declared.source.Source.TheVariants.{Header, Arg}
+use Rattle.match_rule.specs.declared.relation.Relation.{Relation}
+use Rattle.match_rule.specs.declared.relation.Relation.TheVariants as relations
 use Rattle.match_rule.specs.declared.condition.Condition.{Condition}
-use Rattle.match_rule.specs.declared.condition.Condition.TheVariants.{Kind, Sender, Interface, Member, Path, PathNamespace, Destination, Arg, ArgPath, Arg0Namespace}
+use Rattle.match_rule.specs.declared.condition.Condition.TheVariants.{Kind, Sender, Compares}
 use Rattle.match_rule.specs.Arguments.{text_in}
 use Rattle.match_rule.specs.Condition.{value_of}
 use Rattle.message_value.specs.Words.{AreBytes}
-use Rattle.match_rule.specs.FixedTexts.{member_asked, interface_asked, path_asked, arg0_asked, arg0_of, string_in, fixed_texts, texts_of, AreFound}
+use Rattle.match_rule.specs.FixedTexts.{member_asked, interface_asked, path_asked, arg0_asked, arg0_of, fixed_texts, texts_of, AreFound}
 use Rattle.match_rule.specs.Parts.{is_sender, has_one_sender, has_small_number, have_small_numbers}
 use Rattle.match_rule.specs.RuleTree.{RuleTree, condition_weight, weight_of, owned_name_in, or_else, first_owned_name, sender_name_of}
-use Rattle.match_rule.specs.Holds.{Holds, ConditionHolds, HasArg}
+use Rattle.match_rule.specs.Holds.{Holds, ConditionHolds, text_at}
 use Rattle.bpf_code.specs.declared.instruction.Ins.{Ins}
 use Rattle.rule_compile.specs.declared.rest.Tested.{Tested}
 use Rattle.rule_compile.specs.declared.rest.Tested.TheVariants.{All as AllTested, Left}
 use Rattle.rule_compile.specs.Compiled.{IsSlotOf, IsCompiled, AgreeOn}
-use Rattle.rule_compile.specs.Rest.{IsRest, is_fixed, is_left, is_tested, tested_of}
+use Rattle.rule_compile.specs.Rest.{IsRest, is_fixed, fixed_source, is_left, is_tested, tested_of}
 use Rattle.rule_compile.specs.RuleCode.{condition_code, rank_of, of_rank}
+use Rattle.match_rule.proofs.FixedFound.{same_string}
 
 -- ---- the code of the conditions that are tested
 
@@ -51,14 +57,7 @@ name_kept : (c : Condition) (cs ds : List Condition) (b : Bool) → (is_sender c
 name_kept c cs ds true keeps same = ap (or_else (owned_name_in c)) same
 name_kept (Sender name) cs ds false keeps same = absurd (false≢true (keeps refl))
 name_kept (Kind kind) cs ds false keeps same = same
-name_kept (Interface name) cs ds false keeps same = same
-name_kept (Member name) cs ds false keeps same = same
-name_kept (Path path) cs ds false keeps same = same
-name_kept (PathNamespace value) cs ds false keeps same = same
-name_kept (Destination name) cs ds false keeps same = same
-name_kept (Arg n value) cs ds false keeps same = same
-name_kept (ArgPath n value) cs ds false keeps same = same
-name_kept (Arg0Namespace value) cs ds false keeps same = same
+name_kept (Compares source relation value) cs ds false keeps same = same
 
 names_kept : (p : Condition → Bool) → KeepsSenders p → (cs : List Condition) → first_owned_name (filter p cs) ≡ first_owned_name cs
 names_kept p keeps [] = refl
@@ -122,14 +121,7 @@ keeps_senders : (tested : Tested) → KeepsSenders (is_tested tested)
 keeps_senders AllTested c is = refl
 keeps_senders (Left rule) (Sender name) is = refl
 keeps_senders (Left rule) (Kind kind) is = absurd (false≢true is)
-keeps_senders (Left rule) (Interface name) is = absurd (false≢true is)
-keeps_senders (Left rule) (Member name) is = absurd (false≢true is)
-keeps_senders (Left rule) (Path path) is = absurd (false≢true is)
-keeps_senders (Left rule) (PathNamespace value) is = absurd (false≢true is)
-keeps_senders (Left rule) (Destination name) is = absurd (false≢true is)
-keeps_senders (Left rule) (Arg n value) is = absurd (false≢true is)
-keeps_senders (Left rule) (ArgPath n value) is = absurd (false≢true is)
-keeps_senders (Left rule) (Arg0Namespace value) is = absurd (false≢true is)
+keeps_senders (Left rule) (Compares source relation value) is = absurd (false≢true is)
 
 pub same_sender : (tested : Tested) (rule : RuleTree) → sender_name_of (tested_of tested rule) ≡ sender_name_of rule
 same_sender tested rule = names_kept (is_tested tested) (keeps_senders tested) rule.conditions
@@ -164,38 +156,36 @@ told : (fixed : Option (List ℕ)) (text : List ℕ) (Q : List ℕ → Type 0) �
 told None text Q is found = absurd (false≢true is)
 told (Some other) text Q is found = subst Q ((bytes_eq-Decides other text).0 is) found
 
-has_text : (o : Option (List ℕ)) (argument : Argument) (value : List ℕ) → argument.text ≡ o → string_in (option_map (λ text. (argument.code, text)) o) ≡ Some value → (argument.code ≡ 115) × (argument.text ≡ Some value)
-has_text None argument value is e = absurd cc
-has_text (Some text) argument value is e = go (eqb argument.code 115) refl e
-  where
-    go : (b : Bool) → eqb argument.code 115 ≡ b → (if b then Some text else None) ≡ Some value → (argument.code ≡ 115) × (argument.text ≡ Some value)
-    go true code f = (eqb-true argument.code 115 code, is ∙ f)
-    go false code f = absurd cc
-
-has_string : (o : Option Argument) (value : List ℕ) → string_in (text_in o) ≡ Some value → (argument : Argument) × (o ≡ Some argument) × (argument.code ≡ 115) × (argument.text ≡ Some value)
-has_string None value e = absurd cc
-has_string (Some argument) value e =
-    let has = has_text argument.text argument value refl e in
-    (argument, refl, has.0, has.1)
+-- a text that is there
+there : (shown : Option (List ℕ)) (value : List ℕ) → shown ≡ Some value → IsSomeAnd shown (λ text. text ≡ value)
+there None value is = absurd cc
+there (Some text) value is = cc
 
 module _ (rule : RuleTree) (m : Message) (owned : List ℕ → Bool) (found : AreFound (fixed_texts rule) (texts_of m)) where
-  arg0_holds : (n : ℕ) (value : List ℕ) → n ≡ 0 → arg0_of m ≡ Some value → HasArg m n 115 value
-  arg0_holds n value zeroth is = rw zeroth (has_string (slice_get (arguments_of m) 0) value is)
+  arg_fixed : (n : ℕ) (value : List ℕ) → is_fixed (fixed_source rule (Arg n)) value ≡ true → IsSomeAnd (text_at (Arg n) relations.Equal m) (λ text. text ≡ value)
+  arg_fixed n value e = go (n == 0) refl e
+    where
+      go : (b : Bool) → (n == 0) ≡ b → is_fixed (if b then arg0_asked rule else None) value ≡ true → IsSomeAnd (text_at (Arg n) relations.Equal m) (λ text. text ≡ value)
+      go true zeroth e =
+          let is = told (arg0_asked rule) value (λ text. arg0_of m ≡ Some text) e found.arg0 in
+          let at_zero = there (text_at (Arg 0) relations.Equal m) value (sym (same_string (text_in (slice_get (arguments_of m) 0))) ∙ is) in
+          subst (λ (k : ℕ). IsSomeAnd (text_at (Arg k) relations.Equal m) (λ text. text ≡ value)) (sym (eqb-true n 0 zeroth)) at_zero
+      go false other e = absurd (false≢true e)
+
+  -- a text that the rule fixes is found
+  source_fixed : (source : Source) (value : List ℕ) → is_fixed (fixed_source rule source) value ≡ true → IsSomeAnd (text_at source relations.Equal m) (λ text. text ≡ value)
+  source_fixed (Header Interface) value e = there (interface_of m) value (told (interface_asked rule) value (λ text. interface_of m ≡ Some text) e found.interface)
+  source_fixed (Header Member) value e = there (member_of m) value (told (member_asked rule) value (λ text. member_of m ≡ Some text) e found.member)
+  source_fixed (Header Path) value e = there (path_of m) value (told (path_asked rule) value (λ text. path_of m ≡ Some text) e found.path)
+  source_fixed (Header Destination) value e = absurd (false≢true e)
+  source_fixed (Arg n) value e = arg_fixed n value e
 
   -- a condition that isn't left holds
   not_left_holds : (c : Condition) → is_left rule c ≡ false → ConditionHolds c m owned
-  not_left_holds (Interface name) e = told (interface_asked rule) name (λ text. interface_of m ≡ Some text) (not-false _ e) found.interface
-  not_left_holds (Member name) e = told (member_asked rule) name (λ text. member_of m ≡ Some text) (not-false _ e) found.member
-  not_left_holds (Path path) e = told (path_asked rule) path (λ text. path_of m ≡ Some text) (not-false _ e) found.path
-  not_left_holds (Arg n value) e =
-      let both = and_parts (eqb n 0) (is_fixed (arg0_asked rule) value) (not-false _ e) in
-      arg0_holds n value (eqb-true n 0 both.0) (told (arg0_asked rule) value (λ text. arg0_of m ≡ Some text) both.1 found.arg0)
+  not_left_holds (Compares source relations.Equal value) e = source_fixed source value (not-false _ e)
+  not_left_holds (Compares source relation value) e = absurd (true≢false e)
   not_left_holds (Kind kind) e = absurd (true≢false e)
   not_left_holds (Sender name) e = absurd (true≢false e)
-  not_left_holds (PathNamespace value) e = absurd (true≢false e)
-  not_left_holds (Destination name) e = absurd (true≢false e)
-  not_left_holds (ArgPath n value) e = absurd (true≢false e)
-  not_left_holds (Arg0Namespace value) e = absurd (true≢false e)
 
   all_hold : (p : Condition → Bool) → ((c : Condition) → p c ≡ false → ConditionHolds c m owned) → (cs : List Condition) → All (λ c. ConditionHolds c m owned) (filter p cs) → All (λ c. ConditionHolds c m owned) cs
   all_hold p others [] each = All-nil (λ c. ConditionHolds c m owned)

@@ -1,7 +1,8 @@
 -- A rule's program, with an island of its own for each far target, isn't longer than the rule weighs.
-use Rattle.std.proofs.Common.{◌≡◌, ℕ, zero, suc, ◌+◌, ◌-◌, ◌*◌, ◌≤◌, Bool, true, false, List, [], ◌∷◌, length, refl, sym, ap, ◌∙◌, arith}
+use Rattle.std.proofs.Common.{◌≡◌, ℕ, zero, suc, ◌+◌, ◌-◌, ◌*◌, ◌<◌, ◌≤◌, Bool, true, false, List, [], ◌∷◌, length, refl, sym, ap, ◌∙◌, arith}
 use Rattle.std.specs.Prelude.{◌/◌, ◌%◌, ◌^◌, ◌&&◌, ◌==◌, if◌then◌else◌, nat_lt, sum_by}
 use Rattle.std.specs.Str.{bytes_eq}
+use Rattle.std.proofs.lemmas.Bool.{eqb-true, ne_eqb}
 use Rattle.std.proofs.lemmas.List.Sums.{sum_by-cons}
 use Rattle.bpf_code.specs.declared.instruction.Ins.{Ins}
 use Rattle.bpf_code.specs.declared.operation.Width.{Width}
@@ -12,14 +13,20 @@ use Rattle.bpf_code.specs.Table.{op_of}
 use Rattle.jump_islands.specs.Draft.{DraftTree, instructions_of}
 use Rattle.jump_islands.specs.PlainLength.{is_far, count, span, size_of, sizes_of, plain_length}
 use Rattle.match_rule.specs.Bytes.{ends_with}
+use Rattle.match_rule.specs.declared.source.Field.{Field}
+use Rattle.match_rule.specs.declared.source.Field.TheVariants.{Interface, Member, Path, Destination}
+use Rattle.match_rule.specs.declared.source.Source.{Source}
+use Rattle.match_rule.specs.declared.source.Source.TheVariants.{Header, Arg}
+use Rattle.match_rule.specs.declared.relation.Relation.{Relation}
+use Rattle.match_rule.specs.declared.relation.Relation.TheVariants as relations
 use Rattle.match_rule.specs.declared.condition.Condition.{Condition}
-use Rattle.match_rule.specs.declared.condition.Condition.TheVariants.{Kind, Sender, Interface, Member, Path, PathNamespace, Destination, Arg, ArgPath, Arg0Namespace}
-use Rattle.match_rule.specs.RuleTree.{RuleTree, is_owned_name, slashes, condition_weight, weight_of}
+use Rattle.match_rule.specs.declared.condition.Condition.TheVariants.{Kind, Sender, Compares}
+use Rattle.match_rule.specs.RuleTree.{RuleTree, is_owned_name, slashes, relation_weight, condition_weight, weight_of}
 use Rattle.message_view.specs.Header.{kind_byte}
 use Rattle.match_rule.specs.Condition.{kind_meant}
 use Rattle.rule_compile.specs.Code.{image_word, indexed, index_from_a, branch, want, settle, two, four, same_bytes, has_len, is_there, is_there_if, index_text, is_text, in_namespace}
 use Rattle.rule_compile.specs.Folders.{with_front, parts_of, may_end, along, is_nested}
-use Rattle.rule_compile.specs.RuleCode.{argument_at, has_type, has_text_type, owns, path_namespace, condition_code, rank_of, of_rank, from_rank, offered, verdicts, rule_code}
+use Rattle.rule_compile.specs.RuleCode.{argument_at, field_at, has_type, has_text_type, owns, path_namespace, relation_code, there_code, type_code, condition_code, rank_of, of_rank, from_rank, offered, verdicts, rule_code}
 
 -- ---- single instructions
 
@@ -188,10 +195,24 @@ text_type_total n rest =
 owns_total : (slot : ℕ) (rest : List Ins) → total (owns slot rest) ≤ 3 + total rest
 owns_total slot rest = omega (arith, image_total (840 + 4 * (slot / 32)) (want SharesBit (2 ^ (slot % 32)) rest), want_total SharesBit (2 ^ (slot % 32)) rest)
 
-path_total : (value : List ℕ) (rest : List Ins) → total (path_namespace value rest) ≤ length value + 17 + total rest
-path_total value rest =
-    let a = there_total 24 rest in
-    choice_total (bytes_eq value (47 ∷ [])) (length value + 17 + total rest) (is_there 24 rest) (in_namespace 24 47 value rest) (omega arith) (namespace_total 24 47 value rest)
+path_total : (at : ℕ) (value : List ℕ) (rest : List Ins) → total (path_namespace at value rest) ≤ length value + 17 + total rest
+path_total at value rest =
+    let a = there_total at rest in
+    choice_total (bytes_eq value (47 ∷ [])) (length value + 17 + total rest) (is_there at rest) (in_namespace at 47 value rest) (omega arith) (namespace_total at 47 value rest)
+
+relation_total : (relation : Relation) (at : ℕ) (value : List ℕ) (rest : List Ins) → total (relation_code relation at value rest) ≤ length value + relation_weight relation value + 17 + total rest
+relation_total relations.Equal at value rest = omega (arith, is_text_total at value rest)
+relation_total relations.PathNamespace at value rest = omega (arith, path_total at value rest)
+relation_total relations.NameNamespace at value rest = omega (arith, namespace_total at 46 value rest)
+relation_total relations.NestedPath at value rest = omega (arith, nested_total at value rest)
+
+there_code_total : (relation : Relation) (at : ℕ) (rest : List Ins) → total (there_code relation at rest) ≤ 3 + total rest
+there_code_total relations.NestedPath at rest = there_total at rest
+there_code_total _ at rest = omega arith
+
+type_code_total : (relation : Relation) (n : ℕ) (rest : List Ins) → total (type_code relation n rest) ≤ 5 + total rest
+type_code_total relations.NestedPath n rest = text_type_total n rest
+type_code_total _ n rest = omega (arith, type_total n 115 rest)
 
 condition_total : (slot : ℕ) (c : Condition) (rest : List Ins) → total (condition_code slot c rest) ≤ condition_weight c + total rest
 condition_total slot (Kind kind) rest =
@@ -200,17 +221,12 @@ condition_total slot (Sender name) rest =
     let a = owns_total slot rest in
     let b = is_text_total 64 name rest in
     choice_total (is_owned_name name) (condition_weight (Sender name) + total rest) (owns slot rest) (is_text 64 name rest) (omega arith) (omega arith)
-condition_total slot (Interface name) rest = omega (arith, is_text_total 32 name rest)
-condition_total slot (Member name) rest = omega (arith, is_text_total 40 name rest)
-condition_total slot (Path path) rest = omega (arith, is_text_total 24 path rest)
-condition_total slot (PathNamespace value) rest = omega (arith, path_total value rest)
-condition_total slot (Destination name) rest = omega (arith, is_text_total 56 name rest)
-condition_total slot (Arg n value) rest =
-    let tail = is_text (argument_at n + 4) value rest in omega (arith, type_total n 115 tail, is_text_total (argument_at n + 4) value rest)
-condition_total slot (ArgPath n value) rest =
-    let tail = is_nested (argument_at n + 4) value rest in omega (arith, text_type_total n tail, nested_total (argument_at n + 4) value rest)
-condition_total slot (Arg0Namespace value) rest =
-    let tail = in_namespace (argument_at 0 + 4) 46 value rest in omega (arith, type_total 0 115 tail, namespace_total (argument_at 0 + 4) 46 value rest)
+condition_total slot (Compares (Header field) relation value) rest =
+    let tail = relation_code relation (field_at field) value rest in
+    omega (arith, there_code_total relation (field_at field) tail, relation_total relation (field_at field) value rest)
+condition_total slot (Compares (Arg n) relation value) rest =
+    let tail = relation_code relation (argument_at n + 4) value rest in
+    omega (arith, type_code_total relation n tail, relation_total relation (argument_at n + 4) value rest)
 
 -- ---- rules
 
@@ -227,26 +243,6 @@ rank_total slot rank (c ∷ cs) rest = go (rank_of c == rank) (rank_total slot r
     go true h = omega (arith, condition_total slot c (of_rank slot rank cs rest))
     go false h = omega arith
 
-abbrev all_ranks : List Condition → ℕ
-all_ranks cs = rank_weight 0 cs + rank_weight 1 cs + rank_weight 2 cs + rank_weight 3 cs + rank_weight 4 cs + rank_weight 5 cs + rank_weight 6 cs + rank_weight 7 cs
-
--- a condition has one rank
-one_rank : (c : Condition) (cs : List Condition) → all_ranks (c ∷ cs) ≡ condition_weight c + all_ranks cs
-one_rank (Kind kind) cs = omega arith
-one_rank (Sender name) cs = omega arith
-one_rank (Interface name) cs = omega arith
-one_rank (Member name) cs = omega arith
-one_rank (Path path) cs = omega arith
-one_rank (PathNamespace value) cs = omega arith
-one_rank (Destination name) cs = omega arith
-one_rank (Arg n value) cs = omega arith
-one_rank (ArgPath n value) cs = omega arith
-one_rank (Arg0Namespace value) cs = omega arith
-
-ranks_weight : (cs : List Condition) → all_ranks cs ≡ sum_by condition_weight cs
-ranks_weight [] = refl
-ranks_weight (c ∷ cs) = one_rank c cs ∙ ap (λ n. condition_weight c + n) (ranks_weight cs) ∙ sym (sum_by-cons condition_weight c cs)
-
 offered_total : (eavesdrops : Bool) → total (offered eavesdrops verdicts) ≤ 5
 offered_total eavesdrops = choice_total eavesdrops 5 verdicts (image_word 56 ∷ want Equal 0 verdicts) (omega (arith, verdicts_total)) (omega (arith, image_total 56 (want Equal 0 verdicts), want_total Equal 0 verdicts, verdicts_total))
 
@@ -261,11 +257,51 @@ from_total slot (suc n) rank cs rest =
     let tail = from_rank slot n (rank + 1) cs rest in
     omega (arith, rank_total slot rank cs tail, from_total slot n (rank + 1) cs rest)
 
+-- what a condition of a rank of its own weighs in so many ranks, from one on
+abbrev weight_in : ℕ → ℕ → ℕ → ℕ → ℕ
+weight_in zero rank own weight = 0
+weight_in (suc n) rank own weight = (if own == rank then weight else 0) + weight_in n (rank + 1) own weight
+
+weight_past : (n rank own weight : ℕ) → own < rank → weight_in n rank own weight ≡ 0
+weight_past zero rank own weight less = refl
+weight_past (suc n) rank own weight less =
+    let later = weight_past n (rank + 1) own weight (omega arith) in
+    rw (ne_eqb own rank (λ e. omega arith)) (omega (arith, later))
+
+-- a condition has one rank at most
+weight_once : (n rank own weight : ℕ) → weight_in n rank own weight ≤ weight
+weight_once zero rank own weight = omega arith
+weight_once (suc n) rank own weight = go (own == rank) refl (weight_once n (rank + 1) own weight)
+  where
+    go : (b : Bool) → (own == rank) ≡ b → weight_in n (rank + 1) own weight ≤ weight → (if b then weight else 0) + weight_in n (rank + 1) own weight ≤ weight
+    go true is later =
+        let same : own ≡ rank = eqb-true own rank is in
+        let none = weight_past n (rank + 1) own weight (omega arith) in
+        omega arith
+    go false is later = omega arith
+
+ranks_cons : (n rank : ℕ) (c : Condition) (cs : List Condition) → ranks_from n rank (c ∷ cs) ≡ weight_in n rank (rank_of c) (condition_weight c) + ranks_from n rank cs
+ranks_cons zero rank c cs = refl
+ranks_cons (suc n) rank c cs = let later = ranks_cons n (rank + 1) c cs in omega arith
+
+ranks_nil : (n rank : ℕ) → ranks_from n rank [] ≡ 0
+ranks_nil zero rank = refl
+ranks_nil (suc n) rank = let later = ranks_nil n (rank + 1) in omega arith
+
+ranks_weight : (n rank : ℕ) (cs : List Condition) → ranks_from n rank cs ≤ sum_by condition_weight cs
+ranks_weight n rank [] = let none = ranks_nil n rank in omega arith
+ranks_weight n rank (c ∷ cs) =
+    let here = weight_once n rank (rank_of c) (condition_weight c) in
+    let more = ranks_cons n rank c cs in
+    let later = ranks_weight n rank cs in
+    let sum = sum_by-cons condition_weight c cs in
+    omega arith
+
 code_total : (slot : ℕ) (rule : RuleTree) → total (rule_code slot rule) ≤ weight_of rule
 code_total slot rule =
     let cs = rule.conditions in
     let tail = offered rule.eavesdrops verdicts in
-    omega (arith, from_total slot 8 0 cs tail, offered_total rule.eavesdrops, ranks_weight cs)
+    omega (arith, from_total slot 8 0 cs tail, offered_total rule.eavesdrops, ranks_weight 8 0 cs)
 
 -- with an island for each far target the program isn't longer than the rule weighs
 pub rule_length : (slot : ℕ) (rule : RuleTree) (draft : DraftTree) → instructions_of draft ≡ rule_code slot rule → plain_length draft ≤ weight_of rule

@@ -9,8 +9,14 @@ use Rattle.bpf_code.specs.declared.operation.Test.TheVariants.{Equal}
 use Rattle.bpf_code.specs.Steps.{Ends}
 use Rattle.message_view.specs.Message.{Message, destination_of}
 use Rattle.message_view.specs.Valid.{Valid}
+use Rattle.match_rule.specs.declared.source.Field.{Field}
+use Rattle.match_rule.specs.declared.source.Field.TheVariants.{Interface, Member, Path, Destination}
+use Rattle.match_rule.specs.declared.source.Source.{Source}
+use Rattle.match_rule.specs.declared.source.Source.TheVariants.{Header, Arg}
+use Rattle.match_rule.specs.declared.relation.Relation.{Relation}
+use Rattle.match_rule.specs.declared.relation.Relation.TheVariants as relations
 use Rattle.match_rule.specs.declared.condition.Condition.{Condition}
-use Rattle.match_rule.specs.declared.condition.Condition.TheVariants.{Kind, Sender, Interface, Member, Path, PathNamespace, Destination, Arg, ArgPath, Arg0Namespace}
+use Rattle.match_rule.specs.declared.condition.Condition.TheVariants.{Kind, Sender, Compares}
 use Rattle.match_rule.specs.Condition.{value_of}
 use Rattle.match_rule.specs.Holds.{ConditionHolds, Holds}
 use Rattle.match_rule.specs.Parts.{is_sender, has_one_sender, has_small_number, have_small_numbers}
@@ -21,7 +27,7 @@ use Rattle.summary.specs.Sets.{has_slot}
 use Rattle.summary.specs.Shown.{AreBytes, ShowsText, Shows}
 use Rattle.rule_compile.specs.Code.{image_word, want, returns}
 use Rattle.rule_compile.specs.Compiled.{IsSlotOf, AgreeOn}
-use Rattle.rule_compile.specs.RuleCode.{condition_code, rank_of, ranks, of_rank, from_rank, offered, verdicts, rule_code}
+use Rattle.rule_compile.specs.RuleCode.{condition_code, field_rank, whole_rank, other_rank, rank_of, ranks, of_rank, from_rank, offered, verdicts, rule_code}
 use Rattle.rule_compile.proofs.Pieces.{Guarded, Any, Tests}
 use Rattle.rule_compile.proofs.Runs.{runs_returns}
 use Rattle.rule_compile.proofs.Combined.{Extends, extends_none, extends_more, extends_then, extends_want, guards, tests_none, tests_same, tests_both, tests_word}
@@ -88,17 +94,25 @@ tests_from_rank image slot (suc n) rank P cs each =
       ),
     ) (tests_both image Any (OfRank rank P cs) (OfRanks n (rank + 1) P cs) (of_rank slot rank cs) (from_rank slot n (rank + 1) cs) (tests_of_rank image slot rank P cs each) (tests_from_rank image slot n (rank + 1) P cs each))
 
+field_rank_small : (field : Field) → field_rank field < 5
+field_rank_small Interface = omega arith
+field_rank_small Member = omega arith
+field_rank_small Path = omega arith
+field_rank_small Destination = omega arith
+
+whole_rank_small : (source : Source) → whole_rank source < 8
+whole_rank_small (Header field) = let h = field_rank_small field in omega arith
+whole_rank_small (Arg n) = omega arith
+
+other_rank_small : (source : Source) → other_rank source < 8
+other_rank_small (Header field) = omega arith
+other_rank_small (Arg n) = omega arith
+
 rank_small : (c : Condition) → rank_of c < 8
 rank_small (Kind kind) = omega arith
 rank_small (Sender name) = omega arith
-rank_small (Interface name) = omega arith
-rank_small (Member name) = omega arith
-rank_small (Path path) = omega arith
-rank_small (PathNamespace value) = omega arith
-rank_small (Destination name) = omega arith
-rank_small (Arg n value) = omega arith
-rank_small (ArgPath n value) = omega arith
-rank_small (Arg0Namespace value) = omega arith
+rank_small (Compares source relations.Equal value) = whole_rank_small source
+rank_small (Compares source relation value) = other_rank_small source
 
 tests_conditions : (image : List ℕ) (slot : ℕ) (P : Condition → Type 0) (cs : List Condition) → EachTests image slot P cs → Tests image Any (All P cs) (from_rank slot ranks 0 cs)
 tests_conditions image slot P cs each =

@@ -19,15 +19,21 @@ use Rattle.bpf_code.specs.Flow.{At, Reads}
 use Rattle.bpf_code.specs.Program.{IsJumpFine, IsFine, IsReturn}
 use Rattle.jump_islands.specs.WellMade.{AreWellMade}
 use Rattle.message_view.specs.Header.{kind_byte}
+use Rattle.match_rule.specs.declared.source.Field.{Field}
+use Rattle.match_rule.specs.declared.source.Field.TheVariants.{Interface, Member, Path, Destination}
+use Rattle.match_rule.specs.declared.source.Source.{Source}
+use Rattle.match_rule.specs.declared.source.Source.TheVariants.{Header, Arg}
+use Rattle.match_rule.specs.declared.relation.Relation.{Relation}
+use Rattle.match_rule.specs.declared.relation.Relation.TheVariants as relations
 use Rattle.match_rule.specs.declared.condition.Condition.{Condition}
-use Rattle.match_rule.specs.declared.condition.Condition.TheVariants.{Kind, Sender, Interface, Member, Path, PathNamespace, Destination, Arg, ArgPath, Arg0Namespace}
+use Rattle.match_rule.specs.declared.condition.Condition.TheVariants.{Kind, Sender, Compares}
 use Rattle.match_rule.specs.Bytes.{ends_with}
 use Rattle.match_rule.specs.Condition.{kind_meant}
 use Rattle.match_rule.specs.Parts.{has_small_number, have_small_numbers}
 use Rattle.match_rule.specs.RuleTree.{RuleTree, is_owned_name}
 use Rattle.rule_compile.specs.Code.{image_word, indexed, index_from_a, returns, branch, want, settle, two, four, same_bytes, has_len, is_there, is_there_if, index_text, is_text, in_namespace}
 use Rattle.rule_compile.specs.Folders.{parts_of, may_end, along, is_nested}
-use Rattle.rule_compile.specs.RuleCode.{argument_at, has_type, has_text_type, owns, path_namespace, condition_code, rank_of, of_rank, from_rank, offered, verdicts, rule_code}
+use Rattle.rule_compile.specs.RuleCode.{argument_at, field_at, has_type, has_text_type, owns, path_namespace, relation_code, there_code, type_code, condition_code, rank_of, of_rank, from_rank, offered, verdicts, rule_code}
 
 -- ---- what an instruction in front keeps
 
@@ -197,27 +203,39 @@ owns_sound : (slot : ℕ) (rest : List Ins) → slot < 1024 → IsSound rest →
 owns_sound slot rest small s =
     image_sound (840 + 4 * (slot / 32)) (want SharesBit (2 ^ (slot % 32)) rest) (omega arith) (want_sound SharesBit (2 ^ (slot % 32)) rest s)
 
-path_sound : (value : List ℕ) (rest : List Ins) → IsSound rest → IsSound (path_namespace value rest)
-path_sound value rest s =
-    choice_sound (bytes_eq value (47 ∷ [])) (is_there 24 rest) (in_namespace 24 47 value rest) (there_sound 24 rest (omega arith) s) (namespace_sound 24 47 value rest (omega arith) s)
+path_sound : (at : ℕ) (value : List ℕ) (rest : List Ins) → at < 1024 → IsSound rest → IsSound (path_namespace at value rest)
+path_sound at value rest small s =
+    choice_sound (bytes_eq value (47 ∷ [])) (is_there at rest) (in_namespace at 47 value rest) (there_sound at rest small s) (namespace_sound at 47 value rest small s)
+
+relation_sound : (relation : Relation) (at : ℕ) (value : List ℕ) (rest : List Ins) → at < 1024 → IsSound rest → IsSound (relation_code relation at value rest)
+relation_sound relations.Equal at value rest small s = is_text_sound at value rest small s
+relation_sound relations.PathNamespace at value rest small s = path_sound at value rest small s
+relation_sound relations.NameNamespace at value rest small s = namespace_sound at 46 value rest small s
+relation_sound relations.NestedPath at value rest small s = nested_sound at value rest small s
+
+there_code_sound : (relation : Relation) (at : ℕ) (rest : List Ins) → at < 1024 → IsSound rest → IsSound (there_code relation at rest)
+there_code_sound relations.NestedPath at rest small s = there_sound at rest small s
+there_code_sound _ at rest small s = s
+
+type_code_sound : (relation : Relation) (n : ℕ) (rest : List Ins) → n ≤ 63 → IsSound rest → IsSound (type_code relation n rest)
+type_code_sound relations.NestedPath n rest small s = text_type_sound n rest small s
+type_code_sound _ n rest small s = type_sound n 115 rest small s
+
+field_small : (field : Field) → field_at field < 1024
+field_small Interface = omega arith
+field_small Member = omega arith
+field_small Path = omega arith
+field_small Destination = omega arith
 
 pub condition_sound : (slot : ℕ) (c : Condition) (rest : List Ins) → slot < 1024 → has_small_number c ≡ true → IsSound rest → IsSound (condition_code slot c rest)
 condition_sound slot (Kind kind) rest small e s = image_sound 4 (want Equal (kind_byte (kind_meant kind)) rest) (omega arith) (want_sound Equal (kind_byte (kind_meant kind)) rest s)
 condition_sound slot (Sender name) rest small e s =
     choice_sound (is_owned_name name) (owns slot rest) (is_text 64 name rest) (owns_sound slot rest small s) (is_text_sound 64 name rest (omega arith) s)
-condition_sound slot (Interface name) rest small e s = is_text_sound 32 name rest (omega arith) s
-condition_sound slot (Member name) rest small e s = is_text_sound 40 name rest (omega arith) s
-condition_sound slot (Path path) rest small e s = is_text_sound 24 path rest (omega arith) s
-condition_sound slot (PathNamespace value) rest small e s = path_sound value rest s
-condition_sound slot (Destination name) rest small e s = is_text_sound 56 name rest (omega arith) s
-condition_sound slot (Arg n value) rest small e s =
+condition_sound slot (Compares (Header field) relation value) rest small e s =
+    there_code_sound relation (field_at field) (relation_code relation (field_at field) value rest) (field_small field) (relation_sound relation (field_at field) value rest (field_small field) s)
+condition_sound slot (Compares (Arg n) relation value) rest small e s =
     let h : n ≤ 63 = leb-true n 63 e in
-    type_sound n 115 (is_text (argument_at n + 4) value rest) h (is_text_sound (argument_at n + 4) value rest (omega arith) s)
-condition_sound slot (ArgPath n value) rest small e s =
-    let h : n ≤ 63 = leb-true n 63 e in
-    text_type_sound n (is_nested (argument_at n + 4) value rest) h (nested_sound (argument_at n + 4) value rest (omega arith) s)
-condition_sound slot (Arg0Namespace value) rest small e s =
-    type_sound 0 115 (in_namespace (argument_at 0 + 4) 46 value rest) (omega arith) (namespace_sound (argument_at 0 + 4) 46 value rest (omega arith) s)
+    type_code_sound relation n (relation_code relation (argument_at n + 4) value rest) h (relation_sound relation (argument_at n + 4) value rest (omega arith) s)
 
 -- ---- the distances of a branch
 

@@ -1,12 +1,18 @@
 -- The program of what is left of a rule, where a message has the texts that the rule fixes.
-use Rattle.std.specs.Prelude.{◌↔◌, ℕ, ◌<◌, Bool, true, false, not, ◌&&◌, List, Option, Some, None, filter, ◌==◌}
+use Rattle.std.specs.Prelude.{◌↔◌, ℕ, ◌<◌, Bool, true, false, not, List, Option, Some, None, filter, ◌==◌, if◌then◌else◌}
 use Rattle.std.specs.Str.{bytes_eq}
 use Rattle.bpf_code.specs.declared.instruction.Ins.{Ins}
 use Rattle.bpf_code.specs.Steps.{Ends}
 use Rattle.message_view.specs.Message.{Message}
 use Rattle.message_view.specs.Valid.{Valid}
+use Rattle.match_rule.specs.declared.source.Field.{Field}
+use Rattle.match_rule.specs.declared.source.Field.TheVariants.{Interface, Member, Path, Destination}
+use Rattle.match_rule.specs.declared.source.Source.{Source}
+use Rattle.match_rule.specs.declared.source.Source.TheVariants.{Header, Arg}
+use Rattle.match_rule.specs.declared.relation.Relation.{Relation}
+use Rattle.match_rule.specs.declared.relation.Relation.TheVariants as relations
 use Rattle.match_rule.specs.declared.condition.Condition.{Condition}
-use Rattle.match_rule.specs.declared.condition.Condition.TheVariants.{Interface, Member, Path, Arg}
+use Rattle.match_rule.specs.declared.condition.Condition.TheVariants.{Kind, Sender, Compares}
 use Rattle.match_rule.specs.FixedTexts.{member_asked, interface_asked, path_asked, arg0_asked, fixed_texts, texts_of, AreFound}
 use Rattle.match_rule.specs.RuleTree.{RuleTree}
 use Rattle.match_rule.specs.Holds.{Holds}
@@ -35,12 +41,25 @@ abbrev pub is_fixed : Option (List ℕ) → List ℕ → Bool
 is_fixed None text = false
 is_fixed (Some other) text = bytes_eq other text
 
+-- the text that a rule fixes of a header field
+abbrev pub fixed_field : RuleTree → Field → Option (List ℕ)
+fixed_field rule Interface = interface_asked rule
+fixed_field rule Member = member_asked rule
+fixed_field rule Path = path_asked rule
+fixed_field rule Destination = None
+
+abbrev pub fixed_source : RuleTree → Source → Option (List ℕ)
+fixed_source rule (Header field) = fixed_field rule field
+fixed_source rule (Arg n) = if n == 0 then arg0_asked rule else None
+
+-- the text that a rule fixes of a source, by equality alone
+abbrev pub fixed_text : RuleTree → Relation → Source → Option (List ℕ)
+fixed_text rule relations.Equal source = fixed_source rule source
+fixed_text rule _ source = None
+
 -- the condition is left to test where a message has the texts that the rule fixes
 abbrev pub is_left : RuleTree → Condition → Bool
-is_left rule (Interface name) = not (is_fixed (interface_asked rule) name)
-is_left rule (Member name) = not (is_fixed (member_asked rule) name)
-is_left rule (Path path) = not (is_fixed (path_asked rule) path)
-is_left rule (Arg n value) = not (n == 0 && is_fixed (arg0_asked rule) value)
+is_left rule (Compares source relation value) = not (is_fixed (fixed_text rule relation source) value)
 is_left rule _ = true
 
 abbrev pub is_tested : Tested → Condition → Bool

@@ -4,8 +4,14 @@ use Rattle.std.specs.Str.{bytes_eq}
 use Rattle.bpf_code.specs.declared.instruction.Ins.{Ins}
 use Rattle.bpf_code.specs.declared.operation.Test.TheVariants.{Equal, SharesBit}
 use Rattle.message_view.specs.Header.{kind_byte}
+use Rattle.match_rule.specs.declared.source.Field.{Field}
+use Rattle.match_rule.specs.declared.source.Field.TheVariants.{Interface, Member, Path, Destination}
+use Rattle.match_rule.specs.declared.source.Source.{Source}
+use Rattle.match_rule.specs.declared.source.Source.TheVariants.{Header, Arg}
+use Rattle.match_rule.specs.declared.relation.Relation.{Relation}
+use Rattle.match_rule.specs.declared.relation.Relation.TheVariants as relations
 use Rattle.match_rule.specs.declared.condition.Condition.{Condition}
-use Rattle.match_rule.specs.declared.condition.Condition.TheVariants.{Kind, Sender, Interface, Member, Path, PathNamespace, Destination, Arg, ArgPath, Arg0Namespace}
+use Rattle.match_rule.specs.declared.condition.Condition.TheVariants.{Kind, Sender, Compares}
 use Rattle.match_rule.specs.Condition.{kind_meant}
 use Rattle.match_rule.specs.RuleTree.{RuleTree, is_owned_name}
 use Rattle.rule_compile.specs.Code.{image_word, want, settle, returns, is_there, is_text, in_namespace}
@@ -27,34 +33,77 @@ has_text_type n rest = image_word (argument_at n) ∷ settle Equal 115 rest (wan
 abbrev pub owns : ℕ → List Ins → List Ins
 owns slot rest = image_word (840 + 4 * (slot / 32)) ∷ want SharesBit (2 ^ (slot % 32)) rest
 
-abbrev pub path_namespace : List ℕ → List Ins → List Ins
-path_namespace value rest = if bytes_eq value (47 ∷ []) then is_there 24 rest else in_namespace 24 47 value rest
+-- ---- the text at a source
+
+-- the place of the words of a header field's text
+abbrev pub field_at : Field → ℕ
+field_at Path = 24
+field_at Interface = 32
+field_at Member = 40
+field_at Destination = 56
+
+abbrev pub words_at : Source → ℕ
+words_at (Header field) = field_at field
+words_at (Arg n) = argument_at n + 4
+
+-- the text is a path in the namespace of the value
+abbrev pub path_namespace : ℕ → List ℕ → List Ins → List Ins
+path_namespace at value rest = if bytes_eq value (47 ∷ []) then is_there at rest else in_namespace at 47 value rest
+
+-- the text stands in the relation to the value
+abbrev pub relation_code : Relation → ℕ → List ℕ → List Ins → List Ins
+relation_code relations.Equal at value rest = is_text at value rest
+relation_code relations.PathNamespace at value rest = path_namespace at value rest
+relation_code relations.NameNamespace at value rest = in_namespace at 46 value rest
+relation_code relations.NestedPath at value rest = is_nested at value rest
+
+-- the text of a field is there, where the code of the relation doesn't tell
+abbrev pub there_code : Relation → ℕ → List Ins → List Ins
+there_code relations.NestedPath at rest = is_there at rest
+there_code _ at rest = rest
+
+-- argument n has a type that the relation compares
+abbrev pub type_code : Relation → ℕ → List Ins → List Ins
+type_code relations.NestedPath n rest = has_text_type n rest
+type_code _ n rest = has_type n 115 rest
+
+-- the source has a text that the relation compares
+abbrev pub source_code : Source → Relation → List Ins → List Ins
+source_code (Header field) relation rest = there_code relation (field_at field) rest
+source_code (Arg n) relation rest = type_code relation n rest
 
 -- a condition, of a rule whose sender name has a slot
 abbrev pub condition_code : ℕ → Condition → List Ins → List Ins
 condition_code slot (Kind kind) rest = image_word 4 ∷ want Equal (kind_byte (kind_meant kind)) rest
 condition_code slot (Sender name) rest = if is_owned_name name then owns slot rest else is_text 64 name rest
-condition_code slot (Interface name) rest = is_text 32 name rest
-condition_code slot (Member name) rest = is_text 40 name rest
-condition_code slot (Path path) rest = is_text 24 path rest
-condition_code slot (PathNamespace value) rest = path_namespace value rest
-condition_code slot (Destination name) rest = is_text 56 name rest
-condition_code slot (Arg n value) rest = has_type n 115 (is_text (argument_at n + 4) value rest)
-condition_code slot (ArgPath n value) rest = has_text_type n (is_nested (argument_at n + 4) value rest)
-condition_code slot (Arg0Namespace value) rest = has_type 0 115 (in_namespace (argument_at 0 + 4) 46 value rest)
+condition_code slot (Compares source relation value) rest = source_code source relation (relation_code relation (words_at source) value rest)
 
--- what comes early: what takes the least and tells the most
+-- ---- what comes early: what takes the least and tells the most
+
+abbrev pub field_rank : Field → ℕ
+field_rank Member = 1
+field_rank Interface = 3
+field_rank Path = 4
+field_rank Destination = 4
+
+-- the rank of a text that is compared whole
+abbrev pub whole_rank : Source → ℕ
+whole_rank (Header field) = field_rank field
+whole_rank (Arg n) = 6
+
+-- the rank of a text that is compared in another way
+abbrev pub other_rank : Source → ℕ
+other_rank (Header field) = 5
+other_rank (Arg n) = 7
+
+abbrev pub relation_rank : Relation → Source → ℕ
+relation_rank relations.Equal source = whole_rank source
+relation_rank _ source = other_rank source
+
 abbrev pub rank_of : Condition → ℕ
 rank_of (Kind kind) = 0
-rank_of (Member name) = 1
 rank_of (Sender name) = 2
-rank_of (Interface name) = 3
-rank_of (Path path) = 4
-rank_of (Destination name) = 4
-rank_of (PathNamespace path) = 5
-rank_of (Arg n value) = 6
-rank_of (ArgPath n value) = 7
-rank_of (Arg0Namespace name) = 7
+rank_of (Compares source relation value) = relation_rank relation source
 
 abbrev pub ranks : ℕ
 ranks = 8

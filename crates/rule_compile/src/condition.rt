@@ -5,11 +5,11 @@ ghost use Rattle.message_view.specs.Header.{kind_byte};
 ghost use Rattle.bpf_code.specs.declared.operation.Test.TheVariants.{Equal};
 ghost use Rattle.match_rule.specs.RuleTree.{condition_weight};
 ghost use Rattle.rule_compile.specs.Code.{image_word, want};
-ghost use Rattle.rule_compile.specs.RuleCode.{argument_at, has_type, has_text_type, owns, path_namespace, condition_code};
+ghost use Rattle.rule_compile.specs.RuleCode.{argument_at, field_at, words_at, has_type, has_text_type, owns, path_namespace, relation_code, there_code, type_code, source_code, condition_code};
 
 use crate::piece::Code;
 use bpf_code::Test;
-use match_rule::{Condition, is_owned_name};
+use match_rule::{Condition, Field, Relation, Source, is_owned_name};
 use std::alloc::AllocError;
 
 /// The place of the kind's word in an image.
@@ -39,6 +39,28 @@ fn argument_at(n: u8) -> u16
     ensures { result ≡ argument_at n }
 {
     ARGUMENTS + ARGUMENT_LEN * u16::from(n)
+}
+
+/// The place of the words of a header field's text.
+fn field_at(field: Field) -> u16
+    ensures { result ≡ field_at field }
+{
+    match field {
+        Field::Path => PATH,
+        Field::Interface => INTERFACE,
+        Field::Member => MEMBER,
+        Field::Destination => DESTINATION,
+    }
+}
+
+/// The place of the words of the text at a source.
+fn words_at(source: Source) -> u16
+    ensures { result ≡ words_at source }
+{
+    match source {
+        Source::Header(field) => field_at(field),
+        Source::Arg(n) => argument_at(n) + 4,
+    }
 }
 
 impl Code {
@@ -80,42 +102,75 @@ impl Code {
         }
     }
 
-    fn path_namespace(&mut self, value: &str) -> Result<(), AllocError>
+    /// The text is a path in the namespace of the value.
+    fn path_namespace(&mut self, at: u16, value: &str) -> Result<(), AllocError>
         requires { length value.now < 2 ^ 32 }
-        ensures { OnOk result (self.new ≡ path_namespace value.now self.old) }
+        ensures { OnOk result (self.new ≡ path_namespace at value.now self.old) }
     {
         if value == "/" {
-            self.is_there(PATH)
+            self.is_there(at)
         } else {
-            self.in_namespace(PATH, b'/', value)
+            self.in_namespace(at, b'/', value)
         }
     }
 
-    /// Argument n is a string of this value.
-    fn is_arg(&mut self, n: u8, value: &str) -> Result<(), AllocError>
+    /// The text stands in the relation to the value.
+    fn relates(&mut self, relation: Relation, at: u16, value: &str) -> Result<(), AllocError>
         requires { length value.now < 2 ^ 32 }
-        ensures { OnOk result (self.new ≡ condition_code 0 (Condition.Arg n value.now) self.old) }
+        ensures { OnOk result (self.new ≡ relation_code relation at value.now self.old) }
     {
-        self.is_text(argument_at(n) + 4, value)?;
-        self.has_type(n, b's')
+        match relation {
+            Relation::Equal => self.is_text(at, value),
+            Relation::PathNamespace => self.path_namespace(at, value),
+            Relation::NameNamespace => self.in_namespace(at, b'.', value),
+            Relation::NestedPath => self.is_nested(at, value),
+        }
     }
 
-    /// Argument n is a path that equals the value, or lies in it, or in which it lies.
-    fn is_arg_path(&mut self, n: u8, value: &str) -> Result<(), AllocError>
-        requires { length value.now < 2 ^ 32 }
-        ensures { OnOk result (self.new ≡ condition_code 0 (Condition.ArgPath n value.now) self.old) }
+    /// The text of a field is there, where the piece of the relation doesn't tell.
+    fn has_field(&mut self, relation: Relation, field: Field) -> Result<(), AllocError>
+        ensures { OnOk result (self.new ≡ there_code relation (field_at field) self.old) }
     {
-        self.is_nested(argument_at(n) + 4, value)?;
-        self.has_text_type(n)
+        match relation {
+            Relation::NestedPath => self.is_there(field_at(field)),
+            Relation::Equal | Relation::PathNamespace | Relation::NameNamespace => Ok(()),
+        }
     }
 
-    /// The first argument is a string that is the value, or begins with it and a `.`.
-    fn in_arg0_namespace(&mut self, value: &str) -> Result<(), AllocError>
-        requires { length value.now < 2 ^ 32 }
-        ensures { OnOk result (self.new ≡ condition_code 0 (Condition.Arg0Namespace value.now) self.old) }
+    /// Argument n has a type that the relation compares.
+    fn has_compared_type(&mut self, relation: Relation, n: u8) -> Result<(), AllocError>
+        ensures { OnOk result (self.new ≡ type_code relation n self.old) }
     {
-        self.in_namespace(argument_at(0) + 4, b'.', value)?;
-        self.has_type(0, b's')
+        match relation {
+            Relation::NestedPath => self.has_text_type(n),
+            Relation::Equal | Relation::PathNamespace | Relation::NameNamespace => {
+                self.has_type(n, b's')
+            }
+        }
+    }
+
+    /// The source has a text that the relation compares.
+    fn has_source(&mut self, source: Source, relation: Relation) -> Result<(), AllocError>
+        ensures { OnOk result (self.new ≡ source_code source relation self.old) }
+    {
+        match source {
+            Source::Header(field) => self.has_field(relation, field),
+            Source::Arg(n) => self.has_compared_type(relation, n),
+        }
+    }
+
+    /// The source has a text that stands in the relation to the value.
+    fn compares(
+        &mut self,
+        source: Source,
+        relation: Relation,
+        value: &str,
+    ) -> Result<(), AllocError>
+        requires { length value.now < 2 ^ 32 }
+        ensures { OnOk result (self.new ≡ source_code source relation (relation_code relation (words_at source) value.now self.old)) }
+    {
+        self.relates(relation, words_at(source), value)?;
+        self.has_source(source, relation)
     }
 
     /// A condition, of a rule whose sender name has a slot.
@@ -129,14 +184,9 @@ impl Code {
                 self.image_word(KIND)
             }
             Condition::Sender(name) => self.is_sender(slot, name.as_str()),
-            Condition::Interface(name) => self.is_text(INTERFACE, name.as_str()),
-            Condition::Member(name) => self.is_text(MEMBER, name.as_str()),
-            Condition::Path(path) => self.is_text(PATH, path.as_str()),
-            Condition::PathNamespace(path) => self.path_namespace(path.as_str()),
-            Condition::Destination(name) => self.is_text(DESTINATION, name.as_str()),
-            Condition::Arg(n, value) => self.is_arg(*n, value.as_str()),
-            Condition::ArgPath(n, value) => self.is_arg_path(*n, value.as_str()),
-            Condition::Arg0Namespace(name) => self.in_arg0_namespace(name.as_str()),
+            Condition::Compares(source, relation, value) => {
+                self.compares(*source, *relation, value.as_str())
+            }
         }
     }
 }

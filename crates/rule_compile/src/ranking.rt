@@ -2,17 +2,60 @@
 ghost use Rattle.std.specs.Prelude.{◌≡◌, ◌<◌, ◌^◌, sum_by, filter, OnOk, IfOk};
 ghost use Rattle.match_rule.specs.RuleTree.{condition_weight};
 ghost use Rattle.rule_compile.specs.Rest.{is_tested, tested_of};
-ghost use Rattle.rule_compile.specs.RuleCode.{rank_of, ranks, of_rank, from_rank, offered, rule_code};
+ghost use Rattle.rule_compile.specs.RuleCode.{field_rank, whole_rank, other_rank, relation_rank, rank_of, ranks, of_rank, from_rank, offered, rule_code};
 
 use crate::condition::DESTINATION;
 use crate::piece::Code;
 use crate::rest::Tested;
 use bpf_code::Test;
-use match_rule::Condition;
+use match_rule::{Condition, Field, Relation, Source};
 use std::alloc::{AllocError, Global};
 
 /// How many ranks there are.
 const RANKS: u8 = 8;
+
+/// How early a text of a header field comes that is compared whole.
+fn field_rank(field: Field) -> u8
+    ensures { result ≡ field_rank field }
+{
+    match field {
+        Field::Member => 1,
+        Field::Interface => 3,
+        Field::Path | Field::Destination => 4,
+    }
+}
+
+/// How early a text comes that is compared whole.
+fn whole_rank(source: Source) -> u8
+    ensures { result ≡ whole_rank source }
+{
+    match source {
+        Source::Header(field) => field_rank(field),
+        Source::Arg(_) => 6,
+    }
+}
+
+/// How early a text comes that is compared in another way.
+fn other_rank(source: Source) -> u8
+    ensures { result ≡ other_rank source }
+{
+    match source {
+        Source::Header(_) => 5,
+        Source::Arg(_) => 7,
+    }
+}
+
+/// How early a text comes.
+fn relation_rank(relation: Relation, source: Source) -> u8
+    ensures { result ≡ relation_rank relation source }
+{
+    match relation {
+        Relation::Equal => whole_rank(source),
+        Relation::PathNamespace | Relation::NameNamespace | Relation::NestedPath => {
+            other_rank(source)
+        }
+    }
+}
 
 /// How early a condition comes.
 fn rank_of(condition: &Condition) -> u8
@@ -20,13 +63,8 @@ fn rank_of(condition: &Condition) -> u8
 {
     match condition {
         Condition::Kind(_) => 0,
-        Condition::Member(_) => 1,
         Condition::Sender(_) => 2,
-        Condition::Interface(_) => 3,
-        Condition::Path(_) | Condition::Destination(_) => 4,
-        Condition::PathNamespace(_) => 5,
-        Condition::Arg(_, _) => 6,
-        Condition::ArgPath(_, _) | Condition::Arg0Namespace(_) => 7,
+        Condition::Compares(source, relation, _) => relation_rank(*relation, *source),
     }
 }
 

@@ -1,8 +1,8 @@
 // The conditions of a rule that are left to test of a message with the texts that the rule fixes.
 ghost use Rattle.std.specs.Prelude.{◌≡◌, option_map};
-ghost use Rattle.rule_compile.specs.Rest.{is_fixed, is_left, is_tested};
+ghost use Rattle.rule_compile.specs.Rest.{is_fixed, fixed_field, fixed_source, fixed_text, is_left, is_tested};
 
-use match_rule::{Condition, Rule};
+use match_rule::{Condition, Field, Relation, Rule, Source};
 
 /// Whether a text is fixed.
 fn is_fixed(fixed: Option<&str>, text: &str) -> bool
@@ -14,16 +14,47 @@ fn is_fixed(fixed: Option<&str>, text: &str) -> bool
     }
 }
 
+/// The text that a rule fixes of a header field.
+fn fixed_field(rule: &Rule, field: Field) -> Option<&str>
+    ensures { option_map (λ text. text.now) result ≡ fixed_field rule.now field }
+{
+    match field {
+        Field::Interface => rule.interface(),
+        Field::Member => rule.member(),
+        Field::Path => rule.path(),
+        Field::Destination => None,
+    }
+}
+
+/// The text that a rule fixes of a source.
+fn fixed_source(rule: &Rule, source: Source) -> Option<&str>
+    ensures { option_map (λ text. text.now) result ≡ fixed_source rule.now source }
+{
+    match source {
+        Source::Header(field) => fixed_field(rule, field),
+        Source::Arg(n) => { if n == 0 { rule.arg0() } else { None } }
+    }
+}
+
+/// The text that a rule fixes of a source, by equality alone.
+fn fixed_text(rule: &Rule, relation: Relation, source: Source) -> Option<&str>
+    ensures { option_map (λ text. text.now) result ≡ fixed_text rule.now relation source }
+{
+    match relation {
+        Relation::Equal => fixed_source(rule, source),
+        Relation::PathNamespace | Relation::NameNamespace | Relation::NestedPath => None,
+    }
+}
+
 /// Whether a condition of a rule is left to test.
 fn is_left(rule: &Rule, condition: &Condition) -> bool
     ensures { result ≡ is_left rule.now condition.now }
 {
     match condition {
-        Condition::Interface(name) => !is_fixed(rule.interface(), name.as_str()),
-        Condition::Member(name) => !is_fixed(rule.member(), name.as_str()),
-        Condition::Path(path) => !is_fixed(rule.path(), path.as_str()),
-        Condition::Arg(n, value) => !(*n == 0 && is_fixed(rule.arg0(), value.as_str())),
-        _ => true,
+        Condition::Compares(source, relation, value) => {
+            !is_fixed(fixed_text(rule, *relation, *source), value.as_str())
+        }
+        Condition::Kind(_) | Condition::Sender(_) => true,
     }
 }
 
