@@ -3,7 +3,7 @@
 use crate::matches::program_of;
 use crate::texts::read;
 use case_files::{Fields, Judge, LineError};
-use match_rule::{Key, Rule};
+use match_rule::{Field, Key, Relation, Rule, Source};
 use rule_compile::CompileError;
 use std::alloc::{AllocError, Global};
 use std::fmt::Write;
@@ -44,15 +44,31 @@ fn push_key(words: &mut String, key: Key) -> Result<(), AllocError> {
     match key {
         Key::Kind => words.push_str("type"),
         Key::Sender => words.push_str("sender"),
-        Key::Interface => words.push_str("interface"),
-        Key::Member => words.push_str("member"),
-        Key::Path => words.push_str("path"),
-        Key::PathNamespace => words.push_str("path_namespace"),
-        Key::Destination => words.push_str("destination"),
-        Key::Arg(number) => write!(words, "arg{number}"),
-        Key::ArgPath(number) => write!(words, "arg{number}path"),
-        Key::Arg0Namespace => words.push_str("arg0namespace"),
         Key::Eavesdrop => words.push_str("eavesdrop"),
+        Key::Compares(source, relation) => {
+            push_source(words, source)?;
+            words.push_str(suffix(relation))
+        }
+    }
+}
+
+fn push_source(words: &mut String, source: Source) -> Result<(), AllocError> {
+    match source {
+        Source::Header(Field::Interface) => words.push_str("interface"),
+        Source::Header(Field::Member) => words.push_str("member"),
+        Source::Header(Field::Path) => words.push_str("path"),
+        Source::Header(Field::Destination) => words.push_str("destination"),
+        Source::Arg(number) => write!(words, "arg{number}"),
+    }
+}
+
+/// What the word of a key has after its source.
+fn suffix(relation: Relation) -> &'static str {
+    match relation {
+        Relation::Equal => "",
+        Relation::PathNamespace => "_namespace",
+        Relation::NameNamespace => "namespace",
+        Relation::NestedPath => "path",
     }
 }
 

@@ -4,7 +4,7 @@ use Rattle.std.specs.Prelude.{Ok}
 use Rattle.std.specs.Str.{bytes_eq}
 use Rattle.signature.specs.Name.{is_bus_name}
 use Rattle.match_rule.specs.declared.condition.Condition.{Condition}
-use Rattle.match_rule.specs.declared.condition.Condition.TheVariants.{Kind, Sender, Interface, Member, Path, PathNamespace, Destination, Arg, ArgPath, Arg0Namespace}
+use Rattle.match_rule.specs.declared.condition.Condition.TheVariants.{Kind, Sender, Compares}
 use Rattle.match_rule.specs.RuleTree.{RuleTree, sender_name_of, first_owned_name, is_owned_name}
 use Rattle.match_rule.specs.Parts.{have_sender_names}
 use Rattle.owners.specs.WellKnown.{name_in, bus_name, is_unique}
@@ -29,14 +29,7 @@ owned_in (Sender sender ∷ cs) name h e =
     let parts = both_true (is_bus_name sender) (have_sender_names cs) h in
     owned_at (is_owned_name sender) sender name cs refl parts.0 (owned_in cs name parts.1) e
 owned_in (Kind kind ∷ cs) name h e = owned_in cs name h e
-owned_in (Interface text ∷ cs) name h e = owned_in cs name h e
-owned_in (Member text ∷ cs) name h e = owned_in cs name h e
-owned_in (Path text ∷ cs) name h e = owned_in cs name h e
-owned_in (PathNamespace text ∷ cs) name h e = owned_in cs name h e
-owned_in (Destination text ∷ cs) name h e = owned_in cs name h e
-owned_in (Arg n text ∷ cs) name h e = owned_in cs name h e
-owned_in (ArgPath n text ∷ cs) name h e = owned_in cs name h e
-owned_in (Arg0Namespace text ∷ cs) name h e = owned_in cs name h e
+owned_in (Compares source relation value ∷ cs) name h e = owned_in cs name h e
 
 not_true : (b : Bool) → not b ≡ true → b ≡ false
 not_true true e = cc

@@ -1,6 +1,6 @@
 // Rules and their faults.
 
-use match_rule::{Key, Rule, RuleError};
+use match_rule::{Field, Key, Relation, Rule, RuleError, Source};
 use std::test::Fail;
 
 #[test]
@@ -29,7 +29,8 @@ fn parts_of_a_rule(rt: HostRuntime) -> Result<(), Fail> {
         .ok()
         .ok_or("refused")?;
     assert_eq!(rt; rule.conditions().len(), 2);
-    assert!(rt; rule.conditions()[0].key() == Key::Path);
+    let path = Key::Compares(Source::Header(Field::Path), Relation::Equal);
+    assert!(rt; rule.conditions()[0].key() == path);
     assert_eq!(rt; rule.conditions()[0].value(), "/a");
     assert!(rt; rule.conditions()[1].key() == Key::Kind);
     assert_eq!(rt; rule.conditions()[1].value(), "signal");
