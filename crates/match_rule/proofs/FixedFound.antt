@@ -9,7 +9,6 @@ use Rattle.match_rule.specs.declared.source.Source.{Source}
 use Rattle.match_rule.specs.declared.source.Source.TheVariants.{Header, Arg}
 use Rattle.match_rule.specs.declared.relation.Relation.{Relation}
 use Rattle.match_rule.specs.declared.relation.Relation.TheVariants.{Equal}
-use Rattle.match_rule.specs.declared.key.Key.{Key}
 use Rattle.match_rule.specs.declared.key.Key.TheVariants as keys
 use Rattle.match_rule.specs.declared.condition.Condition.{Condition}
 use Rattle.match_rule.specs.declared.condition.Condition.TheVariants.{Kind, Sender, Compares}

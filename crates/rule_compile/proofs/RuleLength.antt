@@ -1,5 +1,5 @@
 -- A rule's program, with an island of its own for each far target, isn't longer than the rule weighs.
-use Rattle.std.proofs.Common.{◌≡◌, ℕ, zero, suc, ◌+◌, ◌-◌, ◌*◌, ◌<◌, ◌≤◌, Bool, true, false, List, [], ◌∷◌, length, refl, sym, ap, ◌∙◌, arith}
+use Rattle.std.proofs.Common.{◌≡◌, ℕ, zero, suc, ◌+◌, ◌-◌, ◌*◌, ◌<◌, ◌≤◌, Bool, true, false, List, [], ◌∷◌, length, refl, ap, arith}
 use Rattle.std.specs.Prelude.{◌/◌, ◌%◌, ◌^◌, ◌&&◌, ◌==◌, if◌then◌else◌, nat_lt, sum_by}
 use Rattle.std.specs.Str.{bytes_eq}
 use Rattle.std.proofs.lemmas.Bool.{eqb-true, ne_eqb}
@@ -13,9 +13,6 @@ use Rattle.bpf_code.specs.Table.{op_of}
 use Rattle.jump_islands.specs.Draft.{DraftTree, instructions_of}
 use Rattle.jump_islands.specs.PlainLength.{is_far, count, span, size_of, sizes_of, plain_length}
 use Rattle.match_rule.specs.Bytes.{ends_with}
-use Rattle.match_rule.specs.declared.source.Field.{Field}
-use Rattle.match_rule.specs.declared.source.Field.TheVariants.{Interface, Member, Path, Destination}
-use Rattle.match_rule.specs.declared.source.Source.{Source}
 use Rattle.match_rule.specs.declared.source.Source.TheVariants.{Header, Arg}
 use Rattle.match_rule.specs.declared.relation.Relation.{Relation}
 use Rattle.match_rule.specs.declared.relation.Relation.TheVariants as relations

@@ -13,7 +13,6 @@ use Rattle.match_rule.specs.declared.source.Field.{Field}
 use Rattle.match_rule.specs.declared.source.Field.TheVariants.{Interface, Member, Path, Destination}
 use Rattle.match_rule.specs.declared.source.Source.{Source}
 use Rattle.match_rule.specs.declared.source.Source.TheVariants.{Header, Arg}
-use Rattle.match_rule.specs.declared.relation.Relation.{Relation}
 use Rattle.match_rule.specs.declared.relation.Relation.TheVariants as relations
 use Rattle.match_rule.specs.declared.condition.Condition.{Condition}
 use Rattle.match_rule.specs.declared.condition.Condition.TheVariants.{Kind, Sender, Compares}

@@ -21,7 +21,6 @@ use Rattle.jump_islands.specs.WellMade.{AreWellMade}
 use Rattle.message_view.specs.Header.{kind_byte}
 use Rattle.match_rule.specs.declared.source.Field.{Field}
 use Rattle.match_rule.specs.declared.source.Field.TheVariants.{Interface, Member, Path, Destination}
-use Rattle.match_rule.specs.declared.source.Source.{Source}
 use Rattle.match_rule.specs.declared.source.Source.TheVariants.{Header, Arg}
 use Rattle.match_rule.specs.declared.relation.Relation.{Relation}
 use Rattle.match_rule.specs.declared.relation.Relation.TheVariants as relations
