@@ -1,1 +1,2 @@
 pub mod Address
+pub mod Transports

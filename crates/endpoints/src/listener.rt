@@ -1,5 +1,9 @@
 // Listening sockets.
 
+ghost use Rattle.std.specs.Prelude.{◌≡◌, IfOk};
+ghost use Rattle.endpoints.specs.Address.{place_of};
+ghost use Rattle.endpoints.specs.Transports.{IsTakenFor, transport_of_place, transport_of_listener, transport_of_link};
+
 use crate::address::Address;
 use crate::link::Link;
 use crate::socket_file;
@@ -16,9 +20,11 @@ pub enum Listener {
 }
 
 impl Listener {
+    /// Listens at an address.
     pub fn bind<R>(rt: &R, address: Address<'_>) -> io::Result<Listener>
     where
         R: Files + Net<Listener = TcpListener, Stream = TcpStream>,
+        ensures { IfOk result (λ listener. transport_of_listener listener ≡ transport_of_place (place_of address.entry)) }
     {
         match address {
             Address::Tcp { host, port } => {
@@ -29,7 +35,9 @@ impl Listener {
     }
 
     /// The address with the port that was taken in place of port 0.
-    pub fn address<'a>(&self, asked: Address<'a>) -> io::Result<Address<'a>> {
+    pub fn address<'a>(&self, asked: Address<'a>) -> io::Result<Address<'a>>
+        ensures { IfOk result (λ taken. IsTakenFor (place_of asked.entry) (place_of taken)) }
+    {
         match (self, asked) {
             (Listener::Tcp(listener), Address::Tcp { host, port: _ }) => {
                 let port = listener.local_addr()?.port();
@@ -40,7 +48,9 @@ impl Listener {
     }
 
     /// The next connection, waited for. Small writes on it aren't held back, where the system grants that.
-    pub fn accept(&self) -> io::Result<Link> {
+    pub fn accept(&self) -> io::Result<Link>
+        ensures { IfOk result (λ link. transport_of_link link ≡ transport_of_listener self.now) }
+    {
         match self {
             Listener::Tcp(listener) => {
                 let (stream, _) = listener.accept()?;
