@@ -1,5 +1,8 @@
 // Mailboxes of connections.
 
+ghost use Rattle.std.specs.Prelude.{◌≡◌};
+ghost use Rattle.std.specs.Arc.{arc_value};
+
 use crate::member::Member;
 use outbox::Outbox;
 use program_table::Mailbox;
@@ -25,7 +28,10 @@ impl Model for Mail {
 }
 
 impl Mail {
-    pub fn new(member: Arc<Member>) -> Mail {
+    /// A handle on a member.
+    pub fn new(member: Arc<Member>) -> Mail
+        ensures { result ≡ (arc_value member).outbox }
+    {
         Mail { member }
     }
 }

@@ -1,9 +1,10 @@
 // Bytes that were taken from an outbox and aren't written yet.
 
-ghost use Rattle.std.specs.Prelude.{◌≤◌};
-ghost use Rattle.members.specs.declared.unsent.TheConstants.{BATCH};
+ghost use Rattle.std.specs.Prelude.{◌≡◌, ◌≤◌, ◌++◌, ◌==◌, true, [], length, drop, unwrap_or};
+ghost use Rattle.members.specs.Waiting.{all_of, first_of};
 
 use bytes::{Buf, Bytes};
+use std::marker::Model;
 
 /// How many bytes of short messages one write sends together.
 const BATCH: usize = 8192;
@@ -16,12 +17,24 @@ pub(crate) struct Unsent {
     end: usize,
     // The message that comes after the batch, since it had no room there.
     next: Option<Bytes>,
-    ghost ordered: { start ≤ end },
-    ghost within: { end ≤ BATCH },
+}
+
+impl Model for Unsent {
+    ghost use Rattle.std.specs.Prelude.{◌≤◌, ◌==◌, ◌&&◌, [], is_none, slice_range, unwrap_or};
+    ghost use Rattle.members.specs.Waiting.{Waiting};
+    ghost use Rattle.members.specs.declared.unsent.TheConstants.{BATCH};
+
+    ghost Value = { Waiting };
+
+    ghost view = { λ u. record { batch = slice_range u.batch u.start u.end; long = unwrap_or u.next []; is_open = (u.start == 0) && is_none u.next } };
+
+    ghost invariant = { λ u. (u.start ≤ u.end) × (u.end ≤ BATCH) };
 }
 
 impl Unsent {
-    pub(crate) fn new() -> Unsent {
+    pub(crate) fn new() -> Unsent
+        ensures { (all_of result ≡ []) × (result.is_open ≡ true) }
+    {
         Unsent {
             batch: [0; BATCH],
             start: 0,
@@ -31,17 +44,23 @@ impl Unsent {
     }
 
     /// Whether there is something to write.
-    pub(crate) fn is_empty(&self) -> bool {
+    pub(crate) fn is_empty(&self) -> bool
+        ensures { result ≡ (length (all_of self.now) == 0) }
+    {
         self.as_slice().is_empty()
     }
 
     /// Whether further messages may be added: no byte was written yet, and none waits for room.
-    pub(crate) fn is_open(&self) -> bool {
+    pub(crate) fn is_open(&self) -> bool
+        ensures { result ≡ self.now.is_open }
+    {
         self.start == 0 && self.next.is_none()
     }
 
     /// Adds a message after the others.
-    pub(crate) fn add(&mut self, message: Bytes) {
+    pub(crate) fn add(&mut self, message: Bytes)
+        ensures { self.old.is_open ≡ true → all_of self.new ≡ all_of self.old ++ message }
+    {
         if message.len() > BATCH - self.end {
             self.next = Some(message);
             return;
@@ -52,7 +71,9 @@ impl Unsent {
     }
 
     /// The bytes to write next.
-    pub(crate) fn as_slice(&self) -> &[u8] {
+    pub(crate) fn as_slice(&self) -> &[u8]
+        ensures { result.now ≡ first_of self.now }
+    {
         match &self.next {
             Some(long) if self.start == self.end => long.as_slice(),
             _ => &self.batch[self.start..self.end],
@@ -60,20 +81,34 @@ impl Unsent {
     }
 
     /// The first bytes were written.
-    pub(crate) fn advance(&mut self, count: usize) {
+    pub(crate) fn advance(&mut self, count: usize)
+        ensures { count ≤ length (first_of self.old) → all_of self.new ≡ drop count (all_of self.old) }
+    {
         if self.start < self.end {
-            self.start += count.min(self.end - self.start);
+            self.advance_batch(count);
         } else if let Some(long) = self.next.take() {
             self.next = rest_of(long, count);
         }
-        if self.start == self.end {
+    }
+
+    /// The first bytes of the batch were written. Once all were, it has its whole room again.
+    fn advance_batch(&mut self, count: usize)
+        ensures rest { count ≤ length self.old.batch → self.new.batch ≡ drop count self.old.batch }
+        ensures long { self.new.long ≡ self.old.long }
+    {
+        let written = count.min(self.end - self.start);
+        if self.start + written == self.end {
             self.start = 0;
             self.end = 0;
+        } else {
+            self.start += written;
         }
     }
 
     /// Lets all of them go.
-    pub(crate) fn clear(&mut self) {
+    pub(crate) fn clear(&mut self)
+        ensures { all_of self.new ≡ [] }
+    {
         self.start = 0;
         self.end = 0;
         self.next = None;
@@ -81,7 +116,9 @@ impl Unsent {
 }
 
 /// The message without its first bytes, if any are left.
-fn rest_of(long: Bytes, count: usize) -> Option<Bytes> {
+fn rest_of(long: Bytes, count: usize) -> Option<Bytes>
+    ensures { unwrap_or result [] ≡ drop count long }
+{
     if count >= long.len() {
         return None;
     }
