@@ -17,4 +17,4 @@ mod workers;
 pub use error::FanError;
 pub use gate::Gate;
 pub use many::{MAX_WORKERS, select_many};
-pub use selection::{Counted, MAX_RECIPIENTS, select, select_counted, select_piece};
+pub use selection::{Counted, MAX_RECIPIENTS, select, select_counted, select_into, select_piece};

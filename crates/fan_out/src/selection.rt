@@ -1,4 +1,4 @@
-ghost use Rattle.std.specs.Prelude.{◌≡◌, ◌<◌, ◌≤◌, length};
+ghost use Rattle.std.specs.Prelude.{◌≡◌, ◌<◌, ◌≤◌, [], length};
 ghost use Rattle.message_view.specs.Message.{Message};
 ghost use Rattle.message_view.specs.Valid.{Valid};
 ghost use Rattle.program_table.specs.Recipients.{AreRecipients};
@@ -21,14 +21,22 @@ pub fn select<'a, M: Mailbox>(
     ensures { (m : Message) → Valid view.now m → AreRecipients state.now sender m result.items }
 {
     let mut recipients = ArrayVec::new();
-    list_recipients(
-        state,
-        sender,
-        view,
-        Piece { part: 1, of: 1 },
-        &mut recipients,
-    );
+    select_into(state, sender, view, &mut recipients);
     recipients
+}
+
+/// As `select`, into an empty list of the caller's. The list has room for each connection, so who hands it on saves two
+/// kilobytes to clear and to copy.
+pub fn select_into<'a, M: Mailbox>(
+    state: &'a BusState<M>,
+    sender: Option<u64>,
+    view: &View<'a>,
+    recipients: &mut ArrayVec<u64, MAX_RECIPIENTS>,
+)
+    requires { recipients.old.items ≡ [] }
+    ensures { (m : Message) → Valid view.now m → AreRecipients state.now sender m recipients.new.items }
+{
+    list_recipients(state, sender, view, Piece { part: 1, of: 1 }, recipients);
 }
 
 /// Recipients, and how many programs were run to find them.

@@ -69,21 +69,15 @@ fn addressee_in<M: Mailbox + Carrier>(
 /// Enters the published state for the owner of a name and what the sender needs for it, and leaves. None where the bus is
 /// gone.
 pub fn found_addressee<J: Naming, M: Mailbox + Carrier>(
-    sight: Sight<J, M>,
+    sight: &mut Sight<J, M>,
     alloc: Global,
     sender: &Sender<M>,
     name: &str,
-) -> (
-    Sight<J, M>,
-    Option<Result<Option<Addressee<M>>, AllocError>>,
-)
-    ensures { MatchOption result.1 (result.0 ≡ sight) (λ found. IsPrefix sight result.0 × IfOk found (λ found. MatchOption found ((n : ℕ) → IsOwner (after result.0) name.now n → ⊥) (λ a. IsAddressee M.outbox_of (after result.0) name.now sender.now.stops a.number a.newcomers.items (option_map (λ v. v.items) a.connected)))) }
+) -> Option<Result<Option<Addressee<M>>, AllocError>>
+    ensures { MatchOption result (sight.new ≡ sight.old) (λ found. IsPrefix sight.old sight.new × IfOk found (λ found. MatchOption found ((n : ℕ) → IsOwner (after sight.new) name.now n → ⊥) (λ a. IsAddressee M.outbox_of (after sight.new) name.now sender.now.stops a.number a.newcomers.items (option_map (λ v. v.items) a.connected)))) }
 {
-    match sight.enter() {
-        Ok(visit) => {
-            let found = addressee_in(alloc, visit.state(), sender, name);
-            (visit.leave(), Some(found))
-        }
-        Err(sight) => (sight, None),
-    }
+    let visit = sight.enter()?;
+    let found = addressee_in(alloc, visit.state(), sender, name);
+    sight.leave(visit);
+    Some(found)
 }

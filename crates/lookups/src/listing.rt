@@ -53,18 +53,15 @@ fn all_in<M: Mailbox>(state: &BusState<M>, alloc: Global) -> Result<Names, Alloc
 
 /// Enters the published state, lists connections and names, and leaves. None where the bus is gone.
 pub fn found_names<J: Naming, M: Mailbox>(
-    sight: Sight<J, M>,
+    sight: &mut Sight<J, M>,
     alloc: Global,
-) -> (Sight<J, M>, Option<Result<Names, AllocError>>)
-    ensures { MatchOption result.1 (result.0 ≡ sight) (λ found. IsPrefix sight result.0 × IfOk found (λ all. (all.0.items ≡ numbers_of (after result.0).connections) × AreNames (after result.0).registrations.claims all.1.items)) }
+) -> Option<Result<Names, AllocError>>
+    ensures { MatchOption result (sight.new ≡ sight.old) (λ found. IsPrefix sight.old sight.new × IfOk found (λ all. (all.0.items ≡ numbers_of (after sight.new).connections) × AreNames (after sight.new).registrations.claims all.1.items)) }
 {
-    match sight.enter() {
-        Ok(visit) => {
-            let found = all_in(visit.state(), alloc);
-            (visit.leave(), Some(found))
-        }
-        Err(sight) => (sight, None),
-    }
+    let visit = sight.enter()?;
+    let found = all_in(visit.state(), alloc);
+    sight.leave(visit);
+    Some(found)
 }
 
 // The connections that own a name or wait for it.
@@ -80,35 +77,29 @@ fn queue_in<M: Mailbox>(
 
 /// Enters the published state, lists a name's queue, and leaves. None where the bus is gone.
 pub fn found_queue<J: Naming, M: Mailbox>(
-    sight: Sight<J, M>,
+    sight: &mut Sight<J, M>,
     alloc: Global,
     name: &WellKnown,
-) -> (Sight<J, M>, Option<Result<Vec<u64>, AllocError>>)
-    ensures { MatchOption result.1 (result.0 ≡ sight) (λ found. IsPrefix sight result.0 × IfOk found (λ queue. queue.items ≡ queue_of name.now (after result.0).registrations.claims)) }
+) -> Option<Result<Vec<u64>, AllocError>>
+    ensures { MatchOption result (sight.new ≡ sight.old) (λ found. IsPrefix sight.old sight.new × IfOk found (λ queue. queue.items ≡ queue_of name.now (after sight.new).registrations.claims)) }
 {
-    match sight.enter() {
-        Ok(visit) => {
-            let found = queue_in(visit.state(), alloc, name);
-            (visit.leave(), Some(found))
-        }
-        Err(sight) => (sight, None),
-    }
+    let visit = sight.enter()?;
+    let found = queue_in(visit.state(), alloc, name);
+    sight.leave(visit);
+    Some(found)
 }
 
 /// Enters the published state, finds a name's owner, and leaves. None where the bus is gone.
 pub fn found_owner<J: Naming, M: Mailbox>(
-    sight: Sight<J, M>,
+    sight: &mut Sight<J, M>,
     name: &WellKnown,
-) -> (Sight<J, M>, Option<Option<u64>>)
-    ensures { MatchOption result.1 (result.0 ≡ sight) (λ found. IsPrefix sight result.0 × (found ≡ owner_of name.now (after result.0).registrations.claims)) }
+) -> Option<Option<u64>>
+    ensures { MatchOption result (sight.new ≡ sight.old) (λ found. IsPrefix sight.old sight.new × (found ≡ owner_of name.now (after sight.new).registrations.claims)) }
 {
-    match sight.enter() {
-        Ok(visit) => {
-            let found = visit.state().owner_of(name.as_str());
-            (visit.leave(), Some(found))
-        }
-        Err(sight) => (sight, None),
-    }
+    let visit = sight.enter()?;
+    let found = visit.state().owner_of(name.as_str());
+    sight.leave(visit);
+    Some(found)
 }
 
 // Whether there is a connection of this number.
@@ -121,16 +112,13 @@ fn is_there<M: Mailbox>(state: &BusState<M>, number: u64) -> bool
 /// Enters the published state, tells whether there is a connection of this number, and leaves. None where the bus is
 /// gone.
 pub fn found_connection<J: Naming, M: Mailbox>(
-    sight: Sight<J, M>,
+    sight: &mut Sight<J, M>,
     number: u64,
-) -> (Sight<J, M>, Option<bool>)
-    ensures { MatchOption result.1 (result.0 ≡ sight) (λ found. IsPrefix sight result.0 × (found ≡ is_connected number (after result.0).connections)) }
+) -> Option<bool>
+    ensures { MatchOption result (sight.new ≡ sight.old) (λ found. IsPrefix sight.old sight.new × (found ≡ is_connected number (after sight.new).connections)) }
 {
-    match sight.enter() {
-        Ok(visit) => {
-            let found = is_there(visit.state(), number);
-            (visit.leave(), Some(found))
-        }
-        Err(sight) => (sight, None),
-    }
+    let visit = sight.enter()?;
+    let found = is_there(visit.state(), number);
+    sight.leave(visit);
+    Some(found)
 }

@@ -1,6 +1,6 @@
 // The mailboxes of a broadcast's recipients in the published state.
 
-ghost use Rattle.std.specs.Prelude.{◌≡◌, ℕ, Contains, IfOk, OnOk, MatchOption, option_map};
+ghost use Rattle.std.specs.Prelude.{◌≡◌, ℕ, [], Contains, IfOk, OnOk, MatchOption, option_map};
 ghost use mathlib.Core.List.{IsPrefix};
 ghost use Rattle.message_view.specs.Message.{Message};
 ghost use Rattle.message_view.specs.Valid.{Valid};
@@ -11,18 +11,17 @@ ghost use Rattle.lookups.specs.Addressees.{AreListed};
 ghost use Rattle.lookups.specs.Broadcasts.{AreConnected, IsFound};
 
 use arrayvec::ArrayVec;
-use fan_out::{MAX_RECIPIENTS, select};
+use fan_out::{MAX_RECIPIENTS, select_into};
 use message_view::View;
 use program_table::{BusState, Mailbox};
 use published::{Naming, Sight};
 use routing::{Carrier, Recipient, Sender};
 use std::alloc::{AllocError, Global};
 
-/// The recipients of a broadcast, those of them at whose outboxes the sender has no seat yet, and, where it has many
-/// seats, who is connected.
+/// Those recipients of a broadcast at whose outboxes the sender has no seat yet, and, where it has many seats, who is
+/// connected.
 #[derive(Drop)]
 pub struct Audience<M: Carrier> {
-    pub recipients: ArrayVec<u64, MAX_RECIPIENTS>,
     pub newcomers: Vec<Recipient<M>>,
     pub connected: Option<Vec<u64>>,
 }
@@ -139,35 +138,36 @@ fn found_in<'a, M: Mailbox + Carrier>(
     view: &View<'a>,
     sender: &Sender<M>,
     from: Option<u64>,
+    recipients: &mut ArrayVec<u64, MAX_RECIPIENTS>,
 ) -> Result<Audience<M>, AllocError>
-    ensures { IfOk result (λ found. IsFound M.outbox_of state.now from view.now sender.now.stops found.recipients.items found.newcomers.items (option_map (λ v. v.items) found.connected)) }
+    requires { recipients.old.items ≡ [] }
+    ensures { IfOk result (λ found. IsFound M.outbox_of state.now from view.now sender.now.stops recipients.new.items found.newcomers.items (option_map (λ v. v.items) found.connected)) }
 {
     let _ = view.raw();
-    let recipients = select(state, from, view);
+    select_into(state, from, view, recipients);
     let newcomers = newcomers_of(alloc, state, view, sender, recipients.as_slice())?;
     let connected = connected_if_many(alloc, state, view, sender)?;
     Ok(Audience {
-        recipients,
         newcomers,
         connected,
     })
 }
 
-/// Enters the published state for the recipients and what the sender needs for them, and leaves. None where the bus is gone.
+/// Enters the published state, lists the recipients, finds what the sender needs for them, and leaves. None where the bus is
+/// gone.
 pub fn found_mailboxes<'a, J: Naming, M: Mailbox + Carrier>(
-    sight: Sight<J, M>,
+    sight: &mut Sight<J, M>,
     alloc: Global,
     sender: &Sender<M>,
     from: Option<u64>,
     view: &View<'a>,
-) -> (Sight<J, M>, Option<Result<Audience<M>, AllocError>>)
-    ensures { MatchOption result.1 (result.0 ≡ sight) (λ found. IsPrefix sight result.0 × IfOk found (λ found. IsFound M.outbox_of (after result.0) from view.now sender.now.stops found.recipients.items found.newcomers.items (option_map (λ v. v.items) found.connected))) }
+    recipients: &mut ArrayVec<u64, MAX_RECIPIENTS>,
+) -> Option<Result<Audience<M>, AllocError>>
+    requires { recipients.old.items ≡ [] }
+    ensures { MatchOption result (sight.new ≡ sight.old) (λ found. IsPrefix sight.old sight.new × IfOk found (λ found. IsFound M.outbox_of (after sight.new) from view.now sender.now.stops recipients.new.items found.newcomers.items (option_map (λ v. v.items) found.connected))) }
 {
-    match sight.enter() {
-        Ok(visit) => {
-            let found = found_in(alloc, visit.state(), view, sender, from);
-            (visit.leave(), Some(found))
-        }
-        Err(sight) => (sight, None),
-    }
+    let visit = sight.enter()?;
+    let found = found_in(alloc, visit.state(), view, sender, from, recipients);
+    sight.leave(visit);
+    Some(found)
 }

@@ -1,6 +1,6 @@
 // Recipients of broadcasts in the published state.
 
-ghost use Rattle.std.specs.Prelude.{◌≡◌, ◌<◌, ◌≤◌, MatchOption};
+ghost use Rattle.std.specs.Prelude.{◌≡◌, ◌<◌, ◌≤◌, [], MatchOption};
 ghost use mathlib.Core.List.{IsPrefix};
 ghost use Rattle.message_view.specs.Message.{Message};
 ghost use Rattle.message_view.specs.Valid.{Valid};
@@ -9,50 +9,43 @@ ghost use Rattle.program_table.specs.Recipients.{AreRecipients};
 ghost use Rattle.lookups.specs.Broadcasts.{AreFound};
 
 use arrayvec::ArrayVec;
-use fan_out::{FanError, Gate, MAX_RECIPIENTS, MAX_WORKERS, select, select_many};
+use fan_out::{FanError, Gate, MAX_RECIPIENTS, MAX_WORKERS, select_into, select_many};
 use message_view::View;
 use program_table::Mailbox;
 use published::{Naming, Sight};
 use std::sync::Wait;
 use std::thread::Threads;
 
-/// Enters the published state, finds the recipients, and leaves. None where the bus is gone.
+/// Enters the published state, lists the recipients, and leaves. None where the bus is gone.
 pub fn found_recipients<'a, J: Naming, M: Mailbox>(
-    sight: Sight<J, M>,
+    sight: &mut Sight<J, M>,
     sender: Option<u64>,
     view: &View<'a>,
-) -> (Sight<J, M>, Option<ArrayVec<u64, MAX_RECIPIENTS>>)
-    ensures { MatchOption result.1 (result.0 ≡ sight) (λ found. IsPrefix sight result.0 × ((m : Message) → Valid view.now m → AreRecipients (after result.0) sender m found.items)) }
+    recipients: &mut ArrayVec<u64, MAX_RECIPIENTS>,
+) -> Option<()>
+    requires { recipients.old.items ≡ [] }
+    ensures { MatchOption result (sight.new ≡ sight.old) (λ _. IsPrefix sight.old sight.new × ((m : Message) → Valid view.now m → AreRecipients (after sight.new) sender m recipients.new.items)) }
 {
-    match sight.enter() {
-        Ok(visit) => {
-            let found = select(visit.state(), sender, view);
-            (visit.leave(), Some(found))
-        }
-        Err(sight) => (sight, None),
-    }
+    let visit = sight.enter()?;
+    select_into(visit.state(), sender, view, recipients);
+    sight.leave(visit);
+    Some(())
 }
 
 /// Enters the published state once for all workers, and leaves when each is done. None where the bus is gone.
 pub fn found_by_workers<J: Naming, M: Mailbox + Sync, G: Gate, R: Threads + Wait>(
     rt: &R,
-    sight: Sight<J, M>,
+    sight: &mut Sight<J, M>,
     sender: Option<u64>,
     view: &View<'_>,
     workers: u32,
     gate: &G,
-) -> (
-    Sight<J, M>,
-    Option<Result<ArrayVec<u64, MAX_RECIPIENTS>, FanError>>,
-)
+) -> Option<Result<ArrayVec<u64, MAX_RECIPIENTS>, FanError>>
     requires { (0 < workers) × (workers ≤ MAX_WORKERS) }
-    ensures { MatchOption result.1 (result.0 ≡ sight) (λ found. IsPrefix sight result.0 × AreFound (after result.0) sender view.now found) }
+    ensures { MatchOption result (sight.new ≡ sight.old) (λ found. IsPrefix sight.old sight.new × AreFound (after sight.new) sender view.now found) }
 {
-    match sight.enter() {
-        Ok(visit) => {
-            let found = select_many(rt, visit.state(), sender, view, workers, gate);
-            (visit.leave(), Some(found))
-        }
-        Err(sight) => (sight, None),
-    }
+    let visit = sight.enter()?;
+    let found = select_many(rt, visit.state(), sender, view, workers, gate);
+    sight.leave(visit);
+    Some(found)
 }

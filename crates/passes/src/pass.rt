@@ -17,7 +17,6 @@ ghost use Rattle.passes.specs.Asking.{Tells, TellsByWorkers};
 
 use crate::error::BusError;
 use arrayvec::ArrayVec;
-use core::mem::replace_with;
 use crossbeam_utils::rule::Protocol;
 use fan_out::{FanError, Gate, MAX_RECIPIENTS, MAX_WORKERS};
 use lookups::{
@@ -180,24 +179,20 @@ impl<J: Naming, M: Mailbox> Pass<J, M> {
         sight
     }
 
-    // Enters the published state for the recipients.
+    // Enters the published state, and lists the recipients.
     pub(crate) fn look_for_recipients(
         &mut self,
         sender: Option<u64>,
         view: &View<'_>,
-    ) -> Result<ArrayVec<u64, MAX_RECIPIENTS>, BusError>
+        recipients: &mut ArrayVec<u64, MAX_RECIPIENTS>,
+    ) -> Result<(), BusError>
+        requires { recipients.old.items ≡ [] }
         ensures found { MatchResult result
-            (λ found. IsPrefix self.old.seen self.new.seen × ((m : Message) → Valid view.now m → AreRecipients (after self.new.seen) sender m found.items))
+            (λ _. IsPrefix self.old.seen self.new.seen × ((m : Message) → Valid view.now m → AreRecipients (after self.new.seen) sender m recipients.new.items))
             (λ error. (error ≡ BusError.Closed) × (self.new.seen ≡ self.old.seen)) }
         ensures same { self.new ≡ record self.old { seen = self.new.seen } }
     {
-        let found = replace_with(
-            &mut self.sight,
-            (sender, view),
-            |sight, asked| -> (Sight<J, M>, Option<ArrayVec<u64, MAX_RECIPIENTS>>)
-                ensures { MatchOption result.1 (result.0 ≡ sight) (λ found. IsPrefix sight result.0 × ((m : Message) → Valid asked.entry.1.now m → AreRecipients (after result.0) asked.entry.0 m found.items)) }
-            { found_recipients(sight, asked.0, asked.1) },
-        );
+        let found = found_recipients(&mut self.sight, sender, view, recipients);
         found.ok_or(BusError::Closed)
     }
 
@@ -208,13 +203,7 @@ impl<J: Naming, M: Mailbox> Pass<J, M> {
             (λ error. (error ≡ BusError.Closed) × (self.new.seen ≡ self.old.seen)) }
         ensures same { self.new ≡ record self.old { seen = self.new.seen } }
     {
-        let found = replace_with(
-            &mut self.sight,
-            name,
-            |sight, asked| -> (Sight<J, M>, Option<Option<u64>>)
-                ensures { MatchOption result.1 (result.0 ≡ sight) (λ found. IsPrefix sight result.0 × (found ≡ owner_of asked.entry.now (after result.0).registrations.claims)) }
-            { found_owner(sight, asked) },
-        );
+        let found = found_owner(&mut self.sight, name);
         found.ok_or(BusError::Closed)
     }
 
@@ -225,13 +214,7 @@ impl<J: Naming, M: Mailbox> Pass<J, M> {
             (λ error. (error ≡ BusError.Closed) × (self.new.seen ≡ self.old.seen)) }
         ensures same { self.new ≡ record self.old { seen = self.new.seen } }
     {
-        let found = replace_with(
-            &mut self.sight,
-            number,
-            |sight, number| -> (Sight<J, M>, Option<bool>)
-                ensures { MatchOption result.1 (result.0 ≡ sight) (λ found. IsPrefix sight result.0 × (found ≡ is_connected number (after result.0).connections)) }
-            { found_connection(sight, number) },
-        );
+        let found = found_connection(&mut self.sight, number);
         found.ok_or(BusError::Closed)
     }
 
@@ -240,13 +223,7 @@ impl<J: Naming, M: Mailbox> Pass<J, M> {
         ensures found { Tells self.old.seen (λ s found. (found.0.items ≡ numbers_of s.connections) × AreNames s.registrations.claims found.1.items) result self.new.seen }
         ensures same { self.new ≡ record self.old { seen = self.new.seen } }
     {
-        let found = replace_with(
-            &mut self.sight,
-            alloc,
-            |sight, alloc| -> (Sight<J, M>, Option<Result<Names, AllocError>>)
-                ensures { MatchOption result.1 (result.0 ≡ sight) (λ found. IsPrefix sight result.0 × IfOk found (λ all. (all.0.items ≡ numbers_of (after result.0).connections) × AreNames (after result.0).registrations.claims all.1.items)) }
-            { found_names(sight, alloc) },
-        );
+        let found = found_names(&mut self.sight, alloc);
         match found {
             Some(Ok(found)) => Ok(found),
             Some(Err(_)) => Err(BusError::NoMemory),
@@ -263,13 +240,7 @@ impl<J: Naming, M: Mailbox> Pass<J, M> {
         ensures found { Tells self.old.seen (λ s found. found.items ≡ queue_of name.now s.registrations.claims) result self.new.seen }
         ensures same { self.new ≡ record self.old { seen = self.new.seen } }
     {
-        let found = replace_with(
-            &mut self.sight,
-            (alloc, name),
-            |sight, asked| -> (Sight<J, M>, Option<Result<Vec<u64>, AllocError>>)
-                ensures { MatchOption result.1 (result.0 ≡ sight) (λ found. IsPrefix sight result.0 × IfOk found (λ queue. queue.items ≡ queue_of asked.entry.1.now (after result.0).registrations.claims)) }
-            { found_queue(sight, asked.0, asked.1) },
-        );
+        let found = found_queue(&mut self.sight, alloc, name);
         match found {
             Some(Ok(found)) => Ok(found),
             Some(Err(_)) => Err(BusError::NoMemory),
@@ -292,17 +263,7 @@ impl<J: Naming, M: Mailbox + Sync> Pass<J, M> {
         ensures found { TellsByWorkers self.old.seen sender view.now workers result self.new.seen }
         ensures same { self.new ≡ record self.old { seen = self.new.seen } }
     {
-        let found = replace_with(
-            &mut self.sight,
-            (rt, sender, view, workers, gate),
-            |sight, asked| -> (
-                Sight<J, M>,
-                Option<Result<ArrayVec<u64, MAX_RECIPIENTS>, FanError>>,
-            )
-                requires { (0 < asked.3) × (asked.3 ≤ MAX_WORKERS) }
-                ensures { MatchOption result.1 (result.0 ≡ sight) (λ found. IsPrefix sight result.0 × AreFound (after result.0) asked.entry.1 asked.entry.2.now found) }
-            { found_by_workers(asked.0, sight, asked.1, asked.2, asked.3, asked.4) },
-        );
+        let found = found_by_workers(rt, &mut self.sight, sender, view, workers, gate);
         match found {
             Some(Ok(found)) => Ok(found),
             Some(Err(error)) => Err(BusError::Fan(error)),
@@ -321,26 +282,22 @@ impl<J: Naming, M: Mailbox + Carrier> Pass<J, M> {
         }
     }
 
-    // Enters the published state for the recipients and what the sender needs for them.
+    // Enters the published state, lists the recipients, and finds what the sender needs for them.
     pub(crate) fn look_for_mailboxes(
         &mut self,
         alloc: Global,
         sender: &Sender<M>,
         from: Option<u64>,
         view: &View<'_>,
+        recipients: &mut ArrayVec<u64, MAX_RECIPIENTS>,
     ) -> Result<Audience<M>, BusError>
+        requires { recipients.old.items ≡ [] }
         ensures found { MatchResult result
-            (λ found. IsPrefix self.old.seen self.new.seen × IsFound M.outbox_of (after self.new.seen) from view.now sender.now.stops found.recipients.items found.newcomers.items (option_map (λ v. v.items) found.connected))
+            (λ found. IsPrefix self.old.seen self.new.seen × IsFound M.outbox_of (after self.new.seen) from view.now sender.now.stops recipients.new.items found.newcomers.items (option_map (λ v. v.items) found.connected))
             (λ error. ((error ≡ BusError.Closed) × (self.new.seen ≡ self.old.seen)) ⊎ ((error ≡ BusError.NoMemory) × IsPrefix self.old.seen self.new.seen)) }
         ensures same { self.new ≡ record self.old { seen = self.new.seen } }
     {
-        let found = replace_with(
-            &mut self.sight,
-            (alloc, sender, from, view),
-            |sight, asked| -> (Sight<J, M>, Option<Result<Audience<M>, AllocError>>)
-                ensures { MatchOption result.1 (result.0 ≡ sight) (λ found. IsPrefix sight result.0 × IfOk found (λ found. IsFound M.outbox_of (after result.0) asked.entry.2 asked.entry.3.now asked.entry.1.now.stops found.recipients.items found.newcomers.items (option_map (λ v. v.items) found.connected))) }
-            { found_mailboxes(sight, asked.0, asked.1, asked.2, asked.3) },
-        );
+        let found = found_mailboxes(&mut self.sight, alloc, sender, from, view, recipients);
         match found {
             Some(Ok(found)) => Ok(found),
             Some(Err(_)) => Err(BusError::NoMemory),
@@ -360,16 +317,7 @@ impl<J: Naming, M: Mailbox + Carrier> Pass<J, M> {
             (λ error. ((error ≡ BusError.Closed) × (self.new.seen ≡ self.old.seen)) ⊎ ((error ≡ BusError.NoMemory) × IsPrefix self.old.seen self.new.seen)) }
         ensures same { self.new ≡ record self.old { seen = self.new.seen } }
     {
-        let found = replace_with(
-            &mut self.sight,
-            (alloc, sender, name),
-            |sight, asked| -> (
-                Sight<J, M>,
-                Option<Result<Option<Addressee<M>>, AllocError>>,
-            )
-                ensures { MatchOption result.1 (result.0 ≡ sight) (λ found. IsPrefix sight result.0 × IfOk found (λ found. MatchOption found ((n : ℕ) → IsOwner (after result.0) asked.entry.2.now n → ⊥) (λ a. IsAddressee M.outbox_of (after result.0) asked.entry.2.now asked.entry.1.now.stops a.number a.newcomers.items (option_map (λ v. v.items) a.connected)))) }
-            { found_addressee(sight, asked.0, asked.1, asked.2) },
-        );
+        let found = found_addressee(&mut self.sight, alloc, sender, name);
         match found {
             Some(Ok(found)) => Ok(found),
             Some(Err(_)) => Err(BusError::NoMemory),

@@ -60,7 +60,9 @@ impl<J: Naming, M: Mailbox> Pass<J, M> {
             return Err(BusError::Closed);
         }
         let sender = source.sender(self.connection());
-        self.look_for_recipients(sender, view)
+        let mut recipients = ArrayVec::new();
+        self.look_for_recipients(sender, view, &mut recipients)?;
+        Ok(recipients)
     }
 
     /// The primary owner of a name, after a history that begins with what was seen, and is seen then.

@@ -48,18 +48,18 @@ fn broadcast<M: Carrier, W: Wait, G: Gate>(
     rt: &W,
     alloc: Global,
     sender: &mut Sender<M>,
+    recipients: &[u64],
     found: Audience<M>,
     bytes: &Bytes,
     gate: &G,
 ) -> Result<ArrayVec<u64, MAX_RECIPIENTS>, BusError>
-    requires reachable { AreReachable (option_map (λ v. v.items) found.connected) found.recipients.items found.newcomers.items sender.old.stops }
-    requires rising { RisesFrom 0 found.recipients.items }
+    requires reachable { AreReachable (option_map (λ v. v.items) found.connected) recipients.now found.newcomers.items sender.old.stops }
+    requires rising { RisesFrom 0 recipients.now }
     ensures keeps { KeepsThose (option_map (λ v. v.items) found.connected) found.newcomers.items sender.old sender.new }
-    ensures ok { IfOk result (λ refused. RoutedThose (option_map (λ v. v.items) found.connected) found.recipients.items refused.items sender.old sender.new) }
+    ensures ok { IfOk result (λ refused. RoutedThose (option_map (λ v. v.items) found.connected) recipients.now refused.items sender.old sender.new) }
     ensures err { IfErr result (λ error. ((error ≡ BusError.NoMemory) ⊎ ((error ≡ BusError.Counts) × (sender.old.count ≡ u64.MAX))) × UnroutedThose (option_map (λ v. v.items) found.connected) sender.old sender.new) }
 {
     let Audience {
-        recipients,
         newcomers,
         connected,
     } = found;
@@ -67,7 +67,7 @@ fn broadcast<M: Carrier, W: Wait, G: Gate>(
         Ok(()) => {}
         Err(_) => return Err(BusError::NoMemory),
     }
-    match sender.route_gated(rt, alloc, recipients.as_slice(), bytes, gate) {
+    match sender.route_gated(rt, alloc, recipients, bytes, gate) {
         Ok(refused) => Ok(refused),
         Err(RouteError::NoMemory) => Err(BusError::NoMemory),
         Err(RouteError::Counts) => Err(BusError::Counts),
@@ -101,9 +101,12 @@ impl<J: Naming, M: Mailbox + Carrier> Pass<J, M> {
         }
         let mut sender = self.take_sender(alloc);
         let _ = sender.seats();
-        match self.look_for_mailboxes(alloc, &sender, source.sender(connection), view) {
+        let from = source.sender(connection);
+        let mut recipients = ArrayVec::new();
+        match self.look_for_mailboxes(alloc, &sender, from, view, &mut recipients) {
             Ok(found) => {
-                let answer = broadcast(rt, alloc, &mut sender, found, bytes, gate);
+                let recipients = recipients.as_slice();
+                let answer = broadcast(rt, alloc, &mut sender, recipients, found, bytes, gate);
                 let _ = sender.seats();
                 self.put_back(sender);
                 answer

@@ -1,6 +1,6 @@
 // What reads the published state, with the history that it has seen.
 
-ghost use Rattle.std.specs.Prelude.{◌≡◌, ◌⊎◌, false, MatchResult};
+ghost use Rattle.std.specs.Prelude.{◌≡◌, ◌⊎◌, false, IfSome};
 ghost use mathlib.Core.List.{IsPrefix};
 ghost use Rattle.left_right.specs.Sides.{view};
 ghost use Rattle.program_table.specs.History.{after, IsHistory};
@@ -24,7 +24,8 @@ pub struct Sight<J: Naming, M: Mailbox>
 where
     Published: Protocol<Shown<J, M>, LinkedList<Command<M>>>,
 {
-    reader: ShownReader<J, M>,
+    // None while a visit has it.
+    reader: Option<ShownReader<J, M>>,
     front: Front<J, M>,
     // More was told than the reader has entered.
     is_ahead: bool,
@@ -34,7 +35,7 @@ impl<J: Naming, M: Mailbox> Model for Sight<J, M>
 where
     Published: Protocol<Shown<J, M>, LinkedList<Command<M>>>,
 {
-    ghost use Rattle.std.specs.Prelude.{◌≡◌, false, List};
+    ghost use Rattle.std.specs.Prelude.{◌≡◌, false, IfSome, List};
     ghost use Rattle.left_right.specs.Sides.{view as entered};
     ghost use Rattle.program_table.specs.declared.command.Command.{Command};
 
@@ -42,7 +43,7 @@ where
 
     ghost view = { λ s. s.front };
 
-    ghost invariant = { λ s. s.is_ahead ≡ false → entered s.reader.place ≡ s.front };
+    ghost invariant = { λ s. s.is_ahead ≡ false → IfSome s.reader (λ r. entered r.place ≡ s.front) };
 }
 
 impl<J: Naming, M: Mailbox> Sight<J, M> {
@@ -52,7 +53,7 @@ impl<J: Naming, M: Mailbox> Sight<J, M> {
         ensures { result ≡ front }
     {
         Sight {
-            reader,
+            reader: Some(reader),
             front,
             is_ahead: false,
         }
@@ -89,38 +90,41 @@ impl<J: Naming, M: Mailbox> Sight<J, M> {
         }
     }
 
-    /// Enters the published state: the history that it comes of begins with what was seen, and is seen then. The reader
-    /// comes back, with what it had seen, where the bus is gone.
-    pub fn enter(self) -> Result<Visit<J, M>, Sight<J, M>>
-        ensures { MatchResult result (λ visit. IsPrefix self visit) (λ sight. sight ≡ self) }
+    /// Enters the published state: the history that it comes of begins with what was seen. None where the bus is gone, or
+    /// where a visit hasn't left yet.
+    pub fn enter(&mut self) -> Option<Visit<J, M>>
+        ensures visit { IfSome result (λ visit. IsPrefix self.old visit) }
+        ensures same { self.new ≡ self.old }
     {
-        let Self {
-            reader,
-            front: seen,
-            is_ahead,
-        } = self;
-        match reader.enter_as::<Sees>() {
+        match self.reader.take()?.enter_as::<Sees>() {
             Ok(reading) => {
                 let front = reading.get().front();
-                if is_ahead {
+                if self.is_ahead {
                     // No history that was told is longer than the one that is published.
-                    if seen.len() > front.len() {
-                        return Err(Sight {
-                            reader: reading.leave(),
-                            front: seen,
-                            is_ahead,
-                        });
+                    if self.front.len() > front.len() {
+                        self.reader = Some(reading.leave());
+                        return None;
                     }
-                    seen.begins(&front);
+                    self.front.begins(&front);
                 }
-                Ok(Visit { reading, front })
+                Some(Visit { reading, front })
             }
-            Err(reader) => Err(Sight {
-                reader,
-                front: seen,
-                is_ahead,
-            }),
+            Err(reader) => {
+                self.reader = Some(reader);
+                None
+            }
         }
+    }
+
+    /// Leaves the state, of which the history is seen then.
+    pub fn leave(&mut self, visit: Visit<J, M>)
+        requires { IsPrefix self.old visit }
+        ensures { self.new ≡ visit }
+    {
+        let Visit { reading, front } = visit;
+        self.reader = Some(reading.leave());
+        self.front = front;
+        self.is_ahead = false;
     }
 }
 
@@ -156,17 +160,5 @@ impl<J: Naming, M: Mailbox> Visit<J, M> {
         ensures history { IsHistory self.now }
     {
         self.reading.get().state()
-    }
-
-    /// Leaves the state, of which the reader has then seen the history.
-    pub fn leave(self) -> Sight<J, M>
-        ensures { result ≡ self }
-    {
-        let Self { reading, front } = self;
-        Sight {
-            reader: reading.leave(),
-            front,
-            is_ahead: false,
-        }
     }
 }

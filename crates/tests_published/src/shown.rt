@@ -61,11 +61,10 @@ fn publish_two<J: Naming, R: Wait + Abort>(rt: &R, publisher: &mut Publisher<J, 
 // A reader that enters sees both.
 fn enter<J: Naming, R: Abort>(rt: &R, mut reader: Sight<J, ()>) {
     assert!(rt; reader.seen().is_empty());
-    let Ok(visit) = reader.enter() else {
-        panic!(rt; "the published state was wanted")
-    };
+    let visit = reader.enter().expect(rt, "the published state");
+    assert!(rt; reader.enter().is_none());
     let owner = visit.state().owner_of("com.example.A");
-    reader = visit.leave();
+    reader.leave(visit);
     assert_eq!(rt; owner, Some(1));
     assert_eq!(rt; reader.seen().len(), 2);
 }

@@ -9,21 +9,21 @@ pub broadcast-answer-requires-clause-reachable : goal.broadcast-answer-requires-
 broadcast-answer-requires-clause-reachable g c =
     let found = c.in-Ok.ensures.found.1 in
     let m = found.valid in
-    reachable g.M.Carrier.outbox_of (after c.look_for_mailboxes.new.self.seen) c.in-Ok.found.recipients.items c.in-Ok.found.newcomers.items c.take_sender-sender.result.stops _
+    reachable g.M.Carrier.outbox_of (after c.look_for_mailboxes.new.self.seen) c.look_for_mailboxes.new.recipients.items c.in-Ok.found.newcomers.items c.take_sender-sender.result.stops _
     (λ n there. let r = ((found.are m.0 m.1).exact n).0 there in (r.0, r.1, r.2)) found.new found.there
 
 pub broadcast-answer-requires-clause-rising : goal.broadcast-answer-requires-clause-rising
 broadcast-answer-requires-clause-rising g c =
     let found = c.in-Ok.ensures.found.1 in
     let m = found.valid in
-    rising c.in-Ok.found.recipients.items (found.are m.0 m.1).rising
+    rising c.look_for_mailboxes.new.recipients.items (found.are m.0 m.1).rising
 
 pub returns-in-Ok : goal.returns-in-Ok
 returns-in-Ok g c =
-    answered g.M.Carrier.outbox_of c.args.source c.sender.result c.args.view.now c.args.self.now c.take_sender-sender.new.self c.look_for_mailboxes.new.self c.put_back.new.self c.take_sender-sender.result c.broadcast-answer.new.sender
-    c.in-Ok.found.recipients.items c.in-Ok.found.newcomers.items _ (λ a. a.items) c.broadcast-answer.result
+    answered g.M.Carrier.outbox_of c.args.source c.sender-from.result c.args.view.now c.args.self.now c.take_sender-sender.new.self c.look_for_mailboxes.new.self c.put_back.new.self c.take_sender-sender.result c.broadcast-answer.new.sender
+    c.look_for_mailboxes.new.recipients.items c.in-Ok.found.newcomers.items _ (λ a. a.items) c.broadcast-answer.result
     (record { taken = c.take_sender-sender.ensures.same; is = c.take_sender-sender.ensures.sender; seen = c.look_for_mailboxes.ensures.same; back = c.put_back.ensures })
-    (c.sender.ensures ∙ ap (λ n. sender_of c.args.source n) c.connection-connection.ensures)
+    (c.sender-from.ensures ∙ ap (λ n. sender_of c.args.source n) c.connection-connection.ensures)
     c.in-Ok.ensures.found.0 c.in-Ok.ensures.found.1 c.broadcast-answer.ensures.keeps c.seats-in-Ok.ensures.fits c.broadcast-answer.ensures.ok c.broadcast-answer.ensures.err
 
 pub returns-in-Err : goal.returns-in-Err

@@ -6,4 +6,4 @@ use Rattle.passes.proofs.pass.Pass.look_for_names.Goals as goal
 pub invariant_of-self : goal.invariant_of-self
 invariant_of-self g c =
     let v : PassState g.row.M.Denot = record { seen = c.self.inside.sight; connection = c.self.inside.connection; is_closed = c.self.inside.is_closed; took = c.self.inside.took; count = count_in c.self.inside.sender; stops = stops_in c.self.inside.sender } in
-    (still_taken v (record v { seen = c.replace_with-found.new.dest }) c.self.invariant.0 (seen_more c.replace_with-found.result c.self.inside.sight c.replace_with-found.new.dest _ c.replace_with-found.ensures) refl refl, c.self.invariant.1)
+    (still_taken v (record v { seen = c.found_names-found.new.sight }) c.self.invariant.0 (seen_more c.found_names-found.result c.self.inside.sight c.found_names-found.new.sight _ c.found_names-found.ensures) refl refl, c.self.invariant.1)
