@@ -48,15 +48,15 @@ fn broadcast<M: Carrier, W: Wait, G: Gate>(
     rt: &W,
     alloc: Global,
     sender: &mut Sender<M>,
-    recipients: &[u64],
+    recipients: &ArrayVec<u64, MAX_RECIPIENTS>,
     found: Audience<M>,
     bytes: &Bytes,
     gate: &G,
 ) -> Result<ArrayVec<u64, MAX_RECIPIENTS>, BusError>
-    requires reachable { AreReachable (option_map (λ v. v.items) found.connected) recipients.now found.newcomers.items sender.old.stops }
-    requires rising { RisesFrom 0 recipients.now }
+    requires reachable { AreReachable (option_map (λ v. v.items) found.connected) recipients.now.items found.newcomers.items sender.old.stops }
+    requires rising { RisesFrom 0 recipients.now.items }
     ensures keeps { KeepsThose (option_map (λ v. v.items) found.connected) found.newcomers.items sender.old sender.new }
-    ensures ok { IfOk result (λ refused. RoutedThose (option_map (λ v. v.items) found.connected) recipients.now refused.items sender.old sender.new) }
+    ensures ok { IfOk result (λ refused. RoutedThose (option_map (λ v. v.items) found.connected) recipients.now.items refused.items sender.old sender.new) }
     ensures err { IfErr result (λ error. ((error ≡ BusError.NoMemory) ⊎ ((error ≡ BusError.Counts) × (sender.old.count ≡ u64.MAX))) × UnroutedThose (option_map (λ v. v.items) found.connected) sender.old sender.new) }
 {
     let Audience {
@@ -67,7 +67,7 @@ fn broadcast<M: Carrier, W: Wait, G: Gate>(
         Ok(()) => {}
         Err(_) => return Err(BusError::NoMemory),
     }
-    match sender.route_gated(rt, alloc, recipients, bytes, gate) {
+    match sender.route_gated(rt, alloc, recipients.as_slice(), bytes, gate) {
         Ok(refused) => Ok(refused),
         Err(RouteError::NoMemory) => Err(BusError::NoMemory),
         Err(RouteError::Counts) => Err(BusError::Counts),
@@ -105,8 +105,7 @@ impl<J: Naming, M: Mailbox + Carrier> Pass<J, M> {
         let mut recipients = ArrayVec::new();
         match self.look_for_mailboxes(alloc, &sender, from, view, &mut recipients) {
             Ok(found) => {
-                let recipients = recipients.as_slice();
-                let answer = broadcast(rt, alloc, &mut sender, recipients, found, bytes, gate);
+                let answer = broadcast(rt, alloc, &mut sender, &recipients, found, bytes, gate);
                 let _ = sender.seats();
                 self.put_back(sender);
                 answer
