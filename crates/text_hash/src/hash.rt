@@ -1,43 +1,63 @@
 // The hash of a text.
 
-ghost use Rattle.std.specs.Prelude.{◌≡◌, ◌+◌, ◌-◌, ◌*◌, ◌≤◌, ◌<◌, ◌^◌, length};
-ghost use Rattle.text_hash.specs.Hashes.{reduced, absorbed, words_hash, text_hash};
+ghost use Rattle.std.specs.Prelude.{◌≡◌, ◌-◌, ◌*◌, ◌%◌, ◌≤◌, ◌<◌, ◌^◌, length};
+ghost use Rattle.text_hash.specs.Hashes.{prime, absorbed, words_hash, text_hash};
 
 use crate::word::{last_word, seven_at};
 
 /// The prime 2^61 - 1.
 const PRIME: u64 = (1 << 61) - 1;
 
-/// A number with the same remainder by the prime as a number in two halves, the low one first. 2^61 leaves 1, so what stands
-/// above the lowest 61 bits is added to them. The prime is taken away once, so the remainder itself comes out where that sum
-/// is below twice the prime, as it always is of a number below 2^122.
+/// What a number leaves by the prime. 2^61 leaves 1, so what stands above the lowest 61 bits is added to them.
 #[inline(always)]
-fn reduced(low: u64, high: u64) -> u64
-    ensures { result ≡ reduced low high }
+fn remainder(number: u64) -> u64
+    ensures { result ≡ number % prime }
 {
-    let folded = (low % (1 << 61))
-        .wrapping_add(low / (1 << 61))
-        .wrapping_add(high.wrapping_mul(8));
-    if folded >= PRIME {
-        folded - PRIME
+    below_twice(number % (1 << 61) + number / (1 << 61))
+}
+
+/// What a number below twice the prime leaves.
+#[inline(always)]
+fn below_twice(number: u64) -> u64
+    requires { number < 2 * prime }
+    ensures { result ≡ number % prime }
+{
+    if number >= PRIME {
+        number - PRIME
     } else {
-        folded
+        number
     }
+}
+
+/// What the product of two remainders leaves.
+#[inline(always)]
+fn product(a: u64, b: u64) -> u64
+    requires a { a < prime }
+    requires b { b < prime }
+    ensures { result ≡ a * b % prime }
+{
+    let (low, high) = a.carrying_mul(b, 0);
+    below_twice(low % (1 << 61) + (low / (1 << 61) + high * 8))
 }
 
 /// The hash after one word more.
 #[inline(always)]
 fn absorbed(point: u64, hash: u64, word: u64) -> u64
-    ensures { result ≡ absorbed point hash word }
+    requires point { point < prime }
+    requires hash { hash < prime }
+    requires word { word < prime }
+    ensures value { result ≡ absorbed point hash word }
+    ensures below { result < prime }
 {
-    let (low, high) = hash.wrapping_add(word).carrying_mul(point, 0);
-    reduced(low, high)
+    product(below_twice(hash + word), point)
 }
 
 /// The hash after the first words of a text, of seven bytes each.
 fn words_hash(point: u64, text: &[u8], words: usize) -> u64
-    requires { 7 * words ≤ length text.now - 1 }
-    ensures { result ≡ words_hash point text.now words }
+    requires point { point < prime }
+    requires words { 7 * words ≤ length text.now - 1 }
+    ensures value { result ≡ words_hash point text.now words }
+    ensures below { result < prime }
 {
     let mut hash = 1;
     for i in 0..words {
@@ -46,15 +66,17 @@ fn words_hash(point: u64, text: &[u8], words: usize) -> u64
     hash
 }
 
-/// The hash of a text at a point p below the prime 2^61 - 1. By the prime it leaves what
-/// (1 + w1)·p^n + w2·p^(n-1) + .. + wn·p leaves, of the text's words w1 to wn; it may be that remainder or a multiple of the
-/// prime above it, since each step takes the prime away once. Two texts of n words at most are two such polynomials,
-/// which differ and have no constant term; so for each difference of remainders there are at most n points that give it,
-/// and of all points a few times n in 2^k give the texts hashes with the same lowest k bits. Whoever doesn't know the point
-/// can therefore not choose texts whose hashes meet. This is an argument: proved is that the hash is that of its definition.
+/// The hash of a text at a point: what the polynomial p^n + w1·p^n + w2·p^(n-1) + .. + wn·p leaves by the prime 2^61 - 1, where
+/// w1 to wn are the words of the text and p is what the point leaves. Two texts of n words at most are two such polynomials,
+/// which differ and have no constant term; so for each difference of hashes there are at most n points that give it, and of
+/// all points a few times n in 2^k give the texts hashes with the same lowest k bits. Whoever doesn't know the point can
+/// therefore not choose texts whose hashes meet. Proved is that the hash is the polynomial's remainder; what follows of
+/// chosen texts is an argument.
 pub fn text_hash(point: u64, text: &str) -> u64
-    ensures { result ≡ text_hash point text.now }
+    ensures value { result ≡ text_hash point text.now }
+    ensures below { result < prime }
 {
+    let point = remainder(point);
     let bytes = text.as_bytes();
     let words = bytes.len().saturating_sub(1) / 7;
     let hash = words_hash(point, bytes, words);

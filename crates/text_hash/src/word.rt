@@ -34,7 +34,8 @@ fn four_at(text: &[u8], at: usize) -> u64
 #[inline(always)]
 pub(crate) fn seven_at(text: &[u8], at: usize) -> u64
     requires { at + 8 ≤ length text.now }
-    ensures { result ≡ seven_at text.now at }
+    ensures value { result ≡ seven_at text.now at }
+    ensures below { result < 2 ^ 56 }
 {
     eight_at(text, at) % (1 << 56)
 }
@@ -69,7 +70,8 @@ fn length_mark(len: usize) -> u64
 /// The last word: the last seven bytes, or all of a text of fewer than eight, and the mark of the length.
 #[inline(always)]
 pub(crate) fn last_word(text: &[u8]) -> u64
-    ensures { result ≡ last_word text.now }
+    ensures value { result ≡ last_word text.now }
+    ensures below { result < 2 ^ 59 }
 {
     let len = text.len();
     if len < 8 {

@@ -2,9 +2,9 @@ use Rattle.std.proofs.Common.{arith}
 use Rattle.text_hash.specs.Hashes.{text_hash}
 use Rattle.text_hash.proofs.hash.text_hash.Goals as goal
 
-pub words_hash-hash-requires : goal.words_hash-hash-requires
-words_hash-hash-requires c = omega (arith, c.saturating_sub-words.ensures)
+pub words_hash-hash-requires-clause-words : goal.words_hash-hash-requires-clause-words
+words_hash-hash-requires-clause-words c = omega (arith, c.saturating_sub-words.ensures)
 
-pub returns : goal.returns
+pub returns-clause-value : goal.returns-clause-value
 unfolding text_hash
-returns c = cc
+returns-clause-value c = cc

@@ -1,11 +1,11 @@
-use Rattle.std.proofs.Common.{refl, add-one}
+use Rattle.std.proofs.Common.{refl, add-one, arith}
 use Rattle.text_hash.specs.Hashes.{words_hash}
 use Rattle.text_hash.proofs.hash.words_hash.Goals as goal
 
 pub loop-i-init : goal.loop-i-init
 unfolding words_hash
-loop-i-init c = refl
+loop-i-init c = (refl, omega arith)
 
 pub loop-i-preserved : goal.loop-i-preserved
 unfolding words_hash
-loop-i-preserved c = rw add-one cc
+loop-i-preserved c = (rw add-one cc, c.absorbed-hash.ensures.below)
