@@ -111,10 +111,7 @@ fn is_there<M: Mailbox>(state: &BusState<M>, number: u64) -> bool
 
 /// Enters the published state, tells whether there is a connection of this number, and leaves. None where the bus is
 /// gone.
-pub fn found_connection<J: Naming, M: Mailbox>(
-    sight: &mut Sight<J, M>,
-    number: u64,
-) -> Option<bool>
+pub fn found_connection<J: Naming, M: Mailbox>(sight: &mut Sight<J, M>, number: u64) -> Option<bool>
     ensures { MatchOption result (sight.new ≡ sight.old) (λ found. IsPrefix sight.old sight.new × (found ≡ is_connected number (after sight.new).connections)) }
 {
     let visit = sight.enter()?;
