@@ -48,7 +48,7 @@ heard s line on =
 
 -- ---- bytes of one line
 
--- bytes that come after a line, of which so many are taken
+-- bytes that come after a line, of which the first n are taken
 pub record Takes (line bytes longer : List ℕ) (n : ℕ) : Type 0 where
   pub within : n ≤ length bytes
   pub is : longer ≡ line ++ take n bytes

@@ -11,7 +11,7 @@ ends_in_cr line = slice_index line (length line - 1) == cr
 abbrev pub ended_piece : List ℕ → Pieces
 ended_piece line = record { first = take (length line - 2) line; later = [] ∷ [] }
 
--- what a line is to which so many of all bytes were added
+-- what a line is: `taken` of the `all` bytes that came were added to it
 abbrev pub LineIs : LineState → List ℕ → ℕ → ℕ → Type 0
 LineIs Open line taken all = (taken ≡ all) × (pieces_of line ≡ whole_piece line) × (length line < max_line_len)
 LineIs Ended line taken all = (pieces_of line ≡ ended_piece line) × (2 ≤ length line) × (length line ≤ max_line_len)

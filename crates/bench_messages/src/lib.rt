@@ -5,8 +5,7 @@ ghost use Rattle.std.specs.Prelude.{◌<◌};
 
 use message_view::View;
 
-/// The sum of the serials of the messages in a stream, each of which has so many bytes, and of the number of
-/// their members' bytes.
+/// The sum of the serials of a stream's messages and of the lengths of their members. Each message has `len` bytes.
 fn read_each(stream: &[u8], len: usize) -> u64
     requires { 0 < len }
 {
@@ -20,7 +19,7 @@ fn read_each(stream: &[u8], len: usize) -> u64
     sum
 }
 
-/// Reads each message of a stream as often as turns says. All have so many bytes.
+/// Reads each message of a stream as often as `turns` says. Each message has `len` bytes.
 #[unsafe(no_mangle)]
 pub extern "C" fn bench_messages_read(stream: &[u8], len: usize, turns: u32) -> u64 {
     if len == 0 {

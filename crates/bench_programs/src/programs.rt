@@ -22,7 +22,7 @@ fn program_of(alloc: Global, bytes: &[u8]) -> Option<Verified> {
     verify(program).ok()
 }
 
-/// The sum of the verdicts of so many runs.
+/// The sum of the verdicts of `turns` runs.
 fn run_often(program: &Verified, image: &Image<'_>, turns: u32) -> u64 {
     let mut sum = 0u64;
     for _turn in 0..turns {

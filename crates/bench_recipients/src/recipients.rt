@@ -8,14 +8,14 @@ use program_table::BusState;
 use std::alloc::Global;
 use summary::{Edition, Image, Slots};
 
-/// The state of a bus whose connections have given rules, so many of each, one a line; of no rules the empty state.
+/// The state of a bus where each line is the rule of `of_each` connections; without lines the empty state.
 fn state(alloc: Global, lines: &[u8], of_each: u32) -> Option<BusState<()>> {
     let lines = str::from_utf8(lines).ok()?;
     state_of(alloc, Rules { lines, of_each })
 }
 
-/// Reads a message and finds its recipients as often as turns says, in one list that is emptied each time: the sum of how
-/// many they are.
+/// Reads a message and finds its recipients as often as `turns` says, in one list that is emptied each time: the sum of
+/// their counts.
 #[unsafe(no_mangle)]
 pub extern "C" fn bench_recipients_select(
     alloc: Global,

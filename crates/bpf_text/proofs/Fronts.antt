@@ -1,4 +1,4 @@
--- Which byte stands first behind blanks, and so which token.
+-- Which byte follows leading blanks, and so which token.
 use Rattle.std.proofs.Common.{◌≡◌, ℕ, suc, ◌+◌, Bool, true, false, ◌&&◌, ◌||◌, not, cond, List, [], ◌∷◌, length, take, drop, Option, Some, None, refl, sym, ap, ◌∙◌, arith, ◌⊎◌, inl, inr}
 use Rattle.std.specs.Prelude.{◌==◌, nat_lt, slice_index}
 use Rattle.std.specs.Char.{digit_value}
@@ -36,7 +36,7 @@ cond_none : {A : Type 0} (b : Bool) (x y : A) → cond b None (Some x) ≡ Some 
 cond_none true x y h = absurd (cc)
 cond_none false x y h = refl
 
--- the first byte behind blanks
+-- the first byte after leading blanks
 abbrev pub first : List ℕ → ℕ
 first bytes = slice_index (unblanked bytes) 0
 

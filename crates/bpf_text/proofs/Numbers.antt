@@ -9,7 +9,7 @@ use borrow.Author.Tests.{lt-ltb}
 use Rattle.std.proofs.Math.Nat.{mul-le-mul_left}
 use Rattle.std.proofs.lemmas.Bool.Decides.{nat_tests}
 
--- the number that digits write behind those of another
+-- the number that digits write when they follow the digits of another number
 abbrev pub number_after : ℕ → ℕ → List ℕ → Option ℕ
 number_after base number digits =
     if list_all (λ d. nat_lt (digit_value d) base) digits && nat_lt (digits_value_after base number digits) (2 ^ 32)
@@ -50,6 +50,6 @@ stops base number d ds some h =
     none_of (nat_lt (digit_value d) base) (list_all (λ c. nat_lt (digit_value c) base) ds) (nat_lt (digits_value_after base (number * base + digit_value d) ds) (2 ^ 32)) (nat_lt (number * base + digit_value d) (2 ^ 32)) (number * base + digit_value d) (digits_value_after base (number * base + digit_value d) ds) h
     (too_large _ _ (grows base (number * base + digit_value d) ds some))
 
--- the number behind no more digits
+-- the number where no digits follow
 pub ends : (base number : ℕ) → number < 2 ^ 32 → number_after base number [] ≡ Some number
 ends base number fits = rw (lt-ltb number (2 ^ 32) fits)

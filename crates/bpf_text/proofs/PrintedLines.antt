@@ -57,7 +57,7 @@ line_printed place true op ins low small near =
     let rest : List ℕ = word_of op ++ behind_word place op ins in
     record { rest = 32 ∷ rest; labels = (32 ∷ rest, label_front place rest low, refl); row = spells_behind rest (row_for place op ins) (instruction_printed place op ins small near) }
 
--- behind the last LF stands an empty line
+-- after the last LF stands an empty line
 pub empty_line : IsLine [] (record { labels = []; row = None })
 unfolding is_over unblanked
 empty_line = record { rest = []; labels = refl; row = refl }

@@ -83,7 +83,7 @@ IsNear place Jump ins = place + 1 + ins.k < 2 ^ 64
 IsNear place (Branch test operand) ins = (place + 1 + ins.jt < 2 ^ 64) × (place + 1 + ins.jf < 2 ^ 64)
 IsNear place _ ins = Unit {0}
 
--- what is printed behind the mnemonic
+-- what is printed after the mnemonic
 abbrev pub behind_word : ℕ → Op → Ins → List ℕ
 behind_word place op ins = operand_text op ins.k ++ targets_text place op ins
 

@@ -116,7 +116,7 @@ word_named ReturnA = refl
 word_named IndexFromA = refl
 word_named LoadFromX = refl
 
--- ---- what stands behind a mnemonic
+-- ---- what stands after a mnemonic
 
 behind_stops : (place : ℕ) (op : Op) (ins : Ins) → Stops (behind_word place op ins)
 behind_stops place LoadConstant ins = refl

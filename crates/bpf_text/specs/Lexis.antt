@@ -20,11 +20,11 @@ is_digit b = is_in_range 48 57 b
 abbrev pub is_name_byte : ℕ → Bool
 is_name_byte b = is_digit b || is_in_range 65 90 b || is_in_range 97 122 b || b == 95
 
--- the bytes behind the blanks that they begin with
+-- the bytes without the blanks in front
 unfoldable pub unblanked : List ℕ → List ℕ
 unblanked bytes = drop (prefix_len is_blank bytes) bytes
 
--- the letters, digits and _ that bytes begin with, and the bytes behind them
+-- the letters, digits and _ in front of bytes, and the bytes after them
 unfoldable pub run_of : List ℕ → List ℕ
 run_of bytes = take_while is_name_byte bytes
 
@@ -47,8 +47,8 @@ abbrev pub number_of : List ℕ → Option ℕ
 number_of run =
     if slice_index run 0 == 48 && slice_index run 1 == 120 then number_in 16 (drop 2 run) else number_in 10 run
 
--- The token that bytes begin with, behind blanks, and the bytes behind it. A word begins with a letter or _,
--- a number with a digit, and both go on as long as letters, digits and _ do.
+-- The token that bytes begin with, after blanks, and the bytes after it. A word begins with a letter or _, a number
+-- with a digit, and both go on as long as letters, digits and _ do.
 unfoldable pub word_at : List ℕ → Option (List ℕ × List ℕ)
 word_at bytes =
     if length (run_of (unblanked bytes)) == 0 || is_digit (slice_index (unblanked bytes) 0) then None

@@ -1,4 +1,4 @@
--- What stands behind a mnemonic.
+-- The operands of an instruction, which stand after its mnemonic.
 use Rattle.std.specs.Prelude.{ℕ, Bool, true, List, Option, Some, None, if◌then◌else◌, ◌==◌, codes}
 use Rattle.std.specs.Str.{bytes_eq}
 use Rattle.bpf_text.specs.Lexis.{◌>>=◌, word_at, number_at, sign_at, is_over}
@@ -50,7 +50,7 @@ abbrev pub constant_by : List ℕ → Option (ℕ × List ℕ) → Option (Opera
 constant_by bytes None = length_at bytes
 constant_by bytes (Some k) = number_to k.0 k.1 (sign_at 44 k.1)
 
--- what stands behind a #
+-- the operands that begin with a #
 unfoldable pub constant_at : List ℕ → Option (Operands × List ℕ)
 constant_at bytes = constant_by bytes (number_at bytes)
 
@@ -69,7 +69,7 @@ place_by bytes (Some k) = do
   rest ← sign_at 93 k.1
   Some (Place k.0, rest)
 
--- what stands behind a [
+-- the operands that begin with a [
 unfoldable pub place_at : List ℕ → Option (Operands × List ℕ)
 place_at bytes = place_by bytes (number_at bytes)
 
@@ -81,7 +81,7 @@ bracketed_at bytes = do
   rest ← sign_at 93 k.1
   Some (k.0, rest)
 
--- * ( [ k ] & 15 ), behind the 4
+-- the operand 4 * ( [ k ] & 15 ), from after its 4 on
 unfoldable pub header_at : List ℕ → Option (Operands × List ℕ)
 header_at bytes = do
   star ← sign_at 42 bytes
@@ -122,7 +122,7 @@ abbrev pub by_sharp : List ℕ → Option (List ℕ) → Option (Operands × Lis
 by_sharp bytes None = by_bracket bytes (sign_at 91 bytes)
 by_sharp bytes (Some rest) = constant_at rest
 
--- operands, and the bytes behind them
+-- operands, and the bytes after them
 unfoldable pub operands_at : List ℕ → Option (Operands × List ℕ)
 operands_at bytes = by_sharp bytes (sign_at 35 bytes)
 

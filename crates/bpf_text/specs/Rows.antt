@@ -60,7 +60,7 @@ abbrev pub is_absent : Operands → Bool
 is_absent Absent = true
 is_absent _ = false
 
--- an instruction behind its mnemonic; a blank stands before operands
+-- the instruction of a mnemonic and the bytes after it; a blank stands before operands
 unfoldable pub row_behind : List ℕ → List ℕ → Option Row
 row_behind word rest = do
   mnemonic ← mnemonic_of word

@@ -117,8 +117,8 @@ noted_from earlier place [] = []
 noted_from earlier place (line ∷ lines) =
     record { again = repeats earlier place line.labels; row = line.row } ∷ noted_from (earlier ++ labels_at place line.labels) (place + count_row line.row) lines
 
--- Bytes begin with labels and the rest goes on otherwise; the labels stand behind the earlier ones, at a
--- place, and again tells whether one of them was defined before it.
+-- Bytes begin with labels and go on with the rest. The labels stand at a place and are added after the earlier ones;
+-- again tells whether one of them was defined before.
 pub record TakesLabels (bytes rest : List ℕ) (place : ℕ) (old new : List Label) (again : Bool) : Type 0 where
   pub names : List (List ℕ)
   pub begins : Begins bytes names rest

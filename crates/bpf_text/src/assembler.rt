@@ -11,7 +11,7 @@ use bpf_code::{CodeError, Ins};
 use memchr::memchr;
 use std::alloc::Global;
 
-/// The first line of bytes, and the bytes behind the LF that ends it, if one does.
+/// The first line of bytes without its LF, and the bytes after that LF; `None` where no LF ends the line.
 fn split_line(bytes: &[u8]) -> (&[u8], Option<&[u8]>)
     ensures lines { MatchOption result.1 (lines_of bytes.now ≡ result.0.now ∷ []) (λ rest. lines_of bytes.now ≡ result.0.now ∷ lines_of rest.now) }
     ensures shorter { MatchOption result.1 (length result.0.now ≡ length bytes.now) (λ rest. length rest.now < length bytes.now) }

@@ -43,7 +43,7 @@ fn run_len(bytes: &[u8]) -> usize
     bytes.len()
 }
 
-/// The bytes behind the blanks that they begin with.
+/// The bytes without the blanks in front.
 #[tactic(auto, unfolding(crate::specs::Lexis::unblanked))]
 fn skip_blanks(bytes: &[u8]) -> &[u8]
     ensures value { result.now ≡ unblanked bytes.now }
@@ -53,7 +53,7 @@ fn skip_blanks(bytes: &[u8]) -> &[u8]
     rest
 }
 
-/// The letters, digits and `_` that bytes begin with, and the bytes behind them.
+/// The letters, digits and `_` in front of bytes, and the bytes after them.
 #[tactic(auto, unfolding(crate::specs::Lexis::run_of, crate::specs::Lexis::after_run))]
 fn split_run(bytes: &[u8]) -> (&[u8], &[u8])
     ensures front { result.0.now ≡ run_of bytes.now }
@@ -102,7 +102,7 @@ fn number_of_run(run: &[u8]) -> Option<u32>
     }
 }
 
-/// The word that bytes begin with, and the bytes behind it.
+/// The word in front of bytes, and the bytes after it.
 #[tactic(auto, unfolding(crate::specs::Lexis::word_at))]
 pub(crate) fn word(bytes: &[u8]) -> Option<(&[u8], &[u8])>
     ensures value { option_map (λ x. (x.0.now, x.1.now)) result ≡ word_at bytes.now }
@@ -117,7 +117,7 @@ pub(crate) fn word(bytes: &[u8]) -> Option<(&[u8], &[u8])>
     }
 }
 
-/// The number that bytes begin with, and the bytes behind it.
+/// The number in front of bytes, and the bytes after it.
 #[tactic(auto, unfolding(crate::specs::Lexis::number_at))]
 pub(crate) fn number(bytes: &[u8]) -> Option<(u32, &[u8])>
     ensures { option_map (λ x. (x.0, x.1.now)) result ≡ number_at bytes.now }
@@ -127,7 +127,7 @@ pub(crate) fn number(bytes: &[u8]) -> Option<(u32, &[u8])>
     Some((number, rest))
 }
 
-/// The bytes behind a single character that bytes begin with.
+/// The bytes after a character that bytes have to begin with.
 #[tactic(auto, unfolding(crate::specs::Lexis::sign_at))]
 pub(crate) fn sign(sign: u8, bytes: &[u8]) -> Option<&[u8]>
     ensures value { option_map (λ x. x.now) result ≡ sign_at sign bytes.now }

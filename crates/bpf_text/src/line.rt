@@ -21,7 +21,7 @@ fn read_label(bytes: &[u8]) -> Option<(&[u8], &[u8])>
     Some((name, rest))
 }
 
-/// Takes the labels that bytes begin with. Answers whether one was defined before it, and the bytes behind.
+/// Takes the labels in front of bytes. Answers whether one of them was defined before, and the bytes after them.
 fn take_labels<'a>(
     labels: &mut Labels<'a>,
     place: usize,

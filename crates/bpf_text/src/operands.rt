@@ -12,8 +12,8 @@ pub(crate) enum Targets<'a> {
     Both(&'a [u8], &'a [u8]),
 }
 
-/// What stands behind a mnemonic: nothing, `#k`, `#len`, `[k]`, `[x+k]`, `M[k]`, `4*([k]&0xf)`, a name, and
-/// the two forms of a conditional jump.
+/// The operands of an instruction: none, `#k`, `#len`, `[k]`, `[x+k]`, `M[k]`, `4*([k]&0xf)`, a name, and the two forms
+/// of a conditional jump.
 #[derive(Clone, Copy)]
 pub(crate) enum Operands<'a> {
     Absent,
@@ -41,7 +41,7 @@ fn read_targets(bytes: &[u8]) -> Option<(Targets<'_>, &[u8])>
     Some((Targets::Both(yes, no), rest))
 }
 
-/// What stands behind a `#`.
+/// The operands that begin with a `#`, from after it on.
 #[tactic(auto, unfolding(crate::specs::Operands::constant_at))]
 fn constant(bytes: &[u8]) -> Option<(Operands<'_>, &[u8])>
     ensures { option_map (λ x. (operands_view x.0, x.1.now)) result ≡ constant_at bytes.now }
@@ -61,7 +61,7 @@ fn constant(bytes: &[u8]) -> Option<(Operands<'_>, &[u8])>
     Some((Operands::NumberTo(k, targets), rest))
 }
 
-/// What stands behind a `[` that no number follows: `x+k]`.
+/// The operand `[x+k]`, from after its `[` on.
 #[tactic(auto, unfolding(crate::specs::Operands::indexed_at))]
 fn indexed(bytes: &[u8]) -> Option<(Operands<'_>, &[u8])>
     ensures { option_map (λ x. (operands_view x.0, x.1.now)) result ≡ indexed_at bytes.now }
@@ -76,7 +76,7 @@ fn indexed(bytes: &[u8]) -> Option<(Operands<'_>, &[u8])>
     }
 }
 
-/// What stands behind a `[`.
+/// The operands that begin with a `[`, from after it on.
 #[tactic(auto, unfolding(crate::specs::Operands::place_at))]
 fn place(bytes: &[u8]) -> Option<(Operands<'_>, &[u8])>
     ensures { option_map (λ x. (operands_view x.0, x.1.now)) result ≡ place_at bytes.now }
@@ -98,7 +98,7 @@ fn bracketed(bytes: &[u8]) -> Option<(u32, &[u8])>
     Some((k, rest))
 }
 
-/// What stands behind the 4 of `4*([k]&0xf)`.
+/// The operand `4*([k]&0xf)`, from after its 4 on.
 #[tactic(auto, unfolding(crate::specs::Operands::header_at))]
 fn header(bytes: &[u8]) -> Option<(Operands<'_>, &[u8])>
     ensures { option_map (λ x. (operands_view x.0, x.1.now)) result ≡ header_at bytes.now }
@@ -131,7 +131,7 @@ fn named<'a>(name: &'a [u8], rest: &'a [u8]) -> Option<(Operands<'a>, &'a [u8])>
     Some((Operands::NameTo(name, targets), rest))
 }
 
-/// Operands, and the bytes behind them.
+/// The operands in front of bytes, and the bytes after them.
 #[tactic(auto, unfolding(crate::specs::Operands::operands_at))]
 fn some_operands(bytes: &[u8]) -> Option<(Operands<'_>, &[u8])>
     ensures { option_map (λ x. (operands_view x.0, x.1.now)) result ≡ operands_at bytes.now }

@@ -98,7 +98,7 @@ fn is_none(operands: Operands) -> bool
     }
 }
 
-/// The instruction of a mnemonic and what stands behind it.
+/// The instruction of a mnemonic and the bytes after it.
 #[tactic(auto, unfolding(crate::specs::Rows::row_behind))]
 fn read_row<'a>(name: &[u8], rest: &'a [u8]) -> Option<Row<'a>>
     ensures { option_map row_view result ≡ row_behind name.now rest.now }
@@ -112,7 +112,7 @@ fn read_row<'a>(name: &[u8], rest: &'a [u8]) -> Option<Row<'a>>
     }
 }
 
-/// The instruction of a line behind its labels, if there is one; None where the bytes aren't of the form.
+/// The instruction of a line after its labels, if there is one; `None` where the bytes aren't of the form.
 #[tactic(auto, unfolding(crate::specs::Rows::statement_of))]
 pub(crate) fn statement(bytes: &[u8]) -> Option<Option<Row<'_>>>
     ensures { option_map (λ row. option_map row_view row) result ≡ statement_of bytes.now }

@@ -63,7 +63,7 @@ instructions_of order bytes = map (instruction_of order) (first_chunks instructi
 abbrev pub between : ℕ → ℕ → List ℕ → Option (List ℕ)
 between start end bytes = if nat_le start end && nat_le end (length bytes) then Some (take (end - start) (drop start bytes)) else None
 
--- where the elements of an array of structs begin: behind the four bytes of its length and its padding
+-- where the elements of an array of structs begin: after the four bytes of its length and its padding
 abbrev pub elements_start : ℕ → ℕ
 elements_start place = place + 4 + padding instruction_len (place + 4)
 

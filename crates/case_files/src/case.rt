@@ -13,7 +13,7 @@ pub(crate) struct Case<'a> {
 }
 
 impl<'a> Case<'a> {
-    /// The case of a line, which has so many inputs.
+    /// The case of a line: its name, then as many inputs as `inputs` says, then what is wanted.
     pub(crate) fn read(alloc: Global, line: &'a str, inputs: usize) -> Result<Case<'a>, LineError> {
         let (name, spelled) = line.split_once('\t').ok_or(LineError::Unreadable)?;
         let mut fields = Vec::new(alloc);

@@ -46,7 +46,7 @@ impl<'a, R: Runtime<A = Global>> Files for System<'a, R> {
     }
 }
 
-/// All bytes of a reader, of which so many are expected.
+/// All bytes of a reader; `expected` of them are reserved before the first read.
 fn read_all<I: Read + Drop>(alloc: Global, mut input: I, expected: u64) -> io::Result<Vec<u8>> {
     let mut bytes = Vec::new(alloc);
     bytes.reserve(usize::try_from(expected).unwrap_or(usize::MAX))?;

@@ -55,7 +55,7 @@ word_said word edition e =
       ]
     ]
 
--- behind `--`
+-- after `--`
 ended_names : (front words : Words) (owns : Bool) (edition : Option Edition) → length front + length words ≤ 2 → gathered (having front owns edition NameAlone) words ≡ Some (having (front ++ words) owns edition NameAlone)
 ended_names front [] owns edition fits = ap (λ all. Some (having all owns edition NameAlone)) (sym (append-nil front))
 ended_names front (word ∷ words) owns edition fits =
@@ -68,7 +68,7 @@ other_word : (word known : List ℕ) → is_option known ≡ true → is_option 
 other_word word known option plain =
     false_from_ne_true (bytes_eq word known) (λ same. let e = (bytes_eq-Decides word known).0 same in cc)
 
--- The words behind a command are gathered as they are spelled, behind a front and options that were gathered.
+-- The words after a command are gathered as they are spelled, with a front and options that were gathered before.
 spelled : {options : Options} {names words : Words} → Spells options names words → (front : Words) (owns : Bool) (edition : Option Edition) → length front + length names ≤ 2 → (owns && options.owns) ≡ false → (is_some edition && is_some options.edition) ≡ false → (awaited : Awaited) × (gathered (having front owns edition AnyWord) words ≡ Some (having (front ++ names) (owns || options.owns) (either edition options.edition) awaited))
 spelled nothing front owns edition fits once apart = (AnyWord, rw (append-nil front, or-false owns, either-none edition) refl)
 spelled (ended {words = words}) front owns edition fits once apart = (NameAlone, rw (or-false owns, either-none edition) (ended_names front words owns edition fits))
@@ -86,7 +86,7 @@ spelled (in_edition {options = options} {edition = value} fresh rest) front owns
     let read = spelled rest front owns (Some value) fits once (rw fresh refl) in
     (read.0, rw (said_edition value) read.1)
 
--- What a gathering that began with a front and with options says of the words behind it.
+-- what a gathering that began with a front and with options says of the words after them
 record Found (front : Words) (owns : Bool) (edition : Option Edition) (words : Words) (all : Gathering) : Type 0 where
   options : Options
   names : Words
@@ -195,7 +195,7 @@ found (word ∷ words) =
       λ front owns all e. said_found front word words owns (edition_of word) all refl rest.0 e,
     )
 
--- Two words behind `match` are its row.
+-- Two words after `match` are its row.
 row_of_names : (asked : Asked) (names words : Words) (owns : Bool) (edition : Option Edition) → Spells (record { owns = owns; edition = edition }) names words → match_of names owns edition ≡ Some asked → IsRow asked (match_word ∷ words)
 row_of_names asked [] words owns edition spells e = absurd (cc)
 row_of_names asked (rule ∷ []) words owns edition spells e = absurd (cc)
@@ -209,7 +209,7 @@ row_of_match : (asked : Asked) (words : Words) (all : Gathering) → Found [] fa
 row_of_match asked words all found e =
     row_of_names asked found.names words found.options.owns found.options.edition found.spells (rw (found.all_names, found.all_owns, found.all_edition) at e)
 
--- One word behind `asm`, `check` or `compile` is its row.
+-- One word after `asm`, `check` or `compile` is its row.
 word_of_names : (file : List ℕ) (names words : Words) (owns : Bool) (edition : Option Edition) → Spells (record { owns = owns; edition = edition }) names words → only_word names owns edition ≡ Some file → Spells no_options (file ∷ []) words
 word_of_names file [] words owns edition spells e = absurd (cc)
 word_of_names file (name ∷ []) words true edition spells e = absurd (cc)
@@ -229,7 +229,7 @@ row_of_one : (make : List ℕ → Asked) (command : List ℕ) (asked : Asked) (w
 row_of_one make command asked words all row found e =
     row_of_file make command asked found.names words found.options.owns found.options.edition (only_word found.names found.options.owns found.options.edition) row found.spells refl (rw (found.all_names, found.all_owns, found.all_edition) at e)
 
--- Two words behind `run`, which aren't both standard input, are its row.
+-- Two words after `run`, which aren't both standard input, are its row.
 row_of_two : (asked : Asked) (program file : List ℕ) (words : Words) (edition : Option Edition) → Spells (record { owns = false; edition = edition }) (program ∷ file ∷ []) words → run_of (program ∷ file ∷ []) false edition ≡ Some asked → IsRow asked (run_word ∷ words)
 row_of_two asked program file words edition spells e =
     elim (cases_Bool (is_input program && is_input file)) [
@@ -251,7 +251,7 @@ row_of_run : (asked : Asked) (words : Words) (all : Gathering) → Found [] fals
 row_of_run asked words all found e =
     run_of_names asked found.names words found.options.owns found.options.edition found.spells (rw (found.all_names, found.all_owns, found.all_edition) at e)
 
--- What is asked behind a command is its row.
+-- What is asked after a command is its row.
 row_of_asked : (asked : Asked) (command : List ℕ) (words : Words) (all : Gathering) → Found [] false None words all → asked_of command all ≡ Some asked → IsRow asked (command ∷ words)
 row_of_asked asked command words all found e =
     elim (cases_Bool (bytes_eq command match_word)) [

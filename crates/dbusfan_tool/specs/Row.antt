@@ -35,7 +35,7 @@ compile_word = codes "compile"
 abbrev pub owns_word : List ℕ
 owns_word = codes "--owns"
 
--- `--edition`: the word behind it says of which edition the image is
+-- `--edition`: the next word says of which edition the image is
 abbrev pub edition_word : List ℕ
 edition_word = codes "--edition"
 
@@ -44,7 +44,7 @@ abbrev pub word_of_edition : Edition → List ℕ
 word_of_edition One = codes "1"
 word_of_edition Two = codes "2"
 
--- `--`, behind which no word is an option
+-- `--`, after which no word is an option
 abbrev pub end_word : List ℕ
 end_word = codes "--"
 
@@ -65,8 +65,8 @@ pub record Options : Type 0 where
 abbrev pub no_options : Options
 no_options = record { owns = false; edition = None }
 
--- The options among the words behind a command, and the words that are no options, in their order. An option
--- may stand anywhere before `--`, and is given once at most.
+-- The options among the words after a command, and the words that are no options, in their order. An option may stand
+-- anywhere before `--`, and is given once at most.
 pub data Spells : Options → List (List ℕ) → List (List ℕ) → Type 0 where
   nothing : Spells no_options [] []
   ended : {words : List (List ℕ)} → Spells no_options words (end_word ∷ words)

@@ -37,7 +37,7 @@ edition_of word =
     else if bytes_eq word (word_of_edition Two) then Some Two
     else None
 
--- the word behind `--edition`
+-- the word after `--edition`
 abbrev pub with_edition_word : List ℕ → Gathering → Option Gathering
 with_edition_word word so_far =
     option_map (λ edition. record so_far { edition = Some edition; awaited = AnyWord }) (edition_of word)
@@ -61,7 +61,7 @@ with_awaited NameAlone word so_far = with_name word so_far
 abbrev pub with_word : List ℕ → Gathering → Option Gathering
 with_word word so_far = with_awaited so_far.awaited word so_far
 
--- behind the last word, none may be wanting
+-- where the words end, no option may still want its word
 abbrev pub at_end : Awaited → Gathering → Option Gathering
 at_end EditionWord so_far = None
 at_end _ so_far = Some so_far
@@ -87,7 +87,7 @@ run_of (program ∷ file ∷ []) false edition =
     if is_input program && is_input file then None else Some (to_run program file (unwrap_or edition One))
 run_of _ owns edition = None
 
--- what a command and what is gathered behind it ask for
+-- what a command and the words gathered after it ask for
 abbrev pub asked_of : List ℕ → Gathering → Option Asked
 asked_of command all =
     if bytes_eq command match_word then match_of all.names all.owns all.edition

@@ -1,4 +1,4 @@
-// The words behind a command.
+// The words after a command.
 
 ghost use Rattle.std.specs.Prelude.{◌≡◌};
 ghost use Rattle.dbusfan_tool.specs.Row.{is_option};
@@ -19,13 +19,13 @@ pub(crate) enum Names<'a> {
 pub(crate) enum Awaited {
     /// An option, `--` or a name.
     AnyWord,
-    /// What stands behind `--edition`.
+    /// The word of `--edition`.
     EditionWord,
-    /// Behind `--`, a name.
+    /// A name: after `--` no word is an option.
     NameAlone,
 }
 
-/// What stands among the words behind a command.
+/// What the words after a command say so far.
 #[derive(Clone, Copy)]
 pub(crate) struct Gathered<'a> {
     names: Names<'a>,

@@ -9,7 +9,7 @@ use std::alloc::Global;
 use std::io::{Read, Write};
 use value_text::{hex_line, message_line};
 
-/// Writes each message that comes as a line, so many as are wanted.
+/// Writes each message that comes as a line, until `options.count` were written.
 pub(crate) fn print_messages<S: Read + Write + Drop, O: Writer>(
     alloc: Global,
     client: &mut Client<S>,

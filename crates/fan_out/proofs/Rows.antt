@@ -72,7 +72,7 @@ last_rows places low high row ns size within past =
     ∙ marked_nothing (drop (16 * row + (256 - 16 * row)) ns)
 
 module _ {M : Type 0} where
-  -- behind the last connection there are no numbers
+  -- after the last connection there are no numbers
   pub none_left : (cs : List (Connection M)) (ms : List Bool) (k : ℕ) → length cs ≤ k → marked_numbers (drop k (numbers_of cs)) ms ≡ []
   none_left cs ms k past =
       let few : length (numbers_of cs) ≤ k = omega (arith, past, length-map cs (λ (c : Connection M). c.number)) in

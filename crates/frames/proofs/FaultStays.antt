@@ -29,7 +29,7 @@ AreGrown have [] [] = Unit {0}
 AreGrown have (c ∷ cs) (d ∷ ds) = Grown have c d × AreGrown have cs ds
 AreGrown have _ _ = ⊥
 
--- each looks at so many bytes, or more
+-- each looks at n bytes, or more
 abbrev AllNeed : ℕ → List Check → Type 0
 AllNeed n [] = Unit {0}
 AllNeed n (c ∷ cs) = (n ≤ c.need) × AllNeed n cs

@@ -67,7 +67,7 @@ tied_start draft t low =
     let top = low.top in
     rw e (omega arith)
 
--- behind the draft's end is the program's end
+-- a place past the draft's end is one past the program's end
 pub tied_past : (draft : List Ins) (t : TailTree) (p q : ℕ) → Lowers draft t → length draft ≤ p → Tied (length draft) t p q → slice_get (program_of t) q ≡ None
 tied_past draft t p q low past tied =
     let e : length draft - p ≡ 0 = omega arith in

@@ -27,9 +27,9 @@ near_at t place ahead h = leb-true (ahead - reach t place) 255 h
 far_at : (t : TailTree) (place ahead : ℕ) → is_near place ahead t ≡ false → 255 < ahead - reach t place
 far_at t place ahead h = leb-false (ahead - reach t place) 255 h
 
--- ---- behind the islands both places are near
+-- ---- once the islands stand both places are near
 
--- the first place is near now, and also behind an island of the second, if there is one
+-- the first place is near now, and stays near if the second one needs an island
 abbrev Kept : ℕ → ℕ → TailTree → Type 0
 Kept hit miss t = (len t - reach t hit ≤ 255) × (is_near miss (len t) t ≡ false → len t + 1 - reach t hit ≤ 255)
 
@@ -126,7 +126,7 @@ place_first hit i t true h p =
       ];
     }
 
--- a place of a tail is one behind the first island too
+-- a place of a tail is still one once the first island was added
 pub still_place : (hit miss i : ℕ) (t : TailTree) → IsPlace t hit → IsPlace t i → IsPlace (with_first hit miss t) i
 still_place hit miss i t h p = place_first hit i t (is_first_far hit miss t) h p
 

@@ -118,7 +118,7 @@ put_holds W draft t h ins x put = record {
       | inr high ↦ (let e : i ≡ length draft + 1 = omega arith in inl (top_reach i e ∙ sym (top i e)))
     ]
 
--- the place in front of the instruction, and the one behind it
+-- the place in front of the instruction, and the one after it
 pub put_top : (W : Type 0) (draft : List Ins) (t : TailTree) → Holds W draft t → (x : Ins) → height (with_place (with_ins x t)) (length draft + 1) ≡ len t + 1
 put_top W draft t h x = get_or_push t.heights (len (with_ins x t)) 0 (length draft + 1) (omega (arith, h.long)) ∙ len-put x t
 

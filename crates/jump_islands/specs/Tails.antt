@@ -31,7 +31,7 @@ reach t place = slice_index t.reaches place
 abbrev pub no_tail : TailTree
 no_tail = record { program = []; heights = 0 ∷ []; reaches = 0 ∷ [] }
 
--- a jump over so many instructions
+-- a jump over k instructions
 abbrev pub jump_over : ℕ → Ins
 jump_over k = record { code = code_of Jump; jt = 0; jf = 0; k = k }
 
@@ -52,7 +52,7 @@ abbrev pub with_island : ℕ → TailTree → TailTree
 with_island place t =
     record { program = t.program ++ jump_to place t ∷ []; heights = t.heights; reaches = slice_set t.reaches place (len t + 1) }
 
--- a conditional jump in front of so many instructions gets to a place
+-- a conditional jump gets to a place, where the tail after it has `ahead` instructions
 abbrev pub is_near : ℕ → ℕ → TailTree → Bool
 is_near place ahead t = nat_le (ahead - reach t place) 255
 

@@ -113,7 +113,7 @@ impl Tail {
         Ok(())
     }
 
-    /// Whether a conditional jump in front of so many instructions gets to a place.
+    /// Whether a conditional jump gets to a place, where the tail after it has `ahead` instructions.
     fn is_near(&self, place: usize, ahead: usize) -> bool
         requires { place < length self.now.reaches }
         ensures { result ≡ is_near place ahead self.now }

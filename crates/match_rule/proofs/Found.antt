@@ -162,7 +162,7 @@ blanks_found (b ∷ bs) = go (is_blank b) refl (blanks_found bs)
     go true is found = (b ∷ found.0, both (is_blank b) (list_all is_blank found.0) is found.1, ap (λ (x : List ℕ). b ∷ x) found.2)
     go false is found = ([], refl, refl)
 
--- terms behind those in front are the parts of a text
+-- terms after those in front are the parts of a text
 record Rest (front : List Term) (bytes : List ℕ) (terms : List Term) : Type 0 where
   pub own : List Term
   pub parts : List Part
@@ -188,7 +188,7 @@ none_found front bytes terms none same =
       once = tt;
     }
 
--- a part, and what is behind its value
+-- a part, and what follows its value
 record First (front : List Term) (bytes : List ℕ) (term : Term) (rest : List ℕ) : Type 0 where
   pub part : Part
   pub tail : Option (List ℕ)
@@ -220,7 +220,7 @@ first_found front bytes term rest e =
       ends = v.ends;
     }
 
--- the last part, with nothing behind it
+-- the last part, which nothing follows
 last_found : (front : List Term) (bytes : List ℕ) (term : Term) (part : Part) (terms : List Term) → IsPart part term → has_key (term_key term) front ≡ false → has_path (term_key term) front ≡ false → bytes ≡ part_bytes part ++ [] → front ++ term ∷ [] ≡ terms → Rest front bytes terms
 last_found front bytes term part terms says new apart is same = record {
   own = term ∷ [];

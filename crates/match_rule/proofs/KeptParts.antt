@@ -89,7 +89,7 @@ kept_more : (terms : List Term) (asked : List Condition) (eavesdrop : Option Boo
 kept_more terms asked eavesdrop (Asks condition) kept new = kept_asks terms asked eavesdrop condition kept
 kept_more terms asked eavesdrop (Eavesdrop flag) kept new = kept_eavesdrop terms asked eavesdrop flag kept new
 
--- the parts behind those of these terms make the text's
+-- the parts of the rest, after those of these terms, make the text's
 pub record IsTurn (asked : List Condition) (eavesdrop : Option Bool) (rest text : List ℕ) : Type 0 where
   pub terms : List Term
   pub kept : AreKept terms asked eavesdrop

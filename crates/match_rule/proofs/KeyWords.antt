@@ -82,7 +82,7 @@ all_plain : (bytes : List ℕ) → list_all is_digit bytes ≡ true → list_all
 all_plain [] e = refl
 all_plain (b ∷ bs) e = let h = both (is_digit b) (list_all is_digit bs) e in both_true (is_plain b) (list_all is_plain bs) (digit_plain b h.0) (all_plain bs h.1)
 
--- what is behind the digits of a key
+-- what stands after the digits of a key
 suffix_plain : (digits suffix : List ℕ) (key : Key) → arg_key digits suffix ≡ Ok key → list_all is_plain suffix ≡ true
 suffix_plain digits suffix key e = go (length digits == 0) (row_of arg_suffixes suffix) refl e
   where

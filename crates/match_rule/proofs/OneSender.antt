@@ -32,7 +32,7 @@ sender_key (Sender name) e = refl
 sender_key (Kind kind) e = absurd cc
 sender_key (Compares source relation value) e = absurd cc
 
--- behind a sender none is
+-- after a sender there is no other
 none_later : (front terms : List Term) → has_key keys.Sender front ≡ true → HaveOwnKeys front terms → list_any is_sender (conditions_in terms) ≡ false
 none_later front [] has own = refl
 none_later front (Eavesdrop flag ∷ terms) has own = none_later (front ++ Eavesdrop flag ∷ []) terms (list_any-append (λ t. is_twice (term_key t) keys.Sender) front (Eavesdrop flag ∷ []) ∙ ap (λ b. b || false) has) own.2

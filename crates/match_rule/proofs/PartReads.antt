@@ -114,7 +114,7 @@ behind_own key found = do
   term ← or_fault BadValue (term_with own value.0)
   Ok (term, value.1)
 
--- a part is read alike behind terms of the same keys
+-- a part is read alike after terms of the same keys
 pub part_same : (front others : List Term) (bytes : List ℕ) → ((key : Key) → has_key key front ≡ has_key key others) → ((key : Key) → has_path key front ≡ has_path key others) → part_at front bytes ≡ part_at others bytes
 unfolding part_at
 part_same front others bytes keys paths = go (key_at bytes)

@@ -21,7 +21,7 @@ use Rattle.match_rule.proofs.Turns.{turn}
 
 -- ---- values
 
--- behind a value: the end, or a comma and the rest
+-- what follows a value: the end, or a comma and the rest
 abbrev pub tail_bytes : Option (List ℕ) → List ℕ
 tail_bytes None = []
 tail_bytes (Some rest) = comma ∷ rest
@@ -91,7 +91,7 @@ blanks_read (b ∷ bs) rest e = let h = both (is_blank b) (list_all is_blank bs)
 
 -- ---- parts
 
--- what stands behind a value with these parts to come
+-- what follows a value with these parts to come
 abbrev tail_of : List Part → List ℕ → Option (List ℕ)
 tail_of [] [] = None
 tail_of [] (byte ∷ blanks) = Some blanks

@@ -10,7 +10,7 @@ use Rattle.match_rule.specs.Bytes.{begins_with}
 use Rattle.match_rule.specs.Grammar.{apostrophe}
 use Rattle.match_rule.specs.Reading.{◌>>=◌, step, value_from, with_byte, Gives}
 
--- what reading gives behind these bytes
+-- what reading gives after these bytes
 abbrev pub with_front : List ℕ → Result (List ℕ × List ℕ) RuleError → Result (List ℕ × List ℕ) RuleError
 with_front front read = read >>= λ found. Ok (front ++ found.0, found.1)
 
@@ -26,7 +26,7 @@ past_taken q next front bytes i lt e =
     with_front-byte front (get_or bytes i 0) (value_from next (drop (i + 1) bytes))
     ∙ sym (at_drop_more (λ rest. with_front front (value_from q rest)) bytes i 0 lt ∙ rw e refl)
 
--- what is left behind a place, as a slice of it
+-- what is left after a place, as a slice of it
 pub whole_rest : (bytes : List ℕ) (i : ℕ) → take (length bytes - i) (drop i bytes) ≡ drop i bytes
 whole_rest bytes i = take_all (length bytes - i) (drop i bytes) (omega (arith, length-drop i bytes))
 

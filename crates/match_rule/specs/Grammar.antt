@@ -20,7 +20,7 @@ backslash = 92
 abbrev pub comma : ℕ
 comma = 44
 
--- behind a key
+-- it stands after a key
 abbrev pub equals : ℕ
 equals = 61
 
@@ -97,7 +97,7 @@ abbrev pub parts_bytes : List Part → List ℕ → List ℕ
 parts_bytes [] ending = ending
 parts_bytes (part ∷ parts) ending = part_bytes part ++ further_bytes parts ending
 
--- behind no part: blanks; behind a part: nothing, or one last comma and blanks
+-- what may end a rule: blanks where it has no part; else nothing, or one last comma and blanks
 abbrev pub IsEnding : List Part → List ℕ → Type 0
 IsEnding [] ending = list_all is_blank ending ≡ true
 IsEnding _ [] = Unit {0}

@@ -32,7 +32,7 @@ key_words =
 abbrev pub max_arg : ℕ
 max_arg = 63
 
--- what may stand behind the number of an argument: the relation, and the greatest number that it may have
+-- what may follow the number of an argument: the relation, and the greatest number that it may have
 abbrev pub arg_suffixes : List (List ℕ × (Relation × ℕ))
 arg_suffixes =
     ([], (Equal, max_arg))
@@ -45,7 +45,7 @@ abbrev pub digits_of : List ℕ → List ℕ
 digits_of [] = []
 digits_of (b ∷ bs) = if is_digit b then b ∷ digits_of bs else []
 
--- what stands behind it
+-- what stands after those digits
 abbrev pub behind_digits : List ℕ → List ℕ
 behind_digits [] = []
 behind_digits (b ∷ bs) = if is_digit b then behind_digits bs else b ∷ bs
@@ -68,7 +68,7 @@ abbrev pub suffixed_key : Option (Relation × ℕ) → Option ℕ → Result Key
 suffixed_key None number = Err UnknownKey
 suffixed_key (Some row) number = numbered_key row number
 
--- the key of digits and what stands behind them
+-- the key of digits and what follows them
 abbrev pub arg_key : List ℕ → List ℕ → Result Key RuleError
 arg_key digits suffix =
     if length digits == 0 then Err UnknownKey else suffixed_key (row_of arg_suffixes suffix) (arg_number digits)

@@ -40,7 +40,7 @@ abbrev pub is_sender : Condition → Bool
 is_sender (Sender name) = true
 is_sender _ = false
 
--- no condition asks for a sender behind one that does
+-- at most one condition asks for a sender
 abbrev pub has_one_sender : List Condition → Bool
 has_one_sender [] = true
 has_one_sender (c ∷ cs) = not (is_sender c && list_any is_sender cs) && has_one_sender cs

@@ -24,7 +24,7 @@ abbrev pub Gives : {X Y : Type 0} → (X → Y) → Result X RuleError → Resul
 Gives view (Ok x) read = read ≡ Ok (view x)
 Gives view (Err fault) read = fault ≢ NoMemory → read ≡ Err fault
 
--- what stands behind the blanks
+-- the bytes without the blanks in front
 abbrev pub behind_blanks : List ℕ → List ℕ
 behind_blanks [] = []
 behind_blanks (b ∷ bs) = if is_blank b then behind_blanks bs else b ∷ bs
@@ -32,7 +32,7 @@ behind_blanks (b ∷ bs) = if is_blank b then behind_blanks bs else b ∷ bs
 abbrev pub with_byte : ℕ → List ℕ × List ℕ → List ℕ × List ℕ
 with_byte b found = (b ∷ found.0, found.1)
 
--- the bytes up to the first `=`, and those behind it, where no comma stands before it
+-- the bytes up to the first `=`, and those after it, where no comma stands before it
 abbrev pub word_at : List ℕ → Option (List ℕ × List ℕ)
 word_at [] = None
 word_at (b ∷ bs) = if b == equals then Some ([], bs) else if b == comma then None else option_map (with_byte b) (word_at bs)
@@ -53,13 +53,13 @@ ended Outside = Ok ([], [])
 ended Inside = Err Unquoted
 ended Escaped = Ok ([], [])
 
--- what comes of a step over a byte, with the bytes behind it and what reading them gives
+-- what comes of a step over a byte, with the bytes after it and what reading them gives
 abbrev pub after_step : Step → ℕ → List ℕ → (Quoting → Result (List ℕ × List ℕ) RuleError) → Result (List ℕ × List ℕ) RuleError
 after_step End b bs rest = Ok ([], bs)
 after_step (Skip next) b bs rest = rest next
 after_step (Take next) b bs rest = rest next >>= λ found. Ok (with_byte b found)
 
--- a value up to its comma or the end, and what stands behind that
+-- a value up to its comma or the end, and what follows
 abbrev pub value_from : Quoting → List ℕ → Result (List ℕ × List ℕ) RuleError
 value_from quoting [] = ended quoting
 value_from quoting (b ∷ bs) = after_step (step quoting b (begins_with apostrophe bs)) b bs (λ next. value_from next bs)
@@ -68,7 +68,7 @@ abbrev pub or_fault : {A : Type 0} → RuleError → Option A → Result A RuleE
 or_fault fault None = Err fault
 or_fault fault (Some x) = Ok x
 
--- a known key, and what stands behind its `=`
+-- a known key, and what follows its `=`
 unfoldable pub key_at : List ℕ → Result (Key × List ℕ) RuleError
 key_at bytes = do
   word ← or_fault UnknownKey (word_at bytes)
@@ -79,7 +79,7 @@ key_at bytes = do
 abbrev pub own_key : List Term → Key → Result Key RuleError
 own_key front key = if has_key key front then Err KeyTwice else if has_path key front then Err PathTwice else Ok key
 
--- a part behind these terms, and what stands behind it and its comma
+-- a part after these terms, and what follows it and its comma
 unfoldable pub part_at : List Term → List ℕ → Result (Term × List ℕ) RuleError
 part_at front bytes = do
   key ← key_at bytes
@@ -88,8 +88,8 @@ part_at front bytes = do
   term ← or_fault BadValue (term_with own value.0)
   Ok (term, value.1)
 
--- The parts behind these terms, from a place behind blanks. Each has at least a byte, so that as many turns
--- as there are bytes are enough.
+-- The parts after these terms, from a place after blanks. Each has at least a byte, so that as many turns as there are
+-- bytes are enough.
 abbrev pub parts_from : ℕ → List Term → List ℕ → Result (List Term) RuleError
 parts_from zero front bytes = Ok front
 parts_from (suc turns) front [] = Ok front

@@ -1,4 +1,4 @@
-// The keys of arguments: `arg`, a number, and what stands behind it.
+// The keys of arguments: `arg`, a number, and a suffix.
 
 ghost use Rattle.std.specs.Prelude.{◌≡◌, true, drop, None, Some, option_map, if◌then◌else◌};
 ghost use Rattle.std.specs.List.{list_all};
@@ -14,7 +14,7 @@ use crate::source::Source;
 /// The greatest number of an argument that a rule may ask for.
 const MAX_ARG: u8 = 63;
 
-/// What stands behind `arg`, where a word begins so.
+/// What follows `arg`, where a word begins so.
 pub(crate) fn behind_arg(word: &[u8]) -> Option<&[u8]>
     ensures { option_map (λ rest. rest.now) result ≡ (if is_of_arg word.now then Some (drop 3 word.now) else None) }
 {
@@ -30,7 +30,7 @@ fn is_digit(byte: u8) -> bool
     byte >= b'0' && byte <= b'9'
 }
 
-/// The longest run of digits in front, and what stands behind it.
+/// The longest run of digits in front, and what follows it.
 fn split_digits(bytes: &[u8]) -> (&[u8], &[u8])
     ensures digits { result.0.now ≡ digits_of bytes.now }
     ensures rest { result.1.now ≡ behind_digits bytes.now }
@@ -63,7 +63,7 @@ fn arg_number(digits: &[u8]) -> Option<u8>
     }
 }
 
-/// The relation of what stands behind the number of an argument, and the greatest number that it may have.
+/// The relation that a suffix means, and the greatest argument's number that it may have.
 fn relation_of_suffix(suffix: &[u8]) -> Option<(Relation, u8)>
     ensures { result ≡ row_of arg_suffixes suffix.now }
 {
@@ -94,7 +94,7 @@ fn numbered_key(relation: Relation, greatest: u8, number: Option<u8>) -> Result<
     }
 }
 
-/// The key of what stands behind `arg`.
+/// The key of a word from after its `arg` on.
 pub(crate) fn arg_key(rest: &[u8]) -> Result<Key, RuleError>
     ensures { result ≡ arg_key (digits_of rest.now) (behind_digits rest.now) }
 {

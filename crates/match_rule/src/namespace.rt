@@ -4,7 +4,7 @@ ghost use Rattle.std.specs.Prelude.{◌≡◌, ◌↔◌, [], ◌∷◌, ◌++�
 ghost use Rattle.match_rule.specs.Bytes.{ends_with};
 ghost use Rattle.match_rule.specs.Holds.{Begins, InPathNamespace, InNamespace, IsFolderOf, AreNested};
 
-/// Whether a text begins with the front and the byte behind it.
+/// Whether a text begins with the front and then the byte.
 fn begins_with(text: &str, front: &str, byte: u8) -> bool
     ensures { IsTrue result ↔ Begins text.now (front.now ++ byte ∷ []) }
 {

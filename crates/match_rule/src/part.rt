@@ -13,7 +13,7 @@ use crate::term::{Term, term_with};
 use crate::word::{begins_with_apostrophe, behind_blanks, word_at};
 use std::alloc::Global;
 
-/// A known key, and what stands behind its `=`.
+/// A known key, and what follows its `=`.
 #[tactic(auto, unfolding(crate::specs::Reading::key_at))]
 fn key_at(bytes: &[u8]) -> Result<(Key, &[u8]), RuleError>
     ensures { Gives (λ x. (x.0, x.1.now)) result (key_at bytes.now) }
@@ -23,7 +23,7 @@ fn key_at(bytes: &[u8]) -> Result<(Key, &[u8]), RuleError>
     Ok((key, rest))
 }
 
-/// A value up to its comma or the end, and what stands behind that.
+/// A value up to its comma or the end, and what follows.
 fn value_at(alloc: Global, bytes: &[u8]) -> Result<(Vec<u8>, &[u8]), RuleError>
     ensures { Gives (λ x. (x.0.items, x.1.now)) result (value_from Outside bytes.now) }
 {
@@ -45,7 +45,7 @@ fn value_at(alloc: Global, bytes: &[u8]) -> Result<(Vec<u8>, &[u8]), RuleError>
     }
 }
 
-/// A part behind those in front, and what stands behind it and its comma.
+/// A part after those in front, and what follows it and its comma.
 #[tactic(auto, unfolding(crate::specs::Reading::part_at))]
 fn part_at<'a>(alloc: Global, front: &Parts, bytes: &'a [u8]) -> Result<(Term, &'a [u8]), RuleError>
     ensures { Gives (λ x. (x.0, x.1.now)) result (part_at (terms_of front.now.conditions.items front.now.eavesdrop) bytes.now) }

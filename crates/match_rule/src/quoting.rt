@@ -3,8 +3,8 @@
 ghost use Rattle.std.specs.Prelude.{◌≡◌};
 ghost use Rattle.match_rule.specs.Reading.{step};
 
-/// Where a byte of a value stands: outside of apostrophes, inside them, or behind a backslash that makes
-/// an apostrophe of it.
+/// Where a byte of a value stands: outside of apostrophes, inside them, or after a backslash that makes an apostrophe
+/// of it.
 #[derive(Clone, Copy, Debug)]
 pub(crate) enum Quoting {
     Outside,

@@ -21,7 +21,7 @@ pub(crate) fn begins_with_apostrophe(bytes: &[u8]) -> bool
     }
 }
 
-/// What stands behind the blanks.
+/// The bytes without the blanks in front.
 pub(crate) fn behind_blanks(bytes: &[u8]) -> &[u8]
     ensures { result.now ≡ behind_blanks bytes.now }
 {
@@ -33,7 +33,7 @@ pub(crate) fn behind_blanks(bytes: &[u8]) -> &[u8]
     &[]
 }
 
-/// The bytes up to the first `=`, and those behind it, where no comma stands before it.
+/// The bytes up to the first `=`, and those after it, where no comma stands before it.
 pub(crate) fn word_at(bytes: &[u8]) -> Option<(&[u8], &[u8])>
     ensures { option_map (λ x. (x.0.now, x.1.now)) result ≡ word_at bytes.now }
 {

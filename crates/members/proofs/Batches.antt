@@ -10,7 +10,7 @@ pub nothing_left : (batch long : List ℕ) → (length (if length batch == 0 the
 nothing_left [] long = refl
 nothing_left (x ∷ xs) long = grind arith
 
--- a message that is copied behind the batch is the last one
+-- a message that is copied after the batch is the last one
 pub all_after_copy : (batch message copy : List ℕ) (start end len k : ℕ) (next : Option (List ℕ)) → end ≤ length batch → copy ≡ message → len ≡ length message
     → ((start == 0) && is_none next) ≡ true
     → slice_range (put_mid end k batch copy) start (end + len) ++ unwrap_or next [] ≡ (slice_range batch start end ++ unwrap_or next []) ++ message

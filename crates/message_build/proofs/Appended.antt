@@ -1,4 +1,4 @@
--- Bytes appended one behind the other.
+-- Bytes appended one after the other.
 use Rattle.std.proofs.Common.{◌≡◌, ℕ, List, [], ◌∷◌, ◌++◌, length, take, drop, Result, Ok, Err, sym, ap, subst, ◌∙◌, append_assoc, arith}
 use Rattle.std.proofs.lemmas.List.{take-append-drop, length-append}
 use Rattle.std.proofs.Math.Seq.{take-append_seam}
@@ -20,7 +20,7 @@ pub appends_then : {X E : Type 0} (r : Result X E) (old mid new a b : List ℕ) 
 appends_then (Ok x) old mid new a b is has = has ∙ ap (λ (l : List ℕ). l ++ b) is ∙ append_assoc old a b
 appends_then (Err e) old mid new a b is has = front_then old mid new a is has
 
--- a field behind its zeros: its code and type, and its value
+-- a field after its zeros: its code and type, and its value
 pub pushed_field : {X E : Type 0} (r : Result X E) (order : Order) (old mid ext new : List ℕ) (f : Field) (code byte : ℕ)
     → mid ≡ old ++ zeros (padding 8 (length old)) → ext ≡ mid ++ code ∷ 1 ∷ byte ∷ 0 ∷ [] → code ≡ f.code → basic byte ≡ f.type
     → Appends r ext new (value_bytes order (length ext) f.type f.value) → Appends r old new (field_bytes order (length old) f)

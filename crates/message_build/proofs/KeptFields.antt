@@ -87,7 +87,7 @@ fields_bytes-append order place (x ∷ xs) ys =
     ∙ sym (append_assoc first more (fields_bytes order (place + length first + length more) ys))
     ∙ ap (λ (k : ℕ). (first ++ more) ++ fields_bytes order k ys) end
 
--- the field SENDER behind the others
+-- the field SENDER after the others
 pub sender_last : (order : Order) (place : ℕ) (xs : List Field) (sender : List ℕ) → fields_bytes order place (xs ++ sender_field sender ∷ []) ≡ fields_bytes order place xs ++ field_bytes order (place + length (fields_bytes order place xs)) (sender_field sender)
 sender_last order place xs sender =
     fields_bytes-append order place xs (sender_field sender ∷ [])

@@ -1,4 +1,4 @@
--- A field where it stands elsewhere: behind its zeros it has the same bytes, and it is still a field.
+-- A field where it stands elsewhere: after its zeros it has the same bytes, and it is still a field.
 use Rattle.std.proofs.Common.{◌≡◌, ℕ, ◌+◌, ◌-◌, ◌%◌, List, [], ◌∷◌, ◌++◌, length, refl, sym, ap, ◌∙◌, arith}
 use Rattle.signature.specs.Alignment.{alignment_of}
 use Rattle.message_value.specs.declared.order.Order.{Order}

@@ -143,7 +143,7 @@ message_with order kind flags serial all body =
     (order_byte order ∷ kind_byte kind ∷ flags ∷ 1 ∷ [])
     ++ (word_bytes order (length body) ++ (word_bytes order serial ++ (word_bytes order (length all) ++ (all ++ (zeros (padding 8 (length all)) ++ body)))))
 
--- the header of the stamped message, with the zeros behind it
+-- the header of the stamped message, with the zeros after it
 abbrev pub heads : Order → Header → ℕ → List ℕ → List ℕ
 heads order h body_len all = fixed_bytes order h (length all) body_len ++ (all ++ zeros (padding 8 (length all)))
 

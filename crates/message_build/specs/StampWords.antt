@@ -21,7 +21,7 @@ use Rattle.message_build.specs.Words.{fixed_bytes}
 abbrev pub is_kept_code : ℕ → Bool
 is_kept_code code = is_some (code_of code) && not (code == 7)
 
--- the code of a field and where it stands, behind the zeros before it
+-- the code of a field and where it stands, after the zeros before it
 unfoldable pub begun_at : Order → At → Result (Begun × At) MsgError
 begun_at order at = do
   start ← aligned_at field_alignment at
@@ -39,13 +39,13 @@ abbrev pub IsFound : Option Found → Order → Field → Type 0
 IsFound (Some found) order field = (found.code ≡ field.code) × (found.bytes.now ≡ bare_field order field)
 IsFound None order field = ⊥
 
--- a field lies at a place of an array, and so many bytes behind it
+-- a field lies at a place of an array, and these bytes follow it
 pub record LiesAt (order : Order) (array : List ℕ) (at : At) (field : Field) (more : List ℕ) : Type 0 where
   pub is : IsField order at.place field
   pub rest : at.rest ≡ field_bytes order at.place field ++ more
   pub within : drop at.place array ≡ at.rest
 
--- a place behind a field
+-- the place after a field
 pub record IsBehind (order : Order) (at : At) (field : Field) (more : List ℕ) (behind : At) : Type 0 where
   pub place : behind.place ≡ at.place + length (field_bytes order at.place field)
   pub rest : behind.rest ≡ more
@@ -58,7 +58,7 @@ kept_bytes place found = if is_kept_code found.code then zeros (padding field_al
 abbrev pub stamped_fields : Order → List Field → List ℕ → List ℕ
 stamped_fields order fields sender = fields_bytes order fixed_len (filter is_kept fields ++ sender_field sender ∷ [])
 
--- what the fields of a stamped message are, with what is in front and behind; or that they are too long
+-- the header of a stamped message with these fields; or that they are too long
 abbrev pub HeadsStamped : Result (List ℕ) StampError → Order → Header → ℕ → List ℕ → Type 0
 HeadsStamped (Ok bytes) order h body_len fields =
     (length fields ≤ max_array_len) × (bytes ≡ fixed_bytes order h (length fields) body_len ++ (fields ++ zeros (padding 8 (length fields))))

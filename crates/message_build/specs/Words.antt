@@ -31,7 +31,7 @@ abbrev pub Appends : {X E : Type 0} → Result X E → List ℕ → List ℕ →
 Appends (Ok x) old new added = new ≡ old ++ added
 Appends (Err e) old new added = take (length old) new ≡ old
 
--- where so many bytes end that begin at a place, or that they are more than an array may have
+-- where `len` bytes end that begin at a place, or that they are more than an array may have
 abbrev pub Ends : Option ℕ → ℕ → ℕ → Type 0
 Ends (Some end) place len = end ≡ place + len
 Ends None place len = max_array_len < len
@@ -102,7 +102,7 @@ abbrev pub bytes_at : ℕ → Option HeaderField → List ℕ
 bytes_at place None = []
 bytes_at place (Some field) = field_bytes Little place (field_of field)
 
--- where so many bytes end that begin at a place, or that the fields would be too long
+-- where `len` bytes end that begin at a place, or that the fields would be too long
 abbrev pub EndsWithin : Option ℕ → ℕ → ℕ → Type 0
 EndsWithin (Some end) place len = (end ≡ place + len) × (end ≤ fixed_len + max_array_len)
 EndsWithin None place len = fixed_len + max_array_len < place + len
@@ -200,7 +200,7 @@ listed (Err e) = Err e
 
 -- ---- arguments
 
--- The argument behind the others; behind a whole body there is no place for it.
+-- One more argument; after a whole body there is no place for it.
 abbrev pub with_argument : Asked → DataType → Value → Asked
 with_argument a type value =
     if takes_arguments a.given

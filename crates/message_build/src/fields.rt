@@ -1,4 +1,4 @@
-// The header fields of a message that is built, one behind the other.
+// The header fields of a message that is built, one after the other.
 
 ghost use Rattle.std.specs.Prelude.{◌≡◌, ℕ, ◌+◌, ◌<◌, ◌≤◌, ◌++◌, true, length, IfOk};
 ghost use Rattle.message_value.specs.declared.order.Order.TheVariants.{Little};
@@ -53,7 +53,7 @@ fn push_field(bytes: &mut Vec<u8>, field: &Option<HeaderField<'_>>) -> Result<()
     }
 }
 
-/// The fields one behind the other.
+/// The fields one after the other.
 pub(crate) fn push_fields(
     bytes: &mut Vec<u8>,
     fields: &[Option<HeaderField<'_>>],

@@ -51,8 +51,7 @@ pub(crate) fn between(bytes: &[u8], from: usize, to: usize) -> Option<&[u8]>
     bytes.get(from..to)
 }
 
-/// The next field of an array, in which the cursor's places are counted from its first byte; or None behind
-/// the last one.
+/// The next field of an array, in which the cursor's places are counted from its first byte; `None` after the last one.
 fn next_field<'a>(array: &'a [u8], cursor: &mut Cursor<'_>, order: Order) -> Option<Found<'a>>
     ensures shorter { IfSome result (λ _. length cursor.new.rest < length cursor.old.rest) }
     ensures found { (field : Field) (more : List ℕ) → LiesAt order array.entry.now cursor.old field more → IsFound result order field }

@@ -29,7 +29,7 @@ const SENDER_CODE: u8 = 7;
 /// Where the length of the fields stands.
 const FIELDS_LEN_PLACE: usize = 12;
 
-/// More than the fixed part, the field SENDER without its text, and the zeros behind the fields have.
+/// More bytes than the fixed part, the field SENDER without its text, and the zeros after the fields have.
 const ROOM: usize = 64;
 
 /// Why a message can't be stamped.

@@ -15,7 +15,7 @@ use std::alloc::AllocError;
 /// How many bytes the length of an array has.
 const LENGTH_LEN: usize = 4;
 
-/// The strings one behind the other.
+/// The strings one after the other.
 fn push_elements(bytes: &mut Vec<u8>, strings: &[&str]) -> Result<(), AllocError>
     ensures { Appends result bytes.old.items bytes.new.items (elements_bytes Little (length bytes.old.items) (basic 115) (string_values strings.now)) }
 {

@@ -1,4 +1,4 @@
--- Members with one more behind them.
+-- Members with one more after them.
 use Rattle.std.proofs.Common.{◌≡◌, ℕ, ◌+◌, List, [], ◌∷◌, ◌++◌, length, refl, sym, ap, ◌∙◌, append_assoc, arith}
 use Rattle.std.proofs.lemmas.List.{length-append}
 use Rattle.signature.specs.DataType.{DataType, DataTypes, no_types, one_more, spelling, spellings}

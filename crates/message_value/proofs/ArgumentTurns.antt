@@ -50,7 +50,7 @@ pub new_is : (order : Order) (texts : List (List ℕ)) (at : At) (types : DataTy
     → arguments_left order texts at ≡ arguments_from order at.place types found.0
 new_is order texts at types text found is spelled e = left_is order texts at types found is spelled.fits (new_left order texts at types text found is spelled e).short e
 
--- the next argument, and what is left behind it
+-- the next argument, and what is left after it
 pub record NextLeft (order : Order) (front : List ℕ) (more : List (List ℕ)) (at : At) (whole : List Argument) : Type 0 where
   pub type : DataType
   pub spelled : TypeText type front

@@ -1,4 +1,4 @@
--- The loops over what an array holds: reading goes on behind each turn to what the whole array reads as.
+-- The loops over what an array holds: reading goes on after each turn to what the whole array reads as.
 use Rattle.std.proofs.Common.{◌≡◌, ℕ, zero, suc, ◌<◌, ◌≤◌, true, false, List, [], ◌∷◌, length, Result, Ok, Err, refl, ◌∙◌, arith}
 use Rattle.std.specs.Prelude.{◌==◌}
 use Rattle.std.proofs.lemmas.Bool.{eq-eqb}

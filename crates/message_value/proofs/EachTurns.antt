@@ -50,7 +50,7 @@ behind_suc reader a lt =
     let is : length a.rest ≡ suc (length a.rest - 1) = omega arith in
     ap (λ (k : ℕ). each_at reader k a) is ∙ one_turn reader (length a.rest - 1) a lt
 
--- one item, and those behind it
+-- one item, and those after it
 pub behind_one : {X : Type 0} (reader : At → Result (X × At) MsgError) → ItemShorter reader → (a : At) (found : X × At) → 0 < length a.rest → reader a ≡ Ok found → each_behind reader a ≡ (each_behind reader found.1 >>= λ more. Ok (found.0 ∷ more))
 behind_one reader shorter a found lt e =
     let less = shorter a found e in

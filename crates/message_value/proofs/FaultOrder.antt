@@ -71,7 +71,7 @@ then_element : value_at 1 Little (array (basic 98)) (body 0 (4 ∷ 0 ∷ 0 ∷ 0
 unfolding value_by array_at extent_at number_value_at word_at aligned_at item_at
 then_element = refl
 
--- a number that the array's length cuts, whatever the body has behind it
+-- a number that the array's length cuts, whatever follows in the body
 element_cut : value_at 1 Little (array (basic 117)) (body 0 (3 ∷ 0 ∷ 0 ∷ 0 ∷ 7 ∷ 0 ∷ 0 ∷ 0 ∷ [])) ≡ Err faults.ArrayLength
 unfolding value_by array_at extent_at number_value_at word_at aligned_at item_at
 element_cut = refl

@@ -1,4 +1,4 @@
--- The loop over the members of a struct or a body: reading goes on behind each to what all read as.
+-- The loop over the members of a struct or a body: reading goes on after each to what all read as.
 use Rattle.std.proofs.Common.{◌≡◌, ℕ, List, [], ◌∷◌, Result, Ok, Err, refl, sym, ◌∙◌}
 use Rattle.signature.specs.DataType.{DataType, DataTypes, no_types, one_more, slices, AllFit, TypeText}
 use Rattle.message_value.specs.declared.fault.MsgError.{MsgError}
@@ -23,7 +23,7 @@ itself (Err fault) = refl
 pub all_members : (texts : List (List ℕ)) (reader : Reader) (at : At) (types : DataTypes) → texts ≡ slices types → AllFit 0 0 types → MembersLeft texts reader at (members_at reader types at)
 all_members texts reader at types is fit = record { types = types; spelled = is; fit = fit; same = itself (members_at reader types at) }
 
--- the next member, and what is behind it
+-- the next member, and what is after it
 pub record NextMember (text : List ℕ) (after : List (List ℕ)) (reader : Reader) (at : At) (whole : Result (Values × At) MsgError) : Type 0 where
   pub type : DataType
   pub spelled : TypeText type text

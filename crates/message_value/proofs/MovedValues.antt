@@ -62,7 +62,7 @@ pub aligned_alike : (p q : ℕ) → Alike p q → (type : DataType) → Alike (a
 aligned_alike p q s type =
     subst (λ (n : ℕ). Alike (aligned (alignment_of type) p) (q + n)) (padding_alike p q s type) (Alike-plus p q (padding (alignment_of type) p) s)
 
--- behind bytes that are the same
+-- after the same bytes
 pub behind_alike : (p q : ℕ) (a b : List ℕ) → Alike p q → a ≡ b → Alike (p + length a) (q + length b)
 behind_alike p q a b s e = subst (λ (x : List ℕ). Alike (p + length a) (q + length x)) e (Alike-plus p q (length a) s)
 

@@ -49,7 +49,7 @@ aligned_here alignment at e =
     let enough : nat_lt (length at.rest) 0 ≡ false = le-ltb _ _ (omega arith) in
     rw (padding_none alignment at.place e, add-zero, enough) refl
 
--- behind a number
+-- after a number
 abbrev past : ℕ → At → At
 past len at = record { place = at.place + len; rest = drop len at.rest; outside = at.outside }
 
@@ -76,7 +76,7 @@ number_some_left levels order code len at are e le = number_here levels order co
 number_none_left : (levels : ℕ) (order : Order) (code len : ℕ) (at : At) → AreNumbers len (basic code) → at.place % len ≡ 0 → length at.rest < len → value_at levels order (basic code) at ≡ Err at.outside
 number_none_left levels order code len at are e lt = number_here levels order code len at are e ∙ rw (item_none len at lt) refl
 
--- ---- one behind the other
+-- ---- one after the other
 
 no_bytes : {X : Type 0} (result : Result X MsgError) (len : ℕ) (n : ℕ) → n ≡ 0 → Divides (n % len == 0) result → (read : Result (List Value) MsgError) → read ≡ Ok [] → ChecksAll result read
 no_bytes (Ok x) len n none h read is = ([], is)

@@ -13,7 +13,7 @@ use Rattle.message_value.proofs.OkSteps.{bind_ok, guard_ok, ok_is}
 use Rattle.message_value.proofs.WordBytes.{IsBytes, length-word_bytes}
 use Rattle.message_value.proofs.ReadItems.{at, Takes, Takes-then, Takes-as, Takes-leaves, length-zeros, item_takes, item_again, aligned_takes, aligned_again, word_takes, word_again}
 
--- ---- one item behind the other
+-- ---- one item after the other
 
 abbrev pub each_bytes : {X : Type 0} → (ℕ → X → List ℕ) → ℕ → List X → List ℕ
 each_bytes bytes place [] = []

@@ -22,7 +22,7 @@ pub record Takes (before : At) (text : List ℕ) (behind : At) : Type 0 where
   pub outside : behind.outside ≡ before.outside
   pub fits : IsBytes before.rest → IsBytes behind.rest
 
--- what is left behind
+-- what is left after it
 pub Takes-leaves : (a : At) (taken : List ℕ) (b : At) → Takes a taken b → length taken + length b.rest ≡ length a.rest
 Takes-leaves a taken b t = sym (length-append taken b.rest) ∙ ap (λ (x : List ℕ). length x) (sym t.parts)
 
@@ -34,14 +34,14 @@ Takes-then a x b y c p q = record {
   fits = λ h. q.fits (p.fits h);
 }
 
--- the same text, and the same place behind it
+-- the same text, and the same place after it
 pub Takes-as : (a : At) (x y : List ℕ) (b c : At) → Takes a x b → x ≡ y → b ≡ c → Takes a y c
 Takes-as a x y b c t text behind = subst (λ (z : List ℕ). Takes a z c) text (subst (λ (z : At). Takes a x z) behind t)
 
 pub Takes-nothing : (a : At) → Takes a [] a
 Takes-nothing a = record { parts = refl; place = omega arith; outside = refl; fits = λ h. h }
 
--- ---- so many bytes
+-- ---- n bytes
 
 pub item_takes : (len : ℕ) (a : At) (found : List ℕ × At) → item_at len a ≡ Ok found → Takes a found.0 found.1 × (length found.0 ≡ len) × (IsBytes a.rest → IsBytes found.0)
 unfolding item_at

@@ -1,4 +1,4 @@
--- What was read takes bytes, so that fewer are left behind it.
+-- What was read takes bytes, so that fewer are left after it.
 use Rattle.std.proofs.Common.{◌≡◌, ℕ, zero, suc, ◌+◌, ◌<◌, ◌≤◌, Bool, true, false, cond, List, length, take, drop, Option, Some, None, Result, Ok, Err, refl, subst, arith}
 use Rattle.std.specs.Prelude.{◌==◌, nat_lt, not, slice_index, ◌&&◌, ◌||◌}
 use Rattle.std.specs.List.{list_all}
@@ -16,7 +16,7 @@ use Rattle.message_value.specs.Spelling.{padding, number_len, width_of, entry_al
 use Rattle.message_value.specs.Fits.{is_text_code, is_text_of, max_array_len}
 use Rattle.message_value.specs.Reading.{At, ◌>>=◌, item_at, aligned_at, byte_at, word_at, text_fault, ended, text_at, long_text_at, short_text_at, text_value_at, typed, signature_at, counted, number_value_at, inside, within_limit, extent_at, each_at, Reader, members_at, entry_at, variant_at, array_at, dict_at, struct_at, bare_at, value_by, value_at}
 
--- an Ok leaves at least so many bytes fewer
+-- an Ok leaves fewer bytes than before, by this number at least
 abbrev pub Takes_least : {A : Type 0} → ℕ → ℕ → Result (A × At) MsgError → Type 0
 Takes_least least before (Ok found) = length found.1.rest + least ≤ before
 Takes_least least before (Err fault) = Unit {0}
@@ -29,7 +29,7 @@ fewer : {A : Type 0} (least less before more : ℕ) (r : Result (A × At) MsgErr
 fewer least less before more (Ok found) le more_le h = omega arith
 fewer least less before more (Err fault) le more_le h = tt
 
--- one step, and another behind it
+-- one step, and another after it
 then : {A B : Type 0} (least less before : ℕ) (r : Result (A × At) MsgError) (f : A × At → Result (B × At) MsgError) → Takes_least least before r
     → ((x : A × At) → Takes_least less (length x.1.rest) (f x)) → Takes_least least before (r >>= f)
 then least less before (Ok x) f h k = both (f x) (k x)

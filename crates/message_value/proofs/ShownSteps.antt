@@ -31,7 +31,7 @@ start_place type at start gone = (aligned_takes (alignment_of type) at start gon
 pub start_aligned : (type : DataType) (at start : At) → aligned_at (alignment_of type) at ≡ Ok start → start.place % alignment_of type ≡ 0
 start_aligned type at start gone = aligned_place (alignment_of type) at start (alignment_some type) gone
 
--- behind its padding a value is the same
+-- after its padding a value is the same
 pub value_here : (levels : ℕ) (order : Order) (type : DataType) (at start : At) → aligned_at (alignment_of type) at ≡ Ok start → value_at levels order type at ≡ value_at levels order type start
 value_here levels order type at start gone =
     begun levels order type at start gone ∙ sym (begun levels order type start start (aligned_here (alignment_of type) start (start_aligned type at start gone)))

@@ -19,7 +19,7 @@ use Rattle.message_value.proofs.OkSteps.{bind_ok, ok_is, not_refused, passed_ok}
 use Rattle.message_value.proofs.ReadShorter.{item_fits, byte_fits, word_fits}
 use Rattle.message_value.proofs.SignatureTexts.{signature_utf8}
 
--- what is behind a first step
+-- what follows a first step
 pub after : {A B : Type 0} (r : Result A MsgError) (f : A → Result B MsgError) (x : A) (found : B) → (r >>= f) ≡ Ok found → r ≡ Ok x → f x ≡ Ok found
 after r f x found e is = rw is at e
 

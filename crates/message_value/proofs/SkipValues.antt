@@ -20,7 +20,7 @@ use Rattle.message_value.proofs.ReadShorter.{item_fits, word_fits}
 use Rattle.message_value.proofs.ValueSteps.{deeper, begun, basic_is, is_container}
 use Rattle.message_value.proofs.SkipTexts.{after}
 
--- the place behind a value that stands in another
+-- the place after a value that stands in another
 pub Reaches-map : {Y Z : Type 0} (behind : At) (read : Result (Y × At) MsgError) (f : Y → Z) → Reaches behind read → Reaches behind (read >>= λ found. Ok (f found.0, found.1))
 Reaches-map behind read f h = λ found e.
     let s = bind_ok read (λ found. Ok (f found.0, found.1)) found e in
@@ -78,7 +78,7 @@ pub extent_fits : (order : Order) (alignment : ℕ) (at : At) (found : At × At)
 unfolding extent_at
 extent_fits order alignment at found e = let s = bind_ok (word_at order at) (extent_of order alignment) found e in word_fits order at s.0 s.1
 
--- its steps behind the length
+-- its steps after the length
 pub record ExtentSteps (alignment len : ℕ) (at : At) (found : At × At) : Type 0 where
   pub start : At
   pub gone : aligned_at alignment at ≡ Ok start
@@ -136,7 +136,7 @@ some_level (suc levels) order type start c h = (levels, refl)
 pub kind_gone : (levels : ℕ) (order : Order) (type kind : DataType) (at : At) → type ≡ kind → IsRead (value_at levels order type at) → IsGone (aligned_at (alignment_of kind) at)
 kind_gone levels order type kind at is h = value_gone levels order kind at (h.0, ap (λ (t : DataType). value_at levels order t at) (sym is) ∙ h.1)
 
--- a container behind its padding
+-- a container after its padding
 pub opened : (levels : ℕ) (order : Order) (type kind : DataType) (at start : At) → type ≡ kind → is_container kind → aligned_at (alignment_of kind) at ≡ Ok start → IsRead (value_at levels order type at)
     → (1 ≤ levels) × (value_at levels order type at ≡ bare_at (Ok (value_at (levels - 1) order)) order kind start)
 opened levels order type kind at start is c gone h =
@@ -154,7 +154,7 @@ basic_same levels order type code at is = ap (λ (t : DataType). value_at levels
 pub read_same : {Y : Type 0} (read whole : Result (Y × At) MsgError) → whole ≡ read → IsRead whole → IsRead read
 read_same read whole same h = (h.0, sym same ∙ h.1)
 
--- the place behind what is read is that of the whole
+-- the place after what is read is that of the whole
 pub Reaches-same : {Y : Type 0} (behind : At) (read whole : Result (Y × At) MsgError) → whole ≡ read → Reaches behind read → Reaches behind whole
 Reaches-same behind read whole same h = λ found e. h found (sym same ∙ e)
 

@@ -88,7 +88,7 @@ entry_bytes_pos order levels place k v key value has =
     let more = value_bytes order (start + length first) v value in
     behind_pos (zeros (padding entry_alignment place)) (first ++ more) (front_pos first more (value_bytes_pos order levels start (basic k) key has))
 
--- ---- what is left behind
+-- ---- what is left after it
 
 item_leaves : (len : ℕ) (a : At) (found : List ℕ × At) → item_at len a ≡ Ok found → len + length found.1.rest ≡ length a.rest
 item_leaves len a found e =

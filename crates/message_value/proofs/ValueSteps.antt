@@ -109,7 +109,7 @@ pub after_signature : {X : Type 0} (result : Result X MsgError) (behind : At) (r
 unfolding variant_at
 after_signature result behind reader at middle type e h = rw e (Checks-map result behind (reader type middle) (λ value. of_type type value) h)
 
--- the elements, and the place behind the extent
+-- the elements, and the place after the extent
 extent_then : {X Y Z : Type 0} (result : Result X MsgError) (behind : At) (read : Result (List Y) MsgError) (f : List Y → Z) → ChecksAll result read
     → Checks result behind (read >>= λ found. Ok (f found, behind))
 extent_then (Ok x) behind read f h = (f h.0, rw h.1 refl)

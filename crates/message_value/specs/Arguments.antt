@@ -25,7 +25,7 @@ argument_of order place (basic code) (text bytes) =
 argument_of order place type value =
     record { code = slice_index (spelling type) 0; place = place; len = length (bare_bytes order place type value); text = None }
 
--- one value behind the other
+-- one value after the other
 abbrev pub arguments_from : Order → ℕ → DataTypes → Values → List Argument
 arguments_from order place (one_more t ts) (one_value v vs) =
     argument_of order (aligned (alignment_of t) place) t v ∷ arguments_from order (place + length (value_bytes order place t v)) ts vs

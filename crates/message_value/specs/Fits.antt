@@ -37,8 +37,8 @@ max_levels = 64
 abbrev pub IsOneType : DataType → Type 0
 IsOneType type = TypeText type (spelling type) × (length (spelling type) ≤ 255)
 
--- A value of a type at a place that the type's alignment divides, where so many levels are left: an array,
--- a struct and a variant take one, an entry of a dict takes none.
+-- A value of a type at a place that the type's alignment divides, where `levels` levels are left: an array, a struct
+-- and a variant take one, an entry of a dict takes none.
 abbrev mutual
   pub BareFits : Order → ℕ → ℕ → DataType → Value → Type 0
   BareFits order levels place (basic code) (number bits) = (is_text_code code ≡ false) × (bits < limit_of code)

@@ -12,12 +12,12 @@ order_byte Big = 66
 abbrev pub order_of : ℕ → Option Order
 order_of byte = if byte == 108 then Some Little else if byte == 66 then Some Big else None
 
--- the bytes of a number of so many bits
+-- the bytes of a number of a width in bits
 abbrev pub number_bytes : Order → Width → ℕ → List ℕ
 number_bytes Little width n = to_le_bytes width n
 number_bytes Big width n = to_be_bytes width n
 
--- the number of bytes of so many bits
+-- the number that bytes are, of a width in bits
 abbrev pub number_of : Order → Width → List ℕ → ℕ
 number_of Little width bytes = from_le_bytes width bytes
 number_of Big width bytes = from_be_bytes width bytes

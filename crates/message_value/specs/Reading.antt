@@ -26,7 +26,7 @@ pub record At : Type 0 where
 
 -- ---- items
 
--- an item of so many bytes
+-- an item of `len` bytes
 unfoldable pub item_at : ℕ → At → Result (List ℕ × At) MsgError
 item_at len at =
     if nat_lt (length at.rest) len then Err at.outside
@@ -62,7 +62,7 @@ ended code len bytes behind =
     else if not (slice_index bytes len == 0) then Err faults.BadText
     else Ok (take len bytes, behind)
 
--- a text of so many bytes with its zero byte, as one item
+-- a text of `len` bytes with its zero byte, as one item
 unfoldable pub text_at : ℕ → ℕ → At → Result (List ℕ × At) MsgError
 text_at code len at = do
   bytes ← item_at (len + 1) at
@@ -117,8 +117,7 @@ inside place bytes = record { place = place; rest = bytes; outside = faults.Arra
 abbrev pub within_limit : ℕ → At → Result At MsgError
 within_limit len at = if nat_lt max_array_len len then Err faults.ArrayLength else Ok at
 
--- The elements of an array and what is behind them: its length, the zeros before its elements, and its
--- whole extent.
+-- The elements of an array and what follows them: its length, the zeros before its elements, and its whole extent.
 unfoldable pub extent_at : Order → ℕ → At → Result (At × At) MsgError
 extent_at order alignment at = do
   len ← word_at order at
@@ -141,7 +140,7 @@ each_at reader (suc turns) at =
 abbrev pub Reader : Type 0
 Reader = DataType → At → Result (Value × At) MsgError
 
--- one member behind the other
+-- one member after the other
 abbrev pub members_at : Reader → DataTypes → At → Result (Values × At) MsgError
 members_at reader no_types at = Ok (no_values, at)
 members_at reader (one_more t ts) at = do
@@ -180,8 +179,8 @@ struct_at reader t ts at = do
   found ← members_at reader (one_more t ts) at
   Ok (members found.0, found.1)
 
--- A value behind its padding. What reads the values inside it, one level deeper, is the fault Depth where no
--- level is left.
+-- A value after its padding. What reads the values inside it, one level deeper, is the fault Depth where no level is
+-- left.
 abbrev pub bare_at : Result Reader MsgError → Order → DataType → At → Result (Value × At) MsgError
 bare_at deeper order (basic code) at = if is_text_code code then text_value_at order code at else number_value_at order code at
 bare_at deeper order variant at = deeper >>= λ reader. variant_at reader at
@@ -192,7 +191,7 @@ bare_at deeper order (struct t ts) at = deeper >>= λ reader. struct_at reader t
 unfoldable pub value_by : Result Reader MsgError → Order → DataType → At → Result (Value × At) MsgError
 value_by deeper order type at = aligned_at (alignment_of type) at >>= λ start. bare_at deeper order type start
 
--- a value of a type where so many levels are left
+-- a value of a type where this number of levels is left
 abbrev pub value_at : ℕ → Order → DataType → At → Result (Value × At) MsgError
 value_at zero order type at = value_by (Err faults.Depth) order type at
 value_at (suc levels) order type at = value_by (Ok (value_at levels order)) order type at

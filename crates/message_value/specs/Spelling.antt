@@ -79,13 +79,13 @@ abbrev mutual
   bare_bytes order place (struct t ts) (members vs) = members_bytes order place (one_more t ts) vs
   bare_bytes order place _ _ = []
 
-  -- one element behind the other
+  -- one element after the other
   pub elements_bytes : Order → ℕ → DataType → Values → List ℕ
   elements_bytes order place t no_values = []
   elements_bytes order place t (one_value v vs) =
       followed place (padded (alignment_of t) place (λ start. bare_bytes order start t v)) (λ behind. elements_bytes order behind t vs)
 
-  -- one entry behind the other: its key, and its value
+  -- one entry after the other: its key, and its value
   pub entries_bytes : Order → ℕ → ℕ → DataType → Entries → List ℕ
   entries_bytes order place k v no_entries = []
   entries_bytes order place k v (one_entry key value es) =
@@ -95,7 +95,7 @@ abbrev mutual
       padded (alignment_of v) behind (λ at. bare_bytes order at v value))))
       (λ behind. entries_bytes order behind k v es)
 
-  -- one member behind the other
+  -- one member after the other
   pub members_bytes : Order → ℕ → DataTypes → Values → List ℕ
   members_bytes order place (one_more t ts) (one_value v vs) =
       followed place (padded (alignment_of t) place (λ start. bare_bytes order start t v)) (λ behind. members_bytes order behind ts vs)

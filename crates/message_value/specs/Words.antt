@@ -72,7 +72,7 @@ abbrev pub ChecksAll : {X Y : Type 0} → Result X MsgError → Result (List Y) 
 ChecksAll (Ok x) read = (found : _) × (read ≡ Ok found)
 ChecksAll (Err fault) read = read ≡ Err fault
 
--- the values of a type have so many bytes, any of which are a value
+-- the values of a type have `len` bytes, any of which are a value
 abbrev pub AreNumbers : ℕ → DataType → Type 0
 AreNumbers len (basic code) = (is_text_code code ≡ false) × ((code == 98) ≡ false) × (number_len code ≡ len)
 AreNumbers len _ = ⊥
@@ -90,7 +90,7 @@ IsRead read = (found : _) × (read ≡ Ok found)
 abbrev pub IsGone : Result At MsgError → Type 0
 IsGone read = (behind : At) × (read ≡ Ok behind)
 
--- a place is the one behind what reading gives, where it gives something
+-- a place is the one after what reading gives, where it gives something
 abbrev pub Reaches : {Y : Type 0} → At → Result (Y × At) MsgError → Type 0
 Reaches behind read = (found : _) → read ≡ Ok found → behind ≡ found.1
 

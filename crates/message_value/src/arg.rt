@@ -52,7 +52,7 @@ impl TextType {
     }
 }
 
-/// A text behind its padding, as an argument.
+/// A text after its padding, as an argument.
 fn text_arg<'a>(cursor: &mut Cursor<'a>, order: Order, text_type: TextType) -> Arg<'a>
     requires { IsRead (text_value_at order (text_code text_type) cursor.old) }
     ensures { ShowsArgument order (basic (text_code text_type)) cursor.old.place result cursor.new (text_value_at order (text_code text_type) cursor.old) }

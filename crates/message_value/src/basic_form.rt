@@ -16,7 +16,7 @@ pub(crate) enum BasicForm {
     Text(TextType),
     /// A number of four bytes that is 0 or 1.
     Boolean,
-    /// A number of so many bytes, any bits of which are a value.
+    /// A number of n bytes, any bits of which are a value.
     Number(usize),
 }
 
@@ -37,7 +37,7 @@ impl BasicForm {
     }
 }
 
-/// A boolean behind its padding.
+/// A boolean after its padding.
 #[tactic(auto, unfolding(crate::specs::Reading::number_value_at, crate::specs::Reading::word_at))]
 fn check_boolean(cursor: &mut Cursor<'_>, order: Order) -> Result<(), MsgError>
     ensures { Checks result cursor.new (number_value_at order 98 cursor.old) }

@@ -101,7 +101,7 @@ impl<'a> Cursor<'a> {
         self.rest.is_empty()
     }
 
-    /// An item of so many bytes, all of which have to be there.
+    /// An item of `len` bytes. Fewer that are left are the fault `outside`.
     #[tactic(auto, unfolding(crate::specs::Reading::item_at))]
     pub fn item(&mut self, len: usize) -> Result<&'a [u8], MsgError>
         ensures read { Reads (λ bytes. bytes.now) result self.new (item_at len self.old) }
@@ -178,7 +178,7 @@ impl<'a> Cursor<'a> {
         Ok(Cursor::new(place, elements, MsgError::ArrayLength))
     }
 
-    /// So many bytes, all of which are there.
+    /// An item of `len` bytes, all of which are there.
     #[tactic(auto, unfolding(crate::specs::Reading::item_at))]
     pub(crate) fn skip(&mut self, len: usize) -> &'a [u8]
         requires { len ≤ length self.old.rest }

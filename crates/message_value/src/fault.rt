@@ -43,7 +43,7 @@ pub enum MsgError {
     Depth,
     /// The bytes end before the message does.
     Short,
-    /// Bytes behind the message, or behind the last value of its body.
+    /// Bytes after the message, or after the last value of its body.
     Trailing,
     /// The message announces file descriptors.
     UnixFds,

@@ -22,7 +22,7 @@ pub(crate) fn fixed_len(value_type: &OneType<'_>) -> Option<usize>
     }
 }
 
-/// The elements of an array, each of so many bytes.
+/// Whether an array, whose elements have `len` bytes each, holds a whole number of them.
 pub(crate) fn check_fixed(inner: &Cursor<'_>, len: usize) -> Result<(), MsgError>
     requires { 0 < len }
     ensures { Divides (length inner.now.rest % len == 0) result }

@@ -41,7 +41,7 @@ fn skip_signature<'a>(cursor: &mut Cursor<'a>) -> OneType<'a>
     }
 }
 
-/// The whole extent of an array behind its padding.
+/// The whole extent of an array after its padding.
 fn skip_array(cursor: &mut Cursor<'_>, order: Order, alignment: usize)
     requires some { 0 < alignment }
     requires read { IsRead (extent_at order alignment cursor.old) }
@@ -52,7 +52,7 @@ fn skip_array(cursor: &mut Cursor<'_>, order: Order, alignment: usize)
     cursor.skip(len as usize);
 }
 
-/// A value of a type, with the zeros before it, where so many levels were left.
+/// A value of a type, with the zeros before it, where `levels` levels were left.
 #[cycle(skip)]
 pub(crate) fn skip_value(
     cursor: &mut Cursor<'_>,

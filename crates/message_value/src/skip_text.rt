@@ -11,7 +11,7 @@ use crate::text::TextType;
 use std::str::from_utf8_unchecked;
 
 impl TextType {
-    /// A text of so many bytes with its zero byte.
+    /// A text of `len` bytes with its zero byte.
     fn skip<'a>(self, cursor: &mut Cursor<'a>, len: usize) -> &'a str
         requires fits { len < 2 ^ 32 }
         requires read { IsRead (text_at (text_code self) len cursor.old) }
@@ -44,7 +44,7 @@ impl TextType {
         TextType::Signature.skip(cursor, usize::from(len))
     }
 
-    /// A value of this type behind its padding.
+    /// A value of this type after its padding.
     #[tactic(auto, unfolding(crate::specs::Reading::text_value_at))]
     pub(crate) fn skip_value<'a>(self, cursor: &mut Cursor<'a>, order: Order) -> &'a str
         requires { IsRead (text_value_at order (text_code self) cursor.old) }

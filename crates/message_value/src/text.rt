@@ -14,7 +14,7 @@ use memchr::memchr;
 use signature::{Signature, check_path_bytes};
 use std::str::from_utf8_unchecked;
 
-/// Below so many bytes a look at each of them takes less time than a search, which has to begin and to end.
+/// For fewer bytes a look at each of them takes less time than a search, which has to begin and to end.
 const SHORT: usize = 64;
 
 /// A basic type whose values are texts.
@@ -132,7 +132,7 @@ impl TextType {
         }
     }
 
-    /// A text of so many bytes with its zero byte, as one item.
+    /// A text of `len` bytes with its zero byte, as one item.
     #[tactic(auto, unfolding(crate::specs::Reading::text_at))]
     fn read<'a>(self, cursor: &mut Cursor<'a>, len: usize) -> Result<&'a str, MsgError>
         requires { len < 2 ^ 32 }
@@ -164,7 +164,7 @@ impl TextType {
         TextType::Signature.read(cursor, usize::from(len))
     }
 
-    /// A value of this type behind its padding.
+    /// A value of this type after its padding.
     #[tactic(auto, unfolding(crate::specs::Reading::text_value_at))]
     pub fn read_value<'a>(self, cursor: &mut Cursor<'a>, order: Order) -> Result<&'a str, MsgError>
         ensures { Reads (λ t. text t.now) result cursor.new (text_value_at order (text_code self) cursor.old) }

@@ -21,7 +21,7 @@ fn inside(levels: usize) -> Result<usize, MsgError>
     levels.checked_sub(1).ok_or(MsgError::Depth)
 }
 
-/// Goes over a value of a type, with the zeros before it, where so many levels are left.
+/// Goes over a value of a type, with the zeros before it, where `levels` levels are left.
 #[cycle(check)]
 pub fn check_value(
     cursor: &mut Cursor<'_>,
@@ -80,7 +80,7 @@ fn check_variant(cursor: &mut Cursor<'_>, order: Order, levels: usize) -> Result
     check_value(cursor, order, &value_type, levels)
 }
 
-/// An array behind its padding.
+/// An array after its padding.
 #[cycle(check)]
 fn check_array(
     cursor: &mut Cursor<'_>,
@@ -115,7 +115,7 @@ fn check_elements(
     Ok(())
 }
 
-/// An array of dict entries behind its padding.
+/// An array of dict entries after its padding.
 #[cycle(check)]
 fn check_dict(
     cursor: &mut Cursor<'_>,

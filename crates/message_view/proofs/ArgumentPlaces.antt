@@ -91,7 +91,7 @@ code_below (struct t ts) fits = omega arith
 
 -- ---- values
 
--- a text behind its length
+-- a text after its length
 text_has : (b : Bool) (order : Order) (code start : ℕ) (text : List ℕ) → code < 256 → AreBytes text
     → HasPlace (cond b (length text ∷ (text ++ 0 ∷ [])) (word_bytes order (length text) ++ (text ++ 0 ∷ []))) start (record { code = code; place = start + cond b 1 4; len = length text; text = Some text })
 text_has true order code start text small are = record {
@@ -113,13 +113,13 @@ bare_has : (order : Order) (start : ℕ) (type : DataType) (value : Value) → F
 bare_has order start (basic code) (text_value text) typed fits = text_has (eqb code 103) order code start text (code_below (basic code) typed) (text_bytes code text fits.0)
 bare_has order start type value typed fits = whole_has (bare_bytes order start type value) start (get_or (spelling type) 0 0) (code_below type typed)
 
--- behind its padding
+-- after its padding
 value_has : (order : Order) (place : ℕ) (type : DataType) (value : Value) → Fits 0 0 type → BareFits order max_levels (aligned (alignment_of type) place) type value → HasPlace (value_bytes order place type value) place (argument_of order (aligned (alignment_of type) place) type value)
 value_has order place type value typed fits =
     let start : ℕ = aligned (alignment_of type) place in
     place_behind (zeros (padding (alignment_of type) place)) (bare_bytes order start type value) (padding (alignment_of type) place) place (argument_of order start type value) (length-zeros (padding (alignment_of type) place)) (bare_has order start type value typed fits)
 
--- one value behind the other
+-- one value after the other
 pub arguments_have : (order : Order) (place : ℕ) (types : DataTypes) (values : Values) → AllFit 0 0 types → MembersFit order max_levels place types values → HavePlaces (members_bytes order place types values) place (arguments_from order place types values)
 arguments_have order place (one_more t ts) (one_value v vs) typed fit =
     let first : List ℕ = value_bytes order place t v in

@@ -113,7 +113,7 @@ reads_big = valid_reads big (signal Big) valid_big
 
 -- ---- damages
 
--- the three fields, whatever is behind them
+-- the three fields, whatever follows them
 one_turn : (turns : ℕ) (front : List Field) (a : At) (found : Field × At) → 0 < length a.rest → field_at Little front a ≡ Ok found → fields_from (suc turns) Little front a ≡ fields_from turns Little (front ++ found.0 ∷ []) found.1
 one_turn turns front a found lt e =
     let some : eqb (length a.rest) 0 ≡ false = ne_eqb _ _ (λ e. omega arith) in

@@ -20,7 +20,7 @@ use Rattle.message_view.proofs.FieldTurns.{field_shorter}
 
 -- ---- no known code comes twice
 
--- no known field behind has the code of one in front
+-- no later known field has the code of one in front
 abbrev pub Apart : List Field → List Field → Type 0
 Apart front [] = Unit {0}
 Apart front (field ∷ more) = IsOnce (code_of field.code) field.code front × Apart front more
@@ -50,7 +50,7 @@ differ field later known more once is = ne_eqb _ _ (λ same. never same (once_at
     never : field.code ≡ later.code → field_with field.code (later ∷ more) ≡ None → ⊥
     never same none = eqb-false later.code field.code (found_none (eqb later.code field.code) later.value (field_with field.code more) none).0 (sym same)
 
--- what is behind is the same of a longer front
+-- what follows is the same with a longer front
 once_behind : (o : Option FieldCode) (code : ℕ) (first : Field) (more : List Field) → IsOnce o code (first ∷ more) → IsOnce o code more
 once_behind (Some known) code first more once = (found_none (eqb first.code code) first.value (field_with code more) once).1
 once_behind None code first more once = tt
@@ -75,7 +75,7 @@ Apart-pull front field (later ∷ more) apart =
         let other : eqb later.code field.code ≡ false = ne_eqb _ _ (λ same. eqb-false field.code later.code (of_push later.code front field (once_at (code_of later.code) later.code (front ++ field ∷ []) known apart.0 (ap code_of same ∙ e))).1 (sym same)) in
         rw other none
 
--- ---- one field behind the other
+-- ---- one field after the other
 
 pub field_bytes-pos : (order : Order) (place : ℕ) (field : Field) → 0 < length (field_bytes order place field)
 field_bytes-pos order place field = omega (arith, length-append (zeros (padding 8 place)) (field_front field ++ value_bytes order (field_value_place place field) field.type field.value))
@@ -94,7 +94,7 @@ fields_again (suc turns) order front (field ∷ fields) place outside are apart 
     rw (some, field_again order front field place outside rest are.0 apart.0)
     (fields_again turns order (front ++ field ∷ []) fields (place + length first) outside are.2 (Apart-push front field fields apart.1 are.1) (omega (arith, len, pos)) ∙ ap (λ (x : List Field). Ok x) grouped)
 
--- what is behind those in front
+-- what follows those in front
 pub record Follow (order : Order) (front : List Field) (a : At) (fields : List Field) : Type 0 where
   pub more : List Field
   pub whole : fields ≡ front ++ more

@@ -42,7 +42,7 @@ is_typed ErrorName field allowed = allowed.0
 is_typed Destination field allowed = allowed.0
 is_typed Sender field allowed = allowed.0
 
--- a text stands behind its padding and its length
+-- a text stands after its padding and its length
 long_text_stands : (order : Order) (place : ℕ) (text : List ℕ) → AreBytes text → Stands (zeros (padding 4 place) ++ (word_bytes order (length text) ++ (text ++ 0 ∷ []))) place (aligned 4 place + 4) text
 long_text_stands order place text are =
     stands_behind (zeros (padding 4 place)) (word_bytes order (length text) ++ (text ++ 0 ∷ [])) text (padding 4 place) place (aligned 4 place + 4) (length-zeros (padding 4 place))

@@ -131,7 +131,7 @@ no_check_again bytes f =
 
 -- ---- the whole length
 
--- what is said of so many bytes
+-- the length that the first bytes of a message say, once there are enough of them
 abbrev said : List ℕ → Option ℕ
 said bytes = cond (ltb (length bytes) fixed_len) None (Some (whole_len bytes))
 

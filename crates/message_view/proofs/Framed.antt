@@ -1,4 +1,4 @@
--- A message behind its fixed part, by the slices that the code reads.
+-- A message after its fixed part, by the slices that the code reads.
 use Rattle.std.proofs.Common.{◌≡◌, ℕ, ◌+◌, ◌-◌, List, [], length, take, drop, Some, None, Result, Ok, Err, refl, sym, ap, subst, ◌∙◌, arith}
 use Rattle.std.proofs.lemmas.List.{drop-drop, length-drop}
 use Rattle.signature.specs.DataType.{SigText}
@@ -35,7 +35,7 @@ array_is fixed bytes behind array is behind_is front_is len =
     let cut : array ≡ take (fields_len bytes) (drop 16 bytes) = front_is ∙ rw (is.fields, behind_is) refl in
     rw (len, cut, is.order, is.fields) refl
 
--- and so are the bytes behind it
+-- and so are the bytes after it
 pub skipped_is : (fixed : Fixed) (bytes behind rest skipped : List ℕ) (n : ℕ) → IsFixed fixed bytes → behind ≡ drop 16 bytes → rest ≡ drop fixed.fields_len behind → n ≡ padding 8 fixed.fields_len → skipped ≡ take n rest → skipped ≡ header_padding bytes
 skipped_is fixed bytes behind rest skipped n is behind_is rest_is n_is front_is =
     front_is ∙ rw (n_is, rest_is, behind_is, is.fields) (ap (take (padding 8 (fields_len bytes))) (drop-drop _ _ bytes))

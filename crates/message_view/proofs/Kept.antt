@@ -81,7 +81,7 @@ slots_same front field unknown =
         let differ : eqb field.code k ≡ false = ne_eqb field.code k (λ same. let no : Some named ≡ None = sym is ∙ ap code_of (sym same) ∙ unknown in absurd cc) in
         sym (more_fields k front field ∙ rw differ (or_none (field_with k front)))
 
--- a known field that was read, with the slots behind it
+-- a known field that was read, with the slots after it
 pub kept_next : (order : Order) (front : List Field) (old middle behind : At) (byte : ℕ) (code : FieldCode) (value : Value) (slots kept : Slots) → slots ≡ slots_of front → kept ≡ slice_set slots (slot_of code) (Some value)
     → Some code ≡ code_of byte → code_at front old ≡ Ok (byte, middle) → content_at order (Some code) middle ≡ Ok ((basic (type_code code), value), behind)
     → (field_at order front old ≡ Ok (field_of (code_byte code) (basic (type_code code)) value, behind)) × (kept ≡ slots_of (front ++ field_of (code_byte code) (basic (type_code code)) value ∷ []))

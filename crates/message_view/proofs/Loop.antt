@@ -15,7 +15,7 @@ use Rattle.message_value.proofs.OkSteps.{ok_is}
 use Rattle.message_view.proofs.FieldTurns.{field_shorter}
 use Rattle.message_view.proofs.KeptExtents.{front_none}
 
--- What is kept is that of the fields in front, and reading goes on behind them to what the whole array reads as.
+-- What is kept is that of the fields in front, and reading goes on after them to what the whole array reads as.
 pub record SoFar (order : Order) (start : ℕ) (fields : Fields) (at : At) (whole : Result (List Field) MsgError) : Type 0 where
   pub front : List Field
   pub turns : ℕ

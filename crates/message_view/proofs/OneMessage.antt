@@ -227,7 +227,7 @@ made bytes kind fields arguments fits fixed whole is_kind required read =
       spelled = lies_laid bytes order (serial_in bytes) text body fits first fixed.version read.lies ∙ ap (λ (b : ℕ). laid order b (get_or bytes 2 0) (serial_in bytes) text body) (sym byte);
     }
 
--- a message behind its fixed part, by what was read of it
+-- a message after its fixed part, by what was read of it
 pub record AreParts (bytes : List ℕ) (m : Message) : Type 0 where
   pub kind : Kind
   pub front : List Field

@@ -95,7 +95,7 @@ first_four (a ∷ b ∷ []) h = absurd (omega arith)
 first_four (a ∷ b ∷ c ∷ []) h = absurd (omega arith)
 first_four (a ∷ b ∷ c ∷ d ∷ rest) h = refl
 
--- so many at a place, and the others
+-- the first n bytes from a place on, and the others
 cut : (n place : ℕ) (bytes : List ℕ) → drop place bytes ≡ take n (drop place bytes) ++ drop (place + n) bytes
 cut n place bytes = sym (take-append-drop n (drop place bytes)) ∙ ap (λ (x : List ℕ). take n (drop place bytes) ++ x) (drop-drop n place bytes)
 

@@ -14,7 +14,7 @@ use Rattle.message_value.specs.Fits.{is_text_of}
 use Rattle.message_value.proofs.SignatureTexts.{signature_utf8}
 use Rattle.message_value.specs.Words.{AreBytes}
 
--- ---- bytes, one behind the other
+-- ---- bytes, one after the other
 
 no_bytes : AreBytes []
 no_bytes i = omega arith

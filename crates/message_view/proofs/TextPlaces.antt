@@ -42,7 +42,7 @@ abbrev IsWithin : Value → ℕ → Type 0
 IsWithin (text bytes) behind = length bytes < behind
 IsWithin _ behind = Unit {0}
 
--- it lies before the place behind it
+-- it lies before the place after it
 pub text_within : (order : Order) (code : ℕ) (a : At) (bytes : List ℕ) (behind : At) → text_value_at order code a ≡ Ok (text bytes, behind) → length bytes < behind.place
 unfolding text_value_at
 text_within order code a bytes behind e =
@@ -99,7 +99,7 @@ text_reaches order place code t bytes long four =
     let skipped = zeros (padding 8 place) in
     omega (arith, padded, by_four, len, length-append skipped (front ++ value), length-append front value, length-zeros (padding 8 place))
 
--- so it lies where it does by the place behind
+-- so it lies where it does by the place after it
 text_before : (order : Order) (place code t behind : ℕ) (value : Value) → eqb t 103 ≡ false → alignment_of (basic t) ≡ 4 → behind ≡ place + length (field_bytes order place (field_of code (basic t) value))
     → extent_before behind value ≡ text_extent place (field_of code (basic t) value)
 text_before order place code t behind (number bits) long four is = refl

@@ -25,7 +25,7 @@ stands_before bytes text more start place s = record {
   here = s.here;
 }
 
--- behind other bytes, of which there are so many
+-- after n other bytes
 pub stands_behind : (first bytes text : List ℕ) (n start place : ℕ) → length first ≡ n → Stands bytes (start + n) place text → Stands (first ++ bytes) start place text
 stands_behind first bytes text n start place is s = record {
   made = s.made;

@@ -18,7 +18,7 @@ text_field_code ErrorName = 4
 text_field_code Destination = 6
 text_field_code Sender = 7
 
--- the text of a field at a place: it stands behind its length, which is a word
+-- the text of a field at a place: it stands after its length, which is a word
 abbrev pub text_extent : ℕ → Field → Option Extent
 text_extent place field =
     option_map (λ bytes. record { place = aligned 4 (field_value_place place field) + 4; len = length bytes }) (text_in (Some field.value))

@@ -66,7 +66,7 @@ code_fault front code =
     else if is_some (code_of code) && is_some (field_with code front) then Some faults.FieldTwice
     else None
 
--- the code of a field, behind its padding
+-- the code of a field, after its padding
 unfoldable pub code_at : List Field → At → Result (ℕ × At) MsgError
 code_at front at = do
   start ← aligned_at field_alignment at
@@ -80,8 +80,8 @@ field_at order front at = do
   content ← content_at order (code_of code.0) code.1
   Ok (record { code = code.0; type = content.0.0; value = content.0.1 }, content.1)
 
--- The fields behind those in front, to the end of the array. Each has at least a byte, so that as many
--- turns as the array has bytes are enough.
+-- The fields after those in front, to the end of the array. Each has at least a byte, so that as many turns as the
+-- array has bytes are enough.
 abbrev pub fields_from : ℕ → Order → List Field → At → Result (List Field) MsgError
 fields_from zero order front at = Ok front
 fields_from (suc turns) order front at =
@@ -153,7 +153,7 @@ abbrev pub or_short : Option ℕ → Result ℕ MsgError
 or_short (Some len) = Ok len
 or_short None = Err faults.Short
 
--- the message of bytes, which have to be so many
+-- the message of bytes that have the length that it says
 abbrev pub of_len : ℕ → List ℕ → Result Message MsgError
 of_len len bytes =
     if nat_lt (length bytes) len then Err faults.Short

@@ -24,7 +24,7 @@ abbrev pub field_bytes : Order → ℕ → Field → List ℕ
 field_bytes order place field =
     zeros (padding field_alignment place) ++ (field_front field ++ value_bytes order (field_value_place place field) field.type field.value)
 
--- one field behind the other
+-- one field after the other
 abbrev pub fields_bytes : Order → ℕ → List Field → List ℕ
 fields_bytes order place [] = []
 fields_bytes order place (field ∷ fields) =
@@ -34,7 +34,7 @@ fields_bytes order place (field ∷ fields) =
 abbrev pub fixed_len : ℕ
 fixed_len = 16
 
--- where a body stands behind fields of so many bytes
+-- where a body begins after `fields_len` bytes of fields
 abbrev pub body_place : ℕ → ℕ
 body_place fields_len = fixed_len + fields_len + padding 8 fields_len
 
@@ -42,7 +42,7 @@ body_place fields_len = fixed_len + fields_len + padding 8 fields_len
 abbrev pub header_bytes : Message → List ℕ
 header_bytes m = fields_bytes m.order fixed_len m.fields
 
--- the arguments one behind the other
+-- the arguments one after the other
 abbrev pub body_bytes : Message → List ℕ
 body_bytes m = members_bytes m.order (body_place (length (header_bytes m))) m.types m.arguments
 

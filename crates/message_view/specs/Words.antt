@@ -46,7 +46,7 @@ extent_before behind _ = None
 abbrev pub LiesBefore : ℕ → Content → Type 0
 LiesBefore behind content = lies_in (Some content) ≡ extent_before behind (value_of content)
 
--- the bytes behind the header and its padding
+-- the bytes after the header and its padding
 abbrev pub body_of : List ℕ → List ℕ
 body_of bytes = drop (body_place (fields_len bytes)) bytes
 
@@ -93,15 +93,14 @@ shown fields = map (option_map value_of) fields.slots
 abbrev pub lying : Fields → Extents
 lying fields = map lies_in fields.slots
 
--- what is kept is that of the fields in front, behind which reading stands
+-- what is kept is that of the fields in front, after which reading stands
 pub record IsFront (order : Order) (start : ℕ) (front : List Field) (fields : Fields) (at : At) : Type 0 where
   pub shows : shown fields ≡ slots_of front
   pub lie : AreExtents order start front (lying fields)
   pub fits : AreBytes at.rest
   pub place : at.place ≡ start + length (fields_bytes order start front)
 
--- What a reader of the next field answers, and what it then keeps: reading gives one field behind those in
--- front.
+-- What a reader of the next field answers, and what it then keeps: reading gives one field after those in front.
 abbrev pub KeepsNext : {X : Type 0} → Result X MsgError → Order → ℕ → List Field → Fields → At → Result (Field × At) MsgError → Type 0
 KeepsNext (Ok x) order start front fields behind read = (field : Field) × (read ≡ Ok (field, behind)) × IsFront order start (front ++ field ∷ []) fields behind
 KeepsNext (Err fault) order start front fields behind read = read ≡ Err fault
@@ -111,7 +110,7 @@ abbrev pub Passes : {X Y : Type 0} → Result X MsgError → Result Y MsgError �
 Passes {Y = Y} (Ok x) read = (y : Y) × (read ≡ Ok y)
 Passes (Err fault) read = read ≡ Err fault
 
--- what a reader of the message behind a fixed part answers
+-- what a reader of the message after a fixed part answers
 abbrev pub ReadsFramed : Result Sections MsgError → Kind → List ℕ → Result Message MsgError → Type 0
 ReadsFramed (Ok found) kind bytes read =
     (front : List Field) × (arguments : Values) × (read ≡ Ok (message_of bytes kind front arguments))

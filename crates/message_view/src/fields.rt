@@ -69,7 +69,7 @@ impl FieldType {
         }
     }
 
-    /// A value of this type, behind its padding.
+    /// A value of this type, after its padding.
     #[tactic(auto, unfolding(message_value::specs::Reading::value_by, message_value::specs::Reading::number_value_at, message_value::specs::Reading::word_at))]
     fn read_value<'a>(self, cursor: &mut Cursor<'a>, order: Order) -> Result<Content<'a>, MsgError>
         ensures read { Reads value_of result cursor.new (value_at levels_in_field order (basic (type_code_of self)) cursor.old) }
@@ -212,7 +212,7 @@ impl<'a> Fields<'a> {
         }
     }
 
-    /// The code of the next field, behind its padding.
+    /// The code of the next field, after its padding.
     #[tactic(auto, unfolding(crate::specs::Reading::code_at))]
     fn next_code(&self, cursor: &mut Cursor<'a>) -> Result<u8, MsgError>
         ensures { (front : List Field) → shown self.now ≡ slots_of front → Reads (λ code. code) result cursor.new (code_at front cursor.old) }

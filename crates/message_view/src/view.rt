@@ -19,7 +19,7 @@ use message_value::{Args, Cursor, MAX_LEVELS, MsgError, Order, are_zeros, check_
 use signature::Signature;
 use std::marker::Model;
 
-/// What a message has behind its fixed part.
+/// What a message has after its fixed part.
 #[derive(Drop)]
 pub(crate) struct Sections<'a> {
     pub(crate) fields: Fields<'a>,
@@ -272,7 +272,7 @@ impl<'a> View<'a> {
         self.fields.extent(field.code())
     }
 
-    /// The bytes behind the header and its padding: the arguments, with the padding between them.
+    /// The bytes after the header and its padding: the arguments, with the padding between them.
     pub fn body(&self) -> &'a [u8]
         ensures { (m : Message) → Valid self.now m → result.now ≡ body_bytes m }
     {

@@ -43,7 +43,7 @@ impl Lists {
     ghost use Rattle.std.specs.Prelude.{◌≡◌, ◌<◌, ◌∷◌, true, length, slice_set, IfOk};
     ghost use Rattle.place_lists.specs.PlaceLists.{PlaceLists, places_in, has_place, IsFree, without, empty_lists, AreApart};
 
-    /// So many empty lists over the places below a number. Only this call takes memory.
+    /// `lists` empty lists over the places below `places`. Only this call takes memory.
     pub fn new(alloc: Global, lists: usize, places: u16) -> Result<Lists, AllocError>
         requires { places < END }
         ensures { IfOk result (λ made. made ≡ empty_lists lists places) }

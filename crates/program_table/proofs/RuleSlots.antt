@@ -23,7 +23,7 @@ use Rattle.program_table.specs.RuleSlots.{IsRuleSlot, add_of, slot_for, rule_slo
 abbrev Agree : {A : Type 0} → Result A Refusal → Result Reply Refusal → Type 0
 Agree r other = MatchResult r (λ _. is_ok other ≡ true) (λ refusal. other ≡ Err refusal)
 
--- so they are behind the same tests
+-- so they are where the same tests come first
 agree_if : {A : Type 0} (b : Bool) (refusal : Refusal) (r : Result A Refusal) (other : Result Reply Refusal) → Agree r other
     → Agree (refuse_if b refusal >>= (λ _. r)) (refuse_if b refusal >>= (λ _. other))
 agree_if true refusal r other h = refl

@@ -26,7 +26,7 @@ extends_has_type n code = extends_more (want Equal code) (λ _. image_word (argu
 extends_has_text_type : (n : ℕ) → Extends (has_text_type n)
 extends_has_text_type n = extends_settle (want Equal 111) (argument_at n) Equal 115 (extends_want Equal 111)
 
--- A has the code behind the first comparison too
+-- A has the code after the first comparison too
 tests_has_text_type : (image : List ℕ) (n w : ℕ) → load_word image (argument_at n) ≡ Some w → Tests image Any (IsText w) (has_text_type n)
 tests_has_text_type image n w is = elim (cases_Bool (eqb w 115)) [
   | inl string ↦ record {

@@ -53,7 +53,7 @@ tests_same image X P Q f same t = record {
   fails = λ rest g n. t.fails rest g (λ p. n (same.0 p));
 }
 
--- One piece behind another: the second need only do its work where the first passes.
+-- One piece after another: the second need only do its work where the first passes.
 pub tests_then : (image : List ℕ) (X : ℕ → Type 0) (P Q : Type 0) (f g : List Ins → List Ins) → Tests image X P f → Extends g → (P → Tests image X Q g) → Tests image X (P × Q) (λ rest. f (g rest))
 tests_then image X P Q f g first extends next = elim first.decided [
   | inl p ↦ (let t = next p in record {
@@ -96,7 +96,7 @@ tests_word image X at w test k is = record {
   fails = λ rest g n a x fits. runs_image_word (want test k rest) image at w a x 0 is (stops_want rest image test k w x g (elim (cases_Bool (passes test w k)) [ inl h ↦ absurd (n h) | inr h ↦ h ]));
 }
 
--- the comparison holds of what stands behind X, which is a place
+-- the comparison holds of the bytes at an offset from X, which is a place
 pub tests_indexed : (image : List ℕ) (place : ℕ) (width : Width) (at w : ℕ) (test : Test) (k : ℕ) → load width image (place + at) ≡ Some w → Tests image (λ x. x ≡ place) (passes test w k ≡ true) (λ rest. indexed width at ∷ want test k rest)
 tests_indexed image place width at w test k is = record {
   decided = elim (cases_Bool (passes test w k)) [ inl h ↦ inl h | inr h ↦ inr (λ e. true≢false (sym e ∙ h)) ];

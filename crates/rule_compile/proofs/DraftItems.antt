@@ -118,7 +118,7 @@ drafted_closed items done draft e so inside = λ place.
     let From : ℕ → Type 0 = λ at. IfSome (slice_get (lines_from 0 items) place) (LabelsAhead draft at) in
     subst At (sym (all_items items done draft e so)) (subst From (zero-add place) (closed_from draft 0 (length items) items (zero-add (length items)) (all_bound items done draft e so) inside place))
 
--- an item's jumps stay inside what stands behind it
+-- an item's jumps stay inside the instructions after it
 inside_at : (items : List Item) (place behind : ℕ) (d : Item) → place + 1 + behind ≡ length items → AreInside items → IsInside behind (get_or items place d)
 inside_at [] place behind d e inside = absurd (omega (arith, e))
 inside_at (item ∷ items) zero behind d e inside =

@@ -7,7 +7,7 @@ use Rattle.match_rule.specs.Holds.{Begins, AreNested}
 use Rattle.rule_compile.specs.Folders.{with_front, parts_of}
 use Rattle.rule_compile.proofs.Bytes.{Stands}
 
--- the text goes on at a place with the parts of a value, or ends behind one of them
+-- the text goes on at a place with the parts of a value, or ends after one of them
 abbrev pub AlongParts : List ℕ → ℕ → List (List ℕ) → Type 0
 AlongParts text place [] = Unit {0}
 AlongParts text place (part ∷ []) = MatchBool (ends_with 47 part) ((place + length part ≤ length text) × Stands text place part) ((length text ≡ place + length part) × Stands text place part)
@@ -39,7 +39,7 @@ parted b bs = go (b == 47)
     go true = record { byte = b; bytes = []; more = parts_of bs; is = refl }
     go false = fronted b (parts_of bs)
 
--- the text begins with the value's first byte, and ends behind it where that is a `/`, or goes on nested
+-- the text begins with the value's first byte, and ends after it where that is a `/`, or goes on nested
 abbrev Follows : List ℕ → ℕ → List ℕ → Type 0
 Follows text b bs = (behind : List ℕ) × (text ≡ b ∷ behind) × (((b == 47) ≡ true) × (behind ≡ []) ⊎ AreNested behind bs)
 
@@ -142,7 +142,7 @@ nested_meets b (c ∷ cs) text = go (parts_of (c ∷ cs)) (parted c cs) (λ t. n
 left_len : (text : List ℕ) (place : ℕ) (part behind : List ℕ) → place ≤ length text → drop place text ≡ part ++ behind → length text ≡ place + length part + length behind
 left_len text place part behind fits goes = omega (arith, length-drop place text, length-append part behind, ap length goes)
 
--- what is left behind a part
+-- what is left after a part
 left_behind : (text : List ℕ) (place : ℕ) (part behind : List ℕ) → drop place text ≡ part ++ behind → drop (place + length part) text ≡ behind
 left_behind text place part behind goes = sym (drop-drop (length part) place text) ∙ ap (drop (length part)) goes ∙ drop_at part behind (length part) refl
 

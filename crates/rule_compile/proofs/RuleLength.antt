@@ -243,7 +243,7 @@ rank_total slot rank (c ∷ cs) rest = go (rank_of c == rank) (rank_total slot r
 offered_total : (eavesdrops : Bool) → total (offered eavesdrops verdicts) ≤ 5
 offered_total eavesdrops = choice_total eavesdrops 5 verdicts (image_word 56 ∷ want Equal 0 verdicts) (omega (arith, verdicts_total)) (omega (arith, image_total 56 (want Equal 0 verdicts), want_total Equal 0 verdicts, verdicts_total))
 
--- the ranks from one on, of which there are so many
+-- the conditions of the ranks from `rank` on, `n` ranks
 abbrev ranks_from : ℕ → ℕ → List Condition → ℕ
 ranks_from zero rank cs = 0
 ranks_from (suc n) rank cs = rank_weight rank cs + ranks_from n (rank + 1) cs
@@ -254,7 +254,7 @@ from_total slot (suc n) rank cs rest =
     let tail = from_rank slot n (rank + 1) cs rest in
     omega (arith, rank_total slot rank cs tail, from_total slot n (rank + 1) cs rest)
 
--- what a condition of a rank of its own weighs in so many ranks, from one on
+-- what a condition of rank `own` weighs in the `n` ranks from `rank` on
 abbrev weight_in : ℕ → ℕ → ℕ → ℕ → ℕ
 weight_in zero rank own weight = 0
 weight_in (suc n) rank own weight = (if own == rank then weight else 0) + weight_in n (rank + 1) own weight

@@ -74,7 +74,7 @@ extends_from_rank slot zero rank cs = extends_none
 extends_from_rank slot (suc n) rank cs =
     extends_then (of_rank slot rank cs) (from_rank slot n (rank + 1) cs) (extends_of_rank slot rank cs) (extends_from_rank slot n (rank + 1) cs)
 
--- so many ranks, from one on
+-- the conditions of the `n` ranks from `rank` on
 abbrev OfRanks : ℕ → ℕ → (Condition → Type 0) → List Condition → Type 0
 OfRanks n rank P cs = All (λ c. rank ≤ rank_of c → rank_of c < rank + n → P c) cs
 

@@ -115,7 +115,7 @@ want_sound test k rest s = branch_sound test k 0 (length rest - 1) rest s.some (
 settle_sound : (test : Test) (k : ℕ) (behind rest : List Ins) → IsSound behind → IsSound rest → IsSound (settle test k behind rest)
 settle_sound test k behind rest b s = branch_sound test k (length rest - length behind) 0 rest (omega (arith, s.some, b.some)) s.some s
 
--- no match, behind which nothing stands
+-- the program's last instruction, which says no match
 last_sound : IsSound (returns 0 ∷ [])
 last_sound = record { some = omega arith; fine = fine_at; last = tt; quiet = quiet_at }
   where

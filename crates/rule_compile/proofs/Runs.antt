@@ -19,7 +19,7 @@ use Rattle.bpf_code.specs.Steps.{State, with_word, after, step_at, Arrives, Ends
 use Rattle.rule_compile.specs.Code.{image_word, indexed, index_from_a, returns, branch, want, settle}
 use Rattle.rule_compile.proofs.Pieces.{RunsTo, Guarded}
 
--- ---- behind a front
+-- ---- after a front
 
 slice_get-behind : (front more : List Ins) (p : ℕ) → slice_get (front ++ more) (length front + p) ≡ slice_get more p
 slice_get-behind [] more p = let e : 0 + p ≡ p = omega arith in ap (slice_get more) e
@@ -31,7 +31,7 @@ slice_get-behind (ins ∷ front) more p =
 abbrev state : ℕ → ℕ → ℕ → (ℕ → Option ℕ) → State
 state p a x words = record { place = p; a = a; x = x; words = words }
 
--- what ends within n steps does so behind the front
+-- what ends within n steps does so after the front
 abbrev Later : List Ins → List Ins → List ℕ → ℕ → ℕ → Type 0
 Later front more image v n =
     (p a x : ℕ) (words : ℕ → Option ℕ) → EndsFrom more image v n (state p a x words) → EndsFrom (front ++ more) image v n (state (length front + p) a x words)
@@ -66,7 +66,7 @@ ins_behind front more image v n p a x words None later h = absurd h
 ins_behind front more image v n p a x words (Some ins) later h =
     op_behind front more image v n p a x words ins (op_of ins.code) later h
 
--- a run of the instructions behind a front is one of the whole
+-- a run of the instructions after a front is one of the whole
 pub ends_behind : (front more : List Ins) (image : List ℕ) (v n p a x : ℕ) (words : ℕ → Option ℕ) → EndsFrom more image v n (record { place = p; a = a; x = x; words = words }) → EndsFrom (front ++ more) image v n (record { place = length front + p; a = a; x = x; words = words })
 ends_behind front more image v zero p a x words h = absurd h
 ends_behind front more image v (suc n) p a x words h =
@@ -74,7 +74,7 @@ ends_behind front more image v (suc n) p a x words h =
 
 -- ---- one instruction
 
--- from the place behind a front on
+-- from the place after a front on
 runs_behind : (front more : List Ins) (image : List ℕ) (a x v d : ℕ) → length front ≡ d → RunsTo more image a x v → (n : ℕ) × EndsFrom (front ++ more) image v n (state d a x (λ k. None))
 runs_behind front more image a x v d is run =
     let e : length front + 0 ≡ d = omega arith in
@@ -86,7 +86,7 @@ runs_image_word rest image at w a x v is run =
     let later = runs_behind (image_word at ∷ []) rest image w x v 1 refl run in
     (suc later.0, rw is later.1)
 
--- a load behind X
+-- a load at an offset from X
 pub runs_indexed : (rest : List Ins) (image : List ℕ) (width : Width) (k w a x v : ℕ) → load width image (x + k) ≡ Some w → RunsTo rest image w x v → RunsTo (indexed width k ∷ rest) image a x v
 runs_indexed rest image Word k w a x v is run =
     let later = runs_behind (indexed Word k ∷ []) rest image w x v 1 refl run in
@@ -142,7 +142,7 @@ stops_want rest image test k a x (front, is) fails =
     let run = runs_miss front (returns 0 ∷ []) image test k 0 (length rest - 1) a x 0 fails e (runs_returns [] image a x 0) in
     subst (λ (code : List Ins). RunsTo (branch test k 0 (length rest - 1) ∷ code) image a x 0) (sym is) run
 
--- on to what stands behind where the comparison holds
+-- a jump to the instructions after the piece where the test holds
 pub runs_settle : (middle behind rest : List Ins) (image : List ℕ) (test : Test) (k a x v : ℕ) → rest ≡ middle ++ behind → passes test a k ≡ true → RunsTo behind image a x v → RunsTo (settle test k behind rest) image a x v
 runs_settle middle behind rest image test k a x v is holds run =
     let e : length middle ≡ length rest - length behind = omega (arith, ap length is, length-append middle behind) in

@@ -102,7 +102,7 @@ tests_is_text image at (Some text) value tells bytes =
 
 -- ---- the text is in a namespace
 
--- the value is all of the text, or the separator stands behind it
+-- the value is all of the text, or the separator follows it
 abbrev closed : ℕ → ℕ → ℕ → List Ins → List Ins
 closed at n separator rest =
     image_word (at + 4) ∷ settle Equal n rest (indexed Byte n ∷ want Equal separator rest)

@@ -17,7 +17,7 @@ use Rattle.bpf_code.specs.Table.{code_of}
 abbrev pub image_word : ℕ → Ins
 image_word at = record { code = code_of (LoadImage Word); jt = 0; jf = 0; k = at }
 
--- A becomes what stands so many bytes behind X
+-- A becomes what stands k bytes after X
 abbrev pub indexed : Width → ℕ → Ins
 indexed width k = record { code = code_of (LoadIndexed width); jt = 0; jf = 0; k = k }
 
@@ -38,7 +38,7 @@ branch test k hit miss = record { code = code_of (Branch test Constant); jt = hi
 abbrev pub want : Test → ℕ → List Ins → List Ins
 want test k rest = branch test k 0 (length rest - 1) ∷ rest
 
--- on to what stands behind the piece where the comparison holds
+-- if the test holds, jump past the piece
 abbrev pub settle : Test → ℕ → List Ins → List Ins → List Ins
 settle test k behind rest = branch test k (length rest - length behind) 0 ∷ rest
 
@@ -49,7 +49,7 @@ two a b = a * 256 + b
 abbrev pub four : ℕ → ℕ → ℕ → ℕ → ℕ
 four a b c d = ((a * 256 + b) * 256 + c) * 256 + d
 
--- the bytes from so many behind X on are these: four of them at a time, then what is left
+-- the bytes from `at` after X on are these: four of them at a time, then what is left
 abbrev pub same_bytes : ℕ → List ℕ → List Ins → List Ins
 same_bytes at [] rest = rest
 same_bytes at (a ∷ []) rest = indexed Byte at ∷ want Equal a rest

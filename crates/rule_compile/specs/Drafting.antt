@@ -12,7 +12,7 @@ use Rattle.rule_compile.specs.declared.piece.Item.TheVariants.{Plain, Branch}
 abbrev pub label_at : ℕ → Label
 label_at place = record { number = place }
 
--- the labels of the places from 0 on, so many
+-- the labels of the places below `count`, from 0 on
 pub record AreLabels (labels : List Label) (count : ℕ) : Type 0 where
   pub many : length labels ≡ count
   pub each : (place : ℕ) → place < count → slice_get labels place ≡ Some (label_at place)

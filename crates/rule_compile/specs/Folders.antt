@@ -1,4 +1,4 @@
--- Texts cut behind each `/`, and the piece of a program that compares paths.
+-- Texts cut after each `/`, and the piece of a program that compares paths.
 use Rattle.std.specs.Prelude.{ℕ, ◌+◌, List, [], ◌∷◌, length, ◌==◌, if◌then◌else◌}
 use Rattle.bpf_code.specs.declared.instruction.Ins.{Ins}
 use Rattle.bpf_code.specs.declared.operation.Test.TheVariants.{Equal, AtLeast}
@@ -15,12 +15,12 @@ abbrev pub parts_of : List ℕ → List (List ℕ)
 parts_of [] = []
 parts_of (b ∷ bs) = if b == 47 then (b ∷ []) ∷ parts_of bs else with_front b (parts_of bs)
 
--- on to what stands behind the piece where the text ends here
+-- if the text has `n` bytes, it ends here: jump past the piece
 abbrev pub may_end : ℕ → ℕ → List Ins → List Ins → List Ins
 may_end at n behind rest = image_word (at + 4) ∷ settle Equal n behind rest
 
--- The text goes on from a place with these parts of a value: it may end behind each `/`, and go on behind the
--- value where that ends with one.
+-- The text goes on from a place with these parts of a value: it may end after each `/`, and go on after the value where
+-- that ends with one.
 abbrev pub along : ℕ → ℕ → List (List ℕ) → List Ins → List Ins
 along at place [] rest = rest
 along at place (part ∷ []) rest =

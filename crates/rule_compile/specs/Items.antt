@@ -15,7 +15,7 @@ ins_of (Branch test k hit miss) = branch test k hit miss
 abbrev pub instructions : List Item → List Ins
 instructions items = map ins_of items
 
--- no jump, or one that stays inside the instructions behind it, of which there are so many
+-- an item that doesn't jump past the end, where this number of instructions follows it
 abbrev pub IsInside : ℕ → Item → Type 0
 IsInside behind (Plain ins) = is_plain_op (op_of ins.code) ≡ true
 IsInside behind (Branch test k hit miss) = (hit < behind) × (miss < behind)

@@ -114,7 +114,7 @@ of_rank slot rank [] rest = rest
 of_rank slot rank (c ∷ cs) rest =
     if rank_of c == rank then condition_code slot c (of_rank slot rank cs rest) else of_rank slot rank cs rest
 
--- the conditions of the ranks from one on, so many
+-- the conditions of the next `n` ranks, from `rank` on
 abbrev pub from_rank : ℕ → ℕ → ℕ → List Condition → List Ins → List Ins
 from_rank slot zero rank cs rest = rest
 from_rank slot (suc n) rank cs rest = of_rank slot rank cs (from_rank slot n (rank + 1) cs rest)
@@ -123,7 +123,7 @@ from_rank slot (suc n) rank cs rest = of_rank slot rank cs (from_rank slot n (ra
 abbrev pub offered : Bool → List Ins → List Ins
 offered eavesdrops rest = if eavesdrops then rest else image_word 56 ∷ want Equal 0 rest
 
--- a match, and behind it no match
+-- a match, and after it no match
 abbrev pub verdicts : List Ins
 verdicts = returns 1 ∷ returns 0 ∷ []
 

@@ -9,7 +9,7 @@ use bpf_code::Operand;
 use jump_islands::{Draft, Label, LowerError};
 use std::alloc::Global;
 
-/// A label for each of the places, so many.
+/// A label for each place below `count`.
 fn labels_of(alloc: Global, draft: &mut Draft, count: usize) -> Result<Vec<Label>, LowerError>
     requires { length draft.old.bound ≡ 0 }
     ensures labels { IfOk result (λ labels. AreLabels labels.items count) }
@@ -25,7 +25,7 @@ fn labels_of(alloc: Global, draft: &mut Draft, count: usize) -> Result<Vec<Label
     Ok(labels)
 }
 
-/// Adds the line of the item at a place, whose jumps go to places behind it.
+/// Adds the line of the item at a place, whose jumps go to later places.
 fn add_item(draft: &mut Draft, labels: &[Label], place: usize, item: Item) -> Result<(), LowerError>
     requires labels { AreLabels labels.now (length draft.old.bound) }
     requires inside { (behind : ℕ) × (place + 1 + behind ≡ length labels.now) × IsInside behind item }

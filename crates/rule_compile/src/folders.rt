@@ -1,4 +1,4 @@
-// Texts cut behind each `/`, and paths that are compared.
+// Texts cut after each `/`, and paths that are compared.
 ghost use Rattle.std.specs.Prelude.{◌≡◌, ◌≢◌, ◌<◌, ◌≤◌, ◌+◌, ◌-◌, ◌^◌, ◌∷◌, [], ℕ, length, drop, slice_index, OnOk};
 ghost use Rattle.bpf_code.specs.declared.operation.Test.TheVariants.{Equal, AtLeast};
 ghost use Rattle.match_rule.specs.Bytes.{ends_with};
@@ -9,7 +9,7 @@ use crate::piece::Code;
 use bpf_code::Test;
 use std::alloc::AllocError;
 
-/// Where the part of a text begins that ends at a place: behind the `/` before it, if there is one.
+/// Where the part of a text begins that ends at a place: after the `/` before it, if there is one.
 fn part_start(text: &[u8], end: usize) -> usize
     requires some { 0 < end }
     requires within { end ≤ length text.now }
@@ -34,7 +34,7 @@ fn ends_with_slash(text: &[u8]) -> bool
 }
 
 impl Code {
-    /// The text goes on from a place with the last part of a value, and may go on behind it where that ends with `/`.
+    /// The text goes on from a place with the last part of a value, and may go on after it where that ends with `/`.
     fn last_part(&mut self, at: u16, place: usize, part: &[u8]) -> Result<(), AllocError>
         requires { place + length part.now < 2 ^ 32 }
         ensures { OnOk result (self.new ≡ along at place (part.now ∷ []) self.old) }
@@ -48,8 +48,8 @@ impl Code {
         }
     }
 
-    /// The text goes on from a place with a part of a value, and on to the last instructions, so many, where it ends
-    /// behind it.
+    /// The text goes on from a place with a part of a value. If it ends after that part, jump to the last `behind`
+    /// instructions.
     fn inner_part(
         &mut self,
         at: u16,

@@ -58,7 +58,7 @@ fn returns(verdict: u32) -> Item
 }
 
 impl Code {
-    /// A match, and behind it no match.
+    /// A match, and after it no match.
     pub(crate) fn verdicts(alloc: Global) -> Result<Code, AllocError>
         ensures { IfOk result (λ code. code ≡ verdicts) }
     {
@@ -113,7 +113,7 @@ impl Code {
         self.plain(Op::LoadImage(Width::Word), at)
     }
 
-    /// A becomes what stands so many bytes behind X.
+    /// A becomes what stands `at` bytes after X.
     pub(crate) fn indexed(&mut self, width: Width, at: u32) -> Result<(), AllocError>
         ensures { OnOk result (self.new ≡ indexed width at ∷ self.old) }
     {
@@ -140,7 +140,7 @@ impl Code {
         })
     }
 
-    /// On to the last instructions, so many, where the comparison holds.
+    /// If the test holds, jump to the last `behind` instructions.
     pub(crate) fn settle(&mut self, test: Test, k: u32, behind: usize) -> Result<(), AllocError>
         requires { 0 < behind }
         ensures { OnOk result (self.new ≡ branch test k (length self.old - behind) 0 ∷ self.old) }

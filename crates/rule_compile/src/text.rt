@@ -16,7 +16,7 @@ fn two(a: u8, b: u8) -> u32
 }
 
 impl Code {
-    /// The bytes from so many behind X on are these, of which there are fewer than four.
+    /// The bytes from `at` after X on are these, of which there are fewer than four.
     #[tactic(auto, using(crate::proofs::SameBytes::same_none, crate::proofs::SameBytes::same_one, crate::proofs::SameBytes::same_two, crate::proofs::SameBytes::same_three))]
     fn same_few(&mut self, at: u32, value: &[u8]) -> Result<(), AllocError>
         requires few { length value.now < 4 }
@@ -42,7 +42,7 @@ impl Code {
         }
     }
 
-    /// The four bytes from so many behind X on are the first ones of these.
+    /// The four bytes from `at` after X on are the first ones of the value.
     fn same_word(&mut self, at: u32, value: &[u8]) -> Result<(), AllocError>
         requires { 4 ≤ length value.now }
         ensures { OnOk result (self.new ≡ indexed Word at ∷ want Equal (four (slice_index value.now 0) (slice_index value.now 1) (slice_index value.now 2) (slice_index value.now 3)) self.old) }
@@ -52,7 +52,7 @@ impl Code {
         self.indexed(Width::Word, at)
     }
 
-    /// The bytes from so many behind X on are these.
+    /// The bytes from `at` after X on are these.
     pub(crate) fn same_bytes(&mut self, at: u32, value: &[u8]) -> Result<(), AllocError>
         requires { at + length value.now < 2 ^ 32 }
         ensures { OnOk result (self.new ≡ same_bytes at value.now self.old) }

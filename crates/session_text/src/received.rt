@@ -83,7 +83,7 @@ impl Received {
         }
     }
 
-    // The first bytes, at most so many.
+    // The first `len` bytes, or all where there are fewer.
     fn take(&mut self, len: usize) -> Result<Vec<u8>, AllocError> {
         let rest = self.bytes.split_off(len.min(self.bytes.len()))?;
         Ok(mem::replace(&mut self.bytes, rest))

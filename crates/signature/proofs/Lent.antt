@@ -2,7 +2,7 @@
 use Rattle.std.proofs.Common.{◌≡◌, ℕ, List, [], ◌∷◌, refl}
 use Rattle.signature.specs.DataType.{DataType, DataTypes, no_types, one_more, slices, AllFit, TypeText}
 
--- the first of them, and those behind it
+-- the first of them, and those after it
 pub record Lends (left : DataTypes) (lent : List ℕ) (after : List (List ℕ)) : Type 0 where
   pub first : DataType
   pub others : DataTypes

@@ -6,8 +6,8 @@ use Rattle.signature.specs.Code.{code_of}
 use Rattle.signature.specs.DataType.{DataType, DataTypes, basic, variant, array, dict, struct, no_types, one_more}
 use Rattle.signature.specs.Reading.{fault_of}
 
--- What follows a place of a text: types, or the entry of an array and what follows it; behind the types
--- the text ends, or the struct or the entry that they stand in.
+-- What follows a place of a text: types, or the entry of an array and what follows it; after the types the text ends,
+-- or the struct or the entry that they stand in.
 mutual
   pub data Ahead : Type 0 where
     types_then : DataTypes → Behind → Ahead

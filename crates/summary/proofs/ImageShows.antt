@@ -23,7 +23,7 @@ use Rattle.summary.proofs.SummaryWords.{Follow, length-words_bytes, all_follow, 
 
 -- ---- a summary and a message
 
--- An image: a summary of an edition's size, and a message behind it.
+-- An image: a summary of an edition's size, and a message after it.
 record IsImage (image : List ℕ) (edition : Edition) (message : List ℕ) : Type 0 where
   summary : List ℕ
   parts : image ≡ summary ++ message
@@ -155,7 +155,7 @@ length-texts_words edition m =
       length-extent_words edition (extent_of Sender m),
     )
 
--- so many words behind the arguments
+-- the words after the arguments
 last_words : (edition : Edition) (m : Message) (slots : List ℕ) → length slots ≡ 32 → 840 + 4 * length (owned_words edition slots ++ serial_words edition m) ≡ size_of edition
 last_words One m slots all = omega (arith, length-append (take 16 slots) (serial_words One m), length-take-le 16 slots (omega arith))
 last_words Two m slots all = omega (arith, length-append slots (serial_words Two m))
@@ -173,7 +173,7 @@ length-summary_bytes edition m slots all =
 inner_follow : (image : List ℕ) (at : ℕ) (a b c more : List ℕ) → Follow image at ((a ++ b) ++ c) more → Follow image at (a ++ (b ++ c)) more
 inner_follow image at a b c more follow = subst (λ (words : List ℕ). Follow image at words more) (append_assoc a b c) follow
 
--- the words of the first text, and of those behind it
+-- the words of the first text, and of those after it
 text_follow : (image : List ℕ) (edition : Edition) (at behind : ℕ) (extent : Option Extent) (texts words more : List ℕ) → at + 8 ≡ behind → Follow image at ((extent_words edition extent ++ texts) ++ words) more
     → Follow image at (extent_words edition extent ++ (texts ++ words)) more × Follow image behind (texts ++ words) more
 text_follow image edition at behind extent texts words more there follow =

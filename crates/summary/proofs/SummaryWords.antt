@@ -20,7 +20,7 @@ byte_behind front image n at k is =
     let place : (n + at + k) - n ≡ at + k = omega arith in
     get_or-append_right front image n (n + at + k) 0 is (omega arith) ∙ ap (λ (i : ℕ). get_or image i 0) place
 
--- behind other bytes
+-- after other bytes
 pub load_behind : (front image : List ℕ) (n at : ℕ) → length front ≡ n → load_word (front ++ image) (n + at) ≡ load_word image at
 load_behind front image n at is =
     let ends : length (front ++ image) ≡ n + length image = omega (arith, length-append front image) in
@@ -46,14 +46,14 @@ pub length-words_bytes : (words : List ℕ) → length (words_bytes words) ≡ 4
 length-words_bytes [] = refl
 length-words_bytes (word ∷ words) = omega (arith, length-words_bytes words)
 
--- From a place of an image on, its loads are those of these words, behind which other bytes stand.
+-- From a place of an image on, its loads are those of these words, and other bytes follow.
 pub record Follow (image : List ℕ) (at : ℕ) (words more : List ℕ) : Type 0 where
   pub loads : (k : ℕ) → load_word image (at + k) ≡ load_word (words_bytes words ++ more) k
 
 pub all_follow : (words more : List ℕ) → Follow (words_bytes words ++ more) 0 words more
 all_follow words more = record { loads = λ k. ap (λ (n : ℕ). load_word (words_bytes words ++ more) n) (zero-add k) }
 
--- behind so many words
+-- after n of the words
 pub next_follow : (image : List ℕ) (at n behind : ℕ) (first words more : List ℕ) → length first ≡ n → at + 4 * n ≡ behind → Follow image at (first ++ words) more → Follow image behind words more
 next_follow image at n behind first words more is_len is follow =
     let len : length (words_bytes first) ≡ 4 * n = omega (arith, length-words_bytes first) in

@@ -1,4 +1,4 @@
--- Words written into bytes that are zeros behind those that are shown.
+-- Words written into bytes that are zeros after those that are shown.
 use Rattle.std.proofs.Common.{◌≡◌, ℕ, zero, suc, ◌+◌, ◌-◌, ◌*◌, ◌≤◌, List, ◌++◌, length, take, drop, replicate, refl, sym, ap, ◌∙◌, arith, rules}
 use Rattle.std.proofs.Math.Seq.{take-add}
 use Rattle.std.proofs.lemmas.List.{same_lists, places, length-take-le, drop-drop, drop-replicate, take-replicate}

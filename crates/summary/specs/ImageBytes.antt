@@ -32,7 +32,7 @@ max_arguments = 64
 abbrev pub argument_words : Edition → Argument → List ℕ
 argument_words edition a = a.code ∷ (size_of edition + a.place) ∷ a.len ∷ []
 
--- of so many arguments, with zeros for those that aren't there
+-- the words of this number of arguments, with zeros for those that aren't there
 abbrev pub arguments_words : Edition → ℕ → List Argument → List ℕ
 arguments_words edition zero arguments = []
 arguments_words edition (suc n) [] = 0 ∷ 0 ∷ 0 ∷ arguments_words edition n []

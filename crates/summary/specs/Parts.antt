@@ -7,7 +7,7 @@ use Rattle.message_view.specs.Spelling.{header_bytes, body_place, body_bytes}
 use Rattle.summary.specs.declared.edition.Edition.{Edition}
 use Rattle.summary.specs.Layout.{size_of}
 
--- the head of a message that has so many arguments
+-- the head of a message that has `count` arguments
 abbrev pub head_with : Edition → Message → ℕ → List ℕ
 head_with edition m count =
     order_byte m.order ∷ kind_byte m.kind ∷ m.flags

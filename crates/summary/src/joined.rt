@@ -73,7 +73,7 @@ pub fn byte(front: &[u8], back: &[u8], at: u64) -> Option<u32>
     }
 }
 
-/// The two bytes from a place on. A place before the seam wraps round to one behind every slice's end.
+/// The two bytes from a place on. A place before the seam wraps round to one past every slice's end.
 #[inline(always)]
 pub fn half(front: &[u8], back: &[u8], at: u64) -> Option<u32>
     ensures { result ≡ load_half (front.now ++ back.now) at }
@@ -93,7 +93,7 @@ pub fn half(front: &[u8], back: &[u8], at: u64) -> Option<u32>
     }
 }
 
-/// The four bytes from a place on. A place before the seam wraps round to one behind every slice's end.
+/// The four bytes from a place on. A place before the seam wraps round to one past every slice's end.
 #[inline(always)]
 pub fn word(front: &[u8], back: &[u8], at: u64) -> Option<u32>
     ensures { result ≡ load_word (front.now ++ back.now) at }

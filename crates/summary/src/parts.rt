@@ -125,7 +125,7 @@ fn put_slots(words: &mut Words, slots: &[u32])
     }
 }
 
-/// What stands behind the arguments: the ownership bits and the serials, as far as the edition tells them.
+/// The words after the arguments: the ownership bits and the serials, as far as the edition tells them.
 pub fn put_rest(words: &mut Words, view: &View<'_>, owned: &Slots, edition: Edition)
     requires { length words.old ≤ 840 }
     ensures bytes { (m : Message) → Valid view.now m → words.new ≡ words.old ++ words_bytes (owned_words edition owned.now ++ serial_words edition m) }

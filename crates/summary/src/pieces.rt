@@ -4,7 +4,7 @@ ghost use Rattle.bpf_code.specs.Loads.{load_byte, load_half, load_word};
 use crate::joined;
 use std::marker::Model;
 
-/// The bytes of an image where they lie: those of the summary, and behind them those of the message.
+/// The bytes of an image where they lie: those of the summary, and after them those of the message.
 #[derive(Drop)]
 pub struct Pieces<'a> {
     pub(crate) summary: &'a [u8],

@@ -5,7 +5,7 @@ ghost use Rattle.summary.specs.Layout.{with_word};
 
 use std::marker::Model;
 
-/// Words written one behind the other, the highest byte of each first.
+/// Words written one after the other, the highest byte of each first.
 #[derive(Drop)]
 pub struct Words {
     bytes: [u8; 976],
@@ -19,7 +19,7 @@ impl Model for Words {
 
     ghost view = { λ w. take w.len w.bytes };
 
-    // Behind the words there are zeros.
+    // After the words there are zeros.
     ghost invariant = { λ w. (w.len ≤ 976) × (drop w.len w.bytes ≡ replicate (976 - w.len) 0) };
 }
 
@@ -46,7 +46,7 @@ impl Words {
         self.len = start + 4;
     }
 
-    /// So many words that are 0.
+    /// `count` words that are 0.
     #[inline(always)]
     pub fn put_zeros(&mut self, count: usize)
         requires { length self.old + 4 * count ≤ 976 }

@@ -26,7 +26,7 @@ const RETURN: Ins = Ins {
     k: 1,
 };
 
-/// So many times `ld #0`.
+/// `count` times `ld #0`.
 fn fill(draft: &mut Draft, count: usize) -> Result<(), LowerError>
     ensures { OnOk result (draft.new.bound ≡ draft.old.bound) }
 {
@@ -47,7 +47,7 @@ fn jump_if_zero(draft: &mut Draft, to: Label) -> Result<(), LowerError>
     Ok(())
 }
 
-/// So many instructions, and behind them the label's `ret #1`.
+/// `count` instructions, and after them the label's `ret #1`.
 fn end(draft: &mut Draft, count: usize, label: Label) -> Result<(), LowerError>
     requires { label.number < length draft.old.bound }
 {
@@ -56,7 +56,7 @@ fn end(draft: &mut Draft, count: usize, label: Label) -> Result<(), LowerError>
     draft.push(RETURN)
 }
 
-/// A conditional jump over so many instructions.
+/// A conditional jump over `count` instructions.
 fn jump_over(alloc: Global, count: usize) -> Result<Draft, LowerError> {
     let mut draft = Draft::new(alloc);
     let far = draft.label()?;
@@ -65,7 +65,7 @@ fn jump_over(alloc: Global, count: usize) -> Result<Draft, LowerError> {
     Ok(draft)
 }
 
-/// Four conditional jumps over so many instructions, to one label.
+/// Four conditional jumps over `count` instructions, to one label.
 fn four_jumps_over(alloc: Global, count: usize) -> Result<Draft, LowerError> {
     let mut draft = Draft::new(alloc);
     let far = draft.label()?;
@@ -77,7 +77,7 @@ fn four_jumps_over(alloc: Global, count: usize) -> Result<Draft, LowerError> {
     Ok(draft)
 }
 
-/// So many instructions, the last of them a return.
+/// `count` instructions, the last of them a return.
 fn straight(alloc: Global, count: usize) -> Result<Draft, LowerError> {
     let mut draft = Draft::new(alloc);
     fill(&mut draft, count.saturating_sub(1))?;

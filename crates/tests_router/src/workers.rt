@@ -24,7 +24,7 @@ impl Gate for Open {
     fn after(&self, _piece: u32) {}
 }
 
-/// The recipients of S1 as a broadcast of the pass, found by so many workers.
+/// The recipients of S1 as a broadcast of the pass, found by `workers` workers.
 pub(crate) fn expect_by_workers<J: Naming, M: Mailbox + Sync, R: Wait + Threads + Abort>(
     rt: &R,
     pass: &mut Pass<J, M>,

@@ -70,7 +70,7 @@ fn send<R: Wait>(rt: &R, alloc: Global, sender: &mut Sender<Line>, broadcasts: u
     put
 }
 
-// Sends so many broadcasts of an origin to a recipient.
+// Sends `BROADCASTS` broadcasts of an origin to a recipient.
 fn send_all<R: Wait>(rt: &R, alloc: Global, origin: u64, outbox: Outbox) -> u64 {
     let mut sender = Sender::new(alloc, origin);
     let _ = seat_at(alloc, &mut sender, 3, outbox);

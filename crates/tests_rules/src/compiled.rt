@@ -37,7 +37,7 @@ pub(crate) fn matches(
     Ok(run(&program, &image).verdict != 0)
 }
 
-/// A rule whose only value is so many slashes between apostrophes.
+/// A rule whose only value is `count` slashes between apostrophes.
 fn slashes(alloc: Global, count: usize) -> Result<Rule, Fail> {
     let mut text = String::from_str(alloc, "arg0path='")?;
     for _ in 0..count {

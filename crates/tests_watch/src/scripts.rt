@@ -5,7 +5,7 @@ use std::io;
 use std::io::{Read, Write};
 use std::test::Fail;
 
-/// A server that says what it says, so many bytes a read, and keeps what the client wrote.
+/// A server that says what it says, at most `at_once` bytes a read, and keeps what the client wrote.
 #[derive(Drop)]
 pub(crate) struct Script<'a> {
     says: &'a [u8],

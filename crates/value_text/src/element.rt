@@ -29,7 +29,7 @@ impl<'a> Element<'a> {
         }
     }
 
-    /// Goes over one element, within so many levels.
+    /// Goes over one element, at most `levels` levels deep.
     fn skip(&self, cursor: &mut Cursor<'_>, order: Order, levels: usize) -> Result<(), MsgError> {
         match self {
             Element::One(value_type) => check_value(cursor, order, value_type, levels),

@@ -21,11 +21,11 @@ fn inside(levels: usize) -> Result<usize, MsgError>
 
 /// Adds a value as `busctl` writes it, a blank before each of its words: an array's count, a dict's count and the keys
 /// before their values, a variant's type, and the members of a struct one after another. It reads the zeros before the
-/// value too, and goes so many levels deep.
+/// value too, and goes at most `levels` levels deep.
 ///
 /// # Errors
 ///
-/// `Message` where the bytes spell no value of the type within so many levels, and `NoMemory`.
+/// `Message` where the bytes spell no value of the type within that depth, and `NoMemory`.
 #[cycle(write)]
 pub fn write_value(
     alloc: Global,
