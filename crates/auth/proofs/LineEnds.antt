@@ -15,7 +15,7 @@ neither false = refl
 
 -- ---- bytes after pieces
 
--- pieces to whose last one bytes come
+-- pieces, with bytes added to the last one
 abbrev pub continued : List ℕ → List (List ℕ) → List ℕ → Pieces
 continued piece [] bytes = pieces_of (piece ++ bytes)
 continued piece (next ∷ later) bytes = record { first = piece; later = (continued next later bytes).first ∷ (continued next later bytes).later }
@@ -119,7 +119,7 @@ first_len (first ∷ next ∷ rest) more is =
     let test : (get_or (pieces_of (next ∷ rest ++ more)).first 0 0 == lf && first == cr) ≡ false = first_test first next (pieces_of (rest ++ more)) parts.test in
     rw test (omega arith)
 
--- a line to which a byte comes that ends it, or that doesn't
+-- a line with one more byte, which ends it or doesn't
 pub ends_here : (line longer : List ℕ) (byte : ℕ) → pieces_of line ≡ whole_piece line → longer ≡ line ++ byte ∷ [] → (byte == lf && ends_in_cr line) ≡ true → pieces_of longer ≡ ended_piece longer
 ends_here line longer byte is more test = rw (more, pieces_of-push line byte is, test) refl
 

@@ -16,7 +16,7 @@ use Rattle.auth.specs.Talk.{Standing, Outcome, at_stage, no_answer, refusal, row
 use Rattle.auth.proofs.LineEnds.{continued, pieces_of-append, first_len}
 use Rattle.auth.proofs.Talks.{over_stays, with_line, lines_in_cuts}
 
--- ---- nothing is there of a line after an answer
+-- ---- after an answer no line has begun
 
 row_answer_line : (s : Standing) (reply : Reply) (stage : Stage) → (row_answer s (record { reply = reply; stage = stage })).standing.line ≡ []
 row_answer_line s Rejected stage = go (nat_lt s.rejections max_rejections)

@@ -22,7 +22,7 @@ over_stays s piece (next ∷ later) over = rw over (over_stays s next later over
 
 -- ---- the rest of a line
 
--- what was there of the next line isn't looked at
+-- the bytes that came of the next line aren't looked at
 abbrev pub with_line : Standing → List ℕ → Standing
 with_line s line = record { guid = s.guid; stage = s.stage; rejections = s.rejections; line = line }
 

@@ -26,7 +26,7 @@ words_of (byte ∷ bytes) = if byte == space then record { word = []; more = Som
 abbrev pub is_hexadecimal : List ℕ → Bool
 is_hexadecimal text = length text % 2 == 0 && list_all is_ascii_hexdigit text
 
--- what is said with no text, with a hexadecimal one, and with any other
+-- one of three commands: for no text, for a hexadecimal one, and for any other
 abbrev pub by_text : Command → Command → Command → Option (List ℕ) → Command
 by_text bare hexadecimal other None = bare
 by_text bare hexadecimal other (Some text) = if is_hexadecimal text then hexadecimal else other
@@ -42,7 +42,7 @@ abbrev pub auth_command : Option (List ℕ) → Command
 auth_command None = OtherAuth
 auth_command (Some text) = mechanism (words_of text)
 
--- a word that stands alone
+-- the command, if no text follows its word
 abbrev pub alone : Command → Option (List ℕ) → Command
 alone command None = command
 alone command (Some text) = Unknown

@@ -11,7 +11,8 @@ lf = 10
 abbrev pub max_line_len : ℕ
 max_line_len = 1024
 
--- What stands between the line ends: the first piece, and a further one after each line end. All but the last are lines.
+-- What stands between the line ends: the first piece, and a further one after each line end. All but the last are
+-- lines.
 pub record Pieces : Type 0 where
   pub first : List ℕ
   pub later : List (List ℕ)

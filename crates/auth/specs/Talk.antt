@@ -1,4 +1,5 @@
--- A talk: what a server has answered to the bytes of a client, and where it stands (D-Bus Specification, "Authentication Protocol").
+-- A talk: what a server has answered to the bytes of a client, and where it stands (D-Bus Specification,
+-- "Authentication Protocol").
 use Rattle.std.specs.Prelude.{ℕ, ◌+◌, ◌==◌, nat_lt, nat_le, List, [], ◌∷◌, ◌++◌, length, if◌then◌else◌}
 use Rattle.auth.specs.declared.stage.Stage.{Stage}
 use Rattle.auth.specs.declared.stage.Stage.TheVariants.{Opening, Start, Begun, Failed}
@@ -9,7 +10,8 @@ use Rattle.auth.specs.Lines.{max_line_len, Pieces, pieces_of, through_line}
 use Rattle.auth.specs.Commands.{command_of}
 use Rattle.auth.specs.Stages.{max_rejections, is_over, row_of, reply_bytes}
 
--- Where a talk stands: the server's GUID, the stage, how many rejections were sent, and what is there of the next line.
+-- Where a talk stands: the server's GUID, the stage, how many rejections were sent, and the bytes that came of the next
+-- line.
 pub record Standing : Type 0 where
   pub guid : List ℕ
   pub stage : Stage
@@ -25,7 +27,7 @@ pub record Outcome : Type 0 where
 abbrev pub opening : List ℕ → Standing
 opening guid = record { guid = guid; stage = Opening; rejections = 0; line = [] }
 
--- at a stage, with nothing there of the next line
+-- at a stage, with no byte of the next line
 abbrev pub at_stage : Standing → Stage → Standing
 at_stage s stage = record { guid = s.guid; stage = stage; rejections = s.rejections; line = [] }
 
@@ -36,7 +38,7 @@ no_answer s = record { standing = s; answers = [] }
 abbrev pub refusal : Standing → Outcome
 refusal s = no_answer (at_stage s Failed)
 
--- one rejection more, of which the eighth isn't sent
+-- one more rejection; the eighth isn't sent, and the talk ends in its place
 abbrev pub rejection : Standing → Stage → Outcome
 rejection s stage =
     if nat_lt s.rejections max_rejections
@@ -51,14 +53,14 @@ row_answer s row = by_reply row.reply
     by_reply Rejected = rejection s row.stage
     by_reply reply = record { standing = at_stage s row.stage; answers = reply_bytes s.guid reply }
 
--- a line has the answer of its row, unless it is too long; once the talk is over there are no lines
+-- a line is answered as its row says, unless it is too long; once the talk is over no line is heard
 abbrev pub hear : Standing → List ℕ → Outcome
 hear s line =
     if is_over s.stage then no_answer s
     else if nat_lt max_line_len (length line + 2) then refusal s
     else row_answer s (row_of s.stage (command_of line))
 
--- the rest waits for its line end, unless it is a whole line's length already
+-- the bytes of a line without its end are kept, unless they are as many as a line may have
 abbrev pub wait : Standing → List ℕ → Outcome
 wait s rest =
     if is_over s.stage then no_answer s
@@ -77,7 +79,7 @@ by_pieces s line (next ∷ later) = after (hear s line).answers (by_pieces (hear
 abbrev pub talk_in : Standing → Pieces → Outcome
 talk_in s pieces = by_pieces s pieces.first pieces.later
 
--- what is there of a line, and the bytes after it
+-- the bytes that came of a line, and then these
 abbrev pub by_lines : Standing → List ℕ → Outcome
 by_lines s bytes = talk_in s (pieces_of (s.line ++ bytes))
 

@@ -31,8 +31,8 @@ fn run_often(program: &Verified, image: &Image<'_>, turns: u32) -> u64 {
     sum
 }
 
-/// Accepts a program, makes the image of a message, and runs the one over the other as often as turns says: the sum of
-/// the verdicts, 0 where there is no such program or message.
+/// Accepts a program, makes the image of a message, and runs the one over the other as often as `turns` says: the sum
+/// of the verdicts, 0 where there is no such program or message.
 #[unsafe(no_mangle)]
 pub extern "C" fn bench_programs_run(
     alloc: Global,
@@ -69,7 +69,7 @@ pub extern "C" fn bench_programs_steps(
     run(&program, &image).steps
 }
 
-/// Makes the image of a message as often as turns says: the sum of the images' lengths.
+/// Makes the image of a message as often as `turns` says: the sum of the images' lengths.
 #[unsafe(no_mangle)]
 pub extern "C" fn bench_programs_image(message: &[u8], edition: u32, turns: u32) -> u64 {
     let Ok(view) = View::read(message) else {

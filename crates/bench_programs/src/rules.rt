@@ -12,7 +12,7 @@ fn rule_of(alloc: Global, text: &[u8]) -> Option<Rule> {
     Rule::read(alloc, text).ok()
 }
 
-/// Tests plainly whether a rule holds of a message, as often as turns says: how often it does. Nobody owns the rule's
+/// Tests plainly whether a rule holds of a message, as often as `turns` says: how often it does. Nobody owns the rule's
 /// sender name.
 #[unsafe(no_mangle)]
 pub extern "C" fn bench_rules_hold(alloc: Global, text: &[u8], message: &[u8], turns: u32) -> u64 {

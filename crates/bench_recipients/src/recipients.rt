@@ -56,7 +56,7 @@ pub extern "C" fn bench_recipients_runs(
     select_counted(&state, None, &view).runs
 }
 
-/// Reads a message and makes its image as often as turns says: the sum of the images' lengths.
+/// Reads a message and makes its image as often as `turns` says: the sum of the images' lengths.
 #[unsafe(no_mangle)]
 pub extern "C" fn bench_recipients_image(message: &[u8], turns: u32) -> u64 {
     let mut sum = 0u64;
@@ -69,7 +69,7 @@ pub extern "C" fn bench_recipients_image(message: &[u8], turns: u32) -> u64 {
     sum
 }
 
-/// Reads a message as often as turns says: the sum of the serials.
+/// Reads a message as often as `turns` says: the sum of the serials.
 #[unsafe(no_mangle)]
 pub extern "C" fn bench_recipients_read(message: &[u8], turns: u32) -> u64 {
     let mut sum = 0u64;

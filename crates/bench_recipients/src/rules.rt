@@ -34,7 +34,7 @@ fn connect(state: &mut BusState<()>) -> Option<u64> {
     }
 }
 
-/// The state of a bus to which connections came until all rules were given; of no rules one with a connection alone.
+/// The state of a bus after connections came until all rules were added; without rules it has one connection.
 pub(crate) fn state_of(alloc: Global, rules: Rules<'_>) -> Option<BusState<()>> {
     let mut state = BusState::new(
         alloc,

@@ -1,6 +1,7 @@
-//! Instructions of the classic packet filter: what each code does, and their byte form. What a program
-//! means stands in `specs/`: `Step` and `Ends` for its runs, `WellFormed` for the programs that are accepted.
-//! The layers above use that `Op::of` is the table of codes, and that `decode` and `encode` mean the same list; what an error is called is `code_error_text`.
+//! Instructions of the classic packet filter: what each code does, and their byte form. What a program means stands in
+//! `specs/`: `Step` and `Ends` for its runs, `WellFormed` for the programs that are accepted. The layers above use that
+//! `Op::of` is the table of codes, and that `decode` and `encode` mean the same list; what an error is called is
+//! `code_error_text`.
 #![tactic(auto)]
 
 mod byte_form;

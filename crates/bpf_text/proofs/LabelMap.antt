@@ -1,4 +1,4 @@
--- The map beside the labels, with one label more.
+-- The map beside the labels, with one more label.
 use Rattle.std.proofs.Common.{◌≡◌, ℕ, Bool, true, false, cond, List, [], ◌∷◌, ◌++◌, Option, Some, None, refl, sym, ap, ◌∙◌}
 use Rattle.std.specs.Prelude.{is_some, ◌||◌}
 use Rattle.std.specs.Ordering.{nat_cmp}
@@ -30,7 +30,7 @@ only_label : (b : Bool) (label : Label) → option_map (λ (l : Label). l.place)
 only_label true label = refl
 only_label false label = refl
 
--- one label more
+-- one more label
 defined_push : (labels : List Label) (label : Label) (name : List ℕ) → defined (labels ++ label ∷ []) name ≡ first_or (defined labels name) (cond (bytes_eq label.name name) (Some label.place) None)
 unfolding defined
 defined_push [] label name = only_label (bytes_eq label.name name) label

@@ -132,7 +132,7 @@ pub record Sketch : Type 0 where
   pub lines : List Noted
   pub count : ℕ
 
--- one line more
+-- one more line
 abbrev pub with_line : Sketch → Line → Sketch
 with_line old line = record {
   labels = old.labels ++ labels_at old.count line.labels;

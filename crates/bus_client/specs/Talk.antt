@@ -3,7 +3,7 @@ use Rattle.std.specs.Prelude.{ℕ}
 use Rattle.bus_client.specs.declared.talk.Stage.{Stage}
 use Rattle.bus_client.specs.declared.talk.Stage.TheVariants.{External, ExternalData, Anonymous, AnonymousData}
 
--- how many lines a client may say after the one of a stage, BEGIN apart
+-- how many lines a client may still say after the line of a stage, BEGIN not counted
 abbrev pub lines_left : Stage → ℕ
 lines_left External = 3
 lines_left ExternalData = 2

@@ -81,8 +81,8 @@ impl<S: Read + Write + Drop> Client<S> {
         self.call(Call::AddMatch(rule))
     }
 
-    /// Attaches a program, given by the bytes of its instructions, for images of an edition, or of the first where none is
-    /// said.
+    /// Attaches a program, given by the bytes of its instructions, for images of an edition, or of the first where none
+    /// is said.
     ///
     /// # Errors
     ///

@@ -14,7 +14,7 @@ pub enum ClientError {
     Socket,
     /// The bus refuses all mechanisms of authentication, or its answer is none.
     Auth,
-    /// The bus sent what is no message.
+    /// The bus sent bytes that are no message.
     Message(MsgError),
     /// The bus answered with this error.
     Answered(String),
@@ -63,7 +63,7 @@ impl From<BuildError> for ClientError {
     fn from(error: BuildError) -> ClientError {
         match error {
             BuildError::NoMemory => ClientError::NoMemory,
-            // A text of the call's that no message has room for, or that no message may have.
+            // An argument of the call has a text that no message has room for, or that no message may have.
             BuildError::Invalid => ClientError::Message(MsgError::BadText),
             BuildError::TooLarge => ClientError::Message(MsgError::TooLarge),
         }

@@ -1,5 +1,5 @@
-//! The client's side of a bus: where it listens, the authentication talk, and calls with their answers. The layer above uses
-//! that a talk ends after four of the client's lines at most, and that BEGIN follows OK alone.
+//! The client's side of a bus: where it listens, the authentication talk, and calls with their answers. The layer above
+//! uses that a talk ends after four of the client's lines at most, and that BEGIN follows OK alone.
 #![tactic(auto)]
 
 mod address;

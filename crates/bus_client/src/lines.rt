@@ -14,7 +14,7 @@ const MAX_LINE_LEN: usize = 1024;
 /// How many bytes of a talk are read at once.
 const TALK_LEN: usize = 512;
 
-/// What a client may say at most, BEGIN apart.
+/// How many lines a client says at most, BEGIN not counted.
 const MAX_LINES: usize = 4;
 
 /// One read, which is tried again where a signal came between.

@@ -9,12 +9,13 @@ use std::rt::Env;
 /// Where the system's bus listens where no variable says it.
 const SYSTEM_PATH: &str = "/run/dbus/system_bus_socket";
 
-/// The addresses that a word stands for: `session` and `system` are those of the usual variables and places, any other word
-/// is an address itself.
+/// The addresses that a word stands for: `session` and `system` are those of the usual variables and places, any other
+/// word is an address itself.
 ///
 /// # Errors
 ///
-/// `Form` where an address isn't of the form, `Nowhere` where no variable says where the session's bus is, and `NoMemory`.
+/// `Form` where an address isn't of the form, `Nowhere` where no variable says where the session's bus is, and
+/// `NoMemory`.
 pub fn addresses_of<R: Env + AllocGlobal>(
     rt: &R,
     word: &str,

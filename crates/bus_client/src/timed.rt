@@ -1,4 +1,4 @@
-// A socket that waits only so long.
+// A socket that waits only for a limited time.
 
 use endpoints::Link;
 use std::io;
@@ -9,7 +9,7 @@ use std::time::{Duration, Instant};
 /// How long a talk, or a call with its answer, may take, in seconds.
 const ANSWER_SECONDS: u64 = 25;
 
-/// A socket of which all reads and writes up to a time have to be done by then.
+/// A socket whose reads and writes up to a time have to be done by then.
 #[derive(Drop)]
 pub struct Timed<'a, R> {
     rt: &'a R,

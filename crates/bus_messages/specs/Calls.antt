@@ -90,7 +90,7 @@ Refuses BadEdition method given = (method ≡ names.AttachEdition) × (edition_o
 Refuses NoMemory method given = takes_program method ≡ true
 Refuses InvalidArgs method given = Lacks method given
 
--- what a call of a method is read as
+-- what a message that calls a method is read as, if its body has the method's signature
 abbrev pub Understands : Method → Given → Result Call CallError → Type 0
 Understands method given (Ok call) = IsCallOf call method given
 Understands method given (Err error) = Refuses error method given

@@ -1,6 +1,6 @@
 //! What the bus itself says and understands: the table of its methods, the calls that clients make of them, and the
-//! answers, errors and signals that it sends. Nothing here knows of connections but their numbers. The sessions above use
-//! that each message which is built is valid and the one that its arguments ask for.
+//! answers, errors and signals that it sends. Nothing here knows of connections but their numbers. The sessions above
+//! use that each message which is built is valid and the one that its arguments ask for.
 #![tactic(auto)]
 
 mod arguments;

@@ -43,7 +43,8 @@ fn finished(alloc: Global, builder: &Builder<'_>) -> Result<Bytes, BuildError>
 ///
 /// # Errors
 ///
-/// `Invalid` where a serial is 0 or the name is none; `TooLarge` where the message would be above the limits; `NoMemory`.
+/// `Invalid` where a serial is 0 or the name is none; `TooLarge` where the message would be above the limits;
+/// `NoMemory`.
 pub fn reply(
     alloc: Global,
     serial: u32,

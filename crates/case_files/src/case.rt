@@ -1,4 +1,4 @@
-// A line that has a case.
+// A line that is a case.
 
 use crate::error::LineError;
 use crate::fields::Fields;

@@ -16,7 +16,7 @@ pub trait Judge {
     /// How many fields a case has between its name and what is wanted.
     const INPUTS: usize;
 
-    /// What comes of a case, to be compared with what is wanted.
+    /// What comes of a case, as text, to be compared with what is wanted.
     fn came(&self, alloc: Global, inputs: &Fields) -> Result<String, LineError>;
 }
 

@@ -12,7 +12,7 @@ use std::mem;
 #[derive(Clone, Copy)]
 enum Piece {
     Byte(u8),
-    /// The bytes from here on stand so often.
+    /// The bytes from here on are repeated this number of times.
     Begin(usize),
     End,
 }
@@ -22,7 +22,7 @@ pub(crate) fn unescaped(alloc: Global, field: &str) -> Result<Vec<u8>, LineError
     let mut bytes = Vec::new(alloc);
     let mut repetition: Option<Repetition> = None;
     let mut rest = field.as_bytes();
-    // A turn takes at least one byte off the rest.
+    // Each turn takes at least one byte off the rest.
     for _ in 0..field.len() {
         let Some((first, after)) = rest.split_first() else {
             break;

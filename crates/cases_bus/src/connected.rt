@@ -78,7 +78,8 @@ impl<'a, J: Naming, R: Wait> Connected<'a, J, R> {
         }
     }
 
-    /// Commands of a connection that is closed are those of the pass that was closed last, since its own was given back.
+    /// Commands of a connection that is closed are those of the pass that was closed last, since its own was given
+    /// back.
     fn command_of_closed(&mut self, connection: u64, event: &TextEvent<'_>) -> Result<Reply, Stop> {
         if connection == 0 || connection > self.last {
             return Err(Stop::closed());
@@ -106,7 +107,8 @@ impl<'a, J: Naming, R: Wait> Connected<'a, J, R> {
         Ok(reply)
     }
 
-    /// Gives back the pass that was closed before this one, so that a new connection gets its reader.
+    /// Keeps a pass that was closed, and gives back the one that was closed before it, so that a new connection gets
+    /// its reader.
     fn keep_closed(&mut self, pass: Pass<J, ()>) {
         if let Some(before) = self.closed.take() {
             give_back(self.rt, &self.bus, before);

@@ -25,7 +25,8 @@ impl Job {
         is_new
     }
 
-    /// The recipients in a part: those whose number leaves one less than the part's when divided by the number of parts.
+    /// The recipients in a part: those whose number leaves one less than the part's when divided by the number of
+    /// parts.
     fn part(&self, alloc: Global, part: u64) -> Result<Vec<u64>, AllocError> {
         let mut numbers = Vec::new(alloc);
         for number in &self.recipients {

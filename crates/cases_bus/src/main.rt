@@ -1,6 +1,6 @@
 //! Plays lists of events through passes of one bus. With no argument it plays the files of cases where it is run: it
-//! prints what misses, and how many cases there were. With `-` it plays the list on standard input, and prints each event's
-//! answer.
+//! prints what misses, and how many cases there were. With `-` it plays the list on standard input, and prints each
+//! event's answer.
 #![tactic(auto)]
 
 mod calls;

@@ -1,5 +1,5 @@
-//! Judges files of cases about messages as lines of text: a message in hexadecimal digits, and its line. `args` names the
-//! files in data/.
+//! Judges files of cases about messages as lines of text: a message in hexadecimal digits, and its line. `args` names
+//! the files in data/.
 #![tactic(auto)]
 
 mod lines;

@@ -1,4 +1,5 @@
-//! Judges files of cases about names, signatures and messages, each by its table's judge. It is run where the files lie.
+//! Judges files of cases about names, signatures and messages, each by its table's judge. It is run where the files
+//! lie.
 #![tactic(auto)]
 
 mod composing;

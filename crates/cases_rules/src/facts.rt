@@ -62,7 +62,7 @@ fn push_source(words: &mut String, source: Source) -> Result<(), AllocError> {
     }
 }
 
-/// What the word of a key has after its source.
+/// The suffix that the word of a key has after its source, by the key's relation.
 fn suffix(relation: Relation) -> &'static str {
     match relation {
         Relation::Equal => "",

@@ -13,8 +13,8 @@ use summary::{Edition, Image, Slots};
 /// The slot of the well-known name that a rule asks for as the sender.
 const SLOT: u16 = 33;
 
-/// The text of a rule, a message, or several divided by bars, and whether the sender owns the name that the rule asks for:
-/// `yes`, `no`, or `either` where it doesn't matter. `match`, `no match` or why the text is no rule.
+/// The text of a rule, a message, or several divided by bars, and whether the sender owns the name that the rule asks
+/// for: `yes`, `no`, or `either` where it doesn't matter. `match`, `no match` or why the text is no rule.
 pub(crate) struct Matches;
 
 impl Judge for Matches {

@@ -1,5 +1,5 @@
-//! Plays cases of sessions: what clients of one bus send, what each gets, and how its session ends. A case is played on a new
-//! bus, without sockets: `args` names the files in data/.
+//! Plays cases of sessions: what clients of one bus send, what each gets, and how its session ends. A case is played on
+//! a new bus, without sockets: `args` names the files in data/.
 #![tactic(auto)]
 
 mod client;

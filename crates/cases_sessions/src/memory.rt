@@ -9,7 +9,7 @@ use std::io::{ErrorKind, Read, Write};
 pub(crate) struct Input<'a> {
     bytes: &'a [u8],
     at_once: usize,
-    // How many reads there are before the one that fails is over; 0: none fails from here on.
+    // How many reads come before the one that fails, and that one; 0: none fails from here on.
     until_fault: u32,
 }
 
@@ -45,7 +45,7 @@ impl Read for Input<'_> {
 #[derive(Drop)]
 pub(crate) struct Output<'a> {
     to: &'a mut Received,
-    // As that of an input, of writes.
+    // As for an input, but of writes.
     until_fault: u32,
 }
 

@@ -33,7 +33,8 @@ fn main(rt: HostRuntime) -> ExitCode {
     ExitCode::from(status)
 }
 
-/// Gives the words after the program's name to the command that they ask for. An `Err` says that there are none to give.
+/// Gives the words after the program's name to the command that they ask for. An `Err` says that there are none to
+/// give.
 fn run<R, E: Writer>(rt: &R, err: &mut Output<E>) -> io::Result<u8>
 where
     R: Runtime<A = Global>

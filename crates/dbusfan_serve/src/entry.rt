@@ -25,9 +25,9 @@ ADDRESS is tcp:host=H,port=P or unix:path=P; a GUID has 32 hexadecimal digits.
 ";
 
 /// Serves a bus as the words after `serve` ask for, and answers the status that the program ends with: 0 once as many
-/// connections as they name were accepted and have ended, 3 for words that are no such options, 4 where the address can't
-/// be listened at or `out` can't be written, 5 for want of memory. The line `listening ADDRESS` is written and flushed before
-/// the first accept.
+/// connections as they name were accepted and have ended, 3 for words that are no such options, 4 where the address
+/// can't be listened at or `out` can't be written, 5 for want of memory. The line `listening ADDRESS` is written and
+/// flushed before the first accept.
 pub fn serve<R, O: Writer, E: Writer>(
     rt: &R,
     alloc: Global,

@@ -27,7 +27,7 @@ impl Fault {
         }
     }
 
-    /// The line that says so.
+    /// The fault as a line for standard error.
     fn line(self) -> &'static [u8] {
         match self {
             Fault::Usage => b"dbusfan: usage\n",
@@ -37,7 +37,7 @@ impl Fault {
         }
     }
 
-    /// Says so on standard error, as one line, and answers the status.
+    /// Writes the fault's line to standard error, and answers the status.
     pub(crate) fn tell<E: Writer>(self, err: &mut Output<E>) -> u8 {
         err.put(self.line());
         self.status()

@@ -1,4 +1,5 @@
-//! The command `serve` of dbusfan. The program above calls `serve`, which reads its words, listens, says where, and serves.
+//! The command `serve` of dbusfan. The program above calls `serve`, which reads its words, listens, says where, and
+//! serves.
 #![tactic(auto)]
 
 mod entry;

@@ -4,7 +4,8 @@ use crate::options::digits_of;
 use std::fs;
 use std::rt::Files;
 
-/// Where the id of the machine may stand, as 32 hexadecimal digits (machine-id(5), and the D-Bus Specification's "UUIDs").
+/// Where the id of the machine may stand, as 32 hexadecimal digits (machine-id(5), and the D-Bus Specification's
+/// "UUIDs").
 const PLACES: [&str; 2] = ["/etc/machine-id", "/var/lib/dbus/machine-id"];
 
 /// The machine's id, where it has one.

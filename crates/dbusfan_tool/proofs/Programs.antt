@@ -14,7 +14,7 @@ use Rattle.dbusfan_tool.specs.Fault.{fault_of_code, fault_of_file}
 use Rattle.dbusfan_tool.specs.Files.{ReadsFile}
 use Rattle.dbusfan_tool.specs.Program.{Assembles, no_file, no_code, assembled, Checks, no_program, accepted}
 
--- what is assembled from what a file gave, told of the file otherwise
+-- a program that is assembled from what a file gave, where what the file gave is said in another way
 pub assembled_as : {gave gives : Option (List ℕ) → Type 0} {program : List Ins} → ((given : Option (List ℕ)) → gave given → gives given) → Assembles gave (Ok program) → Assembles gives (Ok program)
 assembled_as as_well (assembled {text} given source) = assembled (as_well (Some text) given) source
 

@@ -52,7 +52,7 @@ module _ (made : List FileRead → Type 0) (program file : List ℕ) (edition : 
 
   -- the program's file gave it, and then the message's file was read
   module _ (gave gave_next : Option (List ℕ) → Type 0) (both : (given next : Option (List ℕ)) → gave given → gave_next next → made (two_reads program given file next)) (code : List Ins) (reads : Assembles gave (Ok code)) (fine : WellFormed code) where
-    -- both reads
+    -- what both reads gave
     assembles : (next : Option (List ℕ)) → gave_next next → Assembles (λ given. made (two_reads program given file next)) (Ok code)
     assembles next gives = assembled_as (λ given first. both given next first gives) reads
 

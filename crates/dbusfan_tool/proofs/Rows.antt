@@ -18,7 +18,7 @@ use Rattle.dbusfan_tool.specs.RowReading.{Gathering, no_words, with_name, with_o
 abbrev Words : Type 0
 Words = List (List ℕ)
 
--- a gathering of its parts
+-- a gathering, by its parts
 abbrev having : Words → Bool → Option Edition → Awaited → Gathering
 having names owns edition awaited = record { names = names; owns = owns; edition = edition; awaited = awaited }
 
@@ -135,7 +135,7 @@ owns_found front words false edition all rest e =
     let behind = rest front true edition all e in
     record { options = record { owns = true; edition = behind.options.edition }; names = behind.names; spells = owned behind.once behind.spells; all_names = behind.all_names; all_owns = behind.all_owns; all_edition = behind.all_edition; once = refl; apart = behind.apart }
 
--- no edition beside one
+-- an edition is given once at most
 none_beside : (edition : Option Edition) → (true && is_some edition) ≡ false → edition ≡ None
 none_beside None alone = refl
 none_beside (Some edition) alone = absurd (cc)

@@ -52,7 +52,7 @@ impl<'a> Gathered<'a> {
         }
     }
 
-    /// What stands among some words, if they are at most two and options that are known.
+    /// What some words say, if they are at most two names and known options.
     pub(crate) fn read(words: &[&'a str]) -> Option<Gathered<'a>>
         ensures { option_map gathering_of result ≡ gathered no_words (map (λ word. word.now) words.now) }
     {

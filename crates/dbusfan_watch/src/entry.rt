@@ -24,10 +24,11 @@ as assembler text, which a bus of dbusfan's attaches. `--hex` writes messages as
 and `run`. `--count N` ends after N messages.
 ";
 
-/// Connects to a bus and writes each message of it that a rule holds of, or a program accepts, as a line. It answers the
-/// status that the program ends with: 0 after the count that is wanted, 2 where the rule or the program is refused or what
-/// comes is no message, 3 for words that are no row of the command line, 4 where the bus can't be reached, goes away or doesn't
-/// answer, or where a file fails, and 5 for want of memory. It waits for messages alone: an answer has to come in time.
+/// Connects to a bus and writes each message of it that a rule holds of, or a program accepts, as a line. It answers
+/// the status that the program ends with: 0 after the count that is wanted, 2 where the rule or the program is refused
+/// or what comes is no message, 3 for words that are no row of the command line, 4 where the bus can't be reached, goes
+/// away or doesn't answer, or where a file fails, and 5 for want of memory. It waits for messages alone: an answer has
+/// to come in time.
 pub fn watch<R, F: Files, O: Writer, E: Writer>(
     rt: &R,
     words: &[&str],

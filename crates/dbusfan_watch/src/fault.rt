@@ -54,7 +54,7 @@ impl Fault {
         }
     }
 
-    /// Says so on standard error, as one line, and answers the status.
+    /// Writes the fault's line to standard error, and answers the status.
     pub(crate) fn tell<E: Writer>(&self, alloc: Global, err: &mut Output<E>) -> u8 {
         match self {
             Fault::Tool(fault) => err.put_fault(*fault),

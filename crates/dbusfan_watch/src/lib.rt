@@ -1,5 +1,5 @@
-//! The command `dbusfan watch`: what goes over a bus, by a match rule or by a program of one's own. The program above calls
-//! `watch` with the words after the command's name.
+//! The command `dbusfan watch`: what goes over a bus, by a match rule or by a program of one's own. The program above
+//! calls `watch` with the words after the command's name.
 #![tactic(auto)]
 
 mod entry;

@@ -7,7 +7,8 @@ use crate::words::Words;
 pub enum Wanted<'a> {
     /// What a match rule holds of.
     Rule(&'a str),
-    /// What a program accepts, which is in this file and for images of this edition, or of the first where none is said.
+    /// What a program accepts, which is in this file and for images of this edition, or of the first where none is
+    /// said.
     Program { file: &'a str, edition: Option<u32> },
 }
 

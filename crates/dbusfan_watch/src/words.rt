@@ -15,7 +15,7 @@ enum Awaited {
     NameAlone,
 }
 
-/// What stands among some words.
+/// What the words say so far.
 #[derive(Clone, Copy)]
 pub(crate) struct Words<'a> {
     pub(crate) address: Option<&'a str>,
@@ -40,7 +40,7 @@ impl<'a> Words<'a> {
         }
     }
 
-    /// What stands among some words, if each of them may stand where it does.
+    /// What some words say, if each of them may stand where it does.
     pub(crate) fn read(words: &[&'a str]) -> Option<Words<'a>> {
         let mut so_far = Words::nothing();
         for i in 0..words.len() {

@@ -1,5 +1,5 @@
-//! Where a bus listens, and connected sockets of both ends: TCP and Unix sockets as one type. The layers above use the texts
-//! of addresses; what the system does at a socket no contract says.
+//! Where a bus listens, and connected sockets of both ends: TCP and Unix sockets as one type. The layers above use the
+//! texts of addresses; what the system does at a socket no contract says.
 #![tactic(auto)]
 
 mod address;

@@ -30,8 +30,8 @@ pub(crate) fn remove<R: Files>(rt: &R, path: &str) {
     }
 }
 
-/// Whether the path is a socket's file that refuses connections. A plain file refuses them too, so the kind is looked at
-/// first: a file of another kind is never removed.
+/// Whether the path is a socket's file that refuses connections. A plain file refuses them too, so the kind is looked
+/// at first: a file of another kind is never removed.
 fn is_stale<R: Files + Net>(rt: &R, path: &str) -> bool {
     is_socket(rt, path)
         && match UnixStream::connect(rt, path) {

@@ -236,7 +236,7 @@ AreGiven-more : (last : ℕ) (held : List Placed) → AreGiven last held → Are
 AreGiven-more last [] h = tt
 AreGiven-more last (x ∷ xs) h = (omega (arith, h.0), AreGiven-more last xs h.1)
 
--- the table with one entry more
+-- the table with one more entry
 pub IsTable-more : (place : ℕ) (e : Entry) (held : List Placed) (last count : ℕ) → IsTable held last count → e.id ≡ last + 1 → length held < 16384 → IsTable ((place, e) ∷ held) (last + 1) (count + 1)
 IsTable-more place e held last count h id few = record {
   ids = (subst (λ (k : ℕ). AreBelow k held) (sym id) (AreBelow-given last held h.given), h.ids);

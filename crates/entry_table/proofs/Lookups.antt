@@ -125,7 +125,7 @@ IdsApart-held : (held : List Placed) → IdsFall held → IdsApart (seen_in held
 IdsApart-held [] h = tt
 IdsApart-held (x ∷ xs) h = (OtherIds-below x.1 xs h.0, IdsApart-held xs h.1)
 
--- the entries that pass a test, and others none of which has an id of theirs
+-- the entries that pass a test, and other entries with none of their ids
 IdsApart-joined : (q : Entry → Bool) (xs ys : List Entry) → IdsApart xs → IdsApart ys → ((e : Entry) → Contains xs e → q e ≡ true → OtherIds e ys) → IdsApart (filter q xs ++ ys)
 IdsApart-joined q [] ys h k across = k
 IdsApart-joined q (x ∷ xs) ys h k across =

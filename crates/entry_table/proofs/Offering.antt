@@ -19,7 +19,7 @@ abbrev consed : Option Entry → List Entry → List Entry
 consed None es = es
 consed (Some e) es = e ∷ es
 
--- of the entries in a list by a key, those that pass a test which decides the key
+-- the entries in a list by a key that pass a test, where the test decides the key
 pub in_list : (key : Entry → ℕ) (k : ℕ) (q : Entry → Bool) → ((e : Entry) → q e ≡ true → key e ≡ k) → (all xs : List Placed) → AreKept all xs → filter q (filter_map (λ (place : ℕ). entry_at place all) (keyed key k xs)) ≡ filter q (map (λ (x : Placed). x.1) xs)
 in_list key k q only all [] kept = refl
 in_list key k q only all (x ∷ xs) kept =
@@ -150,7 +150,7 @@ module _ (asked found : FixedTexts) where
   where_found (Some text) None h = absurd (false≢true h)
   where_found (Some text) (Some other) h = ap (λ (t : List ℕ). Some t) ((bytes_eq-Decides other text).0 h)
 
-  -- of the texts that are found, those of the shape of what is asked for are just what is asked for
+  -- of the texts that are found, those of the asked shape are just those that are asked for
   pub in_own_shape : are_found asked found ≡ true → in_shape (shape_of asked) found ≡ asked
   in_own_shape h =
       let last = and_parts (is_text_found asked.member found.member && is_text_found asked.interface found.interface && is_text_found asked.path found.path) (is_text_found asked.arg0 found.arg0) h in

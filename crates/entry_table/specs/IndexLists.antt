@@ -38,7 +38,8 @@ pub record AreCounted (counts : List ℕ) (held : List Placed) : Type 0 where
   pub long : length counts ≡ shape_count
   pub each : (shape : ℕ) → shape < shape_count → slice_index counts shape ≡ length (keyed shape_key shape held)
 
--- what an index keeps of the entries: no place has two, each list has its own, and shapes are counted
+-- what an index keeps of the entries: each place has at most one, each list has those of its key, and shapes are
+-- counted
 pub record IsIndexed (index : Index) (held : List Placed) : Type 0 where
   pub once : AreOnce (places_of held)
   pub connections : IsKeyed connection_key connection_lists index.by_connection held
@@ -58,7 +59,7 @@ taken_from list place all = record all { lists = slice_set all.lists list (witho
 abbrev pub empty_index : TextPoints → Index
 empty_index points = record { points = points; by_connection = empty_lists connection_lists room; by_texts = empty_lists (hash_lists + 1) room; shapes = replicate shape_count 0 }
 
--- one place more
+-- one more place
 abbrev pub with_place : ℕ → Standing → Index → Index
 with_place place standing index = record index {
   by_connection = put_in standing.connection place index.by_connection;

@@ -18,8 +18,8 @@ pub struct IndexKey {
 }
 
 impl IndexKey {
-    /// A point for the texts of one of the four keys, by its number: SipHash-1-3 of the number, so that nobody who doesn't
-    /// know this key can tell the point from one that is drawn.
+    /// A point for the texts of one of the four keys, by its number: SipHash-1-3 of the number, so that nobody who
+    /// doesn't know this key can tell the point from one that is drawn.
     #[tactic(auto, unfolding(crate::specs::TextKeys::point_of))]
     fn point(self, number: u8) -> u64
         ensures { result ≡ point_of self number }

@@ -1,7 +1,7 @@
 //! The entries of the bus: rules with their programs, and attached programs. The layers above use that the calls of
 //! `EntryTable` are edits of a list of entries by rising id, and that `EntryTable::offered` gives exactly the entries
-//! that a message is offered to. An index finds them: entries stand in lists by the texts that they fix, and a message is
-//! looked up once for each shape in use, that is for each choice of keys that some entry fixes. What is done for one
+//! that a message is offered to. An index finds them: entries stand in lists by the texts that they fix, and a message
+//! is looked up once for each shape in use, that is for each choice of keys that some entry fixes. What is done for one
 //! connection goes over the list of that connection.
 #![tactic(auto)]
 

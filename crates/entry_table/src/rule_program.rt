@@ -22,10 +22,10 @@ struct Parts {
     rest: Verified,
 }
 
-/// A rule with the program that it was compiled to, for images of edition 2. Shares are of one value. A message that was
-/// looked up has the texts which the rule fixes, so a second program tests only what is left of the rule. Which texts the
-/// rule fixes and how long its path namespace is are asked of each entry of a list that a message is looked up in, so
-/// they are kept here, where no share has to be followed.
+/// A rule with the program that it was compiled to, for images of edition 2. Shares are of one value. A message that
+/// was looked up has the texts which the rule fixes, so a second program tests only what is left of the rule. Which
+/// texts the rule fixes and how long its path namespace is are asked of each entry of a list that a message is looked
+/// up in, so they are kept here, where no share has to be followed.
 #[derive(Drop)]
 pub struct RuleProgram {
     parts: Arc<Parts>,

@@ -47,7 +47,7 @@ impl Shapes {
     ghost use Rattle.place_lists.specs.PlaceLists.{has_place, AreOnce};
     ghost use Rattle.entry_table.specs.ShapeCounts.{shape_count, is_in_use};
 
-    /// No entry has any shape. Only this call takes memory.
+    /// Counts of no entries. Only this call takes memory.
     pub(crate) fn new(alloc: Global) -> Result<Shapes, AllocError>
         ensures { IfOk result (λ shapes. shapes ≡ replicate shape_count 0) }
     {
@@ -70,7 +70,7 @@ impl Shapes {
         self.counts[usize::from(shape)] = count + 1;
     }
 
-    /// Counts one entry of a shape less.
+    /// Counts one entry less of a shape.
     pub(crate) fn remove(&mut self, shape: u16)
         requires shape { shape < length self.old }
         requires some { 0 < slice_index self.old shape }

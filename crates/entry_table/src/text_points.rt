@@ -1,6 +1,7 @@
 // The points at which texts are hashed.
 
-/// For each of the four keys the point at which its texts are hashed, so that one text under two keys has two hashes.
+/// The point at which the texts of each of the four keys are hashed. They differ, so that one text has two hashes under
+/// two keys.
 #[derive(Clone, Copy)]
 pub(crate) struct TextPoints {
     pub(crate) member: u64,

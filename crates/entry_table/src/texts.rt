@@ -132,8 +132,8 @@ fn bit_of(text: Option<&str>) -> u16
     }
 }
 
-/// The hashes of four texts as one, their sum: texts of which one differs have hashes that differ by what the point of
-/// its key makes of it, whatever the others are.
+/// The sum of the hashes of four texts, as one hash. If texts differ under one key, the sums differ by as much as the
+/// hashes of that key do, whatever the other texts are.
 fn join_hashes(member: u64, interface: u64, path: u64, arg0: u64) -> u64
     ensures { result ≡ joined member interface path arg0 }
 {

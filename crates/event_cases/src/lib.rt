@@ -1,5 +1,5 @@
-//! Lists of events and cases of them, played by what the programs above it give: a `Player`. The programs use `run`, which
-//! plays files of cases and judges their answers, or a list on standard input.
+//! Lists of events and cases of them, played by what the programs above it give: a `Player`. The programs use `run`,
+//! which plays files of cases and judges their answers, or a list on standard input.
 #![tactic(auto)]
 
 mod answers;

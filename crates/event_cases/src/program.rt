@@ -17,9 +17,9 @@ pub struct Program<'a> {
     pub files: &'a [&'static str],
 }
 
-/// Runs a program. With no argument it plays its files of cases: it prints what misses, and how many cases there were. With
-/// `-` it plays the list on standard input, and prints each event's answer. What keeps it from that it says on standard
-/// error.
+/// Runs a program. With no argument it plays its files of cases: it prints what misses, and how many cases there were.
+/// With `-` it plays the list on standard input, and prints each event's answer. What keeps it from that it says on
+/// standard error.
 pub fn run<R: Runtime<A = Global>, P: Player>(
     rt: &R,
     player: &P,

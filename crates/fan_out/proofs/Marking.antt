@@ -136,7 +136,7 @@ module _ {M : Type 0} where
   marks_asked s part of bytes words all left e before after runs true so_far answered inside unmarked more = rw more.marked (marks_yes s part of bytes words all left e before runs more.place so_far answered inside more.stands (unmarked more.place more.stands))
   marks_asked s part of bytes words all left e before after runs false so_far answered inside unmarked same = rw same (marks_no s part of bytes words all left e before runs so_far answered)
 
-  -- one entry more
+  -- one more entry
   pub marks_more : (s : State M) (part of : ℕ) (bytes words : List ℕ) (all left : List Entry) (e : Entry) (before after : List Bool) (runs later : ℕ) → AreMarkedSoFar s part of bytes words all (e ∷ left) before runs → Considers s part of bytes words e before after runs later → AreMarkedSoFar s part of bytes words all left after later
   marks_more s part of bytes words all left e before after runs later so_far considered = elim considered [
     | inl passed ↦ rw (passed.0.kept, passed.0.none_run) (marks_pass s part of bytes words all left e before runs so_far passed.1)

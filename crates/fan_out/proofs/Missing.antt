@@ -1,4 +1,4 @@
--- What asks for another path namespace than that of a message's path doesn't match the message.
+-- A rule that asks for another path namespace than that of the message's path doesn't match.
 use Rattle.std.proofs.Common.{◌≡◌, ℕ, Bool, List, Option, subst}
 use Rattle.message_view.specs.Message.{Message, path_of}
 use Rattle.message_view.specs.Valid.{Valid}

@@ -10,7 +10,7 @@ use Rattle.fan_out.specs.Marking.{AreMarkedRecipients}
 pub record AreBoth (marks one other : List Bool) : Type 0 where
   pub exact : (k : ℕ) → (slice_get marks k ≡ Some true) ↔ ((slice_get one k ≡ Some true) ⊎ (slice_get other k ≡ Some true))
 
--- of the pieces from this one on, each as it was found, all marks
+-- the marks of the pieces from `part` on, each as it was found, joined
 pub record AreJoined (finds : ℕ → List Bool → Type 0) (part of : ℕ) (marks : List Bool) : Type 0 where
   pub pieces : ℕ → List Bool
   pub found : (p : ℕ) → part ≤ p → p ≤ of → finds p (pieces p)

@@ -1,8 +1,8 @@
 /// What is called round each piece, in the thread of the piece's worker.
 pub trait Gate: Sync {
-    /// Before the connections of the piece, counted from 1, are looked at.
+    /// Called before the connections of the piece are looked at. Pieces count from 1.
     fn before(&self, piece: u32);
 
-    /// After they were.
+    /// Called after they were looked at.
     fn after(&self, piece: u32);
 }

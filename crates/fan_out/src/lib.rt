@@ -1,6 +1,6 @@
 //! Who gets a broadcast: the connections with an entry that matches it. The layers above use that the answers of
-//! `select` and `select_piece` are exactly the recipients of the state, by rising number, whatever entries were asked and
-//! in whichever order.
+//! `select` and `select_piece` are exactly the recipients of the state, by rising number, whatever entries were asked
+//! and in whichever order.
 #![tactic(auto)]
 
 mod error;

@@ -36,9 +36,9 @@ fn greater(a: usize, b: usize) -> usize
     if a < b { b } else { a }
 }
 
-/// Which connections are marked, by their places among the connections. So that few marks are found without a look at
-/// each place, rows with a mark are noted, and between which places all marks lie; and so that most connections without a
-/// mark are known without a search for their place, the remainders of the numbers of those that have one.
+/// Which connections are marked, by their places among the connections. A row is noted if it has a mark, and all marks
+/// lie between two places, so that a few marks are found without a look at each place. The remainders of the marked
+/// connections' numbers are noted, so that most other connections are known without a search for their place.
 #[derive(Drop)]
 pub(crate) struct Marks {
     pub(crate) places: [bool; MAX_RECIPIENTS],
@@ -46,7 +46,7 @@ pub(crate) struct Marks {
     pub(crate) remainders: [bool; REMAINDERS],
     /// No mark lies before this place.
     low: usize,
-    /// Nor at or after this one.
+    /// No mark lies at or after this place.
     high: usize,
     ghost size: { length places ≡ 256 },
     ghost row_count: { length rows ≡ 16 },
@@ -58,7 +58,7 @@ pub(crate) struct Marks {
 }
 
 impl Marks {
-    /// None.
+    /// No connection is marked.
     pub(crate) fn new() -> Marks
         ensures { result.places ≡ replicate MAX_RECIPIENTS false }
     {
@@ -103,7 +103,7 @@ impl Marks {
         self.remainders[(number % REMAINDERS as u64) as usize] = true;
     }
 
-    /// Marks what the other marks, too.
+    /// Marks all that the other marks.
     pub(crate) fn join(&mut self, other: &Marks)
         ensures { AreBoth self.new.places self.old.places other.now.places }
     {

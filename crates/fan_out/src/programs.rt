@@ -16,7 +16,8 @@ use match_rule::not_elsewhere_where_it_holds;
 use message_view::View;
 use summary::{Edition, Image, Slots};
 
-/// Makes the image of edition 1. It stands apart because a function clears room for its values whenever it is called.
+/// Makes the image of edition 1. It is a function of its own, since a function clears room for its values whenever it
+/// is called.
 #[inline(never)]
 fn make_one<'a>(image: &mut Option<Image<'a>>, view: &View<'a>, owned: &Slots)
     ensures image { ForSome image.new (IsImage One view.now owned.now) }
@@ -48,9 +49,9 @@ fn run_over_one<'a>(
     }
 }
 
-/// The image of edition 2 of a message, which rules read, its path, and the count of the programs that were run. The image
-/// of edition 1 is made when the first program reads it. It is kept where the caller has room for it, since this is
-/// handed on by value.
+/// The image of edition 2 of a message, which rules read, its path, and the count of the programs that were run. The
+/// image of edition 1 is made when the first program reads it, in room of the caller's, since this value is moved from
+/// call to call.
 #[derive(Drop)]
 pub(crate) struct Programs<'v, 'a> {
     view: &'v View<'a>,
@@ -63,7 +64,7 @@ pub(crate) struct Programs<'v, 'a> {
 }
 
 impl<'v, 'a> Programs<'v, 'a> {
-    /// For a message whose sender owns the names of these slots.
+    /// The programs for a message whose sender owns the names of these slots.
     pub(crate) fn new(view: &'v View<'a>, owned: &'v Slots, two: &'v Image<'a>) -> Programs<'v, 'a>
         requires { IsImage Two view.now owned.now two.now }
         ensures view { result.view.now ≡ view.entry.now }
@@ -110,8 +111,8 @@ impl<'v, 'a> Programs<'v, 'a> {
         }
     }
 
-    /// Whether a filter's program has a verdict other than 0. Of a rule it is the program of what is left beside the
-    /// texts that the rule fixes, since a message that is offered to the rule has them.
+    /// Whether a filter's program has a verdict other than 0. A message that is offered to a rule has the texts that
+    /// the rule fixes, so of a rule the program of what is left beside them is run.
     pub(crate) fn matches(&mut self, one: &mut Option<Image<'a>>, filter: &Filter) -> bool
         requires room { self.old.tally.runs < max_entries }
         requires one { ForSome one.old (IsImage One self.old.view.now self.old.owned.now) }

@@ -126,8 +126,8 @@ fn consider_all<'a, M: Mailbox>(
     programs.runs()
 }
 
-/// Considers the entries that a message is offered to, at least one. It stands apart because a function clears room for
-/// its values whenever it is called: a message that is offered to nobody needs no image.
+/// Considers the entries that a message is offered to, at least one. It is a function of its own, since a function
+/// clears room for its values whenever it is called, and a message that is offered to no entry needs no image.
 #[inline(never)]
 fn consider_offered<'a, M: Mailbox>(
     state: &BusState<M>,

@@ -25,8 +25,8 @@ pub fn select<'a, M: Mailbox>(
     recipients
 }
 
-/// As `select`, into an empty list of the caller's. The list has room for each connection, so who hands it on saves two
-/// kilobytes to clear and to copy.
+/// As `select`, into an empty list of the caller's. The list has room for each connection, two kilobytes, which needn't
+/// be cleared and copied for each message.
 pub fn select_into<'a, M: Mailbox>(
     state: &'a BusState<M>,
     sender: Option<u64>,

@@ -25,7 +25,7 @@ pub(crate) trait Work: Sync {
         ensures { finds self.now part result.places };
 }
 
-/// That a thread does a piece.
+/// A piece of work, as a thread runs it.
 struct PieceOf<'s, W> {
     work: &'s W,
     part: u32,

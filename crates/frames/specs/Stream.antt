@@ -46,7 +46,7 @@ pub record FramesOf (stream : List ℕ) (messages : List (List ℕ)) (rest : Lis
   pub cut : IsCut stream messages rest
   pub ends : EndsIn rest fault
 
--- what is there of a stream: the bytes that no message has taken, and the fault that was answered
+-- where a reader of a stream stands: the bytes that no message has taken, and the fault that was answered
 pub record Cutting : Type 0 where
   pub unread : List ℕ
   pub fault : Option MsgError

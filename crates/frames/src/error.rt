@@ -16,7 +16,7 @@ pub enum FrameError {
 }
 
 impl FrameError {
-    /// Its name, which is also what `{}` prints: that of a message's fault is the fault's.
+    /// Its name, which is also what `{}` prints. That of a message's fault is the fault's own.
     pub fn name(self) -> &'static str
         ensures { result.now ≡ name_of self }
     {

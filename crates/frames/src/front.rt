@@ -5,7 +5,7 @@ ghost use Rattle.frames.specs.Stream.{IsMessage, IsUnfinished, IsFault};
 
 use message_view::{MsgError, View, frame_len};
 
-/// The message that these bytes begin with; `None` where a valid one may still begin.
+/// The message that these bytes begin with; `None` where more bytes may still make it a valid one.
 ///
 /// # Errors
 ///

@@ -1,5 +1,5 @@
-//! A stream of bytes cut into messages. The layers above use that the messages of `Frames::next` are those that the stream
-//! begins with, however it is cut, and that a fault comes only after them.
+//! A stream of bytes cut into messages. The layers above use that the messages of `Frames::next` are those that the
+//! stream begins with, however it is cut, and that a fault comes only after them.
 #![tactic(auto)]
 
 mod error;

@@ -55,7 +55,8 @@ impl Frames {
     ///
     /// # Errors
     ///
-    /// `Message` where `next` answered that fault, `NoMemory` where room for the bytes was refused; nothing is added then.
+    /// `Message` where `next` answered that fault, `NoMemory` where room for the bytes was refused; nothing is added
+    /// then.
     pub fn feed(&mut self, bytes: &[u8]) -> Result<(), FrameError>
         ensures fed { OnOk result ((self.old.fault ≡ None) × (self.new ≡ record { unread = self.old.unread ++ bytes.now; fault = None })) }
         ensures err { OnErr result (self.new ≡ self.old) }
@@ -69,7 +70,7 @@ impl Frames {
         Ok(())
     }
 
-    /// The message that is next, where it lies; `None` where more bytes are needed. It stays the next one.
+    /// The next message, lent where it lies; `None` where more bytes are needed. It stays the next one until `skip`.
     ///
     /// # Errors
     ///
@@ -90,8 +91,8 @@ impl Frames {
     ///
     /// # Errors
     ///
-    /// `Message` with the fault of the bytes in the message's place, from then on for ever; `NoMemory` where the bytes
-    /// couldn't be shared, which changes nothing.
+    /// `Message` with the fault of the bytes in the message's place, and from then on always; `NoMemory` where the
+    /// bytes couldn't be shared, which changes nothing.
     pub fn next(&mut self) -> Result<Option<Bytes>, FrameError>
         ensures message { IfOk result (λ next. IfSome next (λ message. (self.old.fault ≡ None) × IsMessage message × (self.old.unread ≡ message ++ self.new.unread) × (self.new.fault ≡ None))) }
         ensures unfinished { IfOk result (λ next. IfNone next ((self.old.fault ≡ None) × IsUnfinished self.old.unread × (self.new ≡ self.old))) }
@@ -111,7 +112,7 @@ impl Frames {
         Ok(Some(message))
     }
 
-    /// Lets the first bytes go, as those of the message that `front` lent.
+    /// Drops the first `len` bytes, as those of the message that `front` lent.
     pub fn skip(&mut self, len: usize)
         requires no_fault { self.old.fault ≡ None }
         requires there { len ≤ length self.old.unread }

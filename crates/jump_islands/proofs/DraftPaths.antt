@@ -73,7 +73,7 @@ plain_of t _ ins i plain p = p
 abbrev NearPlace : ℕ → TailTree → ℕ → ℕ → Type 0
 NearPlace n t p q = Tied n t p q ⊎ ((k : ℕ) × (slice_get (program_of t) q ≡ Some (jump_over k)) × Tied n t p (q + 1 + k))
 
--- a path of the draft beside one of the program: what is stored on it is stored on that
+-- a path of the draft for one of the program: what the draft's stores on its path is stored on the program's
 record Way (draft : List Ins) (t : TailTree) (q : ℕ) (earlier : List ℕ) : Type 0 where
   place : ℕ
   before : List ℕ

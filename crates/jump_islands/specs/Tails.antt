@@ -11,8 +11,8 @@ use Rattle.jump_islands.specs.declared.line.Line.TheVariants.{Plain, Jumps, Goes
 use Rattle.jump_islands.specs.declared.label.Label.{Label}
 use Rattle.jump_islands.specs.Draft.{DraftTree, place_of}
 
--- The instructions, the last one first; and for each place how many instructions stand from it on, and how many
--- from the nearest one that leads to it: its own, or its latest island.
+-- The program of the last lines, the last instruction first. For each place: how many instructions stand from it on
+-- (`heights`), and from the nearest instruction on that leads to it, its own or its latest island's (`reaches`).
 pub record TailTree : Type 0 where
   pub program : List Ins
   pub heights : List ℕ

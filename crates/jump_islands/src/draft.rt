@@ -60,7 +60,7 @@ impl Draft {
         self.bound[label.number] = Some(next);
     }
 
-    /// A line more.
+    /// Adds a line.
     fn add(&mut self, line: Line) -> Result<(), LowerError>
         requires { IsTrue (is_plain_line line) }
         ensures added { OnOk result (self.new ≡ record self.old { lines = self.old.lines ++ line ∷ [] }) }
@@ -81,7 +81,7 @@ impl Draft {
         self.add(Line::Plain(ins))
     }
 
-    /// Adds a conditional jump, with k and the labels for a test that holds and for one that doesn't.
+    /// Adds a conditional jump to one of two labels, the first where the test of A and the operand holds.
     pub fn jump(
         &mut self,
         test: Test,
@@ -97,7 +97,7 @@ impl Draft {
         self.add(Line::Jumps(test, operand, k, yes, no))
     }
 
-    /// Adds a jump.
+    /// Adds a jump to a label.
     pub fn goto(&mut self, to: Label) -> Result<(), LowerError>
         ensures added { OnOk result (self.new ≡ record self.old { lines = self.old.lines ++ Line.Goes to ∷ [] }) }
         ensures unchanged { OnErr result (self.new ≡ self.old) }
@@ -106,7 +106,7 @@ impl Draft {
         self.add(Line::Goes(to))
     }
 
-    /// The lines.
+    /// The lines, in the order of the program.
     pub(crate) fn lines(&self) -> &[Line]
         ensures value { result.now ≡ self.now.lines }
         ensures plain { are_plain self.now.lines ≡ true }

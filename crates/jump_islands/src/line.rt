@@ -6,7 +6,7 @@ use bpf_code::{Ins, Operand, Test};
 pub enum Line {
     /// An instruction that is no jump.
     Plain(Ins),
-    /// A conditional jump, with k and the labels for a test that holds and for one that doesn't.
+    /// A conditional jump with its k, and the labels where the test holds and where it doesn't.
     Jumps(Test, Operand, u32, Label, Label),
     /// A jump to a label.
     Goes(Label),

@@ -15,7 +15,7 @@ use Rattle.lookups.specs.Newcomers.{AreNewcomers, Adds}
 use Rattle.lookups.proofs.Newcomers.{or_cases, or_right, is_in-connected, no_newcomers, adds_more}
 
 module _ {M : Type 0} where
-  -- one connection more hasn't this unique name
+  -- one more connection hasn't this unique name
   pub none_next : (name : List ℕ) (connections : List (Connection M)) (k : ℕ) (c : Connection M) → k < length connections → c ≡ get_or connections k c → (name ≡ unique_name c.number → ⊥) → NoneIsNamed name (numbers_of (take k connections)) → NoneIsNamed name (numbers_of (take (k + 1) connections))
   none_next name connections k c lt is other h n e named =
       pick (or_cases (is_in n front) (c.number == n) (sym (in_snoc n c.number front) ∙ ap (is_in n) (sym whole) ∙ e))

@@ -15,8 +15,8 @@ use published::{Naming, Sight};
 use routing::{Carrier, Recipient, Sender};
 use std::alloc::{AllocError, Global};
 
-/// The connection that owns a name, as a newcomer where the sender has no seat at its outbox yet, and, where the sender has
-/// many seats, who is connected.
+/// The connection that owns a name, as a newcomer where the sender has no seat at its outbox yet, and, where the sender
+/// has many seats, who is connected.
 #[derive(Drop)]
 pub struct Addressee<M: Carrier> {
     pub number: u64,
@@ -66,8 +66,8 @@ fn addressee_in<M: Mailbox + Carrier>(
     }))
 }
 
-/// Enters the published state for the owner of a name and what the sender needs for it, and leaves. None where the bus is
-/// gone.
+/// Enters the published state for the owner of a name and what the sender needs for it, and leaves. None where the bus
+/// is gone.
 pub fn found_addressee<J: Naming, M: Mailbox + Carrier>(
     sight: &mut Sight<J, M>,
     alloc: Global,

@@ -1,6 +1,6 @@
-//! What is found in the published state of a bus in one visit, without a lock: recipients, owners and queues of names, and
-//! the mailboxes that a sender needs. The layer above uses that what is found is that of the state after a history which
-//! begins with all that the reader had seen, and is seen then.
+//! What is found in the published state of a bus in one visit, without a lock: recipients, owners and queues of names,
+//! and the mailboxes that a sender needs. The layer above uses that what is found is that of the state after a history
+//! which begins with all that the reader had seen, and is seen then.
 #![tactic(auto)]
 
 mod addressee;

@@ -44,7 +44,7 @@ fn names_in<M: Mailbox>(state: &BusState<M>, alloc: Global) -> Result<Vec<WellKn
 fn all_in<M: Mailbox>(state: &BusState<M>, alloc: Global) -> Result<Names, AllocError>
     ensures { IfOk result (λ all. (all.0.items ≡ numbers_of state.now.connections) × AreNames state.now.registrations.claims all.1.items) }
 {
-    // There is room for all.
+    // This call's contract says that the list has room for all connections.
     let _ = state.connection_count();
     let numbers = numbers_of(state.connections());
     let names = names_in(state, alloc)?;

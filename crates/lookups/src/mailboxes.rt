@@ -26,7 +26,7 @@ pub struct Audience<M: Carrier> {
     pub connected: Option<Vec<u64>>,
 }
 
-/// From how many seats on a sender gives up those at the outboxes of closed connections.
+/// A sender with this many seats gives up those at the outboxes of closed connections.
 const MANY_SEATS: usize = 256;
 
 // A connection that has an entry, with a share of its mailbox.
@@ -42,7 +42,7 @@ fn newcomer<'a, M: Mailbox + Carrier>(
     match state.mailbox_of(number) {
         Some(mailbox) => Ok(Recipient::new(number, mailbox.share()?)),
         None => {
-            // Entries are of connections alone.
+            // The contract of this call says that entries are of connections alone.
             let _ = state.offered(view);
             unreachable!()
         }
@@ -108,7 +108,7 @@ fn connected_if_many<'a, M: Mailbox + Carrier>(
     ensures { IfOk result (λ numbers. AreConnected state.now (option_map (λ v. v.items) numbers)) }
 {
     if sender.seats() > MANY_SEATS {
-        // The recipients of a message are among the connections.
+        // The contract of this call says that the recipients are among the connections.
         let _ = state.offered(view);
         Ok(Some(connected(alloc, state)?))
     } else {
@@ -153,8 +153,8 @@ fn found_in<'a, M: Mailbox + Carrier>(
     })
 }
 
-/// Enters the published state, lists the recipients, finds what the sender needs for them, and leaves. None where the bus is
-/// gone.
+/// Enters the published state, lists the recipients, finds what the sender needs for them, and leaves. None where the
+/// bus is gone.
 pub fn found_mailboxes<'a, J: Naming, M: Mailbox + Carrier>(
     sight: &mut Sight<J, M>,
     alloc: Global,

@@ -11,7 +11,7 @@ ghost use Rattle.lookups.specs.NameOwners.{IsOwner, NoneIsNamed};
 use program_table::{BusState, Connection, Mailbox};
 use unique_name::UniqueName;
 
-// Whether the text begins as unique names do.
+// Whether the text begins with `:`, as unique names do.
 fn is_unique(text: &str) -> bool
     ensures { result ≡ is_unique text.now }
 {

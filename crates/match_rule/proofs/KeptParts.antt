@@ -60,7 +60,7 @@ or_turned true false = refl
 or_turned false true = refl
 or_turned false false = refl
 
--- a test of some term is the same once both have one more
+-- two lists with the same test of some term still have it with one more term
 more_any : (p : Term → Bool) (terms others : List Term) (term : Term) → list_any p terms ≡ list_any p others → list_any p (terms ++ term ∷ []) ≡ list_any p (others ++ term ∷ [])
 more_any p terms others term e = list_any-append p terms (term ∷ []) ∙ ap (λ b. b || list_any p (term ∷ [])) e ∙ sym (list_any-append p others (term ∷ []))
 

@@ -1,4 +1,4 @@
--- What it is that a part was read.
+-- What it means that a part was read.
 use Rattle.std.proofs.Common.{◌≡◌, ℕ, ◌+◌, ◌<◌, ◌≤◌, Bool, true, false, cond, List, [], ◌∷◌, ◌++◌, length, refl, sym, ap, ◌∙◌, arith, length-append}
 use Rattle.std.specs.Prelude.{Result, Ok, Err, Option, Some, None, option_map, ◌==◌}
 use Rattle.std.proofs.lemmas.Bool.{eqb-true}
@@ -106,7 +106,7 @@ reads_to front bytes term rest r = rw (r.has_word, r.known, r.new, r.apart, r.sp
 own_same : (front others : List Term) (key : Key) → has_key key front ≡ has_key key others → has_path key front ≡ has_path key others → own_key front key ≡ own_key others key
 own_same front others key p q = ap (λ b. cond b (Err KeyTwice) (cond (has_path key front) (Err PathTwice) (Ok key))) p ∙ ap (λ b. cond (has_key key others) (Err KeyTwice) (cond b (Err PathTwice) (Ok key))) q
 
--- what comes of a key that a rule may have
+-- what a part gives from its key on, where a rule may have the key
 abbrev behind_own : Key × List ℕ → Result Key RuleError → Result (Term × List ℕ) RuleError
 behind_own key found = do
   own ← found

@@ -17,7 +17,7 @@ use Rattle.match_rule.specs.Grammar.{Part, AreParts}
 use Rattle.match_rule.specs.Parts.{is_small_source, has_small_number, have_small_numbers}
 use Rattle.match_rule.proofs.Rows.{row_found}
 
--- the argument that a key is about has a number that a rule may ask for
+-- a key of an argument has a number that a rule may ask for
 abbrev is_small_key : Key → Bool
 is_small_key (keys.Compares source relation) = is_small_source source
 is_small_key _ = true

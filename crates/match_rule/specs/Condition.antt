@@ -55,7 +55,7 @@ key_of (Kind kind) = keys.Kind
 key_of (Sender name) = keys.Sender
 key_of (Compares source relation value) = keys.Compares source relation
 
--- the bytes of its value
+-- the bytes of a condition's value
 abbrev pub value_of : Condition → List ℕ
 value_of (Kind kind) = kind_word kind
 value_of (Sender name) = name
@@ -84,7 +84,7 @@ abbrev pub is_value : Source → Relation → List ℕ → Bool
 is_value (Header field) relation text = is_field_value field text
 is_value (Arg n) relation text = is_arg_value relation text
 
--- a condition of a value that is allowed
+-- the term of a condition, where its value is allowed
 abbrev pub asks_if : Bool → Condition → Option Term
 asks_if true condition = Some (Asks condition)
 asks_if false condition = None

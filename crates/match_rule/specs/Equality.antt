@@ -93,7 +93,7 @@ same_key a b e = same_number a b (eqb-true (key_number a) (key_number b) e)
 
 -- ---- conditions
 
--- the condition of a key and a value, allowed or not; for what asks nothing any
+-- the condition of a key and a value, allowed or not; for `eavesdrop`, which asks for nothing, any condition
 condition_of : Key → List ℕ → Condition
 condition_of keys.Kind value = Kind (unwrap_or (kind_named value) Signal)
 condition_of keys.Sender value = Sender value

@@ -20,7 +20,7 @@ backslash = 92
 abbrev pub comma : ℕ
 comma = 44
 
--- it stands after a key
+-- `=`, which stands after a key
 abbrev pub equals : ℕ
 equals = 61
 

@@ -53,13 +53,13 @@ behind_digits (b ∷ bs) = if is_digit b then behind_digits bs else b ∷ bs
 abbrev pub up_to_max : ℕ → Option ℕ
 up_to_max n = if nat_le n max_arg then Some n else None
 
--- the number of an argument, of one digit or of two of which the first isn't 0
+-- the number of an argument: one digit, or two of which the first isn't 0
 abbrev pub arg_number : List ℕ → Option ℕ
 arg_number (d ∷ []) = up_to_max (d - 48)
 arg_number (d ∷ e ∷ []) = if d == 48 then None else up_to_max (10 * (d - 48) + (e - 48))
 arg_number _ = None
 
--- the key of an argument's number, beside a relation and the greatest number that it may have
+-- the key of an argument's number: the relation of a row, where the number isn't above the row's greatest
 abbrev pub numbered_key : Relation × ℕ → Option ℕ → Result Key RuleError
 numbered_key row None = Err ArgNumber
 numbered_key row (Some n) = if nat_le n row.1 then Ok (Compares (Arg n) row.0) else Err ArgNumber
@@ -115,12 +115,12 @@ key_number (Compares source relation) = 3 + 4 * source_number source + relation_
 abbrev pub key_eq : Key → Key → Bool
 key_eq a b = key_number a == key_number b
 
--- `argN` and `argNpath` of one N stand for one another
+-- `argN` and `argNpath` share one, so that a rule has one of them for each N
 abbrev pub once_relation : Relation → Relation
 once_relation NestedPath = Equal
 once_relation relation = relation
 
--- the key that stands for all those of which a rule may have one
+-- the key that stands for all those of which a rule may have only one
 abbrev pub once_key : Key → Key
 once_key (Compares source relation) = Compares source (once_relation relation)
 once_key key = key

@@ -29,7 +29,7 @@ abbrev pub condition_weight : Condition → ℕ
 condition_weight (Compares source relation value) = 24 + length value + relation_weight relation value
 condition_weight c = 24 + length (value_of c)
 
--- 8, and what each condition weighs
+-- what a rule weighs: 8, and the weight of each condition
 abbrev pub weight_of : RuleTree → ℕ
 weight_of rule = 8 + sum_by condition_weight rule.conditions
 

@@ -43,14 +43,14 @@ fn split_digits(bytes: &[u8]) -> (&[u8], &[u8])
     (bytes, &[])
 }
 
-/// A number that a rule may ask for.
+/// The number, if a rule may ask for that argument.
 fn up_to_max(n: u8) -> Option<u8>
     ensures { result ≡ up_to_max n }
 {
     if n <= MAX_ARG { Some(n) } else { None }
 }
 
-/// The number of an argument, of one digit or of two of which the first isn't 0.
+/// The number of an argument: one digit, or two of which the first isn't 0.
 fn arg_number(digits: &[u8]) -> Option<u8>
     requires { list_all is_digit digits.now ≡ true }
     ensures { result ≡ arg_number digits.now }
@@ -78,7 +78,7 @@ fn relation_of_suffix(suffix: &[u8]) -> Option<(Relation, u8)>
     }
 }
 
-/// The key of an argument's number, beside a relation and the greatest number that it may have.
+/// The key of an argument's number, where the number isn't above the suffix's greatest.
 fn numbered_key(relation: Relation, greatest: u8, number: Option<u8>) -> Result<Key, RuleError>
     ensures { result ≡ numbered_key (relation, greatest) number }
 {

@@ -20,7 +20,7 @@ pub enum Condition {
 }
 
 impl Condition {
-    /// The key that asks for it.
+    /// The key that a part of a rule's text has for this condition.
     pub fn key(&self) -> Key
         ensures { result ≡ key_of self.now }
     {
@@ -31,7 +31,7 @@ impl Condition {
         }
     }
 
-    /// What it compares with; of a kind it is the word.
+    /// The text that it compares with; of a kind it is the kind's word.
     pub fn value(&self) -> &str
         ensures { result.now ≡ value_of self.now }
     {

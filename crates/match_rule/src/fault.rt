@@ -21,7 +21,7 @@ pub enum RuleError {
 }
 
 impl RuleError {
-    /// Its number, from 1 on.
+    /// The fault's number, from 1 in the order of the variants.
     pub fn number(self) -> u8
         ensures { result ≡ number_of self }
     {
@@ -37,7 +37,7 @@ impl RuleError {
         }
     }
 
-    /// Its name, which is also what `{}` prints.
+    /// The fault's name, which is also what `{}` prints.
     pub fn name(self) -> &'static str
         ensures { result.now ≡ name_of self }
     {

@@ -127,7 +127,7 @@ fn is_equal(found: Option<&str>, text: &str) -> bool
     }
 }
 
-/// Whether a message with this sender was sent by the name, where the sender is or isn't the owner of it.
+/// Whether a message was sent by a name: it is the sender's own, or `owns` says that the sender owns it.
 fn is_sent_by(sender: Option<&str>, name: &str, owns: bool) -> bool
     ensures owned { is_owned_name name.now ≡ true → result ≡ owns }
     ensures other { is_owned_name name.now ≡ false → (IsTrue result ↔ (option_map (λ name. name.now) sender.entry ≡ Some name.now)) }
@@ -139,7 +139,8 @@ fn is_sent_by(sender: Option<&str>, name: &str, owns: bool) -> bool
     }
 }
 
-/// Whether a condition holds of a message, whose sender is or isn't the owner of the name that it asks for.
+/// Whether a condition holds of a message. `owns` says whether the message's sender is the primary owner of the name
+/// that the condition asks for.
 fn holds(condition: &Condition, view: &View<'_>, owns: bool) -> bool
     ensures { (m : Message) (owned : List ℕ → Bool) → Valid view.now m → IfSome (owned_name_in condition.now) (λ name. owned name ≡ owns) → (IsTrue result ↔ ConditionHolds condition.now m owned) }
 {
@@ -159,8 +160,8 @@ pub(crate) fn is_offered(view: &View<'_>, eavesdrops: bool) -> bool
     eavesdrops || view.destination().is_none()
 }
 
-/// Whether each condition holds of a message, whose sender is or isn't the owner of each name that they ask
-/// for.
+/// Whether each condition holds of a message. `owns` says whether the message's sender is the primary owner of each
+/// name that they ask for.
 pub(crate) fn all_hold(conditions: &[Condition], view: &View<'_>, owns: bool) -> bool
     ensures { (m : Message) (owned : List ℕ → Bool) → Valid view.now m → All (λ c. IfSome (owned_name_in c) (λ name. owned name ≡ owns)) conditions.now → (IsTrue result ↔ All (λ c. ConditionHolds c m owned) conditions.now) }
 {

@@ -18,7 +18,7 @@ pub enum Key {
     Compares(Source, Relation),
 }
 
-/// The key that is one word.
+/// The key that is the whole word, as `type` is.
 fn key_of_word(word: &[u8]) -> Option<Key>
     ensures { result ≡ row_of key_words word.now }
 {
@@ -71,7 +71,7 @@ impl Key {
         }
     }
 
-    /// A number of its own.
+    /// A number that no other key has, so that equality is one comparison.
     fn number(self) -> u32
         ensures { result ≡ key_number self }
     {
@@ -85,7 +85,7 @@ impl Key {
         }
     }
 
-    /// The key that stands for all those of which a rule may have one.
+    /// The key that stands for all those of which a rule may have only one.
     fn once(self) -> Key
         ensures { result ≡ once_key self }
     {

@@ -15,7 +15,7 @@ pub enum KindName {
 }
 
 impl KindName {
-    /// The kind of a word.
+    /// The kind that a word names.
     pub(crate) fn named(word: &[u8]) -> Option<Self>
         ensures { result ≡ kind_named word.now }
     {
@@ -32,7 +32,7 @@ impl KindName {
         }
     }
 
-    /// Its word.
+    /// The word of the kind.
     pub fn word(self) -> &'static str
         ensures { result.now ≡ kind_word self }
     {

@@ -17,14 +17,14 @@ fn begins_with(text: &str, front: &str, byte: u8) -> bool
     }
 }
 
-/// Whether a path is the one, or lies below it.
+/// Whether a path is in a namespace: it is the value, or begins with the value and a `/`.
 pub(crate) fn is_in_path_namespace(path: &str, value: &str) -> bool
     ensures { IsTrue result ↔ InPathNamespace path.now value.now }
 {
     path == value || begins_with(path, value, b'/') || value == "/"
 }
 
-/// Whether a name is the one, or lies below it.
+/// Whether a name is in a namespace: it is the value, or begins with the value and a `.`.
 pub(crate) fn is_in_namespace(text: &str, value: &str) -> bool
     ensures { IsTrue result ↔ InNamespace text.now value.now }
 {

@@ -17,7 +17,7 @@ pub enum Relation {
 }
 
 impl Relation {
-    /// A number of its own.
+    /// A number that no other relation has.
     pub(crate) fn number(self) -> u8
         ensures { result ≡ relation_number self }
     {
@@ -29,7 +29,7 @@ impl Relation {
         }
     }
 
-    /// The relation that stands for all those of which a rule may have one: `argN` and `argNpath` share one.
+    /// The relation that stands for all those of which a rule may have only one: `argN` and `argNpath` share one.
     pub(crate) fn once(self) -> Relation
         ensures { result ≡ once_relation self }
     {

@@ -49,11 +49,11 @@ impl Rule {
 
     /// Reads a rule.
     pub fn read(alloc: Global, text: &str) -> Result<Rule, RuleError>
-        // The text reads as it.
+        // The text reads as the rule.
         ensures found { IfOk result (ReadsAs text.now) }
         // A text that reads as a rule is read, unless memory runs out.
         ensures only { (rule : RuleTree) → ReadsAs text.now rule → Gives (λ r. r) result (Ok rule) }
-        // Which fault it is.
+        // The fault is the first one from the left.
         ensures fault { IfErr result (λ fault. (fault ≡ NoMemory) ⊎ (rule_at text.now ≡ Err fault)) }
     {
         if text.len() > MAX_LEN {
@@ -66,47 +66,48 @@ impl Rule {
         })
     }
 
-    /// Its conditions, in the order of the text.
+    /// The conditions, in the order of the text.
     pub fn conditions(&self) -> &[Condition]
         ensures value { result.now ≡ self.now.conditions }
-        // An argument has a number of at most 63.
+        // The number of an argument is at most 63.
         ensures numbers { have_small_numbers self.now.conditions ≡ true }
-        // At most one asks for a sender.
+        // At most one condition asks for a sender.
         ensures one_sender { has_one_sender self.now.conditions ≡ true }
-        // A sender that one asks for is a bus name.
+        // The sender that a condition asks for is a bus name.
         ensures sender_names { have_sender_names self.now.conditions ≡ true }
         // Each byte of a value is below 256.
         ensures bytes { All (λ c. AreBytes (value_of c)) self.now.conditions }
-        // What a rule weighs at most.
+        // The weight is bounded, since the text has at most 1,024 bytes.
         ensures light { weight_of self.now ≤ 41992 }
     {
         &self.conditions
     }
 
-    /// Whether it has `eavesdrop='true'`.
+    /// Whether the text has `eavesdrop='true'`.
     pub fn eavesdrops(&self) -> bool
         ensures { result ≡ self.now.eavesdrops }
     {
         self.eavesdrops
     }
 
-    /// Whether it holds of a message, whose sender is or isn't the primary owner of the rule's sender name.
+    /// Whether the rule holds of a message. `owns` says whether the message's sender is the primary owner of the rule's
+    /// sender name.
     pub fn holds(&self, view: &View<'_>, owns: bool) -> bool
         ensures { (m : Message) (owned : List ℕ → Bool) → Valid view.now m → Agrees self.now owned owns → (IsTrue result ↔ Holds self.now m owned) }
     {
         is_offered(view, self.eavesdrops) && all_hold(self.conditions.as_slice(), view, owns)
     }
 
-    /// The well-known name whose owner decides whether the rule holds, if it asks for one as the sender. That of
-    /// the bus isn't one.
+    /// The well-known name whose owner decides whether the rule holds, if it asks for one as the sender. The bus's own
+    /// name isn't one.
     pub fn sender_name(&self) -> Option<&str>
         ensures { option_map (λ name. name.now) result ≡ sender_name_of self.now }
     {
         first_owned_name(self.conditions.as_slice())
     }
 
-    /// How large a program for the rule may become: 8, and for each condition 24 and the bytes of its value,
-    /// and for an `argNpath` 16 for each `/` of it.
+    /// A bound on the length of the rule's program, in instructions: 8, and for each condition 24 and the bytes of its
+    /// value, and for an `argNpath` 16 for each `/` of it.
     pub fn weight(&self) -> u64
         ensures { result ≡ weight_of self.now }
     {
@@ -122,7 +123,7 @@ impl PartialEq for Rule {
 
     ghost laws = { rules_partial };
 
-    /// Equality of the sets of conditions and of the eavesdropping, whatever the order.
+    /// Rules are equal where they have the same set of conditions, in whatever order, and the same eavesdropping.
     fn eq(&self, other: &Rule) -> bool {
         are_among(self.conditions.as_slice(), other.conditions.as_slice())
             && are_among(other.conditions.as_slice(), self.conditions.as_slice())

@@ -13,7 +13,7 @@ pub enum Field {
 }
 
 impl Field {
-    /// A number of its own.
+    /// A number that no other field has.
     fn number(self) -> u8
         ensures { result ≡ field_number self }
     {
@@ -34,7 +34,7 @@ pub enum Source {
 }
 
 impl Source {
-    /// A number of its own.
+    /// A number that no other source has.
     pub(crate) fn number(self) -> u16
         ensures { result ≡ source_number self }
     {

@@ -35,7 +35,7 @@ fn flag_named(word: &[u8]) -> Option<bool>
     }
 }
 
-/// A condition of a value that is allowed.
+/// The term of a condition, where its value is allowed.
 fn asks_if(allowed: bool, condition: Condition) -> Option<Term>
     ensures { result ≡ asks_if allowed condition }
 {
@@ -68,7 +68,7 @@ fn is_arg_value(relation: Relation, text: &str) -> bool
     }
 }
 
-/// Whether a condition may compare with the text.
+/// Whether a condition may compare the text at the source with this value, by the relation.
 fn is_value(source: Source, relation: Relation, text: &str) -> bool
     ensures { result ≡ is_value source relation text.now }
 {
@@ -96,7 +96,7 @@ fn term_of(key: Key, text: String) -> Option<Term>
     }
 }
 
-/// What a key and a value say.
+/// What a key and the bytes of a value say.
 pub(crate) fn term_with(key: Key, value: Vec<u8>) -> Result<Term, RuleError>
     ensures { Gives (λ x. x) result (or_fault BadValue (term_with key value.items)) }
 {

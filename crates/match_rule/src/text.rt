@@ -21,14 +21,14 @@ impl Text {
     ghost use Rattle.std.specs.Prelude.{◌≡◌};
     ghost use Rattle.std.specs.String.{string_bytes};
 
-    /// A text of its own.
+    /// Takes over a text.
     pub(crate) fn new(text: String) -> Self
         ensures { result ≡ string_bytes text }
     {
         Text { text }
     }
 
-    /// Its characters.
+    /// The text's characters.
     pub fn as_str(&self) -> &str
         ensures { result.now ≡ self.now }
     {

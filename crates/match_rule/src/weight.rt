@@ -30,7 +30,7 @@ fn relation_weight(relation: Relation, value: &str) -> u64
     }
 }
 
-/// What a condition weighs: 24 and the bytes of its value, and what its relation adds.
+/// What a condition weighs: 24, the bytes of its value, and what its relation adds.
 fn condition_weight(condition: &Condition) -> u64
     requires { condition_weight condition.now ≤ 41984 }
     ensures { result ≡ condition_weight condition.now }

@@ -11,8 +11,8 @@ use std::alloc::AllocError;
 use std::marker::Model;
 use std::sync::{Arc, Wait};
 
-/// A handle on a connection, by which the bus puts messages into its outbox and writes them out. Contracts see it as the
-/// outbox.
+/// A handle on a connection, by which the bus puts messages into its outbox and writes them out. Contracts see it as
+/// the outbox.
 #[derive(Drop)]
 pub struct Mail {
     member: Arc<Member>,

@@ -18,7 +18,7 @@ pub struct Member {
     outbox: Outbox,
     post: Arc<Post>,
     token: Token,
-    // Somebody wanted to write while another thread did, which looks again then.
+    // Another thread wanted to write while one did; the one that writes looks again then.
     is_asked: AtomicBool,
     // The socket was full, and the poll hasn't told of room yet.
     is_blocked: AtomicBool,
@@ -54,8 +54,8 @@ impl Member {
         &self.outbox
     }
 
-    /// Writes out what stands in the outbox, as far as the socket takes it now. Where another thread is writing, that one
-    /// looks again. The socket of an outbox that is shut is shut down, which wakes the connection's worker.
+    /// Writes out what stands in the outbox, as far as the socket takes it now. Where another thread is writing, that
+    /// one looks again. The socket of an outbox that is shut is shut down, which wakes the connection's worker.
     pub fn push_out<R: Wait>(&self, rt: &R) {
         self.is_asked.store(true, Ordering::SeqCst);
         for _ in rt.forever() {
@@ -99,7 +99,7 @@ impl Member {
         }
         let is_waiting = writer.write_out(rt) == Stand::Waiting;
         if is_waiting {
-            // Before the poll is asked: the worker takes it back, maybe at once.
+            // It is set before the poll is asked, since the worker may clear it at once.
             self.is_blocked.store(true, Ordering::SeqCst);
         }
         if self.ask_for_room(writer, is_waiting).is_err() {

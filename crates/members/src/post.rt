@@ -23,7 +23,7 @@ pub struct Post {
     registry: Registry,
     waker: Waker,
     arrivals: Mutex<Vec<Arrival>>,
-    // No more arrivals come.
+    // No further connections are handed in.
     is_finished: AtomicBool,
 }
 
@@ -65,8 +65,8 @@ impl Post {
             .register(&mut SourceFd(&descriptor), token, Interest::READABLE)
     }
 
-    /// Has the worker told of room to write as well, or no more of it. The poll tells of changes alone, and of room that
-    /// is there when it is asked: so it is asked anew each time the socket was full. It isn't asked for good, since on a
+    /// Has the worker told of room to write as well, or no longer. The poll tells of changes only, and of room that is
+    /// there when it is asked, so it is asked anew each time the socket was full. It isn't asked for good, since on a
     /// Unix socket each read of the other side would wake the worker.
     pub fn ask_for_room(&self, link: &Link, token: Token, wanted: bool) -> io::Result<()> {
         let interest = if wanted {

@@ -15,7 +15,7 @@ pub(crate) struct Unsent {
     batch: [u8; BATCH],
     start: usize,
     end: usize,
-    // The message that comes after the batch, since it had no room there.
+    // The message after the batch, which had no room in it.
     next: Option<Bytes>,
 }
 
@@ -80,7 +80,7 @@ impl Unsent {
         }
     }
 
-    /// The first bytes were written.
+    /// Drops the first `count` bytes, which were written.
     pub(crate) fn advance(&mut self, count: usize)
         ensures { count ≤ length (first_of self.old) → all_of self.new ≡ drop count (all_of self.old) }
     {
@@ -91,7 +91,7 @@ impl Unsent {
         }
     }
 
-    /// The first bytes of the batch were written. Once all were, it has its whole room again.
+    /// Drops the first `count` bytes of the batch, which were written. An empty batch has its whole room again.
     fn advance_batch(&mut self, count: usize)
         ensures rest { count ≤ length self.old.batch → self.new.batch ≡ drop count self.old.batch }
         ensures long { self.new.long ≡ self.old.long }
@@ -105,7 +105,7 @@ impl Unsent {
         }
     }
 
-    /// Lets all of them go.
+    /// Drops all bytes.
     pub(crate) fn clear(&mut self)
         ensures { all_of self.new ≡ [] }
     {

@@ -21,9 +21,9 @@ pub(crate) enum Stand {
     Waiting,
 }
 
-/// The taker's seat at an outbox, the bytes that it took and hasn't written, and the socket. It stands beside a handle of
-/// its own on the outbox, so that both are found together under a lock. What was written to the socket is a beginning of
-/// what the seat took.
+/// The taker's seat at an outbox, the bytes that it took and hasn't written, and the socket. It stands beside a handle
+/// of its own on the outbox, so that both are found together under a lock. What was written to the socket is a
+/// beginning of what the seat took.
 #[derive(Drop)]
 pub(crate) struct Writer {
     outbox: Outbox,
@@ -55,7 +55,7 @@ impl Writer {
         &self.link
     }
 
-    /// Whether the outbox was full when one more message came.
+    /// Whether the outbox was shut.
     pub(crate) fn is_shut(&mut self) -> bool {
         self.outbox.is_shut(&mut self.seat)
     }
@@ -81,7 +81,7 @@ impl Writer {
         }
     }
 
-    /// Writes what waits, as far as the socket takes it.
+    /// Writes what waits, as far as the socket has room.
     pub(crate) fn write_out<R: Wait>(&mut self, rt: &R) -> Stand {
         for _ in 0..WRITES {
             self.fill(rt);

@@ -38,7 +38,7 @@ Ends None place len = max_array_len < len
 
 -- ---- fields
 
--- what a text is, where there is one
+-- the text, where there is one
 abbrev pub said : Option (Bor (List ℕ)) → Option (List ℕ)
 said (Some t) = Some t.now
 said None = None
@@ -60,11 +60,11 @@ fields_of [] = []
 fields_of (None ∷ more) = fields_of more
 fields_of (Some field ∷ more) = field_of field ∷ fields_of more
 
--- an interface, and not the one that only a connection's own library may use
+-- an interface, but not the one that only a connection's own library may use
 abbrev pub is_open_interface : List ℕ → Bool
 is_open_interface bytes = is_interface bytes && not (bytes_eq bytes local_interface)
 
--- the same of a path, whose length has four bytes
+-- an object path, but not the one that only a connection's own library may use; its length fits four bytes
 abbrev pub is_open_path : List ℕ → Bool
 is_open_path bytes = is_path bytes && not (bytes_eq bytes local_path) && nat_lt (length bytes) (2 ^ 32)
 
@@ -87,7 +87,7 @@ may_be (Some field) = is_allowed field
 abbrev pub are_allowed : List (Option HeaderField) → Bool
 are_allowed fields = list_all may_be fields
 
--- a number fits
+-- the number of a field fits four bytes
 abbrev pub Holds : HeaderField → Type 0
 Holds (ReplySerial n) = n < 2 ^ 32
 Holds _ = Unit {0}
@@ -164,7 +164,7 @@ pub record InRange (h : Header) : Type 0 where
 abbrev pub is_sound_header : Header → Bool
 is_sound_header h = kind_is_own h.kind && not (h.serial == 0) && has_needed h
 
--- what fields hold that were set to nothing
+-- a header in which no field is set
 abbrev pub bare_header : Kind → ℕ → ℕ → Header
 bare_header kind flags serial = record { kind = kind; flags = flags; serial = serial; path = None; interface = None; member = None; error_name = None; reply_serial = None; destination = None; sender = None }
 
@@ -214,12 +214,12 @@ with_raw a signature body =
     then record a { signature = a.signature ++ signature; body = a.body ++ body; given = Raw }
     else record a { given = Spoiled }
 
--- a call did this, or memory ran out and nothing changed
+-- a call made these of what was asked, or memory ran out and nothing changed
 abbrev pub Adds : {X : Type 0} → Result X BuildError → Asked → Asked → Asked → Type 0
 Adds (Ok x) old new next = new ≡ next
 Adds (Err e) old new next = (e ≡ NoMemory) × (new ≡ old)
 
--- what completes a list, or cuts another one back
+-- A list grew, and then another one; or memory ran out, and the first is cut back and the second as it was.
 abbrev pub Completes : {X Y E : Type 0} → Result X E → Result Y E → List ℕ → List ℕ → ℕ → List ℕ → List ℕ → List ℕ → Type 0
 Completes (Ok x) (Ok y) grown cut len list new more = (cut ≡ grown) × (new ≡ list ++ more)
 Completes (Err e) (Ok y) grown cut len list new more = ⊥

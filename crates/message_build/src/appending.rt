@@ -11,7 +11,7 @@ ghost use Rattle.message_build.specs.Words.{Appends};
 use message_value::{Order, padding};
 use std::alloc::AllocError;
 
-/// Zeros up to a multiple.
+/// Appends zeros up to a multiple.
 pub(crate) fn align(bytes: &mut Vec<u8>, alignment: usize) -> Result<(), AllocError>
     requires { 0 < alignment × alignment ≤ 8 }
     ensures { Appends result bytes.old.items bytes.new.items (zeros (padding alignment (length bytes.old.items))) }
@@ -20,7 +20,7 @@ pub(crate) fn align(bytes: &mut Vec<u8>, alignment: usize) -> Result<(), AllocEr
     bytes.extend_from_slice(&zeros[..padding(alignment, bytes.len())])
 }
 
-/// The four low bytes of a number. A length that they can't hold is only met in a message above the limits.
+/// The four low bytes of a number. Only the lengths of messages above the limits need more.
 pub(crate) fn word_of(order: Order, n: usize) -> [u8; 4]
     ensures { result ≡ word_bytes order n }
 {
@@ -32,14 +32,14 @@ pub(crate) fn word_of(order: Order, n: usize) -> [u8; 4]
     }
 }
 
-/// The four low bytes of a number.
+/// Appends the four low bytes of a number.
 pub(crate) fn push_word(bytes: &mut Vec<u8>, order: Order, n: usize) -> Result<(), AllocError>
     ensures { Appends result bytes.old.items bytes.new.items (word_bytes order n) }
 {
     bytes.extend_from_slice(&word_of(order, n))
 }
 
-/// A text with its length in four bytes, and a zero.
+/// Appends a text with its length in four bytes before it and a zero byte after it.
 pub(crate) fn push_text(bytes: &mut Vec<u8>, order: Order, text: &[u8]) -> Result<(), AllocError>
     ensures { Appends result bytes.old.items bytes.new.items (text_bytes order 115 text.now) }
 {
@@ -48,7 +48,7 @@ pub(crate) fn push_text(bytes: &mut Vec<u8>, order: Order, text: &[u8]) -> Resul
     bytes.extend_from_slice(&[0])
 }
 
-/// A string or a path as a value, with the zeros before it.
+/// Appends a string or a path as a value, with the zeros before it.
 pub(crate) fn push_string(
     bytes: &mut Vec<u8>,
     order: Order,
@@ -60,7 +60,7 @@ pub(crate) fn push_string(
     push_text(bytes, order, string)
 }
 
-/// A number of four bytes as a value, with the zeros before it.
+/// Appends a number of four bytes as a value, with the zeros before it.
 pub(crate) fn push_number(bytes: &mut Vec<u8>, n: u32) -> Result<(), AllocError>
     ensures { Appends result bytes.old.items bytes.new.items (value_bytes Little (length bytes.old.items) (basic 117) (number n)) }
 {
@@ -68,7 +68,7 @@ pub(crate) fn push_number(bytes: &mut Vec<u8>, n: u32) -> Result<(), AllocError>
     push_word(bytes, Order::Little, n as usize)
 }
 
-/// A signature with its length in a byte, and a zero.
+/// Appends a signature with its length in a byte before it and a zero byte after it.
 pub(crate) fn push_signature(bytes: &mut Vec<u8>, text: &[u8]) -> Result<(), AllocError>
     requires { length text.now < 256 }
     ensures { Appends result bytes.old.items bytes.new.items (text_bytes Little 103 text.now) }

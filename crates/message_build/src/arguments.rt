@@ -13,7 +13,7 @@ use crate::strings::push_strings;
 use message_value::Order;
 use std::alloc::AllocError;
 
-/// Appends to one list once another has grown; where either is refused, that one is cut back.
+/// Appends `more` to `list` after `grown` has grown. Where either is refused, `grown` is cut back to `len`.
 fn complete(
     pushed: Result<(), AllocError>,
     grown: &mut Vec<u8>,

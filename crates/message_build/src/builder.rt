@@ -1,4 +1,4 @@
-// A builder: what it was told so far.
+// A builder, and what it was told so far.
 
 use crate::error::BuildError;
 use crate::given::Given;

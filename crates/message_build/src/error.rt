@@ -19,7 +19,7 @@ pub enum BuildError {
 }
 
 impl BuildError {
-    /// Its number, from 1 on.
+    /// The error's number, from 1 in the order of the variants.
     pub fn number(self) -> u8
         ensures { result ≡ number_of self }
     {
@@ -30,7 +30,7 @@ impl BuildError {
         }
     }
 
-    /// Its name, which is also what `{}` prints.
+    /// The error's name, which is also what `{}` prints.
     pub fn name(self) -> &'static str
         ensures { result.now ≡ name_of self }
     {

@@ -24,7 +24,8 @@ pub(crate) const MAX_ARRAY_LEN: usize = 67108864;
 /// The longest text, whose length has four bytes.
 const MAX_TEXT_LEN: usize = u32::MAX as usize;
 
-/// Whether a message may go to the object of this path.
+/// Whether a message may have this path: it is an object path, but not the one that only a connection's own library may
+/// use.
 fn is_open_path(path: &str) -> bool
     ensures { result ≡ is_open_path path.now }
 {
@@ -72,7 +73,7 @@ impl HeaderField<'_> {
         }
     }
 
-    /// Its code.
+    /// The field's code (D-Bus Specification, "Header Fields").
     fn code(self) -> u8
         ensures { result ≡ (field_of self.entry).code }
     {
@@ -88,7 +89,7 @@ impl HeaderField<'_> {
         }
     }
 
-    /// The byte of its type.
+    /// The byte of the type of the field's value.
     fn type_byte(self) -> u8
         ensures { basic result ≡ (field_of self.entry).type }
     {
@@ -104,7 +105,7 @@ impl HeaderField<'_> {
         }
     }
 
-    /// Where its value ends that begins at a place, or None where it is longer than an array may be.
+    /// Where the field's value ends, if it begins at a place; `None` where it is longer than an array may be.
     fn value_end(self, place: usize) -> Option<usize>
         requires { place < 2 ^ 32 }
         ensures { Ends result place (length (value_bytes Little place (field_of self.entry).type (field_of self.entry).value)) }
@@ -121,7 +122,7 @@ impl HeaderField<'_> {
         }
     }
 
-    /// Where it ends that begins at a place, or None where it is longer than an array may be.
+    /// Where the field ends, if it begins at a place; `None` where it is longer than an array may be.
     pub(crate) fn end(self, place: usize) -> Option<usize>
         requires { place < 2 ^ 31 }
         ensures { Ends result place (length (field_bytes Little place (field_of self.entry))) }
@@ -129,7 +130,7 @@ impl HeaderField<'_> {
         self.value_end(place + padding(8, place) + 4)
     }
 
-    /// Its value, with the zeros before it.
+    /// Appends the field's value, with the zeros before it.
     fn push_value(self, bytes: &mut Vec<u8>) -> Result<(), AllocError>
         requires { is_allowed self ≡ true }
         ensures { Appends result bytes.old.items bytes.new.items (value_bytes Little (length bytes.old.items) (field_of self.entry).type (field_of self.entry).value) }
@@ -146,7 +147,7 @@ impl HeaderField<'_> {
         }
     }
 
-    /// It, with the zeros before it: its code, and its value as a variant.
+    /// Appends the field, with the zeros before it: its code, and its value as a variant.
     pub(crate) fn push(self, bytes: &mut Vec<u8>) -> Result<(), AllocError>
         requires { is_allowed self ≡ true }
         ensures { Appends result bytes.old.items bytes.new.items (field_bytes Little (length bytes.old.items) (field_of self.entry)) }

@@ -12,7 +12,7 @@ use std::alloc::AllocError;
 /// How many bytes stand before the fields.
 pub(crate) const FIXED_LEN: usize = 16;
 
-/// Where a field ends, if there is one, or None where that is too far.
+/// Where a field ends that begins at a place, if there is one; `None` where it is longer than an array may be.
 fn end_behind(place: usize, field: &Option<HeaderField<'_>>) -> Option<usize>
     requires low { fixed_len ≤ place }
     requires high { place ≤ fixed_len + max_array_len }
@@ -31,7 +31,7 @@ fn end_behind(place: usize, field: &Option<HeaderField<'_>>) -> Option<usize>
     }
 }
 
-/// Where the fields end, or None where they are longer than an array may be.
+/// Where the fields end; `None` where they are longer than an array may be.
 pub(crate) fn fields_end(fields: &[Option<HeaderField<'_>>]) -> Option<usize>
     ensures { EndsWithin result fixed_len (length (fields_bytes Little fixed_len (fields_of fields.now))) }
 {
@@ -42,7 +42,7 @@ pub(crate) fn fields_end(fields: &[Option<HeaderField<'_>>]) -> Option<usize>
     Some(end)
 }
 
-/// A field, if there is one, with the zeros before it.
+/// Appends a field, if there is one, with the zeros before it.
 fn push_field(bytes: &mut Vec<u8>, field: &Option<HeaderField<'_>>) -> Result<(), AllocError>
     requires { may_be field.now ≡ true }
     ensures { Appends result bytes.old.items bytes.new.items (bytes_at (length bytes.old.items) field.now) }
@@ -53,7 +53,7 @@ fn push_field(bytes: &mut Vec<u8>, field: &Option<HeaderField<'_>>) -> Result<()
     }
 }
 
-/// The fields one after the other.
+/// Appends the fields one after the other.
 pub(crate) fn push_fields(
     bytes: &mut Vec<u8>,
     fields: &[Option<HeaderField<'_>>],

@@ -79,7 +79,7 @@ fn is_kept(code: u8) -> bool
     }
 }
 
-/// A field where it may stand, if it is copied.
+/// Appends a field, with the zeros before it, if it is copied.
 fn push_found(bytes: &mut Vec<u8>, found: &Found<'_>) -> Result<(), AllocError>
     ensures { Appends result bytes.old.items bytes.new.items (kept_bytes (length bytes.old.items) found.now) }
 {
@@ -90,8 +90,8 @@ fn push_found(bytes: &mut Vec<u8>, found: &Found<'_>) -> Result<(), AllocError>
     bytes.extend_from_slice(found.bytes)
 }
 
-/// The fields of an array that are copied, in their order. The array begins at a multiple of 8, so that
-/// places may be counted from there.
+/// Appends the fields of an array that are copied, in their order. The array begins at a multiple of 8, so that places
+/// may be counted from there.
 pub(crate) fn push_kept(bytes: &mut Vec<u8>, order: Order, array: &[u8]) -> Result<(), AllocError>
     requires { length array.now ≤ 67108864 }
     ensures front { take (length bytes.old.items) bytes.new.items ≡ bytes.old.items }

@@ -31,8 +31,8 @@ fn order_byte(order: Order) -> u8
     }
 }
 
-/// What stands in front of the fields: the order, the kind, the flags, the version of the protocol, the
-/// body's length, the serial, and the length of the fields.
+/// Appends what comes before the fields: the order, the kind, the flags, the version of the protocol, the body's
+/// length, the serial, and the length of the fields.
 pub(crate) fn push_fixed(
     bytes: &mut Vec<u8>,
     order: Order,

@@ -42,7 +42,7 @@ pub enum StampError {
 }
 
 impl StampError {
-    /// Its number, from 1 on.
+    /// The error's number, from 1 in the order of the variants.
     pub fn number(self) -> u8
         ensures { result ≡ stamp_number_of self }
     {
@@ -52,7 +52,7 @@ impl StampError {
         }
     }
 
-    /// Its name, which is also what `{}` prints.
+    /// The error's name, which is also what `{}` prints.
     pub fn name(self) -> &'static str
         ensures { result.now ≡ stamp_name_of self }
     {
@@ -119,7 +119,7 @@ fn array_of(order: Order, raw: &[u8]) -> &[u8]
     }
 }
 
-/// The field SENDER where it may stand.
+/// Appends the field SENDER, with the zeros before it.
 fn push_sender(bytes: &mut Vec<u8>, order: Order, sender: &str) -> Result<(), AllocError>
     ensures { Appends result bytes.old.items bytes.new.items (field_bytes order (length bytes.old.items) (sender_field sender.now)) }
 {

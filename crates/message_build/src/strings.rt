@@ -15,7 +15,7 @@ use std::alloc::AllocError;
 /// How many bytes the length of an array has.
 const LENGTH_LEN: usize = 4;
 
-/// The strings one after the other.
+/// Appends the strings one after the other.
 fn push_elements(bytes: &mut Vec<u8>, strings: &[&str]) -> Result<(), AllocError>
     ensures { Appends result bytes.old.items bytes.new.items (elements_bytes Little (length bytes.old.items) (basic 115) (string_values strings.now)) }
 {
@@ -37,7 +37,7 @@ pub(crate) fn set_word(bytes: &mut Vec<u8>, at: usize, order: Order, n: usize)
     bytes[at + 3] = word[3];
 }
 
-/// An array of strings as a value, with the zeros before it.
+/// Appends an array of strings as a value, with the zeros before it.
 pub(crate) fn push_strings(bytes: &mut Vec<u8>, strings: &[&str]) -> Result<(), AllocError>
     ensures { Appends result bytes.old.items bytes.new.items (value_bytes Little (length bytes.old.items) (array (basic 115)) (elements (string_values strings.now))) }
 {

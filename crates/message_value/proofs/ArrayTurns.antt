@@ -5,7 +5,7 @@ use Rattle.std.proofs.lemmas.Bool.{eq-eqb}
 use Rattle.message_value.specs.declared.fault.MsgError.{MsgError}
 use Rattle.message_value.specs.Reading.{At, ◌>>=◌, each_at}
 
--- The whole is Ok where what is left is, and else its fault.
+-- The whole is Ok where the reading of what is left is, and else has its fault.
 abbrev pub Follows : {X : Type 0} → Result (List X) MsgError → Result (List X) MsgError → Type 0
 Follows (Ok found) whole = (all : List _) × (whole ≡ Ok all)
 Follows (Err fault) whole = whole ≡ Err fault

@@ -1,4 +1,4 @@
--- What is read again and again up to the end: what is read is spelled so, and what is spelled so is read again.
+-- What is read up to the end: what is read is spelled so, and what is spelled so is read again.
 use Rattle.std.proofs.Common.{◌≡◌, ℕ, zero, suc, ◌+◌, ◌<◌, ◌≤◌, Bool, true, false, cond, eqb, ltb, List, [], ◌∷◌, ◌++◌, length, Result, Ok, refl, sym, ap, subst, ◌∙◌, append_assoc, arith}
 use Rattle.std.proofs.lemmas.Bool.{eqb-true, ne_eqb, ltb-false, le-ltb}
 use Rattle.std.proofs.lemmas.List.{nil_from_length, length-append}

@@ -17,8 +17,8 @@ abbrev pub ◌>>=◌ : {A B : Type 0} → Result A MsgError → (A → Result B 
 (Ok x) >>= f = f x
 (Err fault) >>= f = Err fault
 
--- A place of the message, the bytes that the innermost array has from there on, or the body where no array
--- holds it, and what an item is called that lies beyond them.
+-- A place of the message, the bytes that follow there of the innermost array, or of the body where no array holds the
+-- place, and the fault of an item that reaches past them.
 pub record At : Type 0 where
   pub place : ℕ
   pub rest : List ℕ
@@ -51,7 +51,7 @@ word_at order at = do
 
 -- ---- texts
 
--- what a text of the wrong form is called
+-- the fault of a text of the wrong form
 abbrev pub text_fault : ℕ → MsgError
 text_fault code = if code == 111 then faults.BadName else if code == 103 then faults.BadSignature else faults.BadText
 
@@ -99,7 +99,7 @@ signature_at at = do
 
 -- ---- numbers
 
--- a boolean is 0 or 1
+-- the value of a number's bits; a boolean is 0 or 1
 abbrev pub counted : ℕ → ℕ → At → Result (Value × At) MsgError
 counted code bits behind = if code == 98 && nat_lt 1 bits then Err faults.BadBool else Ok (number bits, behind)
 
@@ -126,7 +126,7 @@ extent_at order alignment at = do
   bytes ← item_at len.0 start
   Ok (inside start.place bytes.0, bytes.1)
 
--- What is read again and again up to the end. Each has at least a byte, so that as many turns as there are
+-- Items that are read one after the other, up to the end. Each has at least a byte, so that as many turns as there are
 -- bytes are enough.
 abbrev pub each_at : {X : Type 0} → (At → Result (X × At) MsgError) → ℕ → At → Result (List X) MsgError
 each_at reader zero at = Ok []

@@ -67,7 +67,7 @@ unfoldable pub basic_at : Order → ℕ → At → Result (Value × At) MsgError
 basic_at order code at =
     aligned_at (basic_alignment code) at >>= λ start. if is_text_code code then text_value_at order code start else number_value_at order code start
 
--- What a call returned is whether reading what is read again and again is Ok, and its fault.
+-- What a call returned is whether reading all items is Ok, and else its fault.
 abbrev pub ChecksAll : {X Y : Type 0} → Result X MsgError → Result (List Y) MsgError → Type 0
 ChecksAll (Ok x) read = (found : _) × (read ≡ Ok found)
 ChecksAll (Err fault) read = read ≡ Err fault
@@ -77,7 +77,7 @@ abbrev pub AreNumbers : ℕ → DataType → Type 0
 AreNumbers len (basic code) = (is_text_code code ≡ false) × ((code == 98) ≡ false) × (number_len code ≡ len)
 AreNumbers len _ = ⊥
 
--- an array's length is a multiple, or a fault
+-- an array's length is a multiple of this one, else it is a fault
 abbrev pub Divides : {X : Type 0} → Bool → Result X MsgError → Type 0
 Divides multiple (Ok x) = multiple ≡ true
 Divides multiple (Err fault) = (multiple ≡ false) × (fault ≡ faults.ArrayLength)

@@ -14,8 +14,8 @@ use std::marker::Model;
 /// An array has at most 64 MiB.
 const MAX_ARRAY_LEN: u32 = 67108864;
 
-/// A place of the message, and the bytes that the innermost array has from there on, or the body where no
-/// array holds the place.
+/// A place of the message, and the bytes that follow there of the innermost array, or of the body where no array holds
+/// the place.
 #[derive(Drop)]
 pub struct Cursor<'a> {
     place: usize,
@@ -51,7 +51,7 @@ pub fn are_zeros(bytes: &[u8]) -> bool
 }
 
 impl<'a> Cursor<'a> {
-    /// At a place of the message, before these bytes; an item that lies beyond them is the fault outside.
+    /// A cursor at a place of the message, before these bytes. An item that reaches past them is the fault `outside`.
     pub fn new(place: usize, rest: &'a [u8], outside: MsgError) -> Self
         requires { place + length rest.now < 2 ^ 32 }
         ensures { result ≡ record { place = place; rest = rest.entry.now; outside = outside } }
@@ -77,7 +77,7 @@ impl<'a> Cursor<'a> {
         self.rest.len()
     }
 
-    /// Where it stands, in four bytes.
+    /// Where it stands, as a number of four bytes.
     pub fn place_word(&self) -> u32
         ensures place { result ≡ self.now.place }
         ensures within { result + length self.now.rest < 2 ^ 32 }

@@ -52,7 +52,7 @@ pub enum MsgError {
 }
 
 impl MsgError {
-    /// Its number, from 1 on.
+    /// The fault's number, from 1 in the order of the variants.
     pub fn number(self) -> u8
         ensures { result ≡ number_of self }
     {
@@ -80,7 +80,7 @@ impl MsgError {
         }
     }
 
-    /// Its name, which is also what `{}` prints.
+    /// The fault's name, which is also what `{}` prints.
     pub fn name(self) -> &'static str
         ensures { result.now ≡ name_of self }
     {

@@ -1,4 +1,4 @@
-// Arrays of numbers that need no look.
+// Arrays of numbers that needn't be looked at.
 
 ghost use Rattle.std.specs.Prelude.{◌%◌, ◌<◌, ◌==◌, length, IfSome};
 ghost use Rattle.signature.specs.DataType.{DataType, TypeText};
@@ -9,7 +9,7 @@ use crate::cursor::Cursor;
 use crate::fault::MsgError;
 use signature::{OneType, Parts};
 
-/// How many bytes each value of a type has, where any of these are a value.
+/// How many bytes each value of a type has, where any bytes are a value.
 pub(crate) fn fixed_len(value_type: &OneType<'_>) -> Option<usize>
     ensures { IfSome result (λ len. (type : DataType) → TypeText type value_type.now → AreNumbers len type) }
 {

@@ -121,7 +121,7 @@ impl TextType {
         }
     }
 
-    /// What bytes of another form are.
+    /// The fault of bytes that aren't of this type's form.
     fn fault(self) -> MsgError
         ensures { result ≡ text_fault (text_code self) }
     {

@@ -29,7 +29,7 @@ pub nothing_front : (more : List Field) → Apart [] more
 nothing_front [] = tt
 nothing_front (field ∷ more) = (once_from (code_of field.code) field.code [] (λ known e. refl), nothing_front more)
 
--- the code of a list with one field more
+-- the code of a list with one more field
 with_push : (code : ℕ) (front : List Field) (field : Field) → field_with code front ≡ None → eqb field.code code ≡ false → field_with code (front ++ field ∷ []) ≡ None
 with_push code [] field none other = rw other refl
 with_push code (f ∷ front) field none other =
@@ -43,7 +43,7 @@ of_push code (f ∷ front) field none =
     let both = of_push code front field n.1 in
     (rw n.0 both.0, both.1)
 
--- a field whose code the known one in front hasn't
+-- a later field hasn't the code of a known one in front
 differ : (field later : Field) (known : FieldCode) (more : List Field) → IsOnce (code_of field.code) field.code (later ∷ more) → code_of later.code ≡ Some known → eqb field.code later.code ≡ false
 differ field later known more once is = ne_eqb _ _ (λ same. never same (once_at (code_of field.code) field.code (later ∷ more) known once (ap code_of same ∙ is)))
   where

@@ -56,7 +56,7 @@ value_stands ErrorName order place text are = long_text_stands order place text 
 value_stands Destination order place text are = long_text_stands order place text are
 value_stands Sender order place text are = long_text_stands order place text are
 
--- What is said of the text of a field among bytes that begin at a place: where it stands, and its length.
+-- What is told of the text of a field among bytes that begin at a place: where it stands, and its length.
 abbrev pub Said : List ℕ → ℕ → Option Extent → Option (List ℕ) → Type 0
 Said bytes start None None = Unit {0}
 Said bytes start None (Some text) = ⊥

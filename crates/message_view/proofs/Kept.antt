@@ -35,7 +35,7 @@ or_none : (value : Option Value) → or_value value None ≡ value
 or_none (Some value) = refl
 or_none None = refl
 
--- the value of a code in a list with one field more
+-- the value of a code in a list with one more field
 more_fields : (code : ℕ) (front : List Field) (field : Field) → field_with code (front ++ field ∷ []) ≡ or_value (field_with code front) (cond (field.code == code) (Some field.value) None)
 more_fields code [] field = refl
 more_fields code (first ∷ front) field = go (first.code == code) (more_fields code front field)

@@ -74,7 +74,7 @@ slot_byte codes.Sender = (refl, omega arith)
 slot_byte codes.Signature = (refl, omega arith)
 slot_byte codes.UnixFds = (refl, omega arith)
 
--- ---- one field more
+-- ---- one more field
 
 -- the extents with one known field more
 extents_more : (order : Order) (start : ℕ) (front : List Field) (extents : Extents) (code : FieldCode) (field : Field) (end : ℕ) (extent : Option Extent) → length extents ≡ 9 → field.code ≡ code_byte code → field_with (code_byte code) front ≡ None
@@ -107,7 +107,7 @@ extents_same order start front extents field unknown are = λ name.
     let other : eqb field.code (text_field_code name) ≡ false = ne_eqb _ _ (λ same. let no : Some (named_code name) ≡ None = sym (named_known name) ∙ ap code_of (sym same) ∙ unknown in absurd cc) in
     are name ∙ sym (extent_other order start (text_field_code name) front field other)
 
--- what is kept with one field more
+-- what is kept with one more field
 front_push : (order : Order) (start : ℕ) (front : List Field) (fields kept : Fields) (old behind : At) (field : Field) → IsFront order start front fields old → field_at order front old ≡ Ok (field, behind)
     → shown kept ≡ slots_of (front ++ field ∷ []) → AreExtents order start (front ++ field ∷ []) (lying kept) → IsFront order start (front ++ field ∷ []) kept behind
 front_push order start front fields kept old behind field is read shows lie =

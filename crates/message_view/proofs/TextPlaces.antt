@@ -54,7 +54,7 @@ text_within order code a bytes behind e =
     some true found e = short_within a found e
     some false found e = long_within order code a found e
 
--- ---- one field more
+-- ---- one more field
 
 pub fields_push : (order : Order) (start : ℕ) (front : List Field) (field : Field) (end : ℕ) → end ≡ start + length (fields_bytes order start front) → start + length (fields_bytes order start (front ++ field ∷ [])) ≡ end + length (field_bytes order end field)
 fields_push order start [] field end is =

@@ -21,7 +21,7 @@ use Rattle.message_view.specs.Fixed.{order_in, serial_in, fields_len, framing}
 
 -- ---- fields
 
--- what a number that a field may not have is called
+-- the fault of a number that a field may not have
 abbrev pub number_fault : FieldCode → MsgError
 number_fault ReplySerial = faults.Serial
 number_fault _ = faults.UnixFds
@@ -99,7 +99,7 @@ fields_of bytes =
 abbrev pub header_padding : List ℕ → List ℕ
 header_padding bytes = take (padding 8 (fields_len bytes)) (drop (fixed_len + fields_len bytes) bytes)
 
--- what there is to say between the fields and the body
+-- the fault of what lies between the fields and the body, if there is one
 abbrev pub header_fault : Kind → List ℕ → List Field → Option MsgError
 header_fault kind skipped fields =
     if not (has_required kind fields) then Some faults.FieldMissing

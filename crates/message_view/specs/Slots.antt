@@ -64,7 +64,7 @@ extent_in extents field = slice_index_or extents (slot_of (named_code field)) No
 abbrev pub extents_in : Extents → List (Option Extent)
 extents_in extents = map (extent_in extents) text_fields
 
--- they are those of the fields from a place on
+-- the extents are those of the fields from a place on
 abbrev pub AreExtents : Order → ℕ → List Field → Extents → Type 0
 AreExtents order place fields extents = (name : TextField) → extent_in extents name ≡ extent_from order place (text_field_code name) fields
 

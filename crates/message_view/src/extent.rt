@@ -19,7 +19,7 @@ pub enum TextField {
 }
 
 impl TextField {
-    /// The field that it is.
+    /// The header field of the text.
     pub(crate) fn code(self) -> FieldCode
         ensures { result ≡ named_code self }
     {

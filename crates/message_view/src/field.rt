@@ -36,7 +36,7 @@ pub(crate) enum FieldType {
 }
 
 impl FieldCode {
-    /// Where the values of the known fields are kept in order.
+    /// The place of the field's value among those of the known fields.
     pub(crate) fn slot(self) -> usize
         ensures { result ≡ slot_of self }
     {
@@ -121,7 +121,7 @@ impl FieldCode {
         }
     }
 
-    /// What a number is that the field may not hold.
+    /// The fault of a number that the field may not hold.
     fn number_fault(self) -> MsgError
         ensures { result ≡ number_fault self }
     {
@@ -131,7 +131,7 @@ impl FieldCode {
         }
     }
 
-    /// What keeps the field from holding this content.
+    /// The fault of a content that the field may not hold.
     pub(crate) fn content_fault(self, content: Content<'_>) -> Option<MsgError>
         ensures { result ≡ content_fault self (value_of content.entry) }
     {

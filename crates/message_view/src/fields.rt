@@ -182,7 +182,7 @@ impl<'a> Fields<'a> {
         }
     }
 
-    /// Whether the fields are there without which a message of this kind is none.
+    /// Whether all fields are there that a message of this kind needs.
     pub(crate) fn has_required(&self, kind: Kind) -> bool
         ensures { (front : List Field) → shown self.now ≡ slots_of front → result ≡ has_required kind front }
     {
@@ -199,7 +199,7 @@ impl<'a> Fields<'a> {
         }
     }
 
-    /// What keeps a field from having this code.
+    /// The fault of a field with this code, if there is one: a known field comes a second time.
     fn code_fault(&self, byte: u8) -> Option<MsgError>
         ensures { (front : List Field) → shown self.now ≡ slots_of front → result ≡ code_fault front byte }
     {
@@ -225,7 +225,7 @@ impl<'a> Fields<'a> {
         }
     }
 
-    /// The next field is kept, if it is known.
+    /// Reads the next field, and keeps it if it is known.
     fn read_next(&mut self, cursor: &mut Cursor<'a>, order: Order) -> Result<(), MsgError>
         ensures { (start : ℕ) (front : List Field) → IsFront order start front self.old cursor.old → KeepsNext result order start front self.new cursor.new (field_at order front cursor.old) }
     {
@@ -238,7 +238,7 @@ impl<'a> Fields<'a> {
         Ok(())
     }
 
-    /// The fields that the array holds, which begins at a place of the message.
+    /// Reads the fields of an array that begins at a place of the message.
     pub(crate) fn read(order: Order, place: usize, bytes: &'a [u8]) -> Result<Fields<'a>, MsgError>
         requires { place + length bytes.now ≤ 134217728 }
         ensures read { Gives shown slots_of result (fields_from (length bytes.entry.now) order [] (inside place bytes.entry.now)) }

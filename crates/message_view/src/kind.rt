@@ -29,7 +29,7 @@ impl Kind {
         }
     }
 
-    /// The byte that stands for it in a header.
+    /// The byte of the kind in a header.
     pub fn byte(self) -> u8
         ensures { result ≡ kind_byte self }
     {

@@ -27,7 +27,7 @@ pub(crate) struct Sections<'a> {
     pub(crate) body: &'a [u8],
 }
 
-/// What there is to say between the fields and the body.
+/// The fault of what lies between the fields and the body, if there is one.
 fn header_fault(kind: Kind, fields: &Fields<'_>, skipped: &[u8]) -> Option<MsgError>
     ensures { (front : List Field) → shown fields.now ≡ slots_of front → result ≡ header_fault kind skipped.now front }
 {
@@ -85,7 +85,7 @@ fn framed<'a>(fixed: &Fixed, bytes: &'a [u8]) -> Result<Sections<'a>, MsgError>
     })
 }
 
-/// The numbers of a slice of bytes are bytes.
+/// A slice of bytes has elements below 256.
 fn are_bytes(bytes: &[u8])
     ensures { AreBytes bytes.now }
 {}
@@ -162,9 +162,9 @@ impl<'a> View<'a> {
     pub fn read(bytes: &'a [u8]) -> Result<View<'a>, MsgError>
         // The view is of these bytes, and they spell a message.
         ensures found { IfOk result (λ v. (v ≡ bytes.entry.now) × ((m : Message) × Valid bytes.entry.now m)) }
-        // What spells a message is read.
+        // Bytes that spell a message are read.
         ensures only { (m : Message) → Valid bytes.entry.now m → IsOk result }
-        // Which fault it is.
+        // The fault is the first one from the left.
         ensures fault { IfErr result (λ fault. message_at bytes.entry.now ≡ Err fault) }
     {
         View::read_exactly(bytes)
@@ -180,14 +180,14 @@ impl<'a> View<'a> {
         self.bytes
     }
 
-    /// The order of the bytes of its numbers.
+    /// The order of the bytes of the message's numbers.
     pub fn order(&self) -> Order
         ensures { (m : Message) → Valid self.now m → result ≡ m.order }
     {
         self.order
     }
 
-    /// What the message is.
+    /// The kind of the message.
     pub fn kind(&self) -> Kind
         ensures { (m : Message) → Valid self.now m → result ≡ m.kind }
     {
@@ -286,7 +286,7 @@ impl<'a> View<'a> {
         self.signature.as_bytes()
     }
 
-    /// Before the first argument.
+    /// A cursor before the first argument.
     fn at_body(&self) -> Cursor<'a>
         ensures { result ≡ body_at self.now }
     {

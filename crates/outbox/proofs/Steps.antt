@@ -160,7 +160,7 @@ takes_first p v x items views gone (y ∷ rest) at stands fits among =
 pub takes : (p : ℕ) (v : SeatView) → Pops Ordered p v (TakesNext v)
 takes p v x items views h at = takes_first p v x items views h.gone h.line at h.stands h.fits h.among
 
--- the rule tells nothing more of what stands
+-- the rule tells nothing more of the items that wait
 pub learns : (p : ℕ) (v : SeatView) → Learns Ordered p v (λ items. Unit {0})
 learns p v items views h at = tt
 

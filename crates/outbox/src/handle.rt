@@ -68,8 +68,8 @@ impl Outbox {
     }
 
     /// Puts an item after the others. A put into a full outbox is refused and shuts it, and a put into a shut one is
-    /// refused; the item comes back. A broadcast is of the origin that the seat names, or the seat's first, and its count
-    /// is above the seat's last. A put that began before another seat's shut may still land after it.
+    /// refused; the item comes back. A broadcast is of the origin that the seat names, or the seat's first, and its
+    /// count is above the seat's last. A put that began before another seat's shut may still land after it.
     pub fn put<R: Wait>(&self, rt: &R, seat: &mut Seat, item: Item) -> Result<(), Item>
         requires place { seat.old.outbox ≡ self.now }
         requires follows { Follows seat.old.view item.mark }

@@ -11,7 +11,8 @@ pub fn in_order_of_each_origin()
     ensures { (origin seat : ℕ) (puts : List Put) → InOrder puts → PutAlone origin seat puts → Rises 0 (counts_from origin (map item_of puts)) }
 {}
 
-/// The rule: where one seat alone names an origin, its counts rise strictly in what was taken and then in what stands, and the last is that seat's.
+/// The rule: where one seat alone names an origin, its counts rise strictly in what was taken and then in what stands,
+/// and the last is that seat's.
 pub fn one_seat_alone()
     ensures { (items : List Item) (views : List SeatView) (origin seat : ℕ) (h : Ordered items views) → NamedAlone origin seat views
         → Rises 0 (counts_from origin (map item_of h.gone ++ items)) × (last_of 0 (counts_from origin (map item_of h.gone ++ items)) ≡ (known views seat).last) }

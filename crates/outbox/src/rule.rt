@@ -15,8 +15,8 @@ pub struct Item {
     pub mark: Option<(u64, u64)>,
 }
 
-/// What a seat knows: the origin whose broadcasts it puts with the count of the last one, and the items that it took, each
-/// with the number of the seat that put it. Contracts alone speak of it; no value of it is made.
+/// What a seat knows: the origin whose broadcasts it puts with the count of the last one, and the items that it took,
+/// each with the number of the seat that put it. Contracts alone speak of it; no value of it is made.
 pub struct SeatView {
     pub origin: Option<u64>,
     pub last: u64,

@@ -209,7 +209,7 @@ pub length-map : {X Y : Type 0} (f : X → Y) (xs : List X) → length (map f xs
 length-map f [] = refl
 length-map f (x ∷ xs) = ap suc (length-map f xs)
 
--- one element more is changed in its place
+-- one more element is changed in its place
 pub map_in_place : {X : Type 0} (g : X → X) (xs : List X) (i : ℕ) (d : X) → i < length xs → set (map g (take i xs) ++ drop i xs) i (g (get_or (map g (take i xs) ++ drop i xs) i d)) ≡ map g (take (suc i) xs) ++ drop (suc i) xs
 map_in_place g [] i d h = absurd (omega arith)
 map_in_place g (x ∷ xs) zero d h = refl

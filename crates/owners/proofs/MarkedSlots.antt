@@ -22,7 +22,7 @@ moves true true r = refl
 moves true false r = refl
 moves false h r = refl
 
--- a marked claim is one less that isn't marked
+-- once one more claim is marked, one fewer isn't
 pub marked_more : (claims : List SlotClaim) (i : ℕ) (c : SlotClaim) (slot : ℕ) (before after : Bool) → drop i claims ≡ c ∷ drop (i + 1) claims → after ≡ ((slot == c.slot) || before) → (before || list_any (is_on_slot slot) (drop i claims)) ≡ list_any (is_on_slot slot) claims → (after || list_any (is_on_slot slot) (drop (i + 1) claims)) ≡ list_any (is_on_slot slot) claims
 marked_more claims i c slot before after e a h =
     let rest = list_any (is_on_slot slot) (drop (i + 1) claims) in
@@ -43,7 +43,8 @@ owns_first : (b : Bool) (connection : ℕ) (c : SlotClaim) (o : Option SlotClaim
 owns_first true connection c o = refl
 owns_first false connection c o = refl
 
--- here: the slot is the claim's; seen: it was marked; first: the claim's slot wasn't marked; mine: the claim is the connection's
+-- here: the slot is the claim's; seen: it was marked; first: the claim's slot wasn't marked; mine: the claim is the
+-- connection's
 owned_bits : (here seen first mine owned rest : Bool) → (here ≡ true → first ≡ not seen) → (((first && mine) && here) || owned) || (not (here || seen) && rest) ≡ (owned || (not seen && (if here then mine else rest)))
 owned_bits true seen first mine owned rest f = by seen first mine owned (f refl)
   where

@@ -98,7 +98,7 @@ least_by : (b : Bool) (f : SlotClaim → List ℕ) (x : SlotClaim) (xs : List Sl
 least_by true f x xs = refl
 least_by false f x xs = refl
 
--- one claim more, from the back
+-- one more claim, from the back
 pub least_more : (p : SlotClaim → Bool) (f : SlotClaim → List ℕ) (x : SlotClaim) (xs rest : List SlotClaim) → rest ≡ x ∷ xs → least (map f (filter p rest)) ≡ (if p x then lesser (f x) (least (map f (filter p xs))) else least (map f (filter p xs)))
 least_more p f x xs rest e = ap (λ (l : List SlotClaim). least (map f (filter p l))) e ∙ least_by (p x) f x (filter p xs)
 

@@ -5,7 +5,7 @@ ghost use Rattle.owners.specs.Numbers.{name_reply_number};
 
 use crate::well_known::WellKnown;
 
-/// What RequestName or ReleaseName comes to (D-Bus Specification, "Message Bus Messages").
+/// What RequestName or ReleaseName is answered (D-Bus Specification, "Message Bus Messages").
 #[derive(Clone, Copy, Debug, PartialEq, Eq)]
 pub enum NameReply {
     /// The caller is the primary owner now.
@@ -56,7 +56,7 @@ pub struct Named {
     pub change: Option<Change>,
 }
 
-/// What it comes to that a connection gives up one claim.
+/// What a connection's giving up of one claim did.
 #[derive(Debug, PartialEq, Eq, Drop)]
 pub enum Dropped {
     /// The connection had none.

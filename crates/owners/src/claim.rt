@@ -67,7 +67,7 @@ pub(crate) fn has_claim(claims: &[SlotClaim], slot: u16, connection: u64) -> boo
     claims.iter().any(|claim| claim.slot == slot && claim.connection == connection)
 }
 
-/// Takes the connection's claim on the name that has the slot away.
+/// Takes away the connection's claim on the name that has the slot.
 pub(crate) fn remove(claims: &mut Vec<SlotClaim>, slot: u16, connection: u64)
     ensures claims { claims.new.items ≡ slot_without slot connection claims.old.items }
     ensures room { vec_capacity claims.new ≡ vec_capacity claims.old }
@@ -75,7 +75,7 @@ pub(crate) fn remove(claims: &mut Vec<SlotClaim>, slot: u16, connection: u64)
     claims.retain(|claim| !(claim.slot == slot && claim.connection == connection));
 }
 
-/// Takes all claims of the connection away.
+/// Takes away all claims of the connection.
 pub(crate) fn remove_all(claims: &mut Vec<SlotClaim>, connection: u64)
     ensures claims { claims.new.items ≡ filter (λ c. not (is_by connection c)) claims.old.items }
     ensures room { vec_capacity claims.new ≡ vec_capacity claims.old }
@@ -83,7 +83,7 @@ pub(crate) fn remove_all(claims: &mut Vec<SlotClaim>, connection: u64)
     claims.retain(|claim| !(claim.connection == connection));
 }
 
-/// The connection's claim on the name that has the slot gets these flags.
+/// Gives these flags to the connection's claim on the name that has the slot.
 pub(crate) fn set_flags(claims: &mut Vec<SlotClaim>, slot: u16, connection: u64, flags: u32)
     ensures claims { claims.new.items ≡ slot_with_flags slot connection flags claims.old.items }
     ensures room { vec_capacity claims.new ≡ vec_capacity claims.old }

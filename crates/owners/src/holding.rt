@@ -109,7 +109,7 @@ pub(crate) fn hold(slots: &mut Vec<Option<Holding>>, slot: u16, name: &WellKnown
     });
 }
 
-/// Whether a slot is let go where its name is claimed or not.
+/// Whether a slot is let go, by whether its name is claimed.
 fn is_unused(slot: &Option<Holding>, claimed: bool) -> bool
     ensures { result ≡ is_unused claimed slot.now }
 {

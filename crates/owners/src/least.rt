@@ -18,7 +18,7 @@ fn lesser(name: &WellKnown, other: Option<WellKnown>) -> Option<WellKnown>
     }
 }
 
-/// The lesser of both, where the first counts.
+/// The lesser of both names, or the other alone where the first doesn't count.
 fn lesser_if(counts: bool, name: &WellKnown, other: Option<WellKnown>) -> Option<WellKnown>
     ensures { result ≡ (if counts then lesser name.now other else other) }
 {
@@ -34,7 +34,7 @@ fn is_after(other: &Option<WellKnown>, name: &WellKnown) -> bool
     }
 }
 
-/// The name again, if there is one.
+/// A copy of the name, if there is one.
 pub(crate) fn copy_of(name: Option<&WellKnown>) -> Option<WellKnown>
     ensures { result ≡ option_map (λ name. name.now) name.entry }
 {

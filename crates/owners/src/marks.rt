@@ -1,4 +1,4 @@
-// Sets of slots that claims tell.
+// Sets of slots, told by claims.
 
 ghost use Rattle.std.specs.Prelude.{◌≡◌, ◌<◌, ◌&&◌, ◌||◌, ◌==◌, ℕ, true, Some, nat_eq};
 ghost use Rattle.std.specs.List.{list_any};
@@ -9,7 +9,7 @@ ghost use Rattle.owners.specs.Kept.{is_on_slot, slot_owner, are_slots};
 use crate::claim::SlotClaim;
 use summary::Slots;
 
-/// Adds the slot if its first claim is met and is the connection's own.
+/// Adds the slot if this is its first claim, and the connection's.
 fn add_owned(owned: &mut Slots, slot: u16, is_first: bool, is_own: bool)
     requires inside { slot < 1024 }
     requires set { IsSet owned.old }

@@ -1,4 +1,4 @@
-// What a request comes to, before it is done.
+// What a request will do, before it is done.
 
 ghost use Rattle.std.specs.Prelude.{◌≡◌, Err, MatchResult};
 ghost use Rattle.owners.specs.Registry.{change_of, request_answer};
@@ -54,7 +54,7 @@ fn change_for(
     }
 }
 
-/// What a request comes to.
+/// The answer to a request, and the step that it makes.
 pub(crate) fn plan_of(
     claims: &[SlotClaim],
     slots: &[Option<Holding>],

@@ -26,7 +26,7 @@ impl<'a> Queue<'a> {
     ghost use Rattle.std.specs.Prelude.{◌≡◌};
     ghost use Rattle.owners.specs.Kept.{slot_queue};
 
-    /// Of the name that has the slot.
+    /// The queue of the name that has the slot.
     pub(crate) fn new(claims: &'a [SlotClaim], slot: u16) -> Self
         ensures { result ≡ slot_queue slot claims.now }
     {

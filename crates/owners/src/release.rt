@@ -1,4 +1,4 @@
-// What a release comes to.
+// What a release is answered.
 
 ghost use Rattle.std.specs.Prelude.{◌≡◌};
 ghost use Rattle.owners.specs.Registry.{dropped_by};
@@ -38,7 +38,7 @@ pub(crate) fn release_answer(
     Named { answer, change }
 }
 
-/// What it comes to that a claim is given up.
+/// What giving up a claim did, from the answer to the release.
 pub(crate) fn dropped_by(named: Named) -> Dropped
     ensures { result ≡ dropped_by named.change }
 {

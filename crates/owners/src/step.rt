@@ -93,7 +93,7 @@ pub(crate) fn reply_of(owner: Option<SlotClaim>, connection: u64, flags: u32) ->
     }
 }
 
-/// Whether the step makes one claim more than there may be, where there are `len` of them.
+/// Whether the step makes one claim more than there may be, where there are `len` claims.
 pub(crate) fn is_over(step: Step, waits: bool, len: usize) -> bool
     ensures { result ≡ is_over step waits len }
 {

@@ -22,7 +22,7 @@ use Rattle.passes.specs.Sending.{AreReachable, KeepsThose, UnroutedThose, stays,
 use Rattle.passes.specs.Unicasts.{Unicasts, IsUnsent}
 use Rattle.passes.proofs.Sending.{Turn, turned, saw, has_not_routed, has_seen}
 
--- what was found, and what was not
+-- the case of a search that is told by its result
 pub some_found : {A : Type 0} (o : Option A) (a : A) (N : Type 0) (P : A → Type 0) → o ≡ Some a → MatchOption o N P → P a
 some_found o a N P e h = let Q : Option _ → Type 0 = λ x. MatchOption x N P in subst Q e h
 
@@ -30,7 +30,7 @@ pub none_found : {A : Type 0} (o : Option A) (N : Type 0) (P : A → Type 0) →
 none_found o N P e h = let Q : Option _ → Type 0 = λ x. MatchOption x N P in subst Q e h
 
 module _ {M : Type 0} where
-  -- what became of it, where it was found
+  -- what became of the message, where an owner was found
   pub delivered : (outbox_of : M → OutboxId) (to : List ℕ) (v p q w : PassState M) (old new : SenderView) (n : ℕ) (newcomers : List RecipientView) (connected : Option (List ℕ)) (r : Result Sent BusError)
       → Turn v p q w old new → IsPrefix p.seen q.seen → IsAddressee outbox_of (after q.seen) to old.stops n newcomers connected → KeepsThose connected newcomers old new → AllFit new.origin new.count new.stops → UnroutedThose connected old new
       → IfOk r (IsDelivered n new.stops) → IfErr r (λ e. e ≡ errors.NoMemory)

@@ -1,4 +1,4 @@
--- One more command of a pass, and none.
+-- What a pass has seen of its own commands, after one more of them or none.
 use Rattle.std.proofs.Common.{◌≡◌, ◌≢◌, ℕ, ◌+◌, ◌<◌, ◌≤◌, Bool, true, false, List, [], ◌∷◌, ◌++◌, length, Option, Some, None, refl, sym, ap, ◌∙◌, subst, arith, length-append}
 use Rattle.std.specs.Prelude.{if◌then◌else◌, MatchOption}
 use mathlib.Core.List.{IsPrefix}

@@ -10,8 +10,8 @@ use Rattle.passes.specs.Passes.{PassState, HasTaken}
 use Rattle.passes.specs.Calls.{IsStopped, IsShutOut}
 
 module _ {M : Type 0} where
-  -- nothing shuts the pass out: it is connected, the bus hasn't ended, and as many commands of the connection are published
-  -- as it took
+  -- nothing shuts the pass out: it is connected, the bus hasn't ended, and as many commands of the connection are
+  -- published as it took
   pub record IsAdmitted (v : PassState M) (before : Publication M) : Type 0 where
     pub begins : IsPrefix v.seen before.history
     pub connected : v.connection ≢ 0

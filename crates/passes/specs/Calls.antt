@@ -38,7 +38,7 @@ module _ {M : Type 0} where
     pub published : next.history ≡ before.history
     pub seen : w ≡ record v { seen = before.history }
 
-  -- of its own commands the pass finds those that it had seen, as many as it took
+  -- of its own commands the pass finds those that it had seen, and as many as it took
   pub record KeepsOwn (v w : PassState M) : Type 0 where
     pub own : own_commands v.connection w.seen ≡ own_commands v.connection v.seen
     pub all : length (own_commands v.connection w.seen) ≡ w.took

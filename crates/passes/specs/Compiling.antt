@@ -20,7 +20,7 @@ module _ {M : Type 0} where
     pub error_is : error ≡ error_of refusal
     pub replies : (program : List Ins) → reply_to s (add_of s connection rule program) ≡ Refused refusal
 
-  -- it would be added, but its program is too long
+  -- the rule would be added, but its program is too long
   pub record IsHeavy (s : State M) (connection : ℕ) (rule : RuleTree) (error : BusError) : Type 0 where
     pub error_is : error ≡ errors.TooLong
     pub weight : 4096 < weight_of rule

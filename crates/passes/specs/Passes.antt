@@ -6,9 +6,9 @@ use Rattle.routing.specs.SenderView.{StopView, SenderView}
 use Rattle.passes.specs.declared.reading.Source.{Source}
 use Rattle.passes.specs.declared.reading.Source.TheVariants.{Own, Bus}
 
--- the history that it has seen; the connection that its connect made, 0 before that; whether its close was accepted; how
--- many of its calls were accepted; the count of its last broadcast, 0 before the first; and its seats at the outboxes of
--- those to whom it has sent
+-- the history that it has seen; the connection that its connect made, 0 before that; whether its close was accepted;
+-- how many of its calls were accepted; the count of its last broadcast, 0 before the first; and its seats at the
+-- outboxes of those to whom it has sent
 pub record PassState (M : Type 0) : Type 0 where
   pub seen : List (Command M)
   pub connection : ℕ
@@ -32,11 +32,11 @@ module _ {M : Type 0} where
     pub some : v.connection ≢ 0 → 0 < v.took
     pub own : v.took ≤ length (own_commands v.connection v.seen)
 
-  -- what the pass's messages are sent by
+  -- what the pass's messages are sent by; before the first message it has no seats
   abbrev pub sending : PassState M → SenderView
   sending v = record { origin = v.connection; count = v.count; stops = v.stops }
 
--- Inner: what a pass has sent by this
+-- Inner: the count of the last broadcast, 0 before the first
 abbrev pub count_in : Option SenderView → ℕ
 count_in None = 0
 count_in (Some s) = s.count
@@ -45,7 +45,7 @@ abbrev pub stops_in : Option SenderView → List StopView
 stops_in None = []
 stops_in (Some s) = s.stops
 
--- Inner: it is the connection's
+-- Inner: the sender is the connection's
 abbrev pub SendsFor : ℕ → Option SenderView → Type 0
 SendsFor connection None = Unit {0}
 SendsFor connection (Some s) = (s.origin ≡ connection) × (connection ≢ 0)

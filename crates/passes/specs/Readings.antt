@@ -43,8 +43,8 @@ module _ {M : Type 0} where
   abbrev pub compiled_in : State M → RuleTree → List Ins → CompiledRule
   compiled_in s rule program = record { rule = rule; slot = slot_asked (sender_name_of rule) s.registrations.slots; program = program }
 
-  -- The rule's program would be too long, which only that of a rule above this weight is. Nothing else keeps the rule out,
-  -- and nothing was published.
+  -- The rule's program would be too long, which only that of a rule above this weight is. Nothing else keeps the rule
+  -- out, and nothing was published.
   pub record IsTooLong (rule : RuleTree) (v : PassState M) (before : Publication M) (result : Result Reply BusError) (w : PassState M) (next : Publication M) : Type 0 where
     pub weight : 4096 < weight_of rule
     pub answers : result ≡ Err errors.TooLong

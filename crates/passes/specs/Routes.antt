@@ -23,9 +23,9 @@ module _ {M : Type 0} where
   abbrev pub is_there : ℕ → PassState M → Bool
   is_there n w = is_connected n (after w.seen).connections
 
-  -- What a pass keeps where it sends: of the connections that are there, each seat stays at its outbox, and what is known to be
-  -- shut stays so. A new seat is at the outbox of a connection that is there. Seats name the pass's connection as the origin of
-  -- their broadcasts, and none has a count above the pass's.
+  -- What a pass keeps where it sends: of the connections that are there, each seat stays at its outbox, and what is
+  -- known to be shut stays so. A new seat is at the outbox of a connection that is there. Seats name the pass's
+  -- connection as the origin of their broadcasts, and none has a count above the pass's.
   pub record KeepsSeats (outbox_of : M → OutboxId) (v w : PassState M) : Type 0 where
     pub stay : (n : ℕ) (outbox : OutboxId) → is_there n w ≡ true → outbox_at n v.stops ≡ Some outbox → outbox_at n w.stops ≡ Some outbox
     pub theirs : (n : ℕ) (outbox : OutboxId) → outbox_at n w.stops ≡ Some outbox → (outbox_at n v.stops ≡ Some outbox) ⊎ IsOutboxOf outbox_of (after w.seen) n outbox
@@ -38,9 +38,10 @@ module _ {M : Type 0} where
     pub same : w ≡ record v { seen = w.seen; count = w.count; stops = w.stops }
     pub keeps : KeepsSeats outbox_of v w
 
-  -- One broadcast more, to the recipients of the message after what the pass has seen. At a recipient that isn't listed the seat's
-  -- last count is this broadcast's; at a listed one, and at each other connection that is there, it is what it was. A listed one
-  -- is a recipient whose outbox is shut, and where the seat knew that before, the recipient is listed.
+  -- One broadcast more, to the recipients of the message after what the pass has seen. At a recipient that isn't listed
+  -- the seat's last count is this broadcast's; at a listed one, and at each other connection that is there, it is what
+  -- it was. A listed one is a recipient whose outbox is shut, and where the seat knew that before, the recipient is
+  -- listed.
   pub record HasRouted (outbox_of : M → OutboxId) (source : Source) (bytes : List ℕ) (v : PassState M) (refused : List ℕ) (w : PassState M) : Type 0 where
     pub sends : Sends outbox_of v w
     pub recipients : List ℕ

@@ -21,7 +21,8 @@ pub record AreReachable (connected : Option (List ℕ)) (recipients : List ℕ) 
   pub stay : (n : ℕ) → is_in n recipients ≡ true → stays connected n ≡ true
   pub all : (n : ℕ) → is_in n recipients ≡ true → HasStop n stops ⊎ (is_in n (map number_of newcomers) ≡ true)
 
--- what a sender keeps where it gives up seats and takes newcomers' seats: of those that aren't given up, each stays at its outbox
+-- what a sender keeps where it gives up seats and takes newcomers' seats: of those that aren't given up, each stays at
+-- its outbox
 pub record KeepsThose (connected : Option (List ℕ)) (newcomers : List RecipientView) (old new : SenderView) : Type 0 where
   pub origin_is : new.origin ≡ old.origin
   pub stay : (n : ℕ) (outbox : OutboxId) → stays connected n ≡ true → outbox_at n old.stops ≡ Some outbox → outbox_at n new.stops ≡ Some outbox
@@ -39,6 +40,6 @@ pub record RoutedThose (connected : Option (List ℕ)) (recipients refused : Lis
   pub listed : (n : ℕ) → is_in n refused ≡ true → (is_in n recipients ≡ true) × (shut_at n new.stops ≡ true)
   pub again : (n : ℕ) → is_in n recipients ≡ true → shut_at n old.stops ≡ true → is_in n refused ≡ true
 
--- it was put, or the outbox is shut
+-- the message was put, or the outbox is shut
 abbrev pub IsDelivered : ℕ → List StopView → Sent → Type 0
 IsDelivered n stops sent = (sent ≡ Put) ⊎ ((sent ≡ Full) × (shut_at n stops ≡ true))

@@ -25,7 +25,7 @@ use std::sync::Wait;
 /// How many readers there are places for.
 const READERS: usize = 512;
 
-/// What is dropped through its own type. A generic function can't drop a publisher by its name.
+/// A value that is dropped through its own type. A generic function can't drop a publisher by its name.
 #[derive(Drop)]
 struct Held<P: Drop> {
     value: P,

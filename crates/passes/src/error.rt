@@ -30,8 +30,8 @@ pub enum BusError {
     RuleNotFound,
     /// The connection has no attached program of this id.
     NoAttachment,
-    /// The pass isn't connected, or no longer (for `connect`: it is or was), or the bus has ended, or the bus counts other
-    /// commands than the pass.
+    /// The pass isn't connected, or no longer (for `connect`: it is or was), or the bus has ended, or the bus counts
+    /// other commands than the pass.
     Closed,
     /// The text is no rule.
     Rule(RuleError),

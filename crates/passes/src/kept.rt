@@ -40,7 +40,7 @@ where
 }
 
 impl<J: Naming, M: Mailbox> KeptPasses<J, M> {
-    /// None.
+    /// No reader is kept.
     pub fn new(alloc: Global) -> Result<KeptPasses<J, M>, AllocError>
         ensures { IfOk result (λ kept. kept ≡ []) }
     {

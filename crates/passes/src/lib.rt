@@ -1,7 +1,7 @@
 //! What one user of a bus sees, asks and sends. A `Pass` reads the published state without a lock and sends by it; a
-//! `Control`, which lies under the lock of the bus, publishes a pass's commands. The layer above uses that each call's reply
-//! is the table's after one history, which begins with all that its pass had seen, and that a pass's own commands are
-//! those that were accepted of it, each once and in order.
+//! `Control`, which lies under the lock of the bus, publishes a pass's commands. The layer above uses that each call's
+//! reply is the table's after one history, which begins with all that its pass had seen, and that a pass's own commands
+//! are those that were accepted of it, each once and in order.
 #![tactic(auto)]
 
 mod by_workers;

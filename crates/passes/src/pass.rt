@@ -41,11 +41,11 @@ where
     Published: Protocol<Shown<J, M>, LinkedList<Command<M>>>,
 {
     sight: Sight<J, M>,
-    // 0: none.
+    // 0 where the pass was never connected.
     connection: u64,
     is_closed: bool,
     took: u64,
-    // What its messages are sent by, from the first one on.
+    // It exists from the first message on.
     sender: Option<Sender<M>>,
 }
 
@@ -76,7 +76,7 @@ impl<J: Naming, M: Mailbox> Pass<J, M> {
         }
     }
 
-    /// What was seen.
+    /// The history that was seen.
     pub fn seen(&self) -> &Front<J, M>
         ensures { result.now ≡ self.now.seen }
     {
@@ -105,7 +105,7 @@ impl<J: Naming, M: Mailbox> Pass<J, M> {
         self.took
     }
 
-    /// Takes over a told history: the longer of the two is then seen, and one of them begins the other.
+    /// Takes over a told history: the longer of the two is then seen. One of them begins the other.
     pub fn learn(&mut self, told: &Front<J, M>)
         ensures one { (self.new.seen ≡ self.old.seen) ⊎ (self.new.seen ≡ told.now) }
         ensures this { IsPrefix self.old.seen self.new.seen }
@@ -115,7 +115,7 @@ impl<J: Naming, M: Mailbox> Pass<J, M> {
         self.sight.learn(told);
     }
 
-    /// Has then seen this history, which begins with what was seen.
+    /// Takes over a history, which begins with what was seen; it is then seen.
     pub(crate) fn take_over(&mut self, told: Front<J, M>)
         requires { IsPrefix self.old.seen told }
         ensures { self.new ≡ record self.old { seen = told } }
@@ -123,7 +123,7 @@ impl<J: Naming, M: Mailbox> Pass<J, M> {
         self.sight.take_over(told);
     }
 
-    /// Has then seen this history, in which one more command of the connection was accepted.
+    /// Takes over a history in which one more command of the connection was accepted; it is then seen.
     pub(crate) fn count_in(&mut self, told: Front<J, M>, connection: u64)
         requires begins { IsPrefix self.old.seen told }
         requires room { self.old.took + 1 < 2 ^ 64 }
@@ -137,14 +137,15 @@ impl<J: Naming, M: Mailbox> Pass<J, M> {
         self.took += 1;
     }
 
-    /// Its connection was closed.
+    /// Notes that its connection was closed.
     pub(crate) fn close(&mut self)
         ensures { self.new ≡ record self.old { is_closed = true } }
     {
         self.is_closed = true;
     }
 
-    /// What its messages are sent by. The pass has sent nothing then, until it is put back.
+    /// Takes out what its messages are sent by, made anew where there was none. Until it is put back, the pass counts
+    /// as one that sent nothing.
     pub(crate) fn take_sender(&mut self, alloc: Global) -> Sender<M>
         requires { self.old.connection ≢ 0 }
         ensures sender { result ≡ sending self.old }
@@ -156,7 +157,7 @@ impl<J: Naming, M: Mailbox> Pass<J, M> {
         }
     }
 
-    /// Sends by this from now on.
+    /// Puts back what its messages are sent by.
     pub(crate) fn put_back(&mut self, sender: Sender<M>)
         requires number { self.old.connection ≢ 0 }
         requires origin { sender.origin ≡ self.old.connection }
@@ -165,7 +166,7 @@ impl<J: Naming, M: Mailbox> Pass<J, M> {
         self.sender = Some(sender);
     }
 
-    /// The reader, with what it has seen.
+    /// Gives up the pass, and keeps the reader with what it has seen.
     pub(crate) fn into_sight(self) -> Sight<J, M>
         ensures { result ≡ self.seen }
     {

@@ -41,7 +41,8 @@ impl Source {
 }
 
 impl<J: Naming, M: Mailbox> Pass<J, M> {
-    /// The recipients of a broadcast, by rising number, after a history that begins with what was seen, and is seen then.
+    /// The recipients of a broadcast, by rising number, after a history that begins with what was seen, and is seen
+    /// then.
     ///
     /// # Errors
     ///

@@ -75,15 +75,15 @@ fn broadcast<M: Carrier, W: Wait, G: Gate>(
 }
 
 impl<J: Naming, M: Mailbox + Carrier> Pass<J, M> {
-    /// Finds the recipients of a broadcast, leaves the published state, and puts the message into their outboxes. Answers
-    /// those whose outbox refused it, a shut one included, by rising number. The view is that of the bytes.
+    /// Finds the recipients of a broadcast, leaves the published state, and puts the message into their outboxes.
+    /// Answers those whose outbox refused it, a shut one included, by rising number. The view is that of the bytes.
     /// `gate.before(0)` is called once the published state is left and the seats are there, before the first put, and
     /// `gate.after(0)` after the last.
     ///
     /// # Errors
     ///
-    /// Nothing was put then. `Closed` where the pass was never connected, or was closed and the message isn't the bus's, or
-    /// the bus is gone; `NoMemory`; `Counts` where the pass's last count was used.
+    /// Nothing was put then. `Closed` where the pass was never connected, or was closed and the message isn't the
+    /// bus's, or the bus is gone; `NoMemory`; `Counts` where the pass's last count was used.
     pub fn broadcast<W: Wait, G: Gate>(
         &mut self,
         rt: &W,

@@ -35,7 +35,7 @@ impl<J: Naming, M: Mailbox, R: Wait + Drop> Control<J, M, R> {
         }
     }
 
-    // What refuses the rule is named before the length of its program.
+    // Adds a rule. A refusal by the state is named before the length of the rule's program.
     fn add_rule(
         &mut self,
         alloc: Global,
@@ -59,7 +59,7 @@ impl<J: Naming, M: Mailbox, R: Wait + Drop> Control<J, M, R> {
         match self.state().rule_slot(connection, &rule) {
             Ok(slot) => match RuleProgram::compile(alloc, rule, slot) {
                 Ok(program) => {
-                    // It fits the rule.
+                    // The contract of `slot` says that the slot fits the rule.
                     let _ = program.slot();
                     Ok(program)
                 }

@@ -55,12 +55,13 @@ fn deliver<M: Carrier, W: Wait>(
 }
 
 impl<J: Naming, M: Mailbox + Carrier> Pass<J, M> {
-    /// Finds the owner of a name, which is unique or well-known, leaves the published state, and puts the message into the
-    /// owner's outbox.
+    /// Finds the owner of a name, which is unique or well-known, leaves the published state, and puts the message into
+    /// the owner's outbox.
     ///
     /// # Errors
     ///
-    /// Nothing was put then. `Closed` where the pass was never connected, or was closed, or the bus is gone; `NoMemory`.
+    /// Nothing was put then. `Closed` where the pass was never connected, or was closed, or the bus is gone;
+    /// `NoMemory`.
     pub fn send_to<W: Wait>(
         &mut self,
         rt: &W,

@@ -53,7 +53,7 @@ linked-set_prev next prev before here q v (x ∷ xs) out h = (
   linked-set_prev next prev x (get_or next x end_link) q v xs out.1 h.3,
 )
 
--- the first place is told of another place before it
+-- the first place gets another place before it
 relinked : (next prev : List ℕ) (before here place : ℕ) (xs : List ℕ) → length prev ≡ length next → AreOnce xs → IsLinked next prev before here xs → IsLinked next (set prev here place) place here xs
 relinked next prev before here place [] same once h = h
 relinked next prev before here place (y ∷ ys) same once h = (

@@ -36,7 +36,7 @@ any_kept p q (c ∷ cs) h = go (any_kept p q cs) (q c) h
     go later true g = or_more (p c) (list_any p (filter q cs)) (p c) (list_any p cs) (λ f. f) later g
     go later false g = or_second (p c) (list_any p cs) (later g)
 
--- one of them
+-- one of them is gone
 pub one_gone : (c : ℕ) (e : Entry) (names later : registry.Registry) (all after : Entries) → AreTied names all → IsTaken e all.entries after.entries → is_of c e ≡ true → after.last ≡ all.last → later ≡ without_sender (sender_asked e.filter) names → AreSomeGone c (registrations_of names all) (registrations_of later after)
 one_gone c e names later all after tie taken is last f = record {
   claims = same_claims e taken.front taken.back names all after tie taken.before taken.after later (sender_asked e.filter) f;
@@ -71,7 +71,7 @@ more_gone c r s t first next = record {
       ∙ used_twice r.claims r.claims s.entries t.entries r.slots (λ name. or_more (list_any (is_on name) r.claims) (list_any (asks_for name) t.entries) (list_any (is_on name) r.claims) (list_any (asks_for name) s.entries) (λ f. f) (next.fewer_users name));
 }
 
--- all of them, and the claims
+-- all of them are gone, and the claims
 pub all_gone : (c : ℕ) (r s : Registrations) → AreSomeGone c r s → entries_not_of c s.entries ≡ s.entries → settled (record s { claims = without_all c s.claims }) ≡ without_all_of c r
 all_gone c r s gone last =
     let same : s.entries ≡ entries_not_of c r.entries = sym last ∙ gone.others in

@@ -104,7 +104,7 @@ some_counted : (n : ℕ) (b : Bool) → nat_lt 0 (cond b 1 0 + n) ≡ (b || nat_
 some_counted n true = grind (arith, nat_tests)
 some_counted n false = grind (arith, nat_tests)
 
--- some are counted where there are some
+-- the count isn't 0 where one passes
 pub counts_some : {X : Type 0} (p : X → Bool) (xs : List X) → nat_lt 0 (count_by p xs) ≡ list_any p xs
 counts_some p [] = grind (arith, nat_tests)
 counts_some p (x ∷ xs) = rw (count-cons p x xs, some_counted (count_by p xs) (p x), counts_some p xs) refl

@@ -17,7 +17,7 @@ use Rattle.program_table.specs.Places.{HaveOtherNumbers, IsPlaceOf}
 apart : (xs : List ℕ) (i j : ℕ) → IsStrictlyIncreasing xs → i < length xs → j < length xs → j ≢ i → get_or xs j 0 ≢ get_or xs i 0
 apart xs i j h less within ne e = grind (arith, AllPairs-from_increasing xs h i j 0, AllPairs-from_increasing xs h j i 0)
 
--- no number before a place is this one, none from there on is below it, and the one there isn't it
+-- numbers before a place are below this one, those from there on aren't, and the one there isn't it; so none is it
 none_there : (xs : List ℕ) (n k : ℕ) → IsStrictlyIncreasing xs → ((j : ℕ) → j < k → get_or xs j 0 < n) → (k < length xs → n ≤ get_or xs k 0) → (k < length xs → get_or xs k 0 ≢ n) → (j : ℕ) → j < length xs → get_or xs j 0 ≢ n
 none_there xs n k h below above here j less = grind (arith, below j, above, here, AllPairs-from_increasing xs h k j 0)
 
@@ -110,7 +110,7 @@ module _ {M : Type 0} where
       let same : length (numbers_of cs) ≡ length cs = length-map cs (λ (x : Connection M). x.number) in
       place_in n k cs d less e (λ j l ne is. apart (numbers_of cs) k j h (omega arith) (omega arith) ne (is ∙ sym e ∙ sym (number_at cs k d less)))
 
-  -- numbers below it in front of a place, and numbers not below it from there on, of which the first isn't it
+  -- numbers before a place are below this one, those from there on aren't, and the first of those isn't it
   pub none_found : (n k : ℕ) (cs : List (Connection M)) → ((j : ℕ) → j < k → get_or (numbers_of cs) j 0 < n) → ((j : ℕ) → k ≤ j → j < length cs → n ≤ get_or (numbers_of cs) j 0) → IsStrictlyIncreasing (numbers_of cs) → (k < length cs → get_or (numbers_of cs) k 0 ≢ n) → HaveOtherNumbers n cs
   none_found n k cs below above h here =
       let same : length (numbers_of cs) ≡ length cs = length-map cs (λ (x : Connection M). x.number) in

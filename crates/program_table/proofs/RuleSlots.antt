@@ -19,7 +19,7 @@ use Rattle.program_table.specs.State.{State}
 use Rattle.program_table.specs.Does.{reply_of, answer_of, max_commands}
 use Rattle.program_table.specs.RuleSlots.{IsRuleSlot, add_of, slot_for, rule_slot_of}
 
--- the second is refused exactly where the first is, for the same
+-- both are Ok, or both are refused for the same
 abbrev Agree : {A : Type 0} → Result A Refusal → Result Reply Refusal → Type 0
 Agree r other = MatchResult r (λ _. is_ok other ≡ true) (λ refusal. other ≡ Err refusal)
 

@@ -15,7 +15,7 @@ pub record IsConnectionList {M : Type 0} (c : ConnectionList M) : Type 0 where
   pub few : length c.connections ≤ max_connections
 
 module _ {M : Type 0} where
-  -- one more, with the next number, whose Connect is its first command
+  -- one more connection, with the next number, whose Connect is its first command
   abbrev pub with_connection : ConnectionList M → M → ConnectionList M
   with_connection c m =
       record { connections = c.connections ++ record { number = c.last + 1; mailbox = m; commands = 1 } ∷ []; last = c.last + 1 }

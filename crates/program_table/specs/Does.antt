@@ -63,7 +63,7 @@ module _ {M : Type 0} where
     there ← connected c s
     Ok replies.Done
 
-  -- After the last command that can be counted each one is refused.
+  -- once as many commands were accepted as can be counted, each one is refused
   abbrev pub answer_of : State M → Command M → Result Reply Refusal
   answer_of s command = if nat_le max_commands s.commands then Err refusals.Closed else row s command
 
@@ -79,7 +79,7 @@ module _ {M : Type 0} where
     last_connection = s.last_connection + 1;
   }
 
-  -- the connection goes, with its entries and its claims
+  -- the connection is gone, with its entries and its claims
   abbrev pub closed : ℕ → State M → State M
   closed c s = record s {
     commands = s.commands + 1;

@@ -29,7 +29,7 @@ abbrev pub has_own_slot : List (Option (List ℕ)) → Entry → Bool
 has_own_slot slots e = is_own_slot (sender_asked e.filter) (slot_in e.filter) slots
 
 pub record AreRegistrations (r : Registrations) : Type 0 where
-  -- there are as many slots as names can have one, and no name has two
+  -- there are as many slots as names that can have one, and no name has two
   pub slots : length r.slots ≡ max_names
   pub one_slot : (slot : ℕ) (name : List ℕ) → slice_get r.slots slot ≡ Some (Some name) → slot_of name r.slots ≡ Some slot
   -- a name with a claim has a slot, and an entry's rule was compiled for the slot of its sender name

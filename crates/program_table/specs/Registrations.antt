@@ -8,7 +8,8 @@ use Rattle.entry_table.specs.declared.entry.Filter.{Filter}
 use Rattle.entry_table.specs.Entries.{is_of, is_entry}
 use Rattle.program_table.specs.SlotNames.{with_slot, used_slots}
 
--- the claims in queue order; for each slot the name that has it; the entries by rising id, and the last id that was given
+-- the claims in queue order; for each slot the name that has it; the entries by rising id, and the last id that was
+-- given
 pub record Registrations : Type 0 where
   pub claims : List Claim
   pub slots : List (Option (List ℕ))
@@ -35,7 +36,7 @@ abbrev pub with_sender : Option (List ℕ) → Registrations → Registrations
 with_sender None r = r
 with_sender (Some name) r = record r { slots = with_slot name r.slots }
 
--- the connection's entry of this id goes
+-- the connection's entry of this id is gone
 abbrev pub without_entry : ℕ → Option ℕ → Registrations → Registrations
 without_entry c None r = r
 without_entry c (Some id) r = settled (record r { entries = filter (λ e. not (is_entry c id e)) r.entries })
@@ -44,11 +45,11 @@ without_entry c (Some id) r = settled (record r { entries = filter (λ e. not (i
 abbrev pub with_request : List ℕ → ℕ → ℕ → Registrations → Registrations
 with_request name c flags r = record r { claims = requested name c flags r.claims; slots = with_slot name r.slots }
 
--- the connection's claim on the name goes
+-- the connection's claim on the name is gone
 abbrev pub without_claim : ℕ → Option (List ℕ) → Registrations → Registrations
 without_claim c None r = r
 without_claim c (Some name) r = settled (record r { claims = without name c r.claims })
 
--- all claims and entries of the connection go
+-- all claims and entries of the connection are gone
 abbrev pub without_all_of : ℕ → Registrations → Registrations
 without_all_of c r = settled (record r { claims = without_all c r.claims; entries = filter (λ e. not (is_of c e)) r.entries })

@@ -3,8 +3,8 @@ use Rattle.std.specs.Prelude.{ℕ, List, []}
 use Rattle.program_table.specs.declared.connection.Connection.{Connection}
 use Rattle.program_table.specs.Registrations.{Registrations, no_registrations}
 
--- how many commands were accepted; the connections by rising number and the last number that was given; their claims and
--- entries
+-- how many commands were accepted; the connections by rising number and the last number that was given; their claims
+-- and entries
 pub record State (M : Type 0) : Type 0 where
   pub commands : ℕ
   pub connections : List (Connection M)

@@ -12,21 +12,21 @@ use owners::{Change, Named, WellKnown};
 pub enum Command<M> {
     /// A new connection, whose messages go to the mailbox.
     Connect(M),
-    /// A new entry with a rule (AddMatch).
+    /// Adds an entry with a rule (AddMatch).
     AddRule(u64, RuleProgram),
-    /// The oldest entry with an equal rule goes (RemoveMatch).
+    /// Removes the oldest entry with an equal rule (RemoveMatch).
     RemoveRule(u64, Rule),
-    /// A new entry with an attached program.
+    /// Adds an entry with an attached program.
     Attach(u64, Attachment),
-    /// The attached program of this id goes.
+    /// Removes the attached program of this id.
     Detach(u64, u32),
-    /// A name is asked for, with these flags (RequestName).
+    /// Asks for a name, with these flags (RequestName).
     Request(u64, WellKnown, u32),
-    /// A claim on a name is given up (ReleaseName).
+    /// Gives up a claim on a name (ReleaseName).
     Release(u64, WellKnown),
-    /// The claim on the least of the connection's names is given up.
+    /// Gives up the claim on the least of the connection's names.
     DropOne(u64),
-    /// The connection goes, with its entries and claims.
+    /// Closes the connection, with its entries and claims.
     Close(u64),
 }
 
@@ -38,7 +38,7 @@ pub enum Reply {
     /// The id of the new entry.
     Entry(u32),
     Done,
-    /// What RequestName or ReleaseName came to.
+    /// What RequestName or ReleaseName answers.
     Name(Named),
     /// There was no claim to give up.
     Nothing,
@@ -46,6 +46,6 @@ pub enum Reply {
     Waiting,
     /// A name's owner gave it up.
     Changed(Change),
-    /// The state is as it was.
+    /// The command changed nothing.
     Refused(Refusal),
 }

@@ -34,7 +34,7 @@ impl<M> Model for Connections<M> {
 }
 
 impl<M> Connections<M> {
-    /// None, with room for all.
+    /// A list without connections, with room for as many as there may be.
     pub(crate) fn new(alloc: Global) -> Result<Connections<M>, AllocError>
         ensures { IfOk result (λ c. c ≡ record { connections = []; last = 0 }) }
     {

@@ -50,7 +50,7 @@ impl RegistrationTable {
     ghost use Rattle.program_table.specs.Registrations.{no_registrations, with_entry, with_sender, without_entry, with_request, without_claim, without_all_of};
     ghost use Rattle.program_table.specs.Answers.{has_room, slot_fits, oldest_with, add_rule_answer, remove_rule_answer, attach_answer, detach_answer, request_answer, release_answer, drop_answer};
 
-    /// No claim and no entry. The index of entries hashes texts with this key.
+    /// A table without claims and entries. The index of entries hashes texts with this key.
     pub(crate) fn new(alloc: Global, key: IndexKey) -> Result<RegistrationTable, AllocError>
         ensures { IfOk result (λ table. table ≡ no_registrations) }
     {

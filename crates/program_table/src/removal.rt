@@ -1,4 +1,4 @@
-// Entries go, and with them the slots of the names that nothing uses any more.
+// Removal of entries, and of the slots of names that nothing uses any more.
 
 ghost use Rattle.std.specs.Prelude.{◌≡◌, ◌<◌, true, false, IfSome, Some, length};
 ghost use Rattle.match_rule.specs.RuleTree.{sender_name_of};
@@ -24,7 +24,7 @@ pub(crate) fn sender_of(program: &RuleProgram) -> Option<WellKnown>
     }
 }
 
-/// A filter is gone: a rule's sender name has one rule fewer.
+/// Counts one rule fewer of a rule's sender name, once the rule is gone.
 fn free_slot(names: &mut Claims, filter: &Filter)
     requires rule { IfSome (sender_asked filter.now) (λ name. 0 < rules_of name names.old.slots) }
     requires registry { IsRegistry names.old }

@@ -51,7 +51,7 @@ impl<M: Mailbox> BusState<M> {
     ghost use Rattle.program_table.specs.IsState.{IsState};
     ghost use Rattle.rule_compile.specs.Compiled.{IsSlotOf};
 
-    /// Nobody is connected. The index of entries hashes texts with this key.
+    /// A state in which nobody is connected. The index of entries hashes texts with this key.
     pub fn new(alloc: Global, key: IndexKey) -> Result<BusState<M>, AllocError>
         ensures { IfOk result (λ state. state ≡ opening) }
     {
@@ -87,7 +87,8 @@ impl<M: Mailbox> BusState<M> {
         }
     }
 
-    /// The reply to a command that is accepted, or the first refusal.
+    /// The reply to a command that is accepted, or the first refusal. Once as many commands were accepted as can be
+    /// counted, each one is refused.
     fn decide(&self, command: &Command<M>) -> Result<Reply, Refusal>
         ensures { result ≡ answer_of self.now command.now }
     {
@@ -97,7 +98,7 @@ impl<M: Mailbox> BusState<M> {
         self.row(command)
     }
 
-    /// The same, where one more command can be counted.
+    /// The row of a command, where one more can be counted.
     fn row(&self, command: &Command<M>) -> Result<Reply, Refusal>
         requires { self.now.commands < max_commands }
         ensures { result ≡ row self.now command.now }
@@ -220,7 +221,7 @@ impl<M: Mailbox> BusState<M> {
         }
     }
 
-    /// One more command of a connection was accepted.
+    /// Counts one more command of a connection.
     fn count(&mut self, connection: u64)
         requires there { is_connected connection self.old.connections ≡ true }
         requires fits { self.old.commands < max_commands }

@@ -31,7 +31,7 @@ impl<M: Mailbox> Rule<Command<M>, u64> for Law {
     ghost moves = { λ ask before after answer. Unit {0} };
 }
 
-/// Callers trade nothing.
+/// A trade of the rule's: callers trade nothing.
 pub struct Nothing;
 
 impl<M: Mailbox> Gain<Command<M>, u64> for Nothing {
@@ -58,7 +58,7 @@ impl<M: Mailbox> Plain<Command<M>, Command<M>, u64> for Add {
     ghost state = { λ command. None };
 }
 
-/// Which history it is. Each call of a program picks it.
+/// Which history it is, told by a type. Each call of a program picks one.
 pub trait Naming {
     ghost use Rattle.logbook.specs.Pages.{Book};
 
@@ -191,7 +191,7 @@ impl<J: Naming, M: Mailbox> Front<J, M> {
         self.count == 0
     }
 
-    /// A copy.
+    /// A copy. It takes no memory.
     pub fn again(&self) -> Front<J, M>
         ensures copy { result ≡ self.now }
         ensures history { IsHistory result }
@@ -203,7 +203,7 @@ impl<J: Naming, M: Mailbox> Front<J, M> {
         }
     }
 
-    /// Shows that the other, which is no shorter, begins with this one. It does nothing.
+    /// Shows that the other, which is no shorter, begins with this one. Nothing is done at run time.
     pub fn begins(&self, other: &Front<J, M>)
         requires { length self.now ≤ length other.now }
         ensures { IsPrefix self.now other.now }

@@ -27,7 +27,7 @@ use std::fmt;
 use std::marker::Model;
 use std::sync::Wait;
 
-/// Why a command isn't published.
+/// Why a command wasn't published.
 #[derive(Clone, Copy, Debug, PartialEq, Eq)]
 pub enum PublishError {
     /// Memory was refused. The bus has ended: the command lies in the writer's log.
@@ -77,7 +77,7 @@ where
     Law: Rule<Command<M>, u64>,
 {
     writer: ShownWriter<J, M>,
-    // The end waits for the readers.
+    // Kept for the end, which waits for the readers.
     rt: R,
     book: Book<J, M>,
     has_ended: bool,
@@ -133,7 +133,7 @@ fn write<J: Naming, M: Mailbox, R: Wait>(
     publish_log(writer, rt)
 }
 
-// Publishes the history as it is, in an entry of its own.
+// Publishes the history as it is, in an entry without a command.
 fn write_blank<J: Naming, M: Mailbox, R: Wait>(
     writer: ShownWriter<J, M>,
     rt: &R,
@@ -154,8 +154,8 @@ fn write_blank<J: Naming, M: Mailbox, R: Wait>(
 }
 
 impl<J: Naming, M: Mailbox, R: Wait + Drop> Publisher<J, M, R> {
-    /// An opened history and the opening state, with room for this many readers. The key is that of the state's index of
-    /// entries.
+    /// An opened history and the opening state, with room for this many readers. The key is that of the state's index
+    /// of entries.
     pub fn new(
         rt: R,
         alloc: Global,
@@ -228,7 +228,7 @@ impl<J: Naming, M: Mailbox, R: Wait + Drop> Publisher<J, M, R> {
             return Ok(reply);
         }
         let front = self.writer.published().front();
-        // The history isn't longer than what is published, since this call alone adds to it.
+        // The history is as long as the published one, since this call alone adds to it.
         let Some(entry) = Entry::new(front, &self.book, command) else {
             self.has_ended = true;
             return Err(PublishError::NoMemory);
@@ -287,7 +287,7 @@ impl<J: Naming, M: Mailbox, R: Wait + Drop> Publisher<J, M, R> {
         Some(told)
     }
 
-    /// A new reader, which is told the published history. None where each place of a reader is in use.
+    /// A new reader, which is told the published history. `None` where all places of readers are in use.
     pub fn sight(&mut self) -> Option<Sight<J, M>>
         ensures same { self.new ≡ self.old }
         ensures seen { IfSome result (λ sight. sight ≡ self.old.history) }

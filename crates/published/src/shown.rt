@@ -53,7 +53,7 @@ impl<J: Naming, M: Mailbox> Shown<J, M> {
         self.front.again()
     }
 
-    // The history as it is.
+    // Shows that a history as long as this one is this one. Nothing is done at run time.
     fn hold(&self, front: &Front<J, M>) -> Result<(), AllocError>
         ensures { IfOk result (λ _. front.now ≡ self.now) }
     {
@@ -95,7 +95,7 @@ impl<J: Naming, M: Mailbox> Model for Entry<J, M> {
 }
 
 impl<J: Naming, M: Mailbox> Entry<J, M> {
-    /// The history as it is.
+    /// An entry without a command.
     pub fn blank(front: Front<J, M>) -> Entry<J, M>
         ensures { result ≡ front }
     {
@@ -105,7 +105,8 @@ impl<J: Naming, M: Mailbox> Entry<J, M> {
         }
     }
 
-    /// The command becomes part of the history here. None where the history is longer than `front`.
+    /// An entry with a command, which becomes part of the history here. `None` where the history is longer than
+    /// `front`.
     pub fn new(
         mut front: Front<J, M>,
         book: &Book<J, M>,
@@ -131,7 +132,7 @@ impl<J: Naming, M: Mailbox> Absorb<Entry<J, M>> for Shown<J, M> {
 
     ghost applied = { λ history entry. entry };
 
-    // An entry that isn't the next one is refused. None such is published.
+    // Refuses an entry that isn't the next one. None such is published.
     fn absorb_first(
         &mut self,
         entry: &Entry<J, M>,

@@ -27,7 +27,7 @@ where
     // None while a visit has it.
     reader: Option<ShownReader<J, M>>,
     front: Front<J, M>,
-    // More was told than the reader has entered.
+    // The history that was told is longer than what the reader has entered.
     is_ahead: bool,
 }
 
@@ -66,7 +66,7 @@ impl<J: Naming, M: Mailbox> Sight<J, M> {
         &self.front
     }
 
-    /// Has then seen this history, which begins with what was seen.
+    /// Takes over a history, which begins with what was seen; it is then seen.
     pub fn take_over(&mut self, told: Front<J, M>)
         requires { IsPrefix self.old told }
         ensures { self.new ≡ told }
@@ -75,7 +75,7 @@ impl<J: Naming, M: Mailbox> Sight<J, M> {
         self.is_ahead = true;
     }
 
-    /// Takes over a told history: the longer of the two is then seen, and one of them begins the other.
+    /// Takes over a told history: the longer of the two is then seen. One of them begins the other.
     pub fn learn(&mut self, told: &Front<J, M>)
         ensures one { (self.new ≡ self.old) ⊎ (self.new ≡ told.now) }
         ensures this { IsPrefix self.old self.new }
@@ -90,8 +90,8 @@ impl<J: Naming, M: Mailbox> Sight<J, M> {
         }
     }
 
-    /// Enters the published state: the history that it comes of begins with what was seen. None where the bus is gone, or
-    /// where a visit hasn't left yet.
+    /// Enters the published state: the history that it comes of begins with what was seen. None where the bus is gone,
+    /// or where a visit hasn't left yet.
     pub fn enter(&mut self) -> Option<Visit<J, M>>
         ensures visit { IfSome result (λ visit. IsPrefix self.old visit) }
         ensures same { self.new ≡ self.old }
@@ -100,7 +100,7 @@ impl<J: Naming, M: Mailbox> Sight<J, M> {
             Ok(reading) => {
                 let front = reading.get().front();
                 if self.is_ahead {
-                    // No history that was told is longer than the one that is published.
+                    // No history that was told is longer than the published one.
                     if self.front.len() > front.len() {
                         self.reader = Some(reading.leave());
                         return None;
@@ -116,7 +116,7 @@ impl<J: Naming, M: Mailbox> Sight<J, M> {
         }
     }
 
-    /// Leaves the state, of which the history is seen then.
+    /// Leaves the state, whose history is then seen.
     pub fn leave(&mut self, visit: Visit<J, M>)
         requires { IsPrefix self.old visit }
         ensures { self.new ≡ visit }

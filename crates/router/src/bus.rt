@@ -23,7 +23,7 @@ use summary::Edition;
 pub struct Bus<J: Naming, M: Mailbox, R: Wait + Drop> {
     control: Mutex<Control<J, M, R>>,
     kept: Mutex<KeptPasses<J, M>>,
-    // Whose turn it is to change an owner and to announce it.
+    // The turn to change an owner and to announce the change.
     turns: Mutex<()>,
 }
 
@@ -51,8 +51,8 @@ impl<J: Naming, M: Mailbox, R: Wait + Drop> Bus<J, M, R> {
         }
     }
 
-    /// Waits for the turn to change who owns a name, and keeps it while the guard is there. Who changes an owner takes the
-    /// turn first and announces the change before letting it go, so that changes are announced in their order.
+    /// Waits for the turn to change who owns a name, and keeps it while the guard is there. Whoever changes an owner
+    /// takes the turn first and announces the change before giving it up, so that changes are announced in their order.
     pub fn turn(&self, rt: &impl Wait) -> MutexGuard<'_, ()> {
         self.turns.lock(rt)
     }
@@ -72,7 +72,8 @@ impl<J: Naming, M: Mailbox, R: Wait + Drop> Bus<J, M, R> {
         }
     }
 
-    /// Keeps the reader of a pass that is closed or was never connected for a later pass, or drops it where 256 are kept.
+    /// Keeps the reader of a pass that is closed or was never connected for a later pass, or drops it where 256 are
+    /// kept.
     pub fn take_back(&self, rt: &impl Wait, pass: Pass<J, M>)
         requires { (pass.is_closed ≡ true) ⊎ (pass.connection ≡ 0) }
     {

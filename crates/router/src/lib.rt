@@ -1,6 +1,6 @@
-//! The bus as threads share it: each command of a pass under its lock, and messages to outboxes without it. The layers above
-//! use that each call's reply is the table's after one history, which begins with all that its pass had seen, and that a
-//! pass's own commands are those that were accepted of it, each once and in order.
+//! The bus as threads share it: each command of a pass under its lock, and messages to outboxes without it. The layers
+//! above use that each call's reply is the table's after one history, which begins with all that its pass had seen, and
+//! that a pass's own commands are those that were accepted of it, each once and in order.
 #![tactic(auto)]
 
 mod bus;

@@ -25,14 +25,14 @@ impl Gate for OpenGate {
 }
 
 impl<J: Naming, M: Mailbox + Carrier, R: Wait + Drop> Bus<J, M, R> {
-    /// Finds the recipients of a broadcast, leaves the published state, and puts the message into their outboxes. Answers
-    /// those whose outbox refused it, a shut one included, by rising number. The view is that of the bytes. Nothing is
-    /// written out: `Pass::push_out` does it.
+    /// Finds the recipients of a broadcast, leaves the published state, and puts the message into their outboxes.
+    /// Answers those whose outbox refused it, a shut one included, by rising number. The view is that of the bytes.
+    /// Nothing is written out: `Pass::push_out` does it.
     ///
     /// # Errors
     ///
-    /// Nothing was put then. `Closed` where the pass was never connected, or was closed and the message isn't the bus's, or
-    /// the bus is gone; `NoMemory`; `Counts` where the pass's last count was used.
+    /// Nothing was put then. `Closed` where the pass was never connected, or was closed and the message isn't the
+    /// bus's, or the bus is gone; `NoMemory`; `Counts` where the pass's last count was used.
     pub fn route<W: Wait>(
         &self,
         rt: &W,
@@ -47,8 +47,8 @@ impl<J: Naming, M: Mailbox + Carrier, R: Wait + Drop> Bus<J, M, R> {
         pass.broadcast(rt, alloc, source, view, bytes, &OpenGate)
     }
 
-    /// Routes as `route` does. `gate.before(0)` is called once the published state is left and the seats are there, before
-    /// the first put, and `gate.after(0)` after the last.
+    /// Routes as `route` does. `gate.before(0)` is called once the published state is left and the seats are there,
+    /// before the first put, and `gate.after(0)` after the last.
     pub fn route_gated<W: Wait, G: Gate>(
         &self,
         rt: &W,

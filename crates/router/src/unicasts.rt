@@ -13,12 +13,13 @@ use std::alloc::Global;
 use std::sync::Wait;
 
 impl<J: Naming, M: Mailbox + Carrier, R: Wait + Drop> Bus<J, M, R> {
-    /// Finds the owner of a name, which is unique or well-known, leaves the published state, and puts the message into the
-    /// owner's outbox. Nothing is written out: `Pass::push_out` does it.
+    /// Finds the owner of a name, which is unique or well-known, leaves the published state, and puts the message into
+    /// the owner's outbox. Nothing is written out: `Pass::push_out` does it.
     ///
     /// # Errors
     ///
-    /// Nothing was put then. `Closed` where the pass was never connected, or was closed, or the bus is gone; `NoMemory`.
+    /// Nothing was put then. `Closed` where the pass was never connected, or was closed, or the bus is gone;
+    /// `NoMemory`.
     pub fn unicast<W: Wait>(
         &self,
         rt: &W,

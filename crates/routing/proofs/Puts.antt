@@ -74,7 +74,7 @@ may_put mark k recipients d refused old stops P lt rising all fits h =
     let Q : Option StopView → Type 0 = λ o. IsSomeAnd o P in
     subst Q (sym same.1) (some_and (stop_at m old) P (all_at recipients k d old lt all) (fits m))
 
--- what one put more makes of a stop: of its recipient's, or of another
+-- what one more put makes of a stop: of its recipient's, or of another
 pub put_more : (mark : Option (ℕ × ℕ)) (e put done refused : Bool) (old stops new : Option StopView) (before after : StopView) → (e ≡ true → (done ≡ false) × (stops ≡ Some before)) → RoutedAt mark done refused old stops
     → PutThere mark put before after → new ≡ cond e (Some after) stops → RoutedAt mark (done || e) (refused || (e && not put)) old new
 put_more mark true put true refused old stops new before after its h change is = absurd (true≢false (its refl).0)
@@ -86,7 +86,7 @@ put_more mark false put false false old stops new before after its h change is =
 put_more mark false put true true old stops new before after its h change is = (h.0, h.1, h.2, is ∙ h.3, h.4)
 put_more mark false put true false old stops new before after its h change is = (h.0, h.1, h.2, is ∙ h.3, h.4)
 
--- one recipient more
+-- one more recipient
 next_put : (mark : Option (ℕ × ℕ)) (m : ℕ) (done refused refused' : List ℕ) (old stops new : List StopView) (put : Bool) → RisesFrom 0 (done ++ m ∷ []) → refused' ≡ cond put refused (refused ++ m ∷ []) → PutTo mark done refused old stops
     → PutAt m mark put stops new → PutTo mark (done ++ m ∷ []) refused' old new
 next_put mark m done refused refused' old stops new put r noted h now =
@@ -149,7 +149,7 @@ popped_length xs rest o x k n e some l =
     let b = ap length e ∙ ap (λ p. length (rest ++ option_to_list p)) some in
     omega (arith, a, b, l)
 
--- a put at one stop, as a list of one recipient
+-- a put at one stop, as puts to a list of one recipient
 pub put_once : (mark : Option (ℕ × ℕ)) (m : ℕ) (put : Bool) (old new : List StopView) → PutAt m mark put old new → (n : ℕ) → RoutedAt mark (m == n) ((m == n) && not put) (stop_at n old) (stop_at n new)
 put_once mark m put old new now n =
     put_more mark (m == n) put false false (stop_at n old) (stop_at n old) (stop_at n new) now.before now.after (λ e. (refl, its e)) (refl, refl) now.change (now.now n)

@@ -38,7 +38,7 @@ taken_has : (recipients : List RecipientView) (n : ℕ) (a b : Option StopView) 
 taken_has recipients n None b h has = absurd (true≢false (sym has))
 taken_has recipients n (Some s) b h has = let P : Option StopView → Type 0 = λ o. IsSome o in subst P (sym h) refl
 
--- what a list of newcomers lists: its first one, and what its back lists
+-- a list of newcomers lists its first one, and what its back lists
 lists_first : (back : List RecipientView) (r : RecipientView) (n : ℕ) (o : OutboxId) → Lists (r ∷ []) n o → Lists (r ∷ back) n o
 lists_first back r n o (inl h) = inl h
 lists_first back r n o (inr h) = absurd h
@@ -63,7 +63,7 @@ all_more : (numbers : List ℕ) (old new : List StopView) → ((n : ℕ) → Has
 all_more [] old new h a = tt
 all_more (n ∷ ns) old new h a = (h n a.0, all_more ns old new h a.1)
 
--- the newcomers that aren't left have taken their seats
+-- all newcomers but those that are left have taken their seats
 pub record TakenBut (all left : List RecipientView) (old new : List StopView) : Type 0 where
   pub back : List RecipientView
   pub whole : left ++ back ≡ all
@@ -83,7 +83,7 @@ one_taken all left rest o r old stops new e some h taken has = record {
   has = (has, all_more (map number_of h.back) stops new (λ n k. taken_has (r ∷ []) n (stop_at n stops) (stop_at n new) (taken n) k) h.has);
 }
 
--- whether it has or not, seats were taken at the outboxes of newcomers alone
+-- seats were taken at the outboxes of newcomers alone, whether this one had a seat before or not
 pub seats_taken : (all left rest : List RecipientView) (o : Option RecipientView) (r : RecipientView) (old stops new : List StopView) → left ≡ rest ++ option_to_list o → o ≡ Some r → TakenBut all left old stops → SeatsTaken (r ∷ []) stops new → SeatsTaken all old new
 seats_taken all left rest o r old stops new e some h taken =
     let whole : rest ++ (r ∷ h.back) ≡ all = sym (append_assoc rest (r ∷ []) h.back) ∙ ap (λ l. l ++ h.back) (ap (λ p. rest ++ option_to_list p) (sym some) ∙ sym e) ∙ h.whole in

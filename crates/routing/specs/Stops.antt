@@ -71,15 +71,17 @@ abbrev pub Lists : List RecipientView → ℕ → OutboxId → Type 0
 Lists [] n outbox = ⊥
 Lists (r ∷ rs) n outbox = ((r.number ≡ n) × (r.outbox ≡ outbox)) ⊎ Lists rs n outbox
 
--- What calls of a sender keep: each seat stays at its outbox, a new one is at a newcomer's, and what is known to be shut stays so
+-- What calls of a sender keep: each seat stays at its outbox, a new one is at a newcomer's, and what is known to be
+-- shut stays so
 pub record Keeps (newcomers : List RecipientView) (old new : SenderView) : Type 0 where
   pub origin_is : new.origin ≡ old.origin
   pub stay : (n : ℕ) (outbox : OutboxId) → outbox_at n old.stops ≡ Some outbox → outbox_at n new.stops ≡ Some outbox
   pub theirs : (n : ℕ) (outbox : OutboxId) → outbox_at n new.stops ≡ Some outbox → (outbox_at n old.stops ≡ Some outbox) ⊎ Lists newcomers n outbox
   pub shut : (n : ℕ) → shut_at n old.stops ≡ true → shut_at n new.stops ≡ true
 
--- One broadcast more. At a recipient that isn't listed, the seat's last count is this broadcast's; at a listed one and at every other outbox, it is what it was.
--- A listed one is a recipient whose outbox is shut, and where the seat knew that before, the recipient is listed
+-- One broadcast more. At a recipient that isn't listed, the seat's last count is this broadcast's; at a listed one and
+-- at every other outbox, it is what it was. A listed one is a recipient whose outbox is shut, and where the seat knew
+-- that before, the recipient is listed
 pub record Routed (recipients refused : List ℕ) (old new : SenderView) : Type 0 where
   pub count_is : new.count ≡ old.count + 1
   pub lasts : (n : ℕ) → last_at n new.stops ≡ cond (is_put n recipients refused) new.count (last_at n old.stops)

@@ -75,8 +75,8 @@ impl<C: Carrier> Sender<C> {
     }
 
     /// Puts a broadcast into the outboxes of its recipients, whose numbers rise, and answers those whose outbox refused
-    /// it, a shut one included. The shares of the bytes are taken before the first put, so after an error nothing was put
-    /// and the count isn't used.
+    /// it, a shut one included. The shares of the bytes are taken before the first put, so after an error nothing was
+    /// put and the count isn't used.
     pub fn route<R: Wait>(
         &mut self,
         rt: &R,
@@ -95,8 +95,8 @@ impl<C: Carrier> Sender<C> {
         self.route_gated(rt, alloc, recipients, bytes, &OpenGate)
     }
 
-    /// Routes a broadcast as `route` does. `gate.before(0)` is called once the shares are there, before the first put, and
-    /// `gate.after(0)` after the last put; neither is called where the answer is an error.
+    /// Routes a broadcast as `route` does. `gate.before(0)` is called once the shares are there, before the first put,
+    /// and `gate.after(0)` after the last put; neither is called where the answer is an error.
     pub fn route_gated<R: Wait, G: Gate>(
         &mut self,
         rt: &R,
@@ -136,7 +136,7 @@ impl<C: Carrier> Sender<C> {
         ensures unrouted { Unrouted self.old self.new }
         ensures keeps { Keeps [] self.old self.new }
 
-        // Full is answered by a shut outbox alone, and each later message is answered so too.
+        // `Full` is answered only by an outbox that is shut, which then answers so always.
         ensures full { result ≡ Ok Sent.Full → shut_at recipient self.new.stops ≡ true }
         ensures shut { shut_at recipient self.old.stops ≡ true → IfOk result (λ sent. sent ≡ Sent.Full) }
     {

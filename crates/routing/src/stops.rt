@@ -130,7 +130,7 @@ pub(crate) fn take_seats<C: Carrier>(
     Ok(())
 }
 
-/// As many shares of the bytes.
+/// Shares of the bytes, as many as `count`.
 pub(crate) fn shares_of(
     alloc: Global,
     bytes: &Bytes,
@@ -189,14 +189,14 @@ pub(crate) fn push_out_all<C: Carrier, R: Wait>(rt: &R, stops: &mut [Stop<C>])
     }
 }
 
-// Whether the number is among these.
+// Whether the number is among these numbers.
 fn is_among(number: u64, numbers: &[u64]) -> bool
     ensures { result ≡ is_in number numbers.now }
 {
     numbers.iter().any(|n| *n == number)
 }
 
-/// Lets go the stops of all others than these recipients.
+/// Drops the stops of all recipients but these.
 pub(crate) fn retain<C: Drop>(stops: &mut Vec<Stop<C>>, recipients: &[u64])
     ensures { stops.new.items ≡ filter (λ s. is_in s.recipient recipients.now) stops.old.items }
 {

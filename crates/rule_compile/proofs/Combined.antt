@@ -32,7 +32,7 @@ extends_then f g first next rest =
 pub extends_want : (test : Test) (k : ℕ) → Extends (want test k)
 extends_want test k rest = (_ ∷ [], refl)
 
--- its rest is guarded, so it is
+-- a piece in front of a rest that says no match at its end does so too
 pub guards : (f : List Ins → List Ins) → Extends f → (rest : List Ins) → Guarded rest → Guarded (f rest)
 guards f extends rest (front, is) =
     let a = extends rest in
@@ -44,7 +44,7 @@ guards f extends rest (front, is) =
 pub tests_none : (image : List ℕ) (X : ℕ → Type 0) (P : Type 0) → P → Tests image X P (λ rest. rest)
 tests_none image X P p = record { decided = inl p; guarded = λ rest g. g; passes = λ rest v g leads _. leads; fails = λ rest g n. absurd (n p) }
 
--- the fact said in another way
+-- the fact in other words
 pub tests_same : (image : List ℕ) (X : ℕ → Type 0) (P Q : Type 0) (f : List Ins → List Ins) → P ↔ Q → Tests image X P f → Tests image X Q f
 tests_same image X P Q f same t = record {
   decided = elim t.decided [ inl p ↦ inl (same.0 p) | inr n ↦ inr (λ q. n (same.1 q)) ];
@@ -109,7 +109,7 @@ pub extends_settle : (f : List Ins → List Ins) (at : ℕ) (test : Test) (k : �
 extends_settle f at test k extends =
     extends_more (λ rest. settle test k rest (f rest)) (λ _. image_word at) (extends_more f (λ rest. branch test k (length (f rest) - length rest) 0) extends)
 
--- The comparison holds of the image's word, or the piece's fact does, which need only do its work where the
+-- The comparison holds of the image's word, or else the piece's fact does. The piece need only do its work where the
 -- comparison doesn't hold.
 pub tests_settle : (image : List ℕ) (X : ℕ → Type 0) (P : Type 0) (f : List Ins → List Ins) (at w : ℕ) (test : Test) (k : ℕ) → load_word image at ≡ Some w → Extends f → (passes test w k ≡ false → Tests image X P f) → Tests image X ((passes test w k ≡ true) ⊎ P) (λ rest. image_word at ∷ settle test k rest (f rest))
 tests_settle image X P f at w test k is extends other = elim (cases_Bool (passes test w k)) [

@@ -1,4 +1,4 @@
--- The lowered program of a rule, by what is known of the program whose jumps may go over any number of instructions.
+-- The lowered program of a rule, from what is known of the program before it was lowered.
 use Rattle.std.proofs.Common.{◌≡◌, ◌↔◌, ℕ, ◌<◌, ◌≤◌, Bool, List, Option, sym, subst, arith}
 use Rattle.bpf_code.specs.declared.instruction.Ins.{Ins}
 use Rattle.bpf_code.specs.Program.{WellFormed}

@@ -41,7 +41,7 @@ none_drafted items draft empty many = record { lines = empty; many = many; bound
 lt_or_same : (a b : ℕ) → a < b + 1 → (a < b) ⊎ (a ≡ b)
 lt_or_same a b h = elim (eq-or-lt_of_le {n = a} {m = b} (omega arith)) [ inl same ↦ inr same | inr less ↦ inl less ]
 
--- one item more
+-- one more item
 pub more_drafted : (items : List Item) (done : ℕ) (draft : DraftTree) (item d : Item) → done < length items → item ≡ get_or items done d → Drafted items done draft → Drafted items (done + 1) (with_item done item draft)
 more_drafted items done draft item d within is so =
     let at : length draft.lines ≡ done = ap length so.lines ∙ length_lines 0 (take done items) ∙ (let e : length (take done items) ≡ done = grind (arith, length-take) in e) in

@@ -208,7 +208,7 @@ rest_compiled rule slot tested program same compiled = record {
       ((λ less. rest.0 (tells.0 less)), (λ holds. tells.1 (rest.1 holds)));
 }
 
--- of a result that is there
+-- an Ok has a fact that follows from the one that it has
 pub ok_map : {A E : Type 0} (r : Result A E) (P Q : A → Type 0) → ((x : A) → P x → Q x) → IfOk r P → IfOk r Q
 ok_map (Ok x) P Q each h = each x h
 ok_map (Err e) P Q each h = tt

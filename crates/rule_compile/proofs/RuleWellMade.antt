@@ -154,7 +154,7 @@ choice_sound false hit miss h m = m
 text_sound : (at : ℕ) (rest : List Ins) → at < 1024 → IsSound rest → IsSound (index_text at rest)
 text_sound at rest small s = image_sound at (index_from_a ∷ rest) (omega arith) (index_sound rest s)
 
--- the text in front of what compares it, once its length fits
+-- the text's beginning, in front of what is tested next, once its length fits
 begin_sound : (test : Test) (at : ℕ) (value : List ℕ) (rest : List Ins) → at < 1024 → IsSound rest → IsSound (has_len test (length value) at (is_there_if (length value == 0) at (index_text at (same_bytes 0 value rest))))
 begin_sound test at value rest small s =
     let tail = index_text at (same_bytes 0 value rest) in

@@ -116,8 +116,8 @@ branch_op Above = refl
 branch_op AtLeast = refl
 branch_op SharesBit = refl
 
--- A branch whose comparison holds goes over the instructions of one jump, and one whose comparison doesn't over
--- those of the other.
+-- A branch goes over the instructions of its first distance where the comparison holds, and over those of its second
+-- where it doesn't.
 pub runs_hit : (front behind : List Ins) (image : List ℕ) (test : Test) (k hit miss a x v : ℕ) → passes test a k ≡ true → length front ≡ hit → RunsTo behind image a x v → RunsTo (branch test k hit miss ∷ (front ++ behind)) image a x v
 runs_hit front behind image test k hit miss a x v holds is run =
     let later = runs_behind (branch test k hit miss ∷ front) behind image a x v (1 + hit) (omega arith) run in
@@ -128,9 +128,9 @@ runs_miss front behind image test k hit miss a x v fails is run =
     let later = runs_behind (branch test k hit miss ∷ front) behind image a x v (1 + miss) (omega arith) run in
     (suc later.0, rw (branch_op test, fails) later.1)
 
--- ---- wants and ways out
+-- ---- tests that end the run, and jumps past the piece
 
--- on where the comparison holds
+-- on to the next instruction where the comparison holds
 pub runs_want : (rest : List Ins) (image : List ℕ) (test : Test) (k a x v : ℕ) → passes test a k ≡ true → RunsTo rest image a x v → RunsTo (want test k rest) image a x v
 runs_want rest image test k a x v holds run =
     runs_hit [] rest image test k 0 (length rest - 1) a x v holds refl run

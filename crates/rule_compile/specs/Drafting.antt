@@ -22,7 +22,7 @@ abbrev pub line_of : ℕ → Item → Line
 line_of place (Plain ins) = PlainLine ins
 line_of place (Branch test k hit miss) = Jumps test Constant k (label_at (place + 1 + hit)) (label_at (place + 1 + miss))
 
--- one line more, to whose place the label of that place is bound
+-- one more line, to whose place the label of that place is bound
 abbrev pub with_item : ℕ → Item → DraftTree → DraftTree
 with_item place item draft = record {
   lines = draft.lines ++ line_of place item ∷ [];

@@ -52,7 +52,7 @@ abbrev pub fixed_source : RuleTree → Source → Option (List ℕ)
 fixed_source rule (Header field) = fixed_field rule field
 fixed_source rule (Arg n) = if n == 0 then arg0_asked rule else None
 
--- the text that a rule fixes of a source, by equality alone
+-- the text that a rule fixes of a source: only equality fixes one
 abbrev pub fixed_text : RuleTree → Relation → Source → Option (List ℕ)
 fixed_text rule relations.Equal source = fixed_source rule source
 fixed_text rule _ source = None

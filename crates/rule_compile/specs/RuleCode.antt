@@ -57,7 +57,7 @@ relation_code relations.PathNamespace at value rest = path_namespace at value re
 relation_code relations.NameNamespace at value rest = in_namespace at 46 value rest
 relation_code relations.NestedPath at value rest = is_nested at value rest
 
--- the text of a field is there, where the code of the relation doesn't tell
+-- the text of a field is there, where the relation's piece doesn't test that
 abbrev pub there_code : Relation → ℕ → List Ins → List Ins
 there_code relations.NestedPath at rest = is_there at rest
 there_code _ at rest = rest
@@ -67,18 +67,18 @@ abbrev pub type_code : Relation → ℕ → List Ins → List Ins
 type_code relations.NestedPath n rest = has_text_type n rest
 type_code _ n rest = has_type n 115 rest
 
--- the source has a text that the relation compares
+-- the source has a text of a type that the relation compares
 abbrev pub source_code : Source → Relation → List Ins → List Ins
 source_code (Header field) relation rest = there_code relation (field_at field) rest
 source_code (Arg n) relation rest = type_code relation n rest
 
--- a condition, of a rule whose sender name has a slot
+-- the piece of a condition, in a rule whose sender name has a slot
 abbrev pub condition_code : ℕ → Condition → List Ins → List Ins
 condition_code slot (Kind kind) rest = image_word 4 ∷ want Equal (kind_byte (kind_meant kind)) rest
 condition_code slot (Sender name) rest = if is_owned_name name then owns slot rest else is_text 64 name rest
 condition_code slot (Compares source relation value) rest = source_code source relation (relation_code relation (words_at source) value rest)
 
--- ---- what comes early: what takes the least and tells the most
+-- ---- the order of conditions: first those that take few instructions and fail most messages
 
 abbrev pub field_rank : Field → ℕ
 field_rank Member = 1
@@ -86,12 +86,12 @@ field_rank Interface = 3
 field_rank Path = 4
 field_rank Destination = 4
 
--- the rank of a text that is compared whole
+-- the rank of a text that is tested for equality
 abbrev pub whole_rank : Source → ℕ
 whole_rank (Header field) = field_rank field
 whole_rank (Arg n) = 6
 
--- the rank of a text that is compared in another way
+-- the rank of a text that is tested in another way
 abbrev pub other_rank : Source → ℕ
 other_rank (Header field) = 5
 other_rank (Arg n) = 7
@@ -127,6 +127,6 @@ offered eavesdrops rest = if eavesdrops then rest else image_word 56 ∷ want Eq
 abbrev pub verdicts : List Ins
 verdicts = returns 1 ∷ returns 0 ∷ []
 
--- the program of a rule, whose jumps may go over any number of instructions
+-- the program of a rule, before it is lowered: its jumps may go over any number of instructions
 abbrev pub rule_code : ℕ → RuleTree → List Ins
 rule_code slot rule = from_rank slot ranks 0 rule.conditions (offered rule.eavesdrops verdicts)

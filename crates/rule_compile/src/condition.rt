@@ -26,7 +26,7 @@ pub(crate) const DESTINATION: u16 = 56;
 
 const SENDER: u16 = 64;
 
-/// The place of the words of the first argument, and how far those of the next one are.
+/// The place of the words of the first argument, and how many bytes on those of the next one are.
 const ARGUMENTS: u16 = 72;
 
 const ARGUMENT_LEN: u16 = 12;
@@ -127,7 +127,7 @@ impl Code {
         }
     }
 
-    /// The text of a field is there, where the piece of the relation doesn't tell.
+    /// The text of a field is there, where the relation's piece doesn't test that.
     fn has_field(&mut self, relation: Relation, field: Field) -> Result<(), AllocError>
         ensures { OnOk result (self.new ≡ there_code relation (field_at field) self.old) }
     {
@@ -149,7 +149,7 @@ impl Code {
         }
     }
 
-    /// The source has a text that the relation compares.
+    /// The source has a text of a type that the relation compares.
     fn has_source(&mut self, source: Source, relation: Relation) -> Result<(), AllocError>
         ensures { OnOk result (self.new ≡ source_code source relation self.old) }
     {
@@ -173,7 +173,7 @@ impl Code {
         self.has_source(source, relation)
     }
 
-    /// A condition, of a rule whose sender name has a slot.
+    /// The piece of a condition, in a rule whose sender name has a slot.
     pub(crate) fn condition(&mut self, slot: u16, condition: &Condition) -> Result<(), AllocError>
         requires { condition_weight condition.now < 2 ^ 32 }
         ensures { OnOk result (self.new ≡ condition_code slot condition.now self.old) }

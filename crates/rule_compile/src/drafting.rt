@@ -1,4 +1,4 @@
-// Programs under way as drafts, with a label for each place.
+// Programs that are being written, as drafts with a label for each place.
 ghost use Rattle.std.specs.Prelude.{◌≡◌, ◌<◌, ◌≤◌, ◌+◌, ℕ, length, IfOk, IfErr, OnOk};
 ghost use Rattle.jump_islands.specs.Draft.{instructions_of, IsClosed};
 ghost use Rattle.rule_compile.specs.Items.{IsInside};

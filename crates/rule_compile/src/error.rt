@@ -9,7 +9,7 @@ use std::fmt;
 /// Why a rule isn't compiled.
 #[derive(Clone, Copy, Debug, PartialEq, Eq)]
 pub enum CompileError {
-    /// The program might have more than 4,096 instructions: the rule weighs more than that.
+    /// The rule weighs more than 4,096, so that its program might have more instructions than that.
     TooLong,
     /// Memory was refused.
     NoMemory,

@@ -15,7 +15,8 @@ use std::marker::Model;
 pub(crate) enum Item {
     /// An instruction that is no jump.
     Plain(Ins),
-    /// A comparison of A with k, and how many instructions it goes over where it holds and where it doesn't.
+    /// A comparison of A with `k`, and how many instructions it goes over where the comparison holds and where it
+    /// doesn't.
     Branch {
         test: Test,
         k: u32,
@@ -28,7 +29,7 @@ pub(crate) enum Item {
 /// rest, so that each jump has its target already. The last instruction says no match.
 #[derive(Drop)]
 pub(crate) struct Code {
-    /// The last one is the program's first.
+    /// The last item is the program's first.
     items: Vec<Item>,
 }
 
@@ -76,7 +77,7 @@ impl Code {
         self.items.len()
     }
 
-    /// The items, the last one of the program first.
+    /// The items, from the program's last one to its first.
     pub(crate) fn items(&self) -> &[Item]
         ensures value { instructions (reverse result.now) ≡ self.now }
         ensures inside { AreInside (reverse result.now) }

@@ -1,4 +1,4 @@
-// The programs of rules: what takes the least and tells the most comes first.
+// The order of the conditions in a rule's program: first those that take few instructions and fail most messages.
 ghost use Rattle.std.specs.Prelude.{◌≡◌, ◌<◌, ◌^◌, sum_by, filter, OnOk, IfOk};
 ghost use Rattle.match_rule.specs.RuleTree.{condition_weight};
 ghost use Rattle.rule_compile.specs.Rest.{is_tested, tested_of};
@@ -14,7 +14,7 @@ use std::alloc::{AllocError, Global};
 /// How many ranks there are.
 const RANKS: u8 = 8;
 
-/// How early a text of a header field comes that is compared whole.
+/// The rank of a header field's text that is tested for equality.
 fn field_rank(field: Field) -> u8
     ensures { result ≡ field_rank field }
 {
@@ -25,7 +25,7 @@ fn field_rank(field: Field) -> u8
     }
 }
 
-/// How early a text comes that is compared whole.
+/// The rank of a text that is tested for equality.
 fn whole_rank(source: Source) -> u8
     ensures { result ≡ whole_rank source }
 {
@@ -35,7 +35,7 @@ fn whole_rank(source: Source) -> u8
     }
 }
 
-/// How early a text comes that is compared in another way.
+/// The rank of a text that is tested in another way.
 fn other_rank(source: Source) -> u8
     ensures { result ≡ other_rank source }
 {
@@ -45,7 +45,7 @@ fn other_rank(source: Source) -> u8
     }
 }
 
-/// How early a text comes.
+/// The rank of a text that is compared by a relation.
 fn relation_rank(relation: Relation, source: Source) -> u8
     ensures { result ≡ relation_rank relation source }
 {
@@ -57,7 +57,7 @@ fn relation_rank(relation: Relation, source: Source) -> u8
     }
 }
 
-/// How early a condition comes.
+/// The rank of a condition. Conditions of lower ranks are tested first.
 fn rank_of(condition: &Condition) -> u8
     ensures { result ≡ rank_of condition.now }
 {
@@ -117,7 +117,8 @@ impl Code {
     }
 }
 
-/// The program of a rule of those of these conditions that are tested, whose jumps may go over any number of instructions.
+/// The program of the conditions that are tested, before it is lowered: its jumps may go over any number of
+/// instructions.
 pub(crate) fn rule_code(
     alloc: Global,
     slot: u16,

@@ -1,4 +1,4 @@
-// The conditions of a rule that are left to test of a message with the texts that the rule fixes.
+// The conditions of a rule that are left to test, where a message has the texts that the rule fixes.
 ghost use Rattle.std.specs.Prelude.{◌≡◌, option_map};
 ghost use Rattle.rule_compile.specs.Rest.{is_fixed, fixed_field, fixed_source, fixed_text, is_left, is_tested};
 
@@ -36,7 +36,7 @@ fn fixed_source(rule: &Rule, source: Source) -> Option<&str>
     }
 }
 
-/// The text that a rule fixes of a source, by equality alone.
+/// The text that a rule fixes of a source: only equality fixes one.
 fn fixed_text(rule: &Rule, relation: Relation, source: Source) -> Option<&str>
     ensures { option_map (λ text. text.now) result ≡ fixed_text rule.now relation source }
 {
@@ -46,7 +46,7 @@ fn fixed_text(rule: &Rule, relation: Relation, source: Source) -> Option<&str>
     }
 }
 
-/// Whether a condition of a rule is left to test.
+/// Whether a condition of a rule is left to test, where a message has the texts that the rule fixes.
 fn is_left(rule: &Rule, condition: &Condition) -> bool
     ensures { result ≡ is_left rule.now condition.now }
 {

@@ -1,4 +1,4 @@
-// Texts, whose place and length an image tells in two words.
+// Texts, whose place and length are two words of an image.
 ghost use Rattle.std.specs.Prelude.{◌≡◌, ◌<◌, ◌≤◌, ◌+◌, ◌^◌, ◌∷◌, ◌==◌, length, slice_index, OnOk};
 ghost use Rattle.bpf_code.specs.declared.operation.Test.TheVariants.{Equal};
 ghost use Rattle.bpf_code.specs.declared.operation.Width.TheVariants.{Word};
@@ -66,7 +66,7 @@ impl Code {
         Ok(())
     }
 
-    /// The length passes a comparison.
+    /// The length passes the test.
     pub(crate) fn has_len(&mut self, test: Test, len: u32, at: u16) -> Result<(), AllocError>
         ensures { OnOk result (self.new ≡ has_len test len at self.old) }
     {
@@ -90,8 +90,8 @@ impl Code {
         self.image_word(u32::from(at))
     }
 
-    /// The length passes a comparison with that of the value, and the text begins with the value. A length of 0
-    /// doesn't say whether the text is there.
+    /// The length passes the test against that of the value, and the text begins with the value. A length of 0 doesn't
+    /// say whether the text is there.
     fn begins_with(&mut self, test: Test, at: u16, value: &[u8]) -> Result<(), AllocError>
         requires { length value.now < 2 ^ 32 }
         ensures { OnOk result (self.new ≡ has_len test (length value.now) at (is_there_if (length value.now == 0) at (index_text at (same_bytes 0 value.now self.old)))) }

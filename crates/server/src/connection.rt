@@ -12,7 +12,7 @@ use std::io::ErrorKind;
 use std::sync::{Arc, Wait};
 use std::time::{Clock, Duration, Instant};
 
-/// How many messages are treated before what they put is written. It lies well below what an outbox holds.
+/// How many messages are treated before what they put is written. An outbox holds far more.
 const MESSAGES: u32 = 32;
 
 /// How many reads one connection gets before the others have their turn.
@@ -28,14 +28,14 @@ pub(crate) enum Turn {
     Ends,
 }
 
-/// A connection, which one worker owns.
+/// A connection. One worker owns it.
 #[derive(Drop)]
 pub(crate) struct Connection<J: Naming> {
     session: Session<J, Mail>,
     member: Arc<Member>,
     link: Arc<Link>,
     begun: Instant,
-    /// Whether its Hello was answered, and its place among the newcomers given back.
+    /// Its Hello was answered, and it no longer counts among the newcomers.
     pub(crate) is_in: bool,
 }
 
@@ -112,8 +112,8 @@ impl<J: Naming> Connection<J> {
         Turn::Again
     }
 
-    /// Treats the lines and messages that are whole now. What they put is written after every few of them, also before an
-    /// error.
+    /// Treats the lines and messages that are whole now. What they put is written after every few of them, also before
+    /// an error.
     fn treat<W: Wait, R: Wait + Drop>(
         &mut self,
         rt: &W,

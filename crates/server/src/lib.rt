@@ -1,5 +1,5 @@
-//! The bus on a listening socket: one thread that accepts, and a few workers, each of which waits at a poll of its own for
-//! its share of the connections. A session never waits for its client, and whoever puts a message writes it.
+//! The bus on a listening socket: one thread that accepts, and a few workers, each of which waits at a poll of its own
+//! for its share of the connections. A session never waits for its client, and whoever puts a message writes it.
 #![tactic(auto)]
 
 mod accepting;

@@ -5,8 +5,8 @@ ghost use Rattle.std.specs.Prelude.{◌≡◌, ◌≤◌};
 use std::sync::{Condvar, Mutex, Wait};
 use std::time::Duration;
 
-/// The limits of a server. How many connections there are after Hello is the bus's limit, which it tells a client; so at
-/// most these two numbers together are open at once.
+/// The limits of a server. How many connections there are after Hello is the bus's limit, which it tells a client; so
+/// at most these two numbers together are open at once.
 #[derive(Clone, Copy)]
 pub struct Limits {
     /// How many connections may be without Hello at once.

@@ -25,13 +25,13 @@ const GLANCE: u64 = 500;
 /// How many milliseconds to wait where the poll fails.
 const PAUSE: u64 = 50;
 
-/// What a worker works with. It is made before the worker's thread is started.
+/// What a worker works with, made before its thread is started.
 #[derive(Drop)]
 pub(crate) struct Desk {
     poll: Poll,
     events: Events,
     post: Arc<Post>,
-    // Where all connections of the worker read to.
+    // The block into which all connections of the worker read.
     block: Vec<u8>,
 }
 
@@ -126,7 +126,7 @@ impl<'a, J: Naming, R: Wait + Drop> Worker<'a, J, R> {
         if !self.post.is_finished() {
             return false;
         }
-        // A connection may have come before the word that none comes.
+        // A connection may have been handed over before the word that no more come.
         self.take_in(rt);
         self.connections.is_empty()
     }
@@ -188,7 +188,7 @@ impl<'a, J: Naming, R: Wait + Drop> Worker<'a, J, R> {
         }
     }
 
-    /// Gives those that had more to read another turn.
+    /// Gives another turn to those that had more to read.
     fn go_on<W: Wait>(&mut self, rt: &W) {
         for key in mem::replace(&mut self.again, Vec::new(self.alloc)) {
             self.turn(rt, key, false);

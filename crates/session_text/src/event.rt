@@ -27,7 +27,7 @@ pub enum Action<'a> {
     Send(Vec<u8>),
     /// From here on its bytes come in pieces of this length.
     Cut(usize),
-    /// It is let in: these are its talk and Hello. What it got is forgotten.
+    /// The client says its talk and Hello. What it got is forgotten.
     Enter(Vec<u8>),
     /// What it got until here is forgotten.
     Forget,

@@ -27,8 +27,8 @@ struct Tally {
     wrong: usize,
 }
 
-/// Plays the files that the program's arguments name, prints what misses, and last how many cases there were and how many
-/// went wrong. It is a success where there were some, and none went wrong.
+/// Plays the files that the program's arguments name, prints what misses, and last how many cases there were and how
+/// many went wrong. It is a success where there were some, and none went wrong.
 pub fn judge_files<R: Runtime<A = Global>, P: Play>(rt: &R, play: &P) -> ExitCode {
     let Ok(files) = env::args(rt) else {
         return ExitCode::FAILURE;

@@ -1,6 +1,6 @@
-//! Cases of sessions as text: what clients of one bus send, what each of them gets, and how its session ends. A program that
-//! plays them has its files judged by `judge_files`, takes each line as an `Event`, and has a client's bytes compared with what
-//! is wanted by its `Received`.
+//! Cases of sessions as text: what clients of one bus send, what each of them gets, and how its session ends. A program
+//! that plays them has its files judged by `judge_files`, takes each line as an `Event`, and has a client's bytes
+//! compared with what is wanted by its `Received`.
 #![tactic(auto)]
 
 mod case;

@@ -53,7 +53,7 @@ fn put<'a>(alloc: Global, builder: &mut Builder<'a>, word: &'a str) -> Result<()
     put_argument(alloc, builder, code, value)
 }
 
-/// Whether the name is a field's.
+/// Sets the field of this name. Answers whether there is one.
 fn put_field<'a>(builder: &mut Builder<'a>, name: &str, value: &'a str) -> Result<bool, LineError> {
     match name {
         "path" => builder.path(value),

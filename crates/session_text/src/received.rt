@@ -42,7 +42,7 @@ impl Received {
         self.bytes.clear();
     }
 
-    /// Whether more has to come before what comes next can be looked at.
+    /// Whether more bytes have to come before what comes next can be looked at.
     pub fn lacks(&self, wanted: &Wanted<'_>) -> bool {
         match wanted {
             Wanted::Bytes(bytes) => self.bytes.len() < bytes.len(),
@@ -94,7 +94,8 @@ impl Received {
         self.take(self.message_len())
     }
 
-    // The first message's length, more than all where it can't be told yet, and all where none is there.
+    // The length of the first message in bytes: more than there are where it can't be told yet, all where no message is
+    // there.
     fn message_len(&self) -> usize {
         match frame_len(self.bytes.as_slice()) {
             Ok(Some(len)) => usize::try_from(len).unwrap_or(usize::MAX),

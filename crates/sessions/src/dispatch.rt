@@ -29,12 +29,13 @@ pub(crate) fn is_for_bus(view: &View<'_>) -> bool {
 }
 
 impl<J: Naming, M: Mailbox + Carrier> Connection<J, M> {
-    /// Treats a message: a call of the bus is answered, a signal without destination is a broadcast, another message with
-    /// a destination goes there, and all else is dropped.
+    /// Treats a message: a call of the bus is answered, a signal without destination is a broadcast, another message
+    /// with a destination goes there, and all else is dropped.
     ///
     /// # Errors
     ///
-    /// `Slow` where an answer has no room, `NoMemory` where a message can't be passed on or answered for want of memory.
+    /// `Slow` where an answer has no room, `NoMemory` where a message can't be passed on or answered for want of
+    /// memory.
     pub(crate) fn treat<W: Wait, R: Wait + Drop>(
         &mut self,
         site: &Site<'_, J, M, W, R>,
@@ -112,8 +113,8 @@ impl<J: Naming, M: Mailbox + Carrier> Connection<J, M> {
         }
     }
 
-    /// A message that isn't passed on: a call whose caller waits is answered with the error. Another message is dropped;
-    /// but none is lost for want of memory without a word: that ends the session.
+    /// A message that isn't passed on: a call whose caller waits is answered with the error. Another message is
+    /// dropped; but none is lost for want of memory without a word: that ends the session.
     fn give_up<W: Wait, R: Wait + Drop>(
         &mut self,
         site: &Site<'_, J, M, W, R>,

@@ -22,7 +22,7 @@ where
 }
 
 impl<J: Naming, M: Mailbox + Carrier> Rest<J, M> {
-    /// Goes on with the session's end. What is left of it where memory was refused again.
+    /// Goes on with the session's end. Answers what is left of it where memory was refused again.
     pub fn retry<W: Wait, R: Wait + Drop>(
         self,
         rt: &W,
@@ -43,8 +43,8 @@ enum Ending {
 }
 
 impl<J: Naming, M: Mailbox + Carrier> Connection<J, M> {
-    /// Gives up the client's names one after the other, each change announced, and closes its pass. An announcement that
-    /// memory refuses is left out.
+    /// Gives up the client's names one after the other, each change announced, and closes its pass. An announcement
+    /// that memory refuses is left out.
     pub(crate) fn end<W: Wait, R: Wait + Drop>(
         mut self,
         site: &Site<'_, J, M, W, R>,
@@ -73,7 +73,7 @@ impl<J: Naming, M: Mailbox + Carrier> Connection<J, M> {
         Ending::Done
     }
 
-    // None where there may be a further name.
+    // Gives up one name. `None` where there may be a further one.
     fn give_up_name<W: Wait, R: Wait + Drop>(
         &mut self,
         site: &Site<'_, J, M, W, R>,

@@ -28,7 +28,7 @@ pub enum SessionError {
 }
 
 impl SessionError {
-    /// Its number, from 1 on.
+    /// The error's number, from 1 in the order of the variants.
     pub fn number(self) -> u8
         ensures { result ≡ number_of self }
     {
@@ -43,7 +43,7 @@ impl SessionError {
         }
     }
 
-    /// Its name. That of a message's fault is said after it where the error is printed.
+    /// The error's name. Where the error is printed, that of a message's fault follows it.
     pub fn name(self) -> &'static str
         ensures { result.now ≡ name_of self }
     {

@@ -15,7 +15,7 @@ use std::sync::Wait;
 pub(crate) struct Home<M: Mailbox + Carrier> {
     mailbox: M,
     seat: Seat,
-    // Whether something was put that nobody was asked to write out.
+    // Something was put that nobody was asked to write out.
     is_waiting: bool,
     ghost at_home: { seat.outbox ≡ M.outbox_of mailbox },
 }
@@ -49,7 +49,7 @@ impl<M: Mailbox + Carrier> Home<M> {
         }
     }
 
-    /// Whether the outbox was full once.
+    /// Whether the outbox was shut, since a message found no room.
     pub(crate) fn is_shut(&mut self) -> bool {
         self.mailbox.outbox().is_shut(&mut self.seat)
     }

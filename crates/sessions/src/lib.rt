@@ -1,6 +1,6 @@
-//! Sessions: what a client's bytes come to, from its first byte to its end. A session has no sockets and no threads of its
-//! own: whoever drives it feeds it bytes, lets it treat one message after the other, and has what it put written out.
-//! Its calls are proved safe and to return; what a session says is shown by tests.
+//! Sessions: what a client's bytes come to, from its first byte to its end. A session has no sockets and no threads of
+//! its own: whoever drives it feeds it bytes, lets it treat one message after the other, and has what it put written
+//! out. Its calls are proved safe and to return; what a session says is shown by tests.
 #![tactic(auto)]
 
 mod announcements;

@@ -22,14 +22,14 @@ impl Model for Serials {
 }
 
 impl Serials {
-    /// Before the first message, whose serial is 1.
+    /// The state before the first message, whose serial is 1.
     pub(crate) fn new() -> Serials
         ensures { result ≡ 1 }
     {
         Serials { next: 1 }
     }
 
-    /// The next message's serial, which is used up.
+    /// Takes the next message's serial. The one after it is next then: 1 after the greatest.
     pub(crate) fn take(&mut self) -> u32
         ensures next { result ≡ self.old }
         ensures valid { result ≢ 0 }

@@ -14,13 +14,13 @@ use std::sync::Wait;
 /// How many bytes are read at once.
 const READ_LEN: usize = 4096;
 
-/// Serves one client in this thread: reads, treats each message in order, and writes all that the session's outbox holds
-/// after each. It gives why the session ended, and what is left of it where memory was refused at its end.
+/// Serves one client in this thread: reads, treats each message in order, and writes all that the session's outbox
+/// holds after each. Answers why the session ended, and what is left of it where memory was refused at its end.
 ///
 /// # Errors
 ///
-/// Those of a session. A fault of the writer ends the session at once before BEGIN; after it the session goes on reading
-/// to the end of its input, and answers `Write` then, whatever ended it.
+/// Those of a session. A fault of the writer ends the session at once before BEGIN; after it the session goes on
+/// reading to the end of its input, and then answers `Write`, whatever ended it.
 pub fn serve_one<J: Naming, W: Wait, R: Wait + Drop, I: Read + Drop, O: Write + Drop>(
     rt: &W,
     alloc: Global,

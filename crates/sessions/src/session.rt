@@ -22,7 +22,7 @@ use std::alloc::Global;
 use std::collections::LinkedList;
 use std::sync::Wait;
 
-/// What a step came to.
+/// What a step did.
 #[derive(Clone, Copy, Debug, PartialEq, Eq)]
 pub enum Step {
     /// A line or a message was treated.
@@ -46,7 +46,7 @@ where
     // None before Hello.
     connection: Option<Connection<J, M>>,
     fault: Option<SessionError>,
-    // Faults of messages are kept here, and not there.
+    // The faults of messages are kept in the session's own fault, and not in its frames.
     ghost is_clean: { input.fault ≡ None },
 }
 
@@ -100,7 +100,7 @@ impl<J: Naming, M: Mailbox + Carrier> Session<J, M> {
     ///
     /// # Errors
     ///
-    /// Why the session ends, from then on for ever. What it has put may still be written out.
+    /// Why the session ends, and from then on always. What it has put may still be written out.
     pub fn step<W: Wait, R: Wait + Drop>(
         &mut self,
         rt: &W,
@@ -176,7 +176,7 @@ impl<J: Naming, M: Mailbox + Carrier> Session<J, M> {
         }
     }
 
-    /// What it means that the client's bytes end here.
+    /// What the end of the client's bytes means here.
     ///
     /// # Errors
     ///
@@ -196,7 +196,7 @@ impl<J: Naming, M: Mailbox + Carrier> Session<J, M> {
     }
 
     /// Ends the session: its names are given up and its connection is closed, each change announced and written out.
-    /// What is left of it, where memory was refused for that.
+    /// Answers what is left of it where memory was refused for that.
     pub fn end<W: Wait, R: Wait + Drop>(
         self,
         rt: &W,

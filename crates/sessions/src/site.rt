@@ -15,8 +15,8 @@ pub(crate) struct Site<'a, J: Naming, M: Mailbox, W: Wait, R: Wait + Drop> {
 }
 
 impl<J: Naming, M: Mailbox, W: Wait, R: Wait + Drop> Site<'_, J, M, W, R> {
-    /// Gives a pass's reader back to the bus. That of a pass whose connection the bus couldn't close, as it has ended, is
-    /// let go.
+    /// Gives a pass's reader back to the bus. A pass whose connection the bus couldn't close, since the bus has ended,
+    /// is dropped.
     pub(crate) fn give_back(&self, pass: Pass<J, M>) {
         if pass.is_closed() || pass.connection() == 0 {
             self.bus.take_back(self.rt, pass);

@@ -31,7 +31,7 @@ impl Talk {
         self.has_begun
     }
 
-    /// Treats the next line and puts its answer. It gives how many bytes were taken: all of them where the line's end
+    /// Treats the next line and puts its answer. Answers how many bytes were taken: all of them where the line's end
     /// isn't there.
     ///
     /// # Errors

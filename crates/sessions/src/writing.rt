@@ -50,7 +50,7 @@ impl<O: Write + Drop> Writing<O> {
         }
     }
 
-    // Whether something stood there.
+    // Writes one message. Answers whether there was one.
     fn write_next<W: Wait>(&mut self, rt: &W) -> bool {
         let Some(item) = self.outbox.take(rt, &mut self.seat) else {
             return false;

@@ -3,7 +3,7 @@ use Rattle.std.specs.Prelude.{ℕ, ◌||◌, ◌==◌, if◌then◌else◌}
 use Rattle.signature.specs.declared.basic_type.BasicType.{BasicType}
 use Rattle.signature.specs.declared.basic_type.BasicType.TheVariants as basics
 
--- its byte in a signature
+-- the byte of a basic type in a signature
 abbrev pub byte_of : BasicType → ℕ
 byte_of basics.Byte = 121
 byte_of basics.Boolean = 98

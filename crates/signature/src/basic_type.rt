@@ -45,7 +45,7 @@ impl BasicType {
         }
     }
 
-    /// The basic type of a byte that stands for one.
+    /// The basic type of a byte that is known to stand for one.
     pub(crate) fn of_code(byte: u8) -> BasicType
         requires { IsTrue (is_basic byte) }
         ensures { byte_of result ≡ byte }
@@ -56,7 +56,7 @@ impl BasicType {
         }
     }
 
-    /// Its byte in a signature.
+    /// The type's byte in a signature.
     pub fn code(self) -> u8
         ensures code { result ≡ byte_of self }
         ensures basic { IsTrue (is_basic result) }
@@ -78,7 +78,7 @@ impl BasicType {
         }
     }
 
-    /// What the place of a value of it is a multiple of, in bytes.
+    /// A value's place is a multiple of this, in bytes.
     pub fn alignment(self) -> usize
         ensures { result ≡ basic_alignment (byte_of self) }
     {

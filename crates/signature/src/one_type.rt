@@ -33,11 +33,11 @@ impl<'a> OneType<'a> {
 
     /// Reads one complete type, of at most 255 bytes.
     pub fn read(text: &'a [u8]) -> Option<OneType<'a>>
-        // It is the text of a type.
+        // The answer is the text of a type.
         ensures found { IfSome result (λ t. (t ≡ text.now) × (length text.now ≤ 255) × ((type : DataType) × TypeText type text.now)) }
-        // What is the text of a type, and short enough, is read.
+        // A text of a type is read, if it is short enough.
         ensures only { (type : DataType) → TypeText type text.now → length text.now ≤ 255 → IsSome result }
-        // So it is what spells a tree.
+        // So it is read exactly where it has a tree.
         ensures tree { MatchOption result (type_of text.now ≡ None) (λ t. IsSome (type_of t)) }
     {
         if let Some(basic) = OneType::basic(text) {
@@ -64,7 +64,7 @@ impl<'a> OneType<'a> {
         }
     }
 
-    /// Of the text of a type.
+    /// The type of a text that is known to be of one.
     pub(crate) fn new(text: &'a [u8]) -> OneType<'a>
         requires { (type : DataType) × TypeText type text.now }
         ensures { result ≡ text.now }
@@ -72,7 +72,7 @@ impl<'a> OneType<'a> {
         OneType { text }
     }
 
-    /// Its text.
+    /// The type's text in a signature.
     pub fn as_bytes(&self) -> &'a [u8]
         ensures text { result.now ≡ self.now }
         ensures spelled { (type : DataType) × TypeText type self.now }
@@ -80,7 +80,7 @@ impl<'a> OneType<'a> {
         self.text
     }
 
-    /// What the place of a value of it is a multiple of, in bytes.
+    /// A value's place is a multiple of this, in bytes.
     pub fn alignment(&self) -> usize
         ensures { (type : DataType) → TypeText type self.now → result ≡ alignment_of type }
     {
@@ -92,7 +92,7 @@ impl<'a> OneType<'a> {
         }
     }
 
-    /// Its parts.
+    /// The parts of the type, which lie in its text.
     #[inline(always)]
     pub fn parts(&self) -> Parts<'a>
         ensures parts { (type : DataType) → TypeText type self.now → ArePartsOf type result }

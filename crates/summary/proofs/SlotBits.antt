@@ -39,7 +39,7 @@ other_slot words slot other inside ne =
       | inr word ↦ rw (get_or-set_other words (slot / 32) (other / 32) value 0 word) refl
     ]
 
--- they have that slot, and the others as before
+-- they have that slot, and of the others those that they had
 pub one_more : (words : List ℕ) (slot other : ℕ) → slot / 32 < length words → has_slot (with_slot words slot) other ≡ (eqb other slot || has_slot words other)
 one_more words slot other inside =
     elim (cases_eq other slot) [

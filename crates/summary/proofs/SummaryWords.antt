@@ -28,7 +28,7 @@ load_behind front image n at is =
     let first : get_or (front ++ image) (n + at) 0 ≡ get_or image at 0 = get_or-append_right front image n (n + at) 0 is (omega arith) ∙ ap (λ (i : ℕ). get_or image i 0) (omega arith) in
     rw (first, byte_behind front image n at 1 is, byte_behind front image n at 2 is, byte_behind front image n at 3 is, ends, past, same_test n (at + 4) (length image)) refl
 
--- the first of some words
+-- the load of the first word
 load_first : (word : ℕ) (rest : List ℕ) → word < 2 ^ 32 → load_word (to_be_bytes w32 word ++ rest) 0 ≡ Some word
 load_first word rest small =
     let long : leb 4 (length (to_be_bytes w32 word ++ rest)) ≡ true = le-leb 4 (length (to_be_bytes w32 word ++ rest)) (omega arith) in

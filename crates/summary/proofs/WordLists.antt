@@ -12,13 +12,13 @@ pub then_word : (front words before after : List ℕ) (word : ℕ) → before �
 then_word front words before after word is more =
     more ∙ ap (λ (x : List ℕ). x ++ to_be_bytes w32 word) is ∙ flat_map_more (to_be_bytes w32) front words word
 
--- some more words
+-- further words
 pub then_words : (front words more before after : List ℕ) → before ≡ front ++ words_bytes words → after ≡ before ++ words_bytes more → after ≡ front ++ words_bytes (words ++ more)
 then_words front words more before after is then =
     then ∙ ap (λ (x : List ℕ). x ++ words_bytes more) is ∙ append_assoc front (words_bytes words) (words_bytes more)
     ∙ ap (λ (x : List ℕ). front ++ x) (sym (flat_map-append (to_be_bytes w32) words more))
 
--- that has the bytes of a number
+-- a word that has the bytes of a number
 pub then_number : (front words before after : List ℕ) (word number : ℕ) → before ≡ front ++ words_bytes words → after ≡ before ++ to_be_bytes w32 word → to_be_bytes w32 word ≡ to_be_bytes w32 number → after ≡ front ++ words_bytes (words ++ number ∷ [])
 then_number front words before after word number is more same =
     then_word front words before after number is (more ∙ ap (λ (x : List ℕ). before ++ x) same)

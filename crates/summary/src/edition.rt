@@ -1,7 +1,7 @@
 ghost use Rattle.std.specs.Prelude.{◌≡◌};
 ghost use Rattle.summary.specs.Layout.{size_of};
 
-/// How much of a message a summary tells.
+/// Which summary a program reads.
 #[derive(Clone, Copy, Debug, PartialEq, Eq)]
 pub enum Edition {
     /// 904 bytes, with the slots below 512.

@@ -58,21 +58,21 @@ impl<'a> Image<'a> {
         self.pieces().len()
     }
 
-    /// The byte at a place, none outside.
+    /// The byte at a place; `None` outside.
     pub fn byte(&self, at: u64) -> Option<u32>
         ensures { result ≡ load_byte self.now at }
     {
         self.pieces().byte(at)
     }
 
-    /// The two bytes from a place on, the highest first, none where one lies outside.
+    /// The two bytes from a place on, the highest first; `None` where one lies outside.
     pub fn half(&self, at: u64) -> Option<u32>
         ensures { result ≡ load_half self.now at }
     {
         self.pieces().half(at)
     }
 
-    /// The four bytes from a place on, the highest first, none where one lies outside.
+    /// The four bytes from a place on, the highest first; `None` where one lies outside.
     pub fn word(&self, at: u64) -> Option<u32>
         ensures { result ≡ load_word self.now at }
     {

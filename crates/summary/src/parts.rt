@@ -29,7 +29,7 @@ fn order_byte(order: Order) -> u8
 }
 
 /// A place of the message, counted from the image's start. The sum never wraps, since a message is far shorter than
-/// 2^32 bytes; its bytes are those of the sum either way, so nothing is asked of the place.
+/// 2^32 bytes; where it wraps, its bytes are those of the wrapped sum, so this requires nothing of the place.
 #[inline(always)]
 fn place_in_image(edition: Edition, place: u32) -> u32
     ensures { to_be_bytes w32 result ≡ to_be_bytes w32 (size_of edition + place) }
@@ -37,7 +37,7 @@ fn place_in_image(edition: Edition, place: u32) -> u32
     (edition.size() as u32).wrapping_add(place)
 }
 
-/// What a message says first, and where its body lies. How many arguments it has isn't known yet.
+/// Writes the head: what a message says first, and where its body lies. The number of arguments is 0 until it is known.
 pub fn put_head(words: &mut Words, view: &View<'_>, edition: Edition)
     requires { length words.old + 24 ≤ 976 }
     ensures bytes { (m : Message) → Valid view.now m → words.new ≡ words.old ++ words_bytes (head_with edition m 0) }
@@ -53,7 +53,7 @@ pub fn put_head(words: &mut Words, view: &View<'_>, edition: Edition)
     words.put_zeros(1);
 }
 
-/// Where a text lies, zeros for one that is absent.
+/// Writes where a text lies: its place and its length, both 0 where it is absent.
 #[inline(always)]
 fn put_extent(words: &mut Words, edition: Edition, extent: Option<Extent>)
     requires { length words.old + 8 ≤ 976 }
@@ -69,7 +69,7 @@ fn put_extent(words: &mut Words, edition: Edition, extent: Option<Extent>)
     }
 }
 
-/// Where the texts of the fields lie.
+/// Writes where the texts of the fields lie.
 pub fn put_texts(words: &mut Words, view: &View<'_>, edition: Edition)
     requires { length words.old + 48 ≤ 976 }
     ensures bytes { (m : Message) → Valid view.now m → words.new ≡ words.old ++ words_bytes (texts_words edition m) }
@@ -83,7 +83,7 @@ pub fn put_texts(words: &mut Words, view: &View<'_>, edition: Edition)
     put_extent(words, edition, view.extent(TextField::Sender));
 }
 
-/// Where an argument lies.
+/// Writes where an argument lies.
 #[inline(always)]
 fn put_argument(words: &mut Words, edition: Edition, arg: Arg<'_>)
     requires { length words.old + 12 ≤ 976 }
@@ -95,7 +95,7 @@ fn put_argument(words: &mut Words, edition: Edition, arg: Arg<'_>)
     words.put(arg.len);
 }
 
-/// Where the first arguments lie, and how many they are.
+/// Writes where the first arguments lie, and answers how many they are.
 pub fn put_arguments(words: &mut Words, edition: Edition, mut args: Args<'_>) -> usize
     requires { length words.old + 768 ≤ 976 }
     ensures bytes { words.new ≡ words.old ++ words_bytes (arguments_words edition 64 args.entry) }
@@ -114,7 +114,7 @@ pub fn put_arguments(words: &mut Words, edition: Edition, mut args: Args<'_>) ->
     MAX_ARGUMENTS - left
 }
 
-/// The ownership bits.
+/// Writes the ownership bits.
 fn put_slots(words: &mut Words, slots: &[u32])
     requires { length words.old + 4 * length slots.now ≤ 976 }
     ensures bytes { words.new ≡ words.old ++ words_bytes slots.now }
@@ -125,7 +125,7 @@ fn put_slots(words: &mut Words, slots: &[u32])
     }
 }
 
-/// The words after the arguments: the ownership bits and the serials, as far as the edition tells them.
+/// Writes the words after the arguments: the ownership bits and the serials, as far as the edition tells them.
 pub fn put_rest(words: &mut Words, view: &View<'_>, owned: &Slots, edition: Edition)
     requires { length words.old ≤ 840 }
     ensures bytes { (m : Message) → Valid view.now m → words.new ≡ words.old ++ words_bytes (owned_words edition owned.now ++ serial_words edition m) }

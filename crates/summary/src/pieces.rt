@@ -31,7 +31,7 @@ impl<'a> Pieces<'a> {
         self.summary.len() as u64 + self.message.len() as u64
     }
 
-    /// The byte at a place, none outside.
+    /// The byte at a place; `None` outside.
     #[inline(always)]
     pub fn byte(&self, at: u64) -> Option<u32>
         ensures { result ≡ load_byte self.now at }
@@ -39,7 +39,7 @@ impl<'a> Pieces<'a> {
         joined::byte(self.summary, self.message, at)
     }
 
-    /// The two bytes from a place on, the highest first, none where one lies outside.
+    /// The two bytes from a place on, the highest first; `None` where one lies outside.
     #[inline(always)]
     pub fn half(&self, at: u64) -> Option<u32>
         ensures { result ≡ load_half self.now at }
@@ -47,7 +47,7 @@ impl<'a> Pieces<'a> {
         joined::half(self.summary, self.message, at)
     }
 
-    /// The four bytes from a place on, the highest first, none where one lies outside.
+    /// The four bytes from a place on, the highest first; `None` where one lies outside.
     #[inline(always)]
     pub fn word(&self, at: u64) -> Option<u32>
         ensures { result ≡ load_word self.now at }

@@ -31,7 +31,7 @@ impl Slots {
         Slots { words: [0; 32] }
     }
 
-    /// The slot, and those that were there.
+    /// Adds a slot.
     pub fn insert(&mut self, slot: u16)
         requires { slot < 1024 }
         ensures inserted { (other : ℕ) → has_slot self.new other ≡ ((other == slot) || has_slot self.old other) }

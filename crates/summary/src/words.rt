@@ -34,7 +34,7 @@ impl Words {
         }
     }
 
-    /// One more word.
+    /// Writes one more word.
     #[inline(always)]
     pub fn put(&mut self, word: u32)
         requires { length self.old + 4 ≤ 976 }
@@ -46,7 +46,7 @@ impl Words {
         self.len = start + 4;
     }
 
-    /// `count` words that are 0.
+    /// Writes `count` words that are 0.
     #[inline(always)]
     pub fn put_zeros(&mut self, count: usize)
         requires { length self.old + 4 * count ≤ 976 }
@@ -55,7 +55,7 @@ impl Words {
         self.len += 4 * count;
     }
 
-    /// Another word at a place.
+    /// Writes over the word at a place.
     #[inline(always)]
     pub fn set(&mut self, at: usize, word: u32)
         requires { at + 4 ≤ length self.old }

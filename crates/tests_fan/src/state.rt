@@ -1,5 +1,5 @@
-// Commands of the tests, and the messages that are broadcast. A failure ends the test at once, so that a test has one way
-// out.
+// Commands of the tests, and the messages that are broadcast. A failure ends the test at once, so that a test has one
+// way out.
 
 use entry_table::{IndexKey, RuleProgram};
 use fan_out::Gate;

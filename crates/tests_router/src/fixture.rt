@@ -1,5 +1,5 @@
-//! What the tests of the bus begin with, and what they ask of each answer. A failure ends the test at once, so that a test
-//! has one way out.
+//! What the tests of the bus begin with, and what they ask of each answer. A failure ends the test at once, so that a
+//! test has one way out.
 
 ghost use Rattle.std.specs.Prelude.{◌≡◌};
 

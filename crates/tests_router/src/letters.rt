@@ -91,7 +91,7 @@ pub(crate) fn take_all<R: Wait + Abort>(rt: &R, alloc: Global, outbox: &Outbox) 
     items
 }
 
-/// As many messages stand in the letterbox, and are taken.
+/// Exactly this number of messages stands in the letterbox. They are taken.
 pub(crate) fn expect_letters<R: Wait + Abort>(
     rt: &R,
     alloc: Global,

@@ -22,7 +22,8 @@ const S1: &[u8; 64] =
 pub const S1_STAMPED: &[u8; 80] =
     b"l\x04\0\x01\0\0\0\0\x01\0\0\0=\0\0\0\x01\x01o\0\x02\0\0\0/a\0\0\0\0\0\0\x02\x01s\0\x03\0\0\0a.b\0\0\0\0\0\x03\x01s\0\x01\0\0\0c\0\0\0\0\0\0\0\x07\x01s\0\x04\0\0\0:1.2\0\0\0\0";
 
-/// The lengths of the answers: to the talk (`DATA` and `OK GUID`), to Hello with the signal NameAcquired, and to AddMatch.
+/// The lengths of the answers: to the talk (`DATA` and `OK GUID`), to Hello with the signal NameAcquired, and to
+/// AddMatch.
 const TALK_ANSWER: usize = 43;
 
 const HELLO_ANSWER: usize = 258;

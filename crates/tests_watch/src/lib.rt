@@ -1,4 +1,5 @@
-//! Tests of the client's side: what addresses and words mean, and talks with servers that a script plays, without a socket.
+//! Tests of the client's side: what addresses and words mean, and talks with servers that a script plays, without a
+//! socket.
 #![tactic(auto)]
 
 #[cfg(test)]

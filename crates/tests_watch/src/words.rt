@@ -1,7 +1,7 @@
 use dbusfan_watch::{Options, Wanted};
 use std::process::Abort;
 
-// That words ask for this rule of the bus `session`, so written and so often.
+// That words ask for this rule of the bus `session`, with these options.
 fn is_rule(rt: &impl Abort, words: &[&str], rule: &str, is_hex: bool, count: Option<u64>) {
     match Options::read(words) {
         Some(options) => {

@@ -8,7 +8,7 @@ use crate::word::{last_word, seven_at};
 /// The prime 2^61 - 1.
 const PRIME: u64 = (1 << 61) - 1;
 
-/// What a number leaves by the prime. 2^61 leaves 1, so what stands above the lowest 61 bits is added to them.
+/// The remainder of a number by the prime. 2^61 leaves 1, so what stands above the lowest 61 bits is added to them.
 #[inline(always)]
 fn remainder(number: u64) -> u64
     ensures { result ≡ number % prime }
@@ -16,7 +16,7 @@ fn remainder(number: u64) -> u64
     below_twice(number % (1 << 61) + number / (1 << 61))
 }
 
-/// What a number below twice the prime leaves.
+/// The remainder of a number below twice the prime.
 #[inline(always)]
 fn below_twice(number: u64) -> u64
     requires { number < 2 * prime }
@@ -29,7 +29,7 @@ fn below_twice(number: u64) -> u64
     }
 }
 
-/// What the product of two remainders leaves.
+/// The remainder of the product of two remainders.
 #[inline(always)]
 fn product(a: u64, b: u64) -> u64
     requires a { a < prime }
@@ -40,7 +40,7 @@ fn product(a: u64, b: u64) -> u64
     below_twice(low % (1 << 61) + (low / (1 << 61) + high * 8))
 }
 
-/// The hash after one word more.
+/// The hash after one more word.
 #[inline(always)]
 fn absorbed(point: u64, hash: u64, word: u64) -> u64
     requires point { point < prime }

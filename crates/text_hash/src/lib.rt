@@ -1,5 +1,5 @@
-//! A hash of texts under a point that nobody outside knows, for tables that are looked up by texts. The layers above use
-//! that the hash is a function of the point and the text.
+//! A hash of texts under a point that nobody outside knows, for tables that are looked up by texts. The layers above
+//! use that the hash is a function of the point and the text.
 #![tactic(auto)]
 
 mod hash;

@@ -23,7 +23,7 @@ const SIGNATURE_CODE: u8 = 8;
 /// The longest message, in bytes.
 const MAX_MESSAGE_LEN: usize = 134217728;
 
-/// Before bytes of a message, which begin so far after a multiple of 8.
+/// A cursor before bytes of a message, which begin `place` bytes after a multiple of 8.
 fn cursor_at(place: usize, bytes: &[u8]) -> Result<Cursor<'_>, MsgError>
     requires { place < 8 }
 {

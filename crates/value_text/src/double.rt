@@ -13,7 +13,8 @@ const EXPONENT: u64 = 0x7ff0_0000_0000_0000;
 
 const FRACTION: u64 = 0x000f_ffff_ffff_ffff;
 
-/// The powers of ten of a first digit that are written without an exponent: from here on, and as many as there are digits.
+/// The powers of ten of a first digit that are written without an exponent: from here on, and as many as there are
+/// digits.
 const LOWEST: i32 = -4;
 
 const DIGITS: i32 = 6;
@@ -72,7 +73,7 @@ fn put_fraction(line: &mut Line, mantissa: &[u8], power: i32) -> Result<(), Allo
     put_digits(line, mantissa)
 }
 
-/// Adds the digits of a mantissa, the first of which has this power of ten, with zeros up to the ones.
+/// Adds the digits of a mantissa, the first of which has this power of ten, with zeros down to the ones.
 fn put_fixed(line: &mut Line, mantissa: &[u8], power: i32) -> Result<(), AllocError> {
     let (first, others) = match mantissa {
         [first, b'.', others @ ..] => (*first, others),

@@ -19,7 +19,7 @@ pub(crate) enum Element<'a> {
 }
 
 impl<'a> Element<'a> {
-    /// What the place of an element is a multiple of, in bytes.
+    /// An element's place is a multiple of this, in bytes.
     fn alignment(&self) -> usize
         ensures { 0 < result }
     {
@@ -72,12 +72,12 @@ impl<'a> Elements<'a> {
         self.bytes.len()
     }
 
-    /// Before the first element.
+    /// A cursor before the first element.
     pub(crate) fn cursor(self) -> Cursor<'a> {
         Cursor::new(self.place, self.bytes, MsgError::ArrayLength)
     }
 
-    /// How many there are. Each has a byte at least.
+    /// The number of elements. Each has at least a byte.
     pub(crate) fn count(
         self,
         order: Order,

@@ -11,9 +11,9 @@ use itoa::Buffer;
 use message_view::{Kind, View};
 use std::alloc::{AllocError, Global};
 
-/// A message as one line that a person reads: its kind, its sender (`-` where it has none), `->` and its destination, its
-/// serial where it is a call and that of the call where it is an answer, its path, interface and member or its error's name,
-/// the types of its arguments in parentheses, and these as `busctl` writes them.
+/// A message as one line that a person reads: its kind, its sender (`-` where it has none), `->` and its destination,
+/// its serial where it is a call and that of the call where it is an answer, its path, interface and member or its
+/// error's name, the types of its arguments in parentheses, and these as `busctl` writes them.
 ///
 /// # Errors
 ///

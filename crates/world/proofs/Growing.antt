@@ -1,4 +1,4 @@
--- One event more: which jobs are open then, with which recipients.
+-- One more event: which jobs are open then, with which recipients.
 use Rattle.std.proofs.Common.{◌≡◌, ℕ, ◌+◌, ◌<◌, ◌≤◌, ◌⊎◌, inl, inr, ⊎_elim, false, ◌||◌, List, [], ◌∷◌, ◌++◌, length, Option, Some, slice_get, fold, append-nil, sym, ap, subst, ◌∙◌, arith}
 use Rattle.std.specs.List.{list_any}
 use Rattle.std.proofs.lemmas.Bool.{cases_lt, or_parts, or_from}
@@ -28,7 +28,7 @@ since_end all e job inside = drop-append-le (job + 1) all (e ∷ []) (omega arit
 pub before_end : (all : List Event) (e : Event) (job : ℕ) → job ≤ length all → events_before job (all ++ e ∷ []) ≡ events_before job all
 before_end all e job inside = take-append-le job all (e ∷ []) inside
 
--- the state after one event more
+-- the state after one more event
 pub commands_end : (all : List Event) (e : Event) → commands_in (all ++ e ∷ []) ≡ commands_in all ++ commands_of e
 commands_end all e = sym (flat_map_more commands_of [] all e)
 
@@ -87,7 +87,7 @@ recipients_end all e job numbers were other =
       recipients = subst (λ before. AreRecipients (state_after before) were.sender were.message numbers) (sym (before_end all e job (omega arith))) were.recipients;
     }
 
--- whether a part was asked for, after one event more
+-- whether a part was asked for, after one more event
 pub asked_end : (all : List Event) (e : Event) (job part : ℕ) → job < length all → list_any (is_piece_of job part) (events_since job (all ++ e ∷ [])) ≡ (list_any (is_piece_of job part) (events_since job all) || is_piece_of job part e)
 asked_end all e job part inside = ap (list_any (is_piece_of job part)) (since_end all e job inside) ∙ list_any_end (is_piece_of job part) (events_since job all) e
 

@@ -40,7 +40,7 @@ kept_end all e job (Some kept) was other no_piece no_begin =
     or_none true c none = refl
     or_none false c none = none
 
--- the same free parts are kept as the events leave
+-- the same parts are free by what is kept and by the events
 pub free_kept : (all : List Event) (job part : ℕ) (kept : OpenJob) → IsKept all job (Some kept) → is_free_in kept part ≡ is_free all job part
 free_kept all job part kept was = under (nat_le 1 part && nat_le part parts) _ _ asked
   where

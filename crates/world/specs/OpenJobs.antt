@@ -30,7 +30,7 @@ job_of number jobs = lookup (is_at (nat_cmp number)) jobs
 abbrev pub SetsJob : ℕ → Option OpenJob → List (ℕ × OpenJob) → List (ℕ × OpenJob) → Type 0
 SetsJob number job before after = (n : ℕ) → job_of n after ≡ (if n == number then job else job_of n before)
 
--- each is as it was
+-- each job is as it was
 abbrev pub SameJobs : List (ℕ × OpenJob) → List (ℕ × OpenJob) → Type 0
 SameJobs before after = (n : ℕ) → job_of n after ≡ job_of n before
 

@@ -50,7 +50,7 @@ Step (Begin sender bytes) before after answer = BeginStep sender bytes.items bef
 Step (Piece job part) before after answer = PieceStep job part before after answer × (after.state ≡ before.state)
 Step (End job) before after answer = EndStep job before after answer × (after.state ≡ before.state)
 
--- the same, and it is counted
+-- what an event does, and that it is counted
 pub record IsNext (event : Event) (before after : WorldState) (answer : Option Answer) : Type 0 where
   pub counted : after.events ≡ before.events + 1
   pub step : Step event before after answer

@@ -21,7 +21,7 @@ pub enum Answer {
 }
 
 impl Answer {
-    /// What the recipients that a Piece or an End asks for are answered, if there are any to be told.
+    /// The answer to a Piece or an End, from the recipients that were found, if any.
     pub(crate) fn of_recipients(found: Option<ArrayVec<u64, 256>>) -> Answer
         ensures { result ≡ recipients_answer found }
     {

@@ -35,7 +35,7 @@ impl Job {
         }
     }
 
-    /// The recipients in a part, from 1, which was not asked for before.
+    /// The recipients in a part, from 1, if it was not asked for before. From then on it was.
     pub(crate) fn take_part(&mut self, part: u32) -> Option<ArrayVec<u64, 256>>
         ensures { MatchOption result ((is_free_in self.old part ≡ false) × (self.new ≡ self.old)) (λ numbers. (is_free_in self.old part ≡ true) × (self.new ≡ with_part part self.old) × (numbers.items ≡ in_part part self.old.recipients)) }
     {

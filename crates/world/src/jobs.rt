@@ -33,7 +33,7 @@ impl Jobs {
         }
     }
 
-    /// A job of this number is open from now on.
+    /// Opens a job of this number.
     pub(crate) fn begin(
         &mut self,
         number: u64,
@@ -46,14 +46,14 @@ impl Jobs {
         Ok(())
     }
 
-    /// The recipients of a job in a part that was not asked for before.
+    /// The recipients of an open job in a part that was not asked for before.
     pub(crate) fn take_part(&mut self, number: u64, part: u32) -> Option<ArrayVec<u64, 256>>
         ensures { MatchOption result (LacksPart (job_of number self.old) part × SameJobs self.old self.new) (λ numbers. HasPart number part self.old self.new numbers.items) }
     {
         self.jobs.get_mut(&number)?.take_part(part)
     }
 
-    /// The job ends: its recipients.
+    /// Ends a job, and answers its recipients.
     pub(crate) fn end(&mut self, number: u64) -> Option<ArrayVec<u64, 256>>
         ensures recipients { MatchOption result (job_of number self.old ≡ None) (λ numbers. IsSomeAnd (job_of number self.old) (λ job. numbers.items ≡ job.recipients)) }
         ensures ends { SetsJob number None self.old self.new }

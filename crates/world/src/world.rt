@@ -34,7 +34,7 @@ impl World {
     ghost use Rattle.world.specs.IsWorld.{IsWorld, AreDone};
     ghost use Rattle.world.specs.Steps.{IsNext, BeginStep};
 
-    /// Nothing has happened. The key is that of the state's index of entries.
+    /// A world in which nothing has happened. The key is that of the state's index of entries.
     pub fn new(alloc: Global, key: IndexKey) -> Result<World, AllocError>
         ensures { IfOk result (λ world. IsWorld [] world) }
     {
@@ -45,8 +45,8 @@ impl World {
         })
     }
 
-    /// Does the events, and adds their answers: one to each event but a Begin whose bytes are a message, which is answered
-    /// nothing.
+    /// Does the events, and adds their answers: one to each event but a Begin whose bytes are a message, which is
+    /// answered nothing.
     ///
     /// # Errors
     ///
@@ -77,7 +77,7 @@ impl World {
         Ok(())
     }
 
-    /// Does an event: its answer.
+    /// Does an event, and answers what the event is answered.
     fn step(&mut self, event: &Event) -> Result<Option<Answer>, AllocError>
         requires { self.old.events < max_events }
         ensures { MatchResult result (IsNext event.now self.old self.new) (λ _. self.new ≡ self.old) }

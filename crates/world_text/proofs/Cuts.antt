@@ -7,7 +7,7 @@ use Rattle.std.proofs.lemmas.Bool.Decides.{nat_tests}
 use Rattle.std.proofs.lemmas.Str.Pattern.{IsSplitOnceResult, split_once_first}
 use Rattle.world_text.specs.Words.{is_blank, cut}
 
--- a text without a blank is not cut, and another at its first one
+-- a text without a blank is not cut, any other is cut at its first blank
 pub cut_at_blank : (text : List ℕ) (r : Option (Bor (List ℕ) × Bor (List ℕ))) → IsSplitOnceResult 32 text r → option_map (λ (x : Bor (List ℕ) × Bor (List ℕ)). (x.0.now, x.1.now)) r ≡ cut text
 cut_at_blank text None split =
     let none = split_once_first 32 text None split (lit< tt) in

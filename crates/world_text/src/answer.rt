@@ -95,7 +95,7 @@ pub enum TextAnswer<'a> {
     Done,
     /// The answer of a request or a release, as D-Bus numbers it.
     Name(u32),
-    /// The same where the name's owner changed.
+    /// The same for a name whose owner changed.
     NameMoved {
         answer: u32,
         from: Owner,
@@ -109,7 +109,7 @@ pub enum TextAnswer<'a> {
         to: Owner,
     },
     Refused(RefusalWord),
-    /// A rule's fault, which stood before the command.
+    /// The fault of a rule's text, which was found before the command was tried.
     Rule(RuleError),
     /// The fault of a program to be attached.
     Program(VerifyError),

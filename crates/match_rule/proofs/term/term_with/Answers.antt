@@ -11,7 +11,7 @@ use Rattle.match_rule.specs.Condition.{term_of, term_with}
 use Rattle.match_rule.specs.Reading.{Gives, or_fault}
 use Rattle.match_rule.proofs.term.term_with.Goals as goal
 
--- what is no text says nothing
+-- a value that isn't UTF-8 says nothing
 not_text : (key : Key) (value : List ℕ) → (IsUtf8 value → ⊥) → term_with key value ≡ None
 not_text key value binary = go (is_utf8 value) refl
   where
