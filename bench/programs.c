@@ -19,7 +19,7 @@ size_t bench_rules_compile(const uint8_t *text, size_t text_len, uint8_t *room, 
 static uint8_t message[MAX_MESSAGE];
 static size_t message_len;
 
-/* the image's bytes one behind the other, as libpcap wants them */
+/* the image's bytes in one piece, as libpcap wants them */
 static uint8_t image[MAX_SUMMARY + MAX_MESSAGE];
 static size_t image_len;
 

@@ -279,7 +279,7 @@ static void burst(void) {
             }
             put(&sender, many, len);
             sent += part;
-            /* what came is read, at most 512 behind */
+            /* what came is read, so that at most 512 signals are under way */
             if (sent > 512) await_signals(1, done + sent - 512);
         }
         await_signals(1, done + times);
