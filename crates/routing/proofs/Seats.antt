@@ -73,7 +73,7 @@ pub record TakenBut (all left : List RecipientView) (old new : List StopView) : 
 pub none_taken : (all : List RecipientView) (stops : List StopView) → TakenBut all all stops stops
 none_taken all stops = record { back = []; whole = append-nil all; taken = λ n. taken_same [] n (stop_at n stops); has = tt }
 
--- one newcomer more has taken its seat
+-- one more newcomer has taken its seat
 pub one_taken : (all left rest : List RecipientView) (o : Option RecipientView) (r : RecipientView) (old stops new : List StopView) → left ≡ rest ++ option_to_list o → o ≡ Some r → TakenBut all left old stops
     → SeatsTaken (r ∷ []) stops new → HasStop r.number new → TakenBut all rest old new
 one_taken all left rest o r old stops new e some h taken has = record {

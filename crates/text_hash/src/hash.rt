@@ -66,12 +66,12 @@ fn words_hash(point: u64, text: &[u8], words: usize) -> u64
     hash
 }
 
-/// The hash of a text at a point: what the polynomial p^n + w1·p^n + w2·p^(n-1) + .. + wn·p leaves by the prime 2^61 - 1, where
-/// w1 to wn are the words of the text and p is what the point leaves. Two texts of n words at most are two such polynomials,
-/// which differ and have no constant term; so for each difference of hashes there are at most n points that give it, and of
-/// all points a few times n in 2^k give the texts hashes with the same lowest k bits. Whoever doesn't know the point can
-/// therefore not choose texts whose hashes meet. Proved is that the hash is the polynomial's remainder; what follows of
-/// chosen texts is an argument.
+/// The hash of a text at a point: the remainder by the prime 2^61 - 1 of the polynomial p^n + w1·p^n + w2·p^(n-1) + ..
+/// + wn·p, where w1 to wn are the words of the text and p is the point's own remainder. Two texts of n words at most
+/// are two such polynomials, which differ and have no constant term; so for each difference of hashes there are at most
+/// n points that give it, and of all points a few times n in 2^k give the texts hashes with the same lowest k bits.
+/// Whoever doesn't know the point can therefore not choose texts whose hashes meet. Proved is that the hash is the
+/// polynomial's remainder; what follows for chosen texts is an argument.
 pub fn text_hash(point: u64, text: &str) -> u64
     ensures value { result ≡ text_hash point text.now }
     ensures below { result < prime }
