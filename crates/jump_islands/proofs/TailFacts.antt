@@ -14,7 +14,7 @@ use Rattle.jump_islands.proofs.ListPlaces.{slice_get-front}
 
 -- ---- where an instruction stands
 
--- an island leads to a place, if one jumps to the last `from` instructions
+-- the first of the last `from` instructions is an island that leads to a place
 abbrev pub Island : TailTree → ℕ → ℕ → Type 0
 Island t place from = (k : ℕ) × (slice_get t.program (height t place + k) ≡ Some (jump_over k)) × (from ≡ height t place + k + 1)
 

@@ -53,7 +53,7 @@ impl Rule {
         ensures found { IfOk result (ReadsAs text.now) }
         // A text that reads as a rule is read, unless memory runs out.
         ensures only { (rule : RuleTree) → ReadsAs text.now rule → Gives (λ r. r) result (Ok rule) }
-        // The fault is the first one from the left.
+        // The fault is the first one from the left, or memory ran out.
         ensures fault { IfErr result (λ fault. (fault ≡ NoMemory) ⊎ (rule_at text.now ≡ Err fault)) }
     {
         if text.len() > MAX_LEN {

@@ -199,7 +199,7 @@ impl<'a> Fields<'a> {
         }
     }
 
-    /// The fault of a field with this code, if there is one: a known field comes a second time.
+    /// The fault of a field's code, if it has one: the code is 0, or a known field comes a second time.
     fn code_fault(&self, byte: u8) -> Option<MsgError>
         ensures { (front : List Field) → shown self.now ≡ slots_of front → result ≡ code_fault front byte }
     {

@@ -77,7 +77,7 @@ reply_of (Some owner) connection flags =
     else if has_flag flags do_not_queue then Exists
     else InQueue
 
--- the step adds a claim where there are as many as there may be
+-- whether the step makes one more claim, where the caller has a claim already or not
 abbrev pub adds : Step → Bool → Bool
 adds steps.PutLast waits = true
 adds (steps.Replace leaving) waits = not waits && is_none leaving

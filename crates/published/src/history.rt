@@ -31,7 +31,7 @@ impl<M: Mailbox> Rule<Command<M>, u64> for Law {
     ghost moves = { λ ask before after answer. Unit {0} };
 }
 
-/// A trade of the rule's: callers trade nothing.
+/// What callers trade: nothing.
 pub struct Nothing;
 
 impl<M: Mailbox> Gain<Command<M>, u64> for Nothing {
