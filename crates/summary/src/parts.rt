@@ -29,7 +29,8 @@ fn order_byte(order: Order) -> u8
 }
 
 /// A place of the message, counted from the image's start. The sum never wraps, since a message is far shorter than
-/// 2^32 bytes. The contract speaks of its four bytes, which a sum that wraps has too, so it requires nothing of the place.
+/// 2^32 bytes. The contract speaks of its four bytes, which a sum that wraps has too, so it requires nothing of the
+/// place.
 #[inline(always)]
 fn place_in_image(edition: Edition, place: u32) -> u32
     ensures { to_be_bytes w32 result ≡ to_be_bytes w32 (size_of edition + place) }
