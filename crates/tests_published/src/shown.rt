@@ -62,7 +62,11 @@ fn publish_two<J: Naming, R: Wait + Abort>(rt: &R, publisher: &mut Publisher<J, 
 fn enter<J: Naming, R: Abort>(rt: &R, mut reader: Sight<J, ()>) {
     assert!(rt; reader.seen().is_empty());
     let visit = reader.enter().expect(rt, "the published state");
-    assert!(rt; reader.enter().is_none());
+    // Nobody enters twice.
+    if let Some(again) = reader.enter() {
+        reader.leave(again);
+        panic!(rt; "a second visit was let in");
+    }
     let owner = visit.state().owner_of("com.example.A");
     reader.leave(visit);
     assert_eq!(rt; owner, Some(1));
