@@ -23,7 +23,7 @@ use Rattle.message_view.specs.Fixed.{order_in, serial_in, fields_len, body_len, 
 use Rattle.message_view.specs.Valid.{max_message_len}
 use Rattle.message_view.specs.Spelling.{fixed_len, body_place, fields_bytes}
 use Rattle.message_value.specs.declared.order.Order.{Order}
-use Rattle.message_view.specs.Reading.{types_in, message_of, message_at}
+use Rattle.message_view.specs.Reading.{fields_of, header_padding, header_fault, types_in, message_of, framed_message, message_at}
 use Rattle.message_view.specs.Slots.{Slots, Extents, AreExtents, Kept, kept_of, slots_of}
 use Rattle.message_view.specs.declared.extent.Extent.{Extent}
 
@@ -110,6 +110,21 @@ KeepsNext (Err fault) order start front fields behind read = read ≡ Err fault
 abbrev pub Passes : {X Y : Type 0} → Result X MsgError → Result Y MsgError → Type 0
 Passes {Y = Y} (Ok x) read = (y : Y) × (read ≡ Ok y)
 Passes (Err fault) read = read ≡ Err fault
+
+-- what is found behind a fixed part, by the header alone
+pub record HasHeader (found : Sections) (kind : Kind) (bytes : List ℕ) : Type 0 where
+  pub front : List Field
+  pub read : fields_of bytes ≡ Ok front
+  pub passes : header_fault kind (header_padding bytes) front ≡ None
+  pub shows : shown found.fields ≡ slots_of front
+  pub typed : SigText (types_in front) found.signature
+  pub body : found.body.now ≡ body_of bytes
+  pub lie : AreExtents (order_in bytes) fixed_len front (lying found.fields)
+
+-- what a reader of the header behind a fixed part answers, whatever the body is
+abbrev pub ReadsHeader : Result Sections MsgError → Kind → List ℕ → Type 0
+ReadsHeader (Ok found) kind bytes = HasHeader found kind bytes
+ReadsHeader (Err fault) kind bytes = framed_message bytes ≡ Err fault
 
 -- what a reader of the message behind a fixed part answers
 abbrev pub ReadsFramed : Result Sections MsgError → Kind → List ℕ → Result Message MsgError → Type 0
