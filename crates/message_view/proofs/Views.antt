@@ -26,7 +26,7 @@ use Rattle.message_view.specs.declared.kind.Kind.{Kind}
 use Rattle.message_view.specs.declared.extent.Extent.{Extent}
 use Rattle.message_view.specs.declared.extent.TextField.{TextField}
 use Rattle.message_view.specs.declared.extent.TextField.TheVariants as names
-use Rattle.message_view.specs.Words.{body_of, IsFixed, IsKept, HasHeader, ReadsFramed, ReadsView, shown, lying}
+use Rattle.message_view.specs.Words.{body_of, IsFixed, IsKept, HasHeader, ReadsFramed, ReadsView, kept_by, shown, lying}
 use Rattle.message_view.proofs.FixedPart.{framing_again}
 use Rattle.message_view.proofs.Framed.{cursor_is}
 use Rattle.message_view.proofs.OneMessage.{valid_lies, valid_fixed, valid_reads, reads_valid, message_whole, members_read, fault_invalid}
@@ -72,7 +72,7 @@ extents_are m extents are = cc (are names.Path, are names.Interface, are names.M
 
 -- of a message that was read
 pub kept_first : (fixed : Fixed) (sections : Sections) (bytes : List ℕ) (read : Result Message MsgError) → IsFixed fixed bytes → message_at bytes ≡ read → ReadsFramed (Ok sections) fixed.kind bytes read
-    → IsKept bytes sections.body.now sections.signature (kept_like fixed.order fixed.kind fixed.flags fixed.serial (shown sections.fields) (extents_in (lying sections.fields)))
+    → IsKept bytes sections.body.now sections.signature (kept_by fixed sections)
 kept_first fixed sections bytes read is same found =
     let m = message_of bytes fixed.kind found.0 found.1 in
     record {
@@ -100,7 +100,7 @@ known_sound bytes m fault valid failed =
 
 -- the message is that of the fixed part and of the fields that were found
 pub known_first : (fixed : Fixed) (sections : Sections) (bytes : List ℕ) (m : Message) → Valid bytes m → IsFixed fixed bytes → HasHeader sections fixed.kind bytes
-    → IsKept bytes sections.body.now sections.signature (kept_like fixed.order fixed.kind fixed.flags fixed.serial (shown sections.fields) (extents_in (lying sections.fields)))
+    → IsKept bytes sections.body.now sections.signature (kept_by fixed sections)
 known_first fixed sections bytes m valid is header =
     let read = valid_reads bytes m valid in
     let parts = (message_whole bytes m read).parts in

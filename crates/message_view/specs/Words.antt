@@ -17,14 +17,14 @@ use Rattle.message_view.specs.declared.field.FieldCode.{FieldCode}
 use Rattle.message_view.specs.declared.field.FieldCode.TheVariants.{Path, Interface, Member, ErrorName, ReplySerial, Destination, Sender, Signature, UnixFds}
 use Rattle.message_view.specs.declared.field.FieldType.{FieldType}
 use Rattle.message_view.specs.declared.field.FieldType.TheVariants as types
-use Rattle.message_view.specs.Message.{Field, Message}
+use Rattle.message_view.specs.Message.{Field, Message, text_in, number_in}
 use Rattle.message_view.specs.Header.{kind_of}
 use Rattle.message_view.specs.Fixed.{order_in, serial_in, fields_len, body_len, whole_len, framing}
 use Rattle.message_view.specs.Valid.{max_message_len}
 use Rattle.message_view.specs.Spelling.{fixed_len, body_place, fields_bytes}
 use Rattle.message_value.specs.declared.order.Order.{Order}
 use Rattle.message_view.specs.Reading.{fields_of, header_padding, header_fault, types_in, message_of, framed_message, message_at}
-use Rattle.message_view.specs.Slots.{Slots, Extents, AreExtents, Kept, kept_of, slots_of}
+use Rattle.message_view.specs.Slots.{Slots, Extents, AreExtents, Kept, extents_in, kept_of, slots_of}
 use Rattle.message_view.specs.declared.extent.Extent.{Extent}
 
 -- a field's content as the value that it is
@@ -146,3 +146,7 @@ pub record IsKept (bytes body signature : List ℕ) (kept : Kept) : Type 0 where
   pub is : kept ≡ kept_of message (slots_of message.fields)
   pub typed : SigText message.types signature
   pub behind : body ≡ body_of bytes
+
+-- what a view keeps of a fixed part and of what is behind it
+abbrev pub kept_by : Fixed → Sections → Kept
+kept_by fixed sections = record { order = fixed.order; kind = fixed.kind; flags = fixed.flags; serial = fixed.serial; texts = map text_in (shown sections.fields); numbers = map number_in (shown sections.fields); extents = extents_in (lying sections.fields) }

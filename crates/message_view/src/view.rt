@@ -137,7 +137,25 @@ impl<'a> View<'a> {
     ghost use Rattle.message_view.specs.Slots.{slot_of, slots_of};
     ghost use Rattle.message_view.specs.Spelling.{body_bytes, arguments_of};
     ghost use Rattle.message_view.specs.Places.{extent_of};
-    ghost use Rattle.message_view.specs.Words.{ReadsView};
+    ghost use Rattle.message_view.specs.Words.{IsKept, ReadsView, kept_by};
+
+    /// The view of bytes whose parts these are.
+    #[inline(always)]
+    fn of_sections(bytes: &'a [u8], fixed: &Fixed, sections: Sections<'a>) -> View<'a>
+        requires { IsKept bytes.now sections.body.now sections.signature (kept_by fixed.now sections) }
+        ensures { result ≡ bytes.entry.now }
+    {
+        View {
+            bytes,
+            body: sections.body,
+            order: fixed.order,
+            kind: fixed.kind,
+            flags: fixed.flags,
+            serial: fixed.serial,
+            fields: sections.fields,
+            signature: sections.signature,
+        }
+    }
 
     /// The message or the first fault, as reading gives it.
     fn read_exactly(bytes: &'a [u8]) -> Result<View<'a>, MsgError>
@@ -154,16 +172,7 @@ impl<'a> View<'a> {
             return Err(MsgError::Trailing);
         }
         let sections = framed(&fixed, bytes)?;
-        Ok(View {
-            bytes,
-            body: sections.body,
-            order: fixed.order,
-            kind: fixed.kind,
-            flags: fixed.flags,
-            serial: fixed.serial,
-            fields: sections.fields,
-            signature: sections.signature,
-        })
+        Ok(View::of_sections(bytes, &fixed, sections))
     }
 
     /// Reads a message, all of the bytes (D-Bus Specification, "Message Format"). What the view lends
@@ -195,16 +204,7 @@ impl<'a> View<'a> {
         let Ok(sections) = split_sections(&fixed, bytes) else {
             unreachable!()
         };
-        View {
-            bytes,
-            body: sections.body,
-            order: fixed.order,
-            kind: fixed.kind,
-            flags: fixed.flags,
-            serial: fixed.serial,
-            fields: sections.fields,
-            signature: sections.signature,
-        }
+        View::of_sections(bytes, &fixed, sections)
     }
 
     /// The bytes of the message.
