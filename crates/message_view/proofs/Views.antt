@@ -107,9 +107,9 @@ known_first fixed sections bytes m valid is header =
     let kind : parts.kind ≡ fixed.kind = some_is parts.kind fixed.kind (sym parts.is_kind ∙ is.kind) in
     let front : parts.front ≡ header.front = ok_is parts.front header.front (sym parts.fields ∙ header.read) in
     let same : m ≡ message_of bytes fixed.kind header.front parts.arguments =
-        sym parts.is
-        ∙ ap (λ (k : Kind). message_of bytes k parts.front parts.arguments) kind
-        ∙ ap (λ (fields : List Field). message_of bytes fixed.kind fields parts.arguments) front in
+    sym parts.is
+    ∙ ap (λ (k : Kind). message_of bytes k parts.front parts.arguments) kind
+    ∙ ap (λ (fields : List Field). message_of bytes fixed.kind fields parts.arguments) front in
     kept_first fixed sections bytes (Ok m) is read (header.front, parts.arguments, ap (λ (x : Message). Ok x) same, header.shows, header.typed, header.body, header.lie)
 
 -- the message that was read is the one that the bytes spell

@@ -10,20 +10,20 @@ returns-in_err-bytes c =
     let p = err_from_is_err_and c.from_residual-in_err-bytes.result c.from_residual-in_err-bytes.ensures.1 in
     record {
       stamps = λ m v.
-        let read = is_read c.args.view.now m c.args.sender.now c.order-order.result _ _ _ c.new-header.result c.body-body.result.now v c.requires (c.order-order.ensures m v) (c.kind.ensures m v) (c.flags.ensures m v) (c.serial.ensures m v) c.new-header.ensures (c.body-body.ensures m v) in
-        let heads = headed _ _ _ _ _ _ c.array_of-array.result.now c.raw.result.now (Err c.in_err-bytes.field-0.0) read c.raw.ensures.value (c.array_of-array.ensures.array m) c.in_err-bytes.ensures.heads in
-        rw (p.1, p.2) (refused c.in_err-bytes.field-0.0 _ _ _ _ _ _ read heads);
+          let read = is_read c.args.view.now m c.args.sender.now c.order-order.result _ _ _ c.new-header.result c.body-body.result.now v c.requires (c.order-order.ensures m v) (c.kind.ensures m v) (c.flags.ensures m v) (c.serial.ensures m v) c.new-header.ensures (c.body-body.ensures m v) in
+          let heads = headed _ _ _ _ _ _ c.array_of-array.result.now c.raw.result.now (Err c.in_err-bytes.field-0.0) read c.raw.ensures.value (c.array_of-array.ensures.array m) c.in_err-bytes.ensures.heads in
+          rw (p.1, p.2) (refused c.in_err-bytes.field-0.0 _ _ _ _ _ _ read heads);
       valid = rw p.1 tt;
     }
 
 pub returns-then-body-len : goal.returns-then-body-len
 returns-then-body-len c = record {
   stamps = λ m v.
-    let read = is_read c.args.view.now m c.args.sender.now c.order-order.result _ _ _ c.new-header.result c.body-body.result.now v c.requires (c.order-order.ensures m v) (c.kind.ensures m v) (c.flags.ensures m v) (c.serial.ensures m v) c.new-header.ensures (c.body-body.ensures m v) in
-    let heads = headed _ _ _ _ _ _ c.array_of-array.result.now c.raw.result.now (Ok c.in_ok-bytes.bytes.items) read c.raw.ensures.value (c.array_of-array.ensures.array m) c.in_ok-bytes.ensures.heads in
-    let said = c.len.ensures in
-    let long : max_message_len < length c.in_ok-bytes.bytes.items + length c.body-body.result.now = omega (arith, said, c.if-body-len.true) in
-    message_too_large _ _ _ _ _ _ c.in_ok-bytes.bytes.items read heads.1 long;
+      let read = is_read c.args.view.now m c.args.sender.now c.order-order.result _ _ _ c.new-header.result c.body-body.result.now v c.requires (c.order-order.ensures m v) (c.kind.ensures m v) (c.flags.ensures m v) (c.serial.ensures m v) c.new-header.ensures (c.body-body.ensures m v) in
+      let heads = headed _ _ _ _ _ _ c.array_of-array.result.now c.raw.result.now (Ok c.in_ok-bytes.bytes.items) read c.raw.ensures.value (c.array_of-array.ensures.array m) c.in_ok-bytes.ensures.heads in
+      let said = c.len.ensures in
+      let long : max_message_len < length c.in_ok-bytes.bytes.items + length c.body-body.result.now = omega (arith, said, c.if-body-len.true) in
+      message_too_large _ _ _ _ _ _ c.in_ok-bytes.bytes.items read heads.1 long;
   valid = tt;
 }
 
