@@ -8,7 +8,7 @@ use program_table::BusState;
 use std::alloc::Global;
 use summary::{Edition, Image, Slots};
 
-/// The state of a bus where each line is the rule of `of_each` connections; without lines the empty state.
+/// The state of a bus whose connections have `of_each` of these rules each, one a line; without lines one connection.
 fn state(alloc: Global, lines: &[u8], of_each: u32) -> Option<BusState<()>> {
     let lines = str::from_utf8(lines).ok()?;
     state_of(alloc, Rules { lines, of_each })
