@@ -164,7 +164,9 @@ fn stamped_header(
 /// `TooLarge` where it would be above the limits, and `NoMemory`.
 pub fn stamp(alloc: Global, view: &View<'_>, sender: &str) -> Result<Vec<u8>, StampError>
     requires { is_bus_name sender.now ≡ true }
-    ensures { (m : Message) → Valid view.now m → Stamps m sender.now (stamp_listed result) }
+    ensures stamps { (m : Message) → Valid view.now m → Stamps m sender.now (stamp_listed result) }
+    // The bytes are a message, so that a view of them needs no second look at the body.
+    ensures valid { IfOk result (λ bytes. (m : Message) × Valid bytes.items m) }
 {
     let order = view.order();
     let array = array_of(order, view.raw());

@@ -1,5 +1,5 @@
 -- A message after its fixed part, by the slices that the code reads.
-use Rattle.std.proofs.Common.{◌≡◌, ℕ, ◌+◌, ◌-◌, List, [], length, take, drop, Some, None, Result, Ok, Err, refl, sym, ap, subst, ◌∙◌, arith}
+use Rattle.std.proofs.Common.{◌≡◌, ℕ, ◌+◌, ◌-◌, ◌≤◌, List, [], length, take, drop, Some, None, Result, Ok, Err, refl, sym, ap, subst, ◌∙◌, arith}
 use Rattle.std.proofs.lemmas.List.{drop-drop, length-drop}
 use Rattle.signature.specs.DataType.{SigText}
 use Rattle.message_value.specs.declared.order.Order.{Order}
@@ -10,12 +10,13 @@ use Rattle.message_value.specs.Reading.{At, inside}
 use Rattle.message_value.specs.Words.{AreBytes, Gives}
 use Rattle.message_view.specs.declared.fields.Fields.{Fields}
 use Rattle.message_view.specs.declared.fixed.Fixed.{Fixed}
+use Rattle.message_view.specs.declared.view.Sections.{Sections}
 use Rattle.message_view.specs.Message.{Field, signature_in}
 use Rattle.message_view.specs.Slots.{slots_of, AreExtents}
 use Rattle.message_view.specs.Spelling.{body_place}
 use Rattle.message_view.specs.Fixed.{order_in, fields_len, whole_len}
 use Rattle.message_view.specs.Reading.{header_fault, header_padding, types_in, arguments_at, in_body, body_at, message_of, fields_of, fields_from, framed_message}
-use Rattle.message_view.specs.Words.{body_of, IsFixed, shown, lying}
+use Rattle.message_view.specs.Words.{body_of, IsFixed, HasHeader, shown, lying}
 use Rattle.message_view.proofs.BodyTypes.{types_spelled}
 use Rattle.message_view.proofs.OneMessage.{fields_are}
 
@@ -81,17 +82,23 @@ header_passes fixed fields bytes skipped whole same gave skip found =
     let f = gave_fields fields whole gave in
     record { front = f.0; read = sym same ∙ f.1; shows = f.2; passes = rw (← skip) (sym (found f.0 f.2)) }
 
-pub body_fails : (fixed : Fixed) (fields : Fields) (bytes : List ℕ) (cursor : At) (fault : MsgError) → IsFixed fixed bytes → (header : IsHeader fixed fields bytes) → cursor ≡ body_at bytes → arguments_at fixed.order (types_in header.front) cursor ≡ Err fault → framed_message bytes ≡ Err fault
+pub body_fails : (fixed : Fixed) (found : Sections) (bytes : List ℕ) (cursor : At) (fault : MsgError) → IsFixed fixed bytes → (header : HasHeader found fixed.kind bytes) → cursor ≡ body_at bytes → arguments_at fixed.order (types_in header.front) cursor ≡ Err fault → framed_message bytes ≡ Err fault
 unfolding framed_message
-body_fails fixed fields bytes cursor fault is header place failed =
+body_fails fixed found bytes cursor fault is header place failed =
     let arguments : arguments_at (order_in bytes) (types_in header.front) (body_at bytes) ≡ Err fault = ap (λ (o : Order). arguments_at o (types_in header.front) (body_at bytes)) (sym is.order) ∙ ap (arguments_at fixed.order (types_in header.front)) (sym place) ∙ failed in
     rw (is.kind, header.read, header.passes, arguments) refl
 
-pub body_passes : (fixed : Fixed) (fields : Fields) (bytes : List ℕ) (cursor : At) (found : Values) → IsFixed fixed bytes → (header : IsHeader fixed fields bytes) → cursor ≡ body_at bytes → arguments_at fixed.order (types_in header.front) cursor ≡ Ok found → framed_message bytes ≡ Ok (message_of bytes fixed.kind header.front found)
+pub body_passes : (fixed : Fixed) (found : Sections) (bytes : List ℕ) (cursor : At) (values : Values) → IsFixed fixed bytes → (header : HasHeader found fixed.kind bytes) → cursor ≡ body_at bytes → arguments_at fixed.order (types_in header.front) cursor ≡ Ok values → framed_message bytes ≡ Ok (message_of bytes fixed.kind header.front values)
 unfolding framed_message
-body_passes fixed fields bytes cursor found is header place passed =
-    let arguments : arguments_at (order_in bytes) (types_in header.front) (body_at bytes) ≡ Ok found = ap (λ (o : Order). arguments_at o (types_in header.front) (body_at bytes)) (sym is.order) ∙ ap (arguments_at fixed.order (types_in header.front)) (sym place) ∙ passed in
+body_passes fixed found bytes cursor values is header place passed =
+    let arguments : arguments_at (order_in bytes) (types_in header.front) (body_at bytes) ≡ Ok values = ap (λ (o : Order). arguments_at o (types_in header.front) (body_at bytes)) (sym is.order) ∙ ap (arguments_at fixed.order (types_in header.front)) (sym place) ∙ passed in
     rw (is.kind, header.read, header.passes, arguments) refl
+
+-- the body is within the bytes
+pub body_within : (bytes body : List ℕ) → body ≡ body_of bytes → length body ≤ length bytes
+body_within bytes body is =
+    let len : length body ≡ length bytes - body_place (fields_len bytes) = ap (λ (x : List ℕ). length x) is ∙ length-drop (body_place (fields_len bytes)) bytes in
+    omega (arith, len)
 
 -- where its texts lie
 pub extents_there : (fixed : Fixed) (fields : Fields) (bytes : List ℕ) (front : List Field) → IsFixed fixed bytes → AreExtents fixed.order 16 front (lying fields) → AreExtents (order_in bytes) 16 front (lying fields)

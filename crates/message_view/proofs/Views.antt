@@ -8,14 +8,14 @@ use Rattle.message_value.specs.declared.fault.MsgError.{MsgError}
 use Rattle.message_value.specs.declared.fault.MsgError.TheVariants as faults
 use Rattle.message_view.specs.declared.view.Sections.{Sections}
 use Rattle.message_view.specs.declared.fixed.Fixed.{Fixed}
-use Rattle.message_view.specs.Message.{text_in, number_in, Message}
+use Rattle.message_view.specs.Message.{text_in, number_in, Field, Message}
 use Rattle.message_view.specs.Valid.{Valid}
 use Rattle.message_value.specs.declared.order.Order.{Order}
 use Rattle.message_value.specs.Value.{Values}
 use Rattle.message_value.specs.Spelling.{padding}
 use Rattle.message_value.specs.Reading.{At, value_at, members_at}
 use Rattle.signature.specs.DataType.{DataTypes, SigText}
-use Rattle.message_value.proofs.OkSteps.{ok_is}
+use Rattle.message_value.proofs.OkSteps.{ok_is, some_is}
 use Rattle.message_value.specs.Arguments.{Argument, arguments_from}
 use Rattle.message_view.specs.Spelling.{body_place, header_bytes, body_bytes, arguments_of}
 use Rattle.message_view.specs.Fixed.{fields_len, whole_len, framing}
@@ -26,9 +26,10 @@ use Rattle.message_view.specs.declared.kind.Kind.{Kind}
 use Rattle.message_view.specs.declared.extent.Extent.{Extent}
 use Rattle.message_view.specs.declared.extent.TextField.{TextField}
 use Rattle.message_view.specs.declared.extent.TextField.TheVariants as names
-use Rattle.message_view.specs.Words.{body_of, IsFixed, IsKept, ReadsFramed, ReadsView, shown, lying}
+use Rattle.message_view.specs.Words.{body_of, IsFixed, IsKept, HasHeader, ReadsFramed, ReadsView, kept_by, shown, lying}
+use Rattle.message_view.proofs.FixedPart.{framing_again}
 use Rattle.message_view.proofs.Framed.{cursor_is}
-use Rattle.message_view.proofs.OneMessage.{valid_lies, valid_reads, reads_valid, message_whole, members_read, fault_invalid}
+use Rattle.message_view.proofs.OneMessage.{valid_lies, valid_fixed, valid_reads, reads_valid, message_whole, members_read, fault_invalid}
 
 -- ---- the length
 
@@ -71,7 +72,7 @@ extents_are m extents are = cc (are names.Path, are names.Interface, are names.M
 
 -- of a message that was read
 pub kept_first : (fixed : Fixed) (sections : Sections) (bytes : List ℕ) (read : Result Message MsgError) → IsFixed fixed bytes → message_at bytes ≡ read → ReadsFramed (Ok sections) fixed.kind bytes read
-    → IsKept bytes sections.body.now sections.signature (kept_like fixed.order fixed.kind fixed.flags fixed.serial (shown sections.fields) (extents_in (lying sections.fields)))
+    → IsKept bytes sections.body.now sections.signature (kept_by fixed sections)
 kept_first fixed sections bytes read is same found =
     let m = message_of bytes fixed.kind found.0 found.1 in
     record {
@@ -81,6 +82,35 @@ kept_first fixed sections bytes read is same found =
       typed = found.4;
       behind = found.5;
     }
+
+-- ---- bytes that are known to be a message
+
+known_framing : (bytes : List ℕ) (m : Message) → Valid bytes m → framing bytes ≡ Ok (Some (whole_len bytes))
+known_framing bytes m valid = framing_again bytes (valid_fixed bytes m valid)
+
+-- their length is the one that is said
+pub known_whole : (bytes : List ℕ) (m : Message) → Valid bytes m → length bytes ≡ whole_len bytes
+known_whole bytes m valid = (message_whole bytes m (valid_reads bytes m valid)).whole
+
+-- nothing behind the fixed part has a fault
+pub known_sound : (bytes : List ℕ) (m : Message) (fault : MsgError) → Valid bytes m → framed_message bytes ≡ Err fault → ⊥
+known_sound bytes m fault valid failed =
+    let whole = known_whole bytes m valid in
+    fault_invalid bytes fault m (whole_framed bytes (length bytes) (known_framing bytes m valid) whole (omega arith) (omega arith) ∙ failed) valid
+
+-- the message is that of the fixed part and of the fields that were found
+pub known_first : (fixed : Fixed) (sections : Sections) (bytes : List ℕ) (m : Message) → Valid bytes m → IsFixed fixed bytes → HasHeader sections fixed.kind bytes
+    → IsKept bytes sections.body.now sections.signature (kept_by fixed sections)
+known_first fixed sections bytes m valid is header =
+    let read = valid_reads bytes m valid in
+    let parts = (message_whole bytes m read).parts in
+    let kind : parts.kind ≡ fixed.kind = some_is parts.kind fixed.kind (sym parts.is_kind ∙ is.kind) in
+    let front : parts.front ≡ header.front = ok_is parts.front header.front (sym parts.fields ∙ header.read) in
+    let same : m ≡ message_of bytes fixed.kind header.front parts.arguments =
+    sym parts.is
+    ∙ ap (λ (k : Kind). message_of bytes k parts.front parts.arguments) kind
+    ∙ ap (λ (fields : List Field). message_of bytes fixed.kind fields parts.arguments) front in
+    kept_first fixed sections bytes (Ok m) is read (header.front, parts.arguments, ap (λ (x : Message). Ok x) same, header.shows, header.typed, header.body, header.lie)
 
 -- the message that was read is the one that the bytes spell
 pub message_is : (bytes now body signature : List ℕ) (m : Message) (kept : Kept) (keeps : IsKept bytes body signature kept) → bytes ≡ now → Valid now m → keeps.message ≡ m

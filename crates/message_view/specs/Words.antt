@@ -17,14 +17,14 @@ use Rattle.message_view.specs.declared.field.FieldCode.{FieldCode}
 use Rattle.message_view.specs.declared.field.FieldCode.TheVariants.{Path, Interface, Member, ErrorName, ReplySerial, Destination, Sender, Signature, UnixFds}
 use Rattle.message_view.specs.declared.field.FieldType.{FieldType}
 use Rattle.message_view.specs.declared.field.FieldType.TheVariants as types
-use Rattle.message_view.specs.Message.{Field, Message}
+use Rattle.message_view.specs.Message.{Field, Message, text_in, number_in}
 use Rattle.message_view.specs.Header.{kind_of}
 use Rattle.message_view.specs.Fixed.{order_in, serial_in, fields_len, body_len, whole_len, framing}
 use Rattle.message_view.specs.Valid.{max_message_len}
 use Rattle.message_view.specs.Spelling.{fixed_len, body_place, fields_bytes}
 use Rattle.message_value.specs.declared.order.Order.{Order}
-use Rattle.message_view.specs.Reading.{types_in, message_of, message_at}
-use Rattle.message_view.specs.Slots.{Slots, Extents, AreExtents, Kept, kept_of, slots_of}
+use Rattle.message_view.specs.Reading.{fields_of, header_padding, header_fault, types_in, message_of, framed_message, message_at}
+use Rattle.message_view.specs.Slots.{Slots, Extents, AreExtents, Kept, extents_in, kept_of, slots_of}
 use Rattle.message_view.specs.declared.extent.Extent.{Extent}
 
 -- a field's content as the value that it is
@@ -110,6 +110,21 @@ abbrev pub Passes : {X Y : Type 0} → Result X MsgError → Result Y MsgError �
 Passes {Y = Y} (Ok x) read = (y : Y) × (read ≡ Ok y)
 Passes (Err fault) read = read ≡ Err fault
 
+-- what is found after a fixed part, by the header alone
+pub record HasHeader (found : Sections) (kind : Kind) (bytes : List ℕ) : Type 0 where
+  pub front : List Field
+  pub read : fields_of bytes ≡ Ok front
+  pub passes : header_fault kind (header_padding bytes) front ≡ None
+  pub shows : shown found.fields ≡ slots_of front
+  pub typed : SigText (types_in front) found.signature
+  pub body : found.body.now ≡ body_of bytes
+  pub lie : AreExtents (order_in bytes) fixed_len front (lying found.fields)
+
+-- what a reader of the header after a fixed part answers, whatever the body is
+abbrev pub ReadsHeader : Result Sections MsgError → Kind → List ℕ → Type 0
+ReadsHeader (Ok found) kind bytes = HasHeader found kind bytes
+ReadsHeader (Err fault) kind bytes = framed_message bytes ≡ Err fault
+
 -- what a reader of the message after a fixed part answers
 abbrev pub ReadsFramed : Result Sections MsgError → Kind → List ℕ → Result Message MsgError → Type 0
 ReadsFramed (Ok found) kind bytes read =
@@ -130,3 +145,7 @@ pub record IsKept (bytes body signature : List ℕ) (kept : Kept) : Type 0 where
   pub is : kept ≡ kept_of message (slots_of message.fields)
   pub typed : SigText message.types signature
   pub behind : body ≡ body_of bytes
+
+-- what a view keeps of a fixed part and of what is behind it
+abbrev pub kept_by : Fixed → Sections → Kept
+kept_by fixed sections = record { order = fixed.order; kind = fixed.kind; flags = fixed.flags; serial = fixed.serial; texts = map text_in (shown sections.fields); numbers = map number_in (shown sections.fields); extents = extents_in (lying sections.fields) }

@@ -8,7 +8,7 @@ ghost use Rattle.message_view.specs.Valid.{Valid};
 ghost use Rattle.message_view.specs.Fixed.{whole_len};
 ghost use Rattle.message_view.specs.Reading.{framed_message, header_fault, arguments_at};
 ghost use Rattle.message_view.specs.Slots.{slots_of};
-ghost use Rattle.message_view.specs.Words.{ReadsFixed, ReadsFramed, Passes, shown};
+ghost use Rattle.message_view.specs.Words.{ReadsFixed, ReadsHeader, ReadsFramed, Passes, shown};
 
 use crate::extent::{Extent, TextField};
 use crate::field::FieldCode;
@@ -57,11 +57,13 @@ fn check_body(
     }
 }
 
-/// The fields and the body of a message whose fixed part was read, and whose length is the one that it says.
-fn framed<'a>(fixed: &Fixed, bytes: &'a [u8]) -> Result<Sections<'a>, MsgError>
+/// The fields of a message whose fixed part was read, and whose length is the one that it says, and its body, which
+/// isn't checked yet. Inline, so that a reading that checks the body moves the fields no more often.
+#[inline(always)]
+fn split_sections<'a>(fixed: &Fixed, bytes: &'a [u8]) -> Result<Sections<'a>, MsgError>
     requires fixed { ReadsFixed (Ok (Some fixed.now)) bytes.now }
     requires whole { length bytes.now ≡ whole_len bytes.now }
-    ensures { ReadsFramed result fixed.now.kind bytes.entry.now (framed_message bytes.entry.now) }
+    ensures { ReadsHeader result fixed.now.kind bytes.entry.now }
 {
     let fields_len = fixed.fields_len as usize;
     let (_, behind_fixed) = bytes.split_at(FIXED_LEN);
@@ -72,17 +74,28 @@ fn framed<'a>(fixed: &Fixed, bytes: &'a [u8]) -> Result<Sections<'a>, MsgError>
         return Err(fault);
     }
     let signature = fields.signature();
-    let place = bytes.len() - body.len();
-    check_body(
-        fixed.order,
-        &signature,
-        Cursor::new(place, body, MsgError::Short),
-    )?;
     Ok(Sections {
         fields,
         signature,
         body,
     })
+}
+
+/// The fields and the body of a message whose fixed part was read, and whose length is the one that it says.
+fn framed<'a>(fixed: &Fixed, bytes: &'a [u8]) -> Result<Sections<'a>, MsgError>
+    requires fixed { ReadsFixed (Ok (Some fixed.now)) bytes.now }
+    requires whole { length bytes.now ≡ whole_len bytes.now }
+    ensures { ReadsFramed result fixed.now.kind bytes.entry.now (framed_message bytes.entry.now) }
+{
+    let sections = split_sections(fixed, bytes)?;
+    let body = sections.body;
+    let place = bytes.len() - body.len();
+    check_body(
+        fixed.order,
+        &sections.signature,
+        Cursor::new(place, body, MsgError::Short),
+    )?;
+    Ok(sections)
 }
 
 /// A slice of bytes has elements below 256.
@@ -124,7 +137,25 @@ impl<'a> View<'a> {
     ghost use Rattle.message_view.specs.Slots.{slot_of, slots_of};
     ghost use Rattle.message_view.specs.Spelling.{body_bytes, arguments_of};
     ghost use Rattle.message_view.specs.Places.{extent_of};
-    ghost use Rattle.message_view.specs.Words.{ReadsView};
+    ghost use Rattle.message_view.specs.Words.{IsKept, ReadsView, kept_by};
+
+    /// The view of bytes whose parts these are.
+    #[inline(always)]
+    fn of_sections(bytes: &'a [u8], fixed: &Fixed, sections: Sections<'a>) -> View<'a>
+        requires { IsKept bytes.now sections.body.now sections.signature (kept_by fixed.now sections) }
+        ensures { result ≡ bytes.entry.now }
+    {
+        View {
+            bytes,
+            body: sections.body,
+            order: fixed.order,
+            kind: fixed.kind,
+            flags: fixed.flags,
+            serial: fixed.serial,
+            fields: sections.fields,
+            signature: sections.signature,
+        }
+    }
 
     /// The message or the first fault, as reading gives it.
     fn read_exactly(bytes: &'a [u8]) -> Result<View<'a>, MsgError>
@@ -141,16 +172,7 @@ impl<'a> View<'a> {
             return Err(MsgError::Trailing);
         }
         let sections = framed(&fixed, bytes)?;
-        Ok(View {
-            bytes,
-            body: sections.body,
-            order: fixed.order,
-            kind: fixed.kind,
-            flags: fixed.flags,
-            serial: fixed.serial,
-            fields: sections.fields,
-            signature: sections.signature,
-        })
+        Ok(View::of_sections(bytes, &fixed, sections))
     }
 
     /// Reads a message, all of the bytes (D-Bus Specification, "Message Format"). What the view lends
@@ -168,6 +190,21 @@ impl<'a> View<'a> {
         ensures fault { IfErr result (λ fault. message_at bytes.entry.now ≡ Err fault) }
     {
         View::read_exactly(bytes)
+    }
+
+    /// The view of bytes that are known to be one message, as those that were built or stamped here. Its header is read
+    /// again, and its body isn't: it takes the time of the header alone, whatever the body's length.
+    pub fn of_message(bytes: &'a [u8]) -> View<'a>
+        requires { (m : Message) × Valid bytes.now m }
+        ensures { result ≡ bytes.entry.now }
+    {
+        let Ok(Some(fixed)) = Fixed::read(bytes) else {
+            unreachable!()
+        };
+        let Ok(sections) = split_sections(&fixed, bytes) else {
+            unreachable!()
+        };
+        View::of_sections(bytes, &fixed, sections)
     }
 
     /// The bytes of the message.

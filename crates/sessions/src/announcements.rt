@@ -124,10 +124,11 @@ impl<J: Naming, M: Mailbox + Carrier> Connection<J, M> {
         let Ok(bytes) = built else {
             return Err(SessionError::NoMemory);
         };
-        self.broadcast(site, Source::Bus, &bytes)
+        let view = View::of_message(bytes.as_slice());
+        self.broadcast(site, Source::Bus, &view, &bytes)
     }
 
-    /// Routes a broadcast that is a valid message.
+    /// Routes a broadcast. The view is that of the bytes.
     ///
     /// # Errors
     ///
@@ -136,14 +137,12 @@ impl<J: Naming, M: Mailbox + Carrier> Connection<J, M> {
         &mut self,
         site: &Site<'_, J, M, W, R>,
         source: Source,
+        view: &View<'_>,
         bytes: &Bytes,
     ) -> Result<(), SessionError> {
-        let Ok(view) = View::read(bytes.as_slice()) else {
-            return Ok(());
-        };
         match site
             .bus
-            .route(site.rt, site.alloc, &mut self.pass, source, &view, bytes)
+            .route(site.rt, site.alloc, &mut self.pass, source, view, bytes)
         {
             Ok(_) => Ok(()),
             Err(_) => Err(SessionError::NoMemory),

@@ -1,5 +1,9 @@
 // Where a client's message goes.
 
+ghost use Rattle.std.specs.Prelude.{IfOk};
+ghost use Rattle.message_view.specs.Message.{Message};
+ghost use Rattle.message_view.specs.Valid.{Valid};
+
 use crate::connection::Connection;
 use crate::error::SessionError;
 use crate::home::Home;
@@ -73,7 +77,10 @@ impl<J: Naming, M: Mailbox + Carrier> Connection<J, M> {
         view: &View<'_>,
     ) -> Result<(), SessionError> {
         match self.stamped(site.alloc, view) {
-            Ok(bytes) => self.broadcast(site, Source::Own, &bytes),
+            Ok(bytes) => {
+                let stamped = View::of_message(bytes.as_slice());
+                self.broadcast(site, Source::Own, &stamped, &bytes)
+            }
             Err(why) => self.give_up(site, home, view, why),
         }
     }
@@ -105,7 +112,9 @@ impl<J: Naming, M: Mailbox + Carrier> Connection<J, M> {
     }
 
     /// The message as it is passed on, with its sender.
-    fn stamped(&self, alloc: Global, view: &View<'_>) -> Result<Bytes, Refused> {
+    fn stamped(&self, alloc: Global, view: &View<'_>) -> Result<Bytes, Refused>
+        ensures { IfOk result (λ bytes. (m : Message) × Valid bytes m) }
+    {
         match stamp(alloc, view, self.name.as_str()) {
             Ok(bytes) => Ok(Bytes::from_vec(bytes)?),
             Err(StampError::TooLarge) => Err(Refused::Error(ErrorName::LimitsExceeded)),

@@ -1,49 +1,26 @@
-use Rattle.std.proofs.Common.{refl, ◌∙◌, arith}
+use Rattle.std.proofs.Common.{refl}
 use Rattle.std.proofs.lemmas.Result.{err_from_is_err_and}
-use Rattle.message_view.proofs.Framed.{array_is, skipped_is, body_is, cursor_is, fields_fail, header_fails, header_passes, body_fails, body_passes, extents_there, types_there}
+use Rattle.message_view.proofs.Framed.{cursor_is, body_within, body_fails, body_passes}
 use Rattle.message_view.proofs.view.framed.Goals as goal
 
-pub returns-in_err-fields : goal.returns-in_err-fields
-returns-in_err-fields c =
+pub returns-in_err-sections : goal.returns-in_err-sections
+returns-in_err-sections c =
     let p = err_from_is_err_and c.from_residual.result c.from_residual.ensures.1 in
-    let is = c.requires.fixed.1 in
-    let array = array_is c.args.fixed.now c.args.bytes.now _ _ is c.split_at.ensures.back c.split_at-2.ensures.front c.split_at-2.ensures.front_len in
-    rw (p.1, p.2) (fields_fail c.args.fixed.now c.args.bytes.now _ _ is array c.in_err-fields.ensures.read)
+    rw (p.1, p.2) c.in_err-sections.ensures
 
-pub returns-in-Some : goal.returns-in-Some
-returns-in-Some c =
-    let is = c.requires.fixed.1 in
-    let array = array_is c.args.fixed.now c.args.bytes.now _ _ is c.split_at.ensures.back c.split_at-2.ensures.front c.split_at-2.ensures.front_len in
-    let skip = skipped_is c.args.fixed.now c.args.bytes.now _ _ _ _ is c.split_at.ensures.back c.split_at-2.ensures.back c.padding.ensures c.split_at-3.ensures.front in
-    header_fails c.args.fixed.now c.in_ok-fields.fields c.args.bytes.now _ _ _ is array c.in_ok-fields.ensures.read skip (λ front same. c.in-Some.ensures front same)
-
-pub signature-signature-requires : goal.signature-signature-requires
-signature-signature-requires c =
-    let is = c.requires.fixed.1 in
-    let array = array_is c.args.fixed.now c.args.bytes.now _ _ is c.split_at.ensures.back c.split_at-2.ensures.front c.split_at-2.ensures.front_len in
-    let skip = skipped_is c.args.fixed.now c.args.bytes.now _ _ _ _ is c.split_at.ensures.back c.split_at-2.ensures.back c.padding.ensures c.split_at-3.ensures.front in
-    let header = header_passes c.args.fixed.now c.in_ok-fields.fields c.args.bytes.now _ _ array c.in_ok-fields.ensures.read skip (λ front same. c.in_default.ensures front same) in
-    (header.front, header.shows, types_there c.args.bytes.now header.front (λ i. omega (arith, c.type_inv.bytes i)) c.requires.whole header.read)
+pub overflow_sub-place : goal.overflow_sub-place
+overflow_sub-place c = body_within c.args.bytes.now _ c.in_ok-sections.ensures.body
 
 pub returns-in_err-check_body : goal.returns-in_err-check_body
 returns-in_err-check_body c =
     let p = err_from_is_err_and c.from_residual-in_err-check_body.result c.from_residual-in_err-check_body.ensures.1 in
-    let is = c.requires.fixed.1 in
-    let array = array_is c.args.fixed.now c.args.bytes.now _ _ is c.split_at.ensures.back c.split_at-2.ensures.front c.split_at-2.ensures.front_len in
-    let skip = skipped_is c.args.fixed.now c.args.bytes.now _ _ _ _ is c.split_at.ensures.back c.split_at-2.ensures.back c.padding.ensures c.split_at-3.ensures.front in
-    let body = body_is c.args.fixed.now c.args.bytes.now _ _ _ _ is c.split_at.ensures.back c.split_at-2.ensures.back c.padding.ensures c.split_at-3.ensures.back in
-    let place = cursor_is c.args.bytes.now _ _ c.new.result c.requires.whole body refl c.new.ensures in
-    let header = header_passes c.args.fixed.now c.in_ok-fields.fields c.args.bytes.now _ _ array c.in_ok-fields.ensures.read skip (λ front same. c.in_default.ensures front same) in
-    rw (p.1, p.2) (body_fails c.args.fixed.now c.in_ok-fields.fields c.args.bytes.now c.new.result _ is header place (c.in_err-check_body.ensures _ (c.signature-signature.ensures header.front header.shows)))
+    let header = c.in_ok-sections.ensures in
+    let place = cursor_is c.args.bytes.now _ _ c.new.result c.requires.whole header.body refl c.new.ensures in
+    rw (p.1, p.2) (body_fails c.args.fixed.now c.in_ok-sections.sections c.args.bytes.now c.new.result _ c.requires.fixed.1 header place (c.in_err-check_body.ensures _ header.typed))
 
 pub returns : goal.returns
 returns c =
-    let is = c.requires.fixed.1 in
-    let array = array_is c.args.fixed.now c.args.bytes.now _ _ is c.split_at.ensures.back c.split_at-2.ensures.front c.split_at-2.ensures.front_len in
-    let skip = skipped_is c.args.fixed.now c.args.bytes.now _ _ _ _ is c.split_at.ensures.back c.split_at-2.ensures.back c.padding.ensures c.split_at-3.ensures.front in
-    let body = body_is c.args.fixed.now c.args.bytes.now _ _ _ _ is c.split_at.ensures.back c.split_at-2.ensures.back c.padding.ensures c.split_at-3.ensures.back in
-    let place = cursor_is c.args.bytes.now _ _ c.new.result c.requires.whole body refl c.new.ensures in
-    let header = header_passes c.args.fixed.now c.in_ok-fields.fields c.args.bytes.now _ _ array c.in_ok-fields.ensures.read skip (λ front same. c.in_default.ensures front same) in
-    let typed = c.signature-signature.ensures header.front header.shows in
-    let arguments = c.in_ok-check_body.ensures _ typed in
-    (header.front, arguments.0, body_passes c.args.fixed.now c.in_ok-fields.fields c.args.bytes.now c.new.result arguments.0 is header place arguments.1, header.shows, typed, body, extents_there c.args.fixed.now c.in_ok-fields.fields c.args.bytes.now header.front is (c.in_ok-fields.ensures.lie header.front (array ∙ header.read)))
+    let header = c.in_ok-sections.ensures in
+    let place = cursor_is c.args.bytes.now _ _ c.new.result c.requires.whole header.body refl c.new.ensures in
+    let arguments = c.in_ok-check_body.ensures _ header.typed in
+    (header.front, arguments.0, body_passes c.args.fixed.now c.in_ok-sections.sections c.args.bytes.now c.new.result arguments.0 c.requires.fixed.1 header place arguments.1, header.shows, header.typed, header.body, header.lie)

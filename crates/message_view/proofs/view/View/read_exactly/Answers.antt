@@ -1,4 +1,4 @@
-use Rattle.std.proofs.Common.{refl, ◌∙◌, arith}
+use Rattle.std.proofs.Common.{◌∙◌, arith}
 use Rattle.std.proofs.lemmas.Result.{err_from_is_err_and}
 use Rattle.message_view.proofs.Views.{fixed_fault, fixed_short, len_is, whole_short, whole_long, whole_framed, kept_first}
 use Rattle.message_view.proofs.view.View.read_exactly.Goals as goal
@@ -30,8 +30,8 @@ returns-in_err-sections c =
     let len = len_is c.in-Some.fixed c.args.bytes.now _ fixed.1 c.whole_len-len.ensures in
     rw (p.1, p.2) (whole_framed c.args.bytes.now _ fixed.0 len c.if-bytes-len.false c.if-bytes-len-2.false ∙ c.in_err-sections.ensures)
 
-pub invariant_of-result : goal.invariant_of-result
-invariant_of-result c =
+pub of_sections-requires : goal.of_sections-requires
+of_sections-requires c =
     let fixed = rw c.in-Some.is at c.in_ok-fixed.ensures in
     let len = len_is c.in-Some.fixed c.args.bytes.now _ fixed.1 c.whole_len-len.ensures in
     let same = whole_framed c.args.bytes.now _ fixed.0 len c.if-bytes-len.false c.if-bytes-len-2.false in
@@ -42,4 +42,4 @@ returns c =
     let fixed = rw c.in-Some.is at c.in_ok-fixed.ensures in
     let len = len_is c.in-Some.fixed c.args.bytes.now _ fixed.1 c.whole_len-len.ensures in
     let same = whole_framed c.args.bytes.now _ fixed.0 len c.if-bytes-len.false c.if-bytes-len-2.false in
-    (refl, (_, same ∙ c.in_ok-sections.ensures.2))
+    (c.of_sections.ensures, (_, same ∙ c.in_ok-sections.ensures.2))
