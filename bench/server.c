@@ -321,7 +321,7 @@ static void latency(void) {
     leave(1);
 }
 
-enum { PAIRS = 4, BATCH = 64, PAIR_TIMES = 40000, BEHIND = 512 };
+enum { PAIRS = 4, BATCH = 64, PAIR_TIMES = 40000, UNREAD = 512 };
 
 struct pair {
     struct client *reader, *sender;
@@ -329,7 +329,7 @@ struct pair {
     char member[16];
 };
 
-/* Sends to its reader alone, BATCH signals at a write, at most BEHIND before they are read. */
+/* Sends to its reader alone, BATCH signals at a write, at most UNREAD before they are read. */
 static void *play_pair(void *given) {
     struct pair *pair = given;
     unsigned char many[BATCH * 256];
@@ -342,7 +342,7 @@ static void *play_pair(void *given) {
             len += m.len;
         }
         put(pair->sender, many, len);
-        while ((int)pair->reader->signals < sent + BATCH - BEHIND) fill(pair->reader);
+        while ((int)pair->reader->signals < sent + BATCH - UNREAD) fill(pair->reader);
     }
     while (pair->reader->signals < PAIR_TIMES) fill(pair->reader);
     return NULL;

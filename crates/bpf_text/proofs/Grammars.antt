@@ -84,9 +84,9 @@ bracketed_sound bytes x h =
     let P : ℕ × List ℕ → Type 0 = λ y. Front (Sign 91 ∷ Value y.0 ∷ Sign 93 ∷ []) bytes y.1 in
     subst P (same_some (k.0, rest) x e3) (inside, is_inside, (k.1, is_k, (rest, is_rest, refl))))))
 
-front_more : (more : List Token) (tokens : List Token) (bytes behind rest : List ℕ) → Front tokens bytes behind → Front more behind rest → Front (tokens ++ more) bytes rest
-front_more more [] bytes behind rest h later = rw h later
-front_more more (token ∷ tokens) bytes behind rest (mid, here, h) later = (mid, here, front_more more tokens mid behind rest h later)
+front_more : (more : List Token) (tokens : List Token) (bytes tail rest : List ℕ) → Front tokens bytes tail → Front more tail rest → Front (tokens ++ more) bytes rest
+front_more more [] bytes tail rest h later = rw h later
+front_more more (token ∷ tokens) bytes tail rest (mid, here, h) later = (mid, here, front_more more tokens mid tail rest h later)
 
 header_sound : (bytes after : List ℕ) (x : Operands × List ℕ) → number_at bytes ≡ Some (4, after) → header_at after ≡ Some x → Stands bytes x
 unfolding header_at
@@ -173,9 +173,9 @@ bracket_none : (bytes : List ℕ) → sign_at 91 bytes ≡ None → bracketed_at
 unfolding bracketed_at
 bracket_none bytes none = rw none
 
-bracketed_complete : (bytes inside behind rest : List ℕ) (k : ℕ) → sign_at 91 bytes ≡ Some inside → number_at inside ≡ Some (k, behind) → sign_at 93 behind ≡ Some rest → bracketed_at bytes ≡ Some (k, rest)
+bracketed_complete : (bytes inside tail rest : List ℕ) (k : ℕ) → sign_at 91 bytes ≡ Some inside → number_at inside ≡ Some (k, tail) → sign_at 93 tail ≡ Some rest → bracketed_at bytes ≡ Some (k, rest)
 unfolding bracketed_at
-bracketed_complete bytes inside behind rest k s n e = rw (s, n, e)
+bracketed_complete bytes inside tail rest k s n e = rw (s, n, e)
 
 scratch_none : (name rest : List ℕ) (m : Bool) → scratch_or_name name rest m None ≡ name_to name rest (sign_at 44 rest)
 scratch_none name rest true = refl
@@ -200,20 +200,20 @@ by_open bytes inside s =
     let a : sign_at 35 bytes ≡ None = sign_no_sign 91 35 bytes inside (λ q. omega arith) s in
     rw (a, s)
 
-by_four : (bytes behind : List ℕ) → number_at bytes ≡ Some (4, behind) → operands_at bytes ≡ header_at behind
+by_four : (bytes tail : List ℕ) → number_at bytes ≡ Some (4, tail) → operands_at bytes ≡ header_at tail
 unfolding operands_at
-by_four bytes behind n =
-    let a : sign_at 35 bytes ≡ None = number_no_sign 35 bytes (4, behind) refl n in
-    let b : sign_at 91 bytes ≡ None = number_no_sign 91 bytes (4, behind) refl n in
+by_four bytes tail n =
+    let a : sign_at 35 bytes ≡ None = number_no_sign 35 bytes (4, tail) refl n in
+    let b : sign_at 91 bytes ≡ None = number_no_sign 91 bytes (4, tail) refl n in
     rw (a, b, n)
 
 by_hash : (bytes inside : List ℕ) → sign_at 35 bytes ≡ Some inside → operands_at bytes ≡ constant_at inside
 unfolding operands_at
 by_hash bytes inside s = rw s
 
-number_complete : (inside behind : List ℕ) (k : ℕ) → number_at inside ≡ Some (k, behind) → constant_at inside ≡ number_to k behind (sign_at 44 behind)
+number_complete : (inside tail : List ℕ) (k : ℕ) → number_at inside ≡ Some (k, tail) → constant_at inside ≡ number_to k tail (sign_at 44 tail)
 unfolding constant_at
-number_complete inside behind k n = rw n
+number_complete inside tail k n = rw n
 
 length_complete : (inside rest : List ℕ) → word_at inside ≡ Some (codes "len", rest) → constant_at inside ≡ Some (Length, rest)
 unfolding constant_at
@@ -221,13 +221,13 @@ length_complete inside rest w =
     let none : number_at inside ≡ None = word_no_number inside (codes "len", rest) w in
     rw (none, w)
 
-place_complete : (inside behind rest : List ℕ) (k : ℕ) → number_at inside ≡ Some (k, behind) → sign_at 93 behind ≡ Some rest → place_at inside ≡ Some (Place k, rest)
+place_complete : (inside tail rest : List ℕ) (k : ℕ) → number_at inside ≡ Some (k, tail) → sign_at 93 tail ≡ Some rest → place_at inside ≡ Some (Place k, rest)
 unfolding place_at
-place_complete inside behind rest k n s = rw (n, s)
+place_complete inside tail rest k n s = rw (n, s)
 
-indexed_complete : (inside plus number behind rest : List ℕ) (k : ℕ) → word_at inside ≡ Some (codes "x", plus) → sign_at 43 plus ≡ Some number → number_at number ≡ Some (k, behind) → sign_at 93 behind ≡ Some rest → place_at inside ≡ Some (Indexed k, rest)
+indexed_complete : (inside plus number tail rest : List ℕ) (k : ℕ) → word_at inside ≡ Some (codes "x", plus) → sign_at 43 plus ≡ Some number → number_at number ≡ Some (k, tail) → sign_at 93 tail ≡ Some rest → place_at inside ≡ Some (Indexed k, rest)
 unfolding place_at indexed_at
-indexed_complete inside plus number behind rest k w p n s =
+indexed_complete inside plus number tail rest k w p n s =
     let none : number_at inside ≡ None = word_no_number inside (codes "x", plus) w in
     rw (none, w, p, n, s)
 
@@ -236,9 +236,9 @@ unfolding header_at
 header_complete a b c d e f g h rest k star inside open_bracket n close and_sign mask end_ =
     rw (star, inside, bracketed_complete c d e f k open_bracket n close, and_sign, mask, end_)
 
-scratch_complete : (rest behind : List ℕ) (k : ℕ) → bracketed_at rest ≡ Some (k, behind) → named_at (codes "M") rest ≡ Some (Scratch k, behind)
+scratch_complete : (rest tail : List ℕ) (k : ℕ) → bracketed_at rest ≡ Some (k, tail) → named_at (codes "M") rest ≡ Some (Scratch k, tail)
 unfolding named_at
-scratch_complete rest behind k e = rw e
+scratch_complete rest tail k e = rw e
 
 ends_with : (o : Operands) (a b : List ℕ) → a ≡ b → ◌≡◌ {A = Option (Operands × List ℕ)} (Some (o, a)) (Some (o, b))
 ends_with o a b e = ap (λ (r : List ℕ). Some (o, r)) e

@@ -9,9 +9,9 @@ use Rattle.bpf_text.specs.Source.{Begins, label_at, Label, labels_at, has_name, 
 use Rattle.bpf_text.specs.Rows.{Row, statement_of}
 use Rattle.bpf_text.proofs.Statements.{labels_sound, labels_complete, statement_sound, statement_complete, statement_no_label}
 
-pub begins_more : (bytes behind rest name : List ℕ) (names : List (List ℕ)) → Begins bytes names behind → label_at behind ≡ Some (name, rest) → Begins bytes (names ++ name ∷ []) rest
-begins_more bytes behind rest name [] same is = (rest, rw same is, refl)
-begins_more bytes behind rest name (first ∷ names) (mid, here, later) is = (mid, here, begins_more mid behind rest name names later is)
+pub begins_more : (bytes tail rest name : List ℕ) (names : List (List ℕ)) → Begins bytes names tail → label_at tail ≡ Some (name, rest) → Begins bytes (names ++ name ∷ []) rest
+begins_more bytes tail rest name [] same is = (rest, rw same is, refl)
+begins_more bytes tail rest name (first ∷ names) (mid, here, later) is = (mid, here, begins_more mid tail rest name names later is)
 
 or_false : (b : Bool) → (b || false) ≡ b
 or_false true = refl
@@ -34,16 +34,16 @@ none_some o x a b = cc
 some_same : {T : Type 0} (x y : T) → Some x ≡ Some y → x ≡ y
 some_same x y e = cc
 
-same_behind : (o : Option (List ℕ × List ℕ)) (a b : List ℕ) (x y : List ℕ) → o ≡ Some (a, x) → o ≡ Some (b, y) → x ≡ y
-same_behind o a b x y p q = ap (λ (r : List ℕ × List ℕ). r.1) (some_same (a, x) (b, y) (sym p ∙ q))
+same_after : (o : Option (List ℕ × List ℕ)) (a b : List ℕ) (x y : List ℕ) → o ≡ Some (a, x) → o ≡ Some (b, y) → x ≡ y
+same_after o a b x y p q = ap (λ (r : List ℕ × List ℕ). r.1) (some_same (a, x) (b, y) (sym p ∙ q))
 
 -- the labels that bytes begin with, up to where no more follows, are determined
 pub begins_one : (bytes rest other : List ℕ) (names others : List (List ℕ)) → Begins bytes names rest → label_at rest ≡ None → Begins bytes others other → label_at other ≡ None → rest ≡ other
 begins_one bytes rest other [] [] b n c m = sym b ∙ c
-begins_one bytes rest other [] (name ∷ others) b n (behind, here, more) m = absurd (none_some (label_at bytes) (name, behind) (rw b n) here)
-begins_one bytes rest other (name ∷ names) [] (behind, here, more) n c m = absurd (none_some (label_at bytes) (name, behind) (rw c m) here)
-begins_one bytes rest other (name ∷ names) (second ∷ others) (behind, here, more) n (behind2, here2, more2) m =
-    begins_one behind rest other names others more n (rw (same_behind (label_at bytes) name second behind behind2 here here2) more2) m
+begins_one bytes rest other [] (name ∷ others) b n (tail, here, more) m = absurd (none_some (label_at bytes) (name, tail) (rw b n) here)
+begins_one bytes rest other (name ∷ names) [] (tail, here, more) n c m = absurd (none_some (label_at bytes) (name, tail) (rw c m) here)
+begins_one bytes rest other (name ∷ names) (second ∷ others) (tail, here, more) n (tail2, here2, more2) m =
+    begins_one tail rest other names others more n (rw (same_after (label_at bytes) name second tail tail2 here here2) more2) m
 
 -- a line whose labels are taken, and whose statement is read
 pub line_found : (bytes rest : List ℕ) (old : Sketch) (labels : List Label) (again : Bool) (row : Option Row) → TakesLabels bytes rest old.count old.labels labels again → statement_of rest ≡ Some row → (lines : List Noted) (count : ℕ) → lines ≡ old.lines ++ record { again = again; row = row } ∷ [] → count ≡ old.count + count_row row → (line : Line) × IsLine bytes line × ◌≡◌ {A = Sketch} (record { labels = labels; lines = lines; count = count }) (with_line old line)

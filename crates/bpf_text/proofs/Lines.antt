@@ -107,12 +107,12 @@ read_all text rest bytes number old new line so split is more =
     let all : lines_of text ≡ so.front ++ bytes ∷ [] = so.all ∙ ap (λ (ls : List (List ℕ)). so.front ++ ls) split in
     (so.good ++ line ∷ [], rw all (are_more so.front so.good bytes line so.are is), added so.good line old new so.sketch_is more)
 
-pub read_bad : (text rest bytes : List ℕ) (behind : List (List ℕ)) (number : ℕ) (old : Sketch) → ReadSoFar text rest number old → lines_of rest ≡ bytes ∷ behind → ((line : Line) → ¬ IsLine bytes line) → IsBadLine text number
-read_bad text rest bytes behind number old so split none = record {
+pub read_bad : (text rest bytes : List ℕ) (tail : List (List ℕ)) (number : ℕ) (old : Sketch) → ReadSoFar text rest number old → lines_of rest ≡ bytes ∷ tail → ((line : Line) → ¬ IsLine bytes line) → IsBadLine text number
+read_bad text rest bytes tail number old so split none = record {
   front = so.front;
   good = so.good;
   bad = bytes;
-  behind = behind;
+  tail = tail;
   all = so.all ∙ ap (λ (ls : List (List ℕ)). so.front ++ ls) split;
   before = so.are;
   none = none;

@@ -16,13 +16,13 @@ none_some o x p q = cc
 -- what labels are read, and what follows them
 both_one : (bytes rest other : List ℕ) (names others : List (List ℕ)) → Begins bytes names rest → label_at rest ≡ None → Begins bytes others other → label_at other ≡ None → (rest ≡ other) × (names ≡ others)
 both_one bytes rest other [] [] b n c m = (sym b ∙ c, refl)
-both_one bytes rest other [] (name ∷ others) b n (behind, here, more) m = absurd (none_some (label_at bytes) (name, behind) (rw b n) here)
-both_one bytes rest other (name ∷ names) [] (behind, here, more) n c m = absurd (none_some (label_at bytes) (name, behind) (rw c m) here)
-both_one bytes rest other (name ∷ names) (second ∷ others) (behind, here, more) n (behind2, here2, more2) m =
-    let same : (name, behind) ≡ (second, behind2) = some_one (label_at bytes) (name, behind) (second, behind2) here here2 in
-    let e : behind ≡ behind2 = ap (λ (p : List ℕ × List ℕ). p.1) same in
+both_one bytes rest other [] (name ∷ others) b n (tail, here, more) m = absurd (none_some (label_at bytes) (name, tail) (rw b n) here)
+both_one bytes rest other (name ∷ names) [] (tail, here, more) n c m = absurd (none_some (label_at bytes) (name, tail) (rw c m) here)
+both_one bytes rest other (name ∷ names) (second ∷ others) (tail, here, more) n (tail2, here2, more2) m =
+    let same : (name, tail) ≡ (second, tail2) = some_one (label_at bytes) (name, tail) (second, tail2) here here2 in
+    let e : tail ≡ tail2 = ap (λ (p : List ℕ × List ℕ). p.1) same in
     let f : name ≡ second = ap (λ (p : List ℕ × List ℕ). p.0) same in
-    let rests = both_one behind rest other names others more n (rw e more2) m in
+    let rests = both_one tail rest other names others more n (rw e more2) m in
     (rests.0, rw (f, rests.1))
 
 same_line : (a b : List (List ℕ)) (r s : Option Row) → a ≡ b → r ≡ s → ◌≡◌ {A = Line} (record { labels = a; row = r }) (record { labels = b; row = s })
@@ -55,11 +55,11 @@ one_program text p q (xs, are, is) (ys, are2, is2) =
     ok_one p q (sym is ∙ ap program_of e ∙ is2)
 
 -- a line that isn't of the form is no line of lines
-bad_at : (front : List (List ℕ)) (bad : List ℕ) (behind : List (List ℕ)) (lines : List Line) → AreLines (front ++ bad ∷ behind) lines → ((line : Line) → ¬ IsLine bad line) → ⊥
-bad_at [] bad behind [] are none = are
-bad_at [] bad behind (x ∷ lines) are none = none x are.0
-bad_at (b ∷ front) bad behind [] are none = are
-bad_at (b ∷ front) bad behind (x ∷ lines) are none = bad_at front bad behind lines are.1 none
+bad_at : (front : List (List ℕ)) (bad : List ℕ) (tail : List (List ℕ)) (lines : List Line) → AreLines (front ++ bad ∷ tail) lines → ((line : Line) → ¬ IsLine bad line) → ⊥
+bad_at [] bad tail [] are none = are
+bad_at [] bad tail (x ∷ lines) are none = none x are.0
+bad_at (b ∷ front) bad tail [] are none = are
+bad_at (b ∷ front) bad tail (x ∷ lines) are none = bad_at front bad tail lines are.1 none
 
 not_both : (r : Result (List Ins) CodeError) (p : List Ins) (e : CodeError) → r ≡ Ok p → r ≡ Err e → ⊥
 not_both r p e a b = cc
@@ -72,7 +72,7 @@ fault_clash text p e ys (xs, are, is) are2 fault =
 pub no_fault : (text : List ℕ) (p : List Ins) (e : CodeError) → SourceText text p → IsTextFault text e → e ≡ errors.NoMemory
 no_fault text p errors.Length source fault = absurd fault
 no_fault text p (errors.Code place) source fault = absurd fault
-no_fault text p (errors.Line line) (xs, are, is) fault = absurd (bad_at fault.front fault.bad fault.behind xs (rw fault.all at are) fault.none)
+no_fault text p (errors.Line line) (xs, are, is) fault = absurd (bad_at fault.front fault.bad fault.tail xs (rw fault.all at are) fault.none)
 no_fault text p (errors.Label line) source (ys, are2, is2) = absurd (fault_clash text p (errors.Label line) ys source are2 is2)
 no_fault text p (errors.FarJump line) source (ys, are2, is2) = absurd (fault_clash text p (errors.FarJump line) ys source are2 is2)
 no_fault text p errors.NoMemory source fault = refl

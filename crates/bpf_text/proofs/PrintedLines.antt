@@ -23,14 +23,14 @@ use Rattle.bpf_text.specs.Printing.{load_word, arithmetic_word, test_word, word_
 use Rattle.bpf_text.specs.Source.{Line, IsLine, lines_of}
 use Rattle.bpf_text.proofs.Fronts.{and_left, and_right}
 use Rattle.bpf_text.proofs.PrintedTokens.{sign_here, label_name, name_printed}
-use Rattle.bpf_text.proofs.PrintedOperands.{row_for, IsNear, behind_word}
-use Rattle.bpf_text.proofs.PrintedRows.{instruction_printed, spells_behind}
+use Rattle.bpf_text.proofs.PrintedOperands.{row_for, IsNear, after_word}
+use Rattle.bpf_text.proofs.PrintedRows.{instruction_printed, spells_after_blank}
 
 -- ---- a line
 
 -- a line without the LF that ends it
 abbrev pub body_text : ℕ → Bool → Op → Ins → List ℕ
-body_text place target op ins = label_text place target ++ (word_of op ++ behind_word place op ins)
+body_text place target op ins = label_text place target ++ (word_of op ++ after_word place op ins)
 
 pub line_is : (place : ℕ) (target : Bool) (op : Op) (ins : Ins) (later : List ℕ) → line_text place target op ins ++ later ≡ body_text place target op ins ++ 10 ∷ later
 unfolding line_text
@@ -52,10 +52,10 @@ label_front place rest low =
 
 pub line_printed : (place : ℕ) (target : Bool) (op : Op) (ins : Ins) → place < 2 ^ 64 → ins.k < 2 ^ 32 → IsNear place op ins → IsLine (body_text place target op ins) (line_for place target op ins)
 line_printed place false op ins low small near =
-    record { rest = word_of op ++ behind_word place op ins; labels = refl; row = instruction_printed place op ins small near }
+    record { rest = word_of op ++ after_word place op ins; labels = refl; row = instruction_printed place op ins small near }
 line_printed place true op ins low small near =
-    let rest : List ℕ = word_of op ++ behind_word place op ins in
-    record { rest = 32 ∷ rest; labels = (32 ∷ rest, label_front place rest low, refl); row = spells_behind rest (row_for place op ins) (instruction_printed place op ins small near) }
+    let rest : List ℕ = word_of op ++ after_word place op ins in
+    record { rest = 32 ∷ rest; labels = (32 ∷ rest, label_front place rest low, refl); row = spells_after_blank rest (row_for place op ins) (instruction_printed place op ins small near) }
 
 -- after the last LF stands an empty line
 pub empty_line : IsLine [] (record { labels = []; row = None })
@@ -180,8 +180,8 @@ targets_no_lf place LoadFromX ins near = refl
 
 body_no_lf : (place : ℕ) (target : Bool) (op : Op) (ins : Ins) → place < 2 ^ 64 → ins.k < 2 ^ 32 → IsNear place op ins → HasNoLf (body_text place target op ins)
 body_no_lf place target op ins low small near =
-    both_have (label_text place target) (word_of op ++ behind_word place op ins) (label_no_lf place target low)
-    (both_have (word_of op) (behind_word place op ins) (word_no_lf op)
+    both_have (label_text place target) (word_of op ++ after_word place op ins) (label_no_lf place target low)
+    (both_have (word_of op) (after_word place op ins) (word_no_lf op)
     (both_have (operand_text op ins.k) (targets_text place op ins) (operand_no_lf op ins.k small) (targets_no_lf place op ins near)))
 
 -- ---- lines

@@ -13,7 +13,7 @@ use Rattle.bpf_text.specs.Operands.{Operands, Absent, Number, Length, Place, Ind
 use Rattle.bpf_text.specs.Printing.{operand_text, targets_text}
 use Rattle.bpf_text.specs.Rows.{Row, Jumps, Stays, Goes, Parts}
 use Rattle.bpf_text.specs.Used.{used_k}
-use Rattle.bpf_text.proofs.PrintedTokens.{Stops, token_behind, sign_here, word_here, number_here, number_printed, label_name, name_printed}
+use Rattle.bpf_text.proofs.PrintedTokens.{Stops, token_after_blank, sign_here, word_here, number_here, number_printed, label_name, name_printed}
 
 -- ---- what an instruction is printed as
 
@@ -84,8 +84,8 @@ IsNear place (Branch test operand) ins = (place + 1 + ins.jt < 2 ^ 64) × (place
 IsNear place _ ins = Unit {0}
 
 -- what is printed after the mnemonic
-abbrev pub behind_word : ℕ → Op → Ins → List ℕ
-behind_word place op ins = operand_text op ins.k ++ targets_text place op ins
+abbrev pub after_word : ℕ → Op → Ins → List ℕ
+after_word place op ins = operand_text op ins.k ++ targets_text place op ins
 
 -- ---- operands
 
@@ -94,12 +94,12 @@ unfolding is_over unblanked
 over_nil = refl
 
 blank_sign : (sign : ℕ) (rest : List ℕ) → is_blank sign ≡ false → sign_at sign (32 ∷ sign ∷ rest) ≡ Some rest
-blank_sign sign rest dark = token_behind (Sign sign) (sign ∷ rest) rest (sign_here sign rest dark)
+blank_sign sign rest dark = token_after_blank (Sign sign) (sign ∷ rest) rest (sign_here sign rest dark)
 
 ended : (tokens : List Token) (bytes : List ℕ) → Front tokens bytes [] → AreTokens tokens bytes
 ended tokens bytes front = record { rest = []; front = front; over = over_nil }
 
-hash_front : (k : ℕ) (rest : List ℕ) → k < 2 ^ 32 → Stops rest → (behind : List ℕ) × (sign_at 35 (32 ∷ 35 ∷ decimal k ++ rest) ≡ Some behind) × (number_at behind ≡ Some (k, rest))
+hash_front : (k : ℕ) (rest : List ℕ) → k < 2 ^ 32 → Stops rest → (tail : List ℕ) × (sign_at 35 (32 ∷ 35 ∷ decimal k ++ rest) ≡ Some tail) × (number_at tail ≡ Some (k, rest))
 hash_front k rest low stops = (decimal k ++ rest, blank_sign 35 (decimal k ++ rest) refl, number_printed k rest low stops)
 
 -- [ k ]
@@ -132,7 +132,7 @@ scratch_tokens : (k : ℕ) → k < 2 ^ 32 → AreTokens (tokens_of (Scratch k)) 
 scratch_tokens k low =
     let rest : List ℕ = 91 ∷ decimal k ++ 93 ∷ [] in
     ended (tokens_of (Scratch k)) (32 ∷ 77 ∷ rest)
-    (rest, token_behind (Word (codes "M")) (77 ∷ rest) rest (one_letter 77 rest refl refl refl refl), bracket_front k [] low)
+    (rest, token_after_blank (Word (codes "M")) (77 ∷ rest) rest (one_letter 77 rest refl refl refl refl), bracket_front k [] low)
 
 four_value : number_of (52 ∷ []) ≡ Some 4
 unfolding number_in
@@ -154,7 +154,7 @@ header_tokens k low =
     let rest : List ℕ = decimal k ++ 93 ∷ 38 ∷ mask in
     ended (tokens_of (Header k)) (32 ∷ 52 ∷ 42 ∷ 40 ∷ 91 ∷ rest) (
       42 ∷ 40 ∷ 91 ∷ rest,
-      token_behind (Value 4) (52 ∷ 42 ∷ 40 ∷ 91 ∷ rest) (42 ∷ 40 ∷ 91 ∷ rest) (four (42 ∷ 40 ∷ 91 ∷ rest) refl),
+      token_after_blank (Value 4) (52 ∷ 42 ∷ 40 ∷ 91 ∷ rest) (42 ∷ 40 ∷ 91 ∷ rest) (four (42 ∷ 40 ∷ 91 ∷ rest) refl),
       (
         40 ∷ 91 ∷ rest,
         sign_here 42 (40 ∷ 91 ∷ rest) refl,
@@ -193,14 +193,14 @@ length_tokens =
 
 name_tokens : (b : ℕ) → is_blank b ≡ false → is_digit b ≡ false → is_name_byte b ≡ true → AreTokens (tokens_of (Name (b ∷ []))) (32 ∷ b ∷ [])
 name_tokens b dark letter name =
-    ended (tokens_of (Name (b ∷ []))) (32 ∷ b ∷ []) ([], token_behind (Word (b ∷ [])) (b ∷ []) [] (one_letter b [] dark letter name refl), refl)
+    ended (tokens_of (Name (b ∷ []))) (32 ∷ b ∷ []) ([], token_after_blank (Word (b ∷ [])) (b ∷ []) [] (one_letter b [] dark letter name refl), refl)
 
-label_behind : (place : ℕ) (rest : List ℕ) → place < 2 ^ 64 → Stops rest → word_at (32 ∷ 76 ∷ decimal place ++ rest) ≡ Some (label_name place, rest)
-label_behind place rest low stops = token_behind (Word (label_name place)) (label_name place ++ rest) rest (name_printed place rest low stops)
+label_after_blank : (place : ℕ) (rest : List ℕ) → place < 2 ^ 64 → Stops rest → word_at (32 ∷ 76 ∷ decimal place ++ rest) ≡ Some (label_name place, rest)
+label_after_blank place rest low stops = token_after_blank (Word (label_name place)) (label_name place ++ rest) rest (name_printed place rest low stops)
 
 target_tokens : (to : ℕ) → to < 2 ^ 64 → AreTokens (tokens_of (Name (label_name to))) (32 ∷ 76 ∷ decimal to)
 target_tokens to low =
-    let at : word_at (32 ∷ 76 ∷ decimal to) ≡ Some (label_name to, []) = rw (append-nil (decimal to)) at (label_behind to [] low refl) in
+    let at : word_at (32 ∷ 76 ∷ decimal to) ≡ Some (label_name to, []) = rw (append-nil (decimal to)) at (label_after_blank to [] low refl) in
     ended (tokens_of (Name (label_name to))) (32 ∷ 76 ∷ decimal to) ([], at, refl)
 
 -- the labels of a conditional jump
@@ -210,13 +210,13 @@ both_text first second = codes ", L" ++ decimal first ++ codes ", L" ++ decimal 
 targets_front : (first second : ℕ) → first < 2 ^ 64 → second < 2 ^ 64 → Front (Sign 44 ∷ targets_tokens (Both (label_name first) (label_name second))) (both_text first second) []
 targets_front first second low high =
     let last : List ℕ = 32 ∷ 76 ∷ decimal second in
-    let at : word_at (32 ∷ 76 ∷ decimal second) ≡ Some (label_name second, []) = rw (append-nil (decimal second)) at (label_behind second [] high refl) in
+    let at : word_at (32 ∷ 76 ∷ decimal second) ≡ Some (label_name second, []) = rw (append-nil (decimal second)) at (label_after_blank second [] high refl) in
     let front : Front (Sign 44 ∷ targets_tokens (Both (label_name first) (label_name second))) (44 ∷ 32 ∷ 76 ∷ (decimal first ++ 44 ∷ last)) [] = (
       32 ∷ 76 ∷ (decimal first ++ 44 ∷ last),
       sign_here 44 (32 ∷ 76 ∷ (decimal first ++ 44 ∷ last)) refl,
       (
         44 ∷ last,
-        label_behind first (44 ∷ last) low refl,
+        label_after_blank first (44 ∷ last) low refl,
         (
           last,
           sign_here 44 last refl,
@@ -235,7 +235,7 @@ name_to_tokens : (first second : ℕ) → first < 2 ^ 64 → second < 2 ^ 64 →
 name_to_tokens first second one two =
     let rest : List ℕ = both_text first second in
     ended (tokens_of (NameTo (codes "x") (Both (label_name first) (label_name second)))) (32 ∷ 120 ∷ rest)
-    (rest, token_behind (Word (codes "x")) (120 ∷ rest) rest (one_letter 120 rest refl refl refl refl), targets_front first second one two)
+    (rest, token_after_blank (Word (codes "x")) (120 ∷ rest) rest (one_letter 120 rest refl refl refl refl), targets_front first second one two)
 
 absent_tokens : AreTokens (tokens_of Absent) []
 absent_tokens = ended (tokens_of Absent) [] refl
@@ -243,7 +243,7 @@ absent_tokens = ended (tokens_of Absent) [] refl
 and_none : (tokens : List Token) (bytes : List ℕ) → AreTokens tokens bytes → AreTokens tokens (bytes ++ [])
 and_none tokens bytes are = rw (append-nil bytes) are
 
-pub operands_printed : (place : ℕ) (op : Op) (ins : Ins) → ins.k < 2 ^ 32 → IsNear place op ins → AreTokens (tokens_of (operands_for place op ins)) (behind_word place op ins)
+pub operands_printed : (place : ℕ) (op : Op) (ins : Ins) → ins.k < 2 ^ 32 → IsNear place op ins → AreTokens (tokens_of (operands_for place op ins)) (after_word place op ins)
 operands_printed place LoadConstant ins low near = number_tokens ins.k low
 operands_printed place (LoadImage width) ins low near = and_none (tokens_of (Place ins.k)) (32 ∷ 91 ∷ decimal ins.k ++ 93 ∷ []) (place_tokens ins.k low)
 operands_printed place (LoadIndexed width) ins low near = and_none (tokens_of (Indexed ins.k)) (32 ∷ 91 ∷ 120 ∷ 43 ∷ decimal ins.k ++ 93 ∷ []) (indexed_tokens ins.k low)

@@ -19,8 +19,8 @@ use Rattle.bpf_text.specs.Printing.{load_word, arithmetic_word, test_word, word_
 use Rattle.bpf_text.specs.Rows.{Row, is_absent, row_of}
 use Rattle.bpf_text.specs.Source.{Spells}
 use Rattle.bpf_text.proofs.Fronts.{some_length}
-use Rattle.bpf_text.proofs.PrintedTokens.{Stops, token_behind, word_here}
-use Rattle.bpf_text.proofs.PrintedOperands.{operands_for, mnemonic_for, row_for, IsNear, behind_word, operands_printed}
+use Rattle.bpf_text.proofs.PrintedTokens.{Stops, token_after_blank, word_here}
+use Rattle.bpf_text.proofs.PrintedOperands.{operands_for, mnemonic_for, row_for, IsNear, after_word, operands_printed}
 
 -- ---- mnemonics
 
@@ -118,28 +118,28 @@ word_named LoadFromX = refl
 
 -- ---- what stands after a mnemonic
 
-behind_stops : (place : ℕ) (op : Op) (ins : Ins) → Stops (behind_word place op ins)
-behind_stops place LoadConstant ins = refl
-behind_stops place (LoadImage width) ins = refl
-behind_stops place (LoadIndexed width) ins = refl
-behind_stops place LoadScratch ins = refl
-behind_stops place LoadLength ins = refl
-behind_stops place IndexConstant ins = refl
-behind_stops place IndexScratch ins = refl
-behind_stops place IndexLength ins = refl
-behind_stops place IndexHeader ins = refl
-behind_stops place StoreA ins = refl
-behind_stops place StoreX ins = refl
-behind_stops place (Compute f Constant) ins = refl
-behind_stops place (Compute f Index) ins = refl
-behind_stops place Negate ins = refl
-behind_stops place Jump ins = refl
-behind_stops place (Branch test Constant) ins = refl
-behind_stops place (Branch test Index) ins = refl
-behind_stops place ReturnConstant ins = refl
-behind_stops place ReturnA ins = refl
-behind_stops place IndexFromA ins = refl
-behind_stops place LoadFromX ins = refl
+after_word_stops : (place : ℕ) (op : Op) (ins : Ins) → Stops (after_word place op ins)
+after_word_stops place LoadConstant ins = refl
+after_word_stops place (LoadImage width) ins = refl
+after_word_stops place (LoadIndexed width) ins = refl
+after_word_stops place LoadScratch ins = refl
+after_word_stops place LoadLength ins = refl
+after_word_stops place IndexConstant ins = refl
+after_word_stops place IndexScratch ins = refl
+after_word_stops place IndexLength ins = refl
+after_word_stops place IndexHeader ins = refl
+after_word_stops place StoreA ins = refl
+after_word_stops place StoreX ins = refl
+after_word_stops place (Compute f Constant) ins = refl
+after_word_stops place (Compute f Index) ins = refl
+after_word_stops place Negate ins = refl
+after_word_stops place Jump ins = refl
+after_word_stops place (Branch test Constant) ins = refl
+after_word_stops place (Branch test Index) ins = refl
+after_word_stops place ReturnConstant ins = refl
+after_word_stops place ReturnA ins = refl
+after_word_stops place IndexFromA ins = refl
+after_word_stops place LoadFromX ins = refl
 
 or_true : (b : Bool) → (b || true) ≡ true
 or_true true = refl
@@ -148,28 +148,28 @@ or_true false = refl
 apart_by : (operands : Operands) (rest : List ℕ) → (is_absent operands || begins_blank (32 ∷ rest)) ≡ true
 apart_by operands rest = rw (some_length 32 rest) (or_true (is_absent operands))
 
-behind_apart : (place : ℕ) (op : Op) (ins : Ins) → (is_absent (operands_for place op ins) || begins_blank (behind_word place op ins)) ≡ true
-behind_apart place LoadConstant ins = apart_by (operands_for place LoadConstant ins) (drop 1 (behind_word place LoadConstant ins))
-behind_apart place (LoadImage width) ins = apart_by (operands_for place (LoadImage width) ins) (drop 1 (behind_word place (LoadImage width) ins))
-behind_apart place (LoadIndexed width) ins = apart_by (operands_for place (LoadIndexed width) ins) (drop 1 (behind_word place (LoadIndexed width) ins))
-behind_apart place LoadScratch ins = apart_by (operands_for place LoadScratch ins) (drop 1 (behind_word place LoadScratch ins))
-behind_apart place LoadLength ins = apart_by (operands_for place LoadLength ins) (drop 1 (behind_word place LoadLength ins))
-behind_apart place IndexConstant ins = apart_by (operands_for place IndexConstant ins) (drop 1 (behind_word place IndexConstant ins))
-behind_apart place IndexScratch ins = apart_by (operands_for place IndexScratch ins) (drop 1 (behind_word place IndexScratch ins))
-behind_apart place IndexLength ins = apart_by (operands_for place IndexLength ins) (drop 1 (behind_word place IndexLength ins))
-behind_apart place IndexHeader ins = apart_by (operands_for place IndexHeader ins) (drop 1 (behind_word place IndexHeader ins))
-behind_apart place StoreA ins = apart_by (operands_for place StoreA ins) (drop 1 (behind_word place StoreA ins))
-behind_apart place StoreX ins = apart_by (operands_for place StoreX ins) (drop 1 (behind_word place StoreX ins))
-behind_apart place (Compute f Constant) ins = apart_by (operands_for place (Compute f Constant) ins) (drop 1 (behind_word place (Compute f Constant) ins))
-behind_apart place (Compute f Index) ins = apart_by (operands_for place (Compute f Index) ins) (drop 1 (behind_word place (Compute f Index) ins))
-behind_apart place Negate ins = refl
-behind_apart place Jump ins = apart_by (operands_for place Jump ins) (drop 1 (behind_word place Jump ins))
-behind_apart place (Branch test Constant) ins = apart_by (operands_for place (Branch test Constant) ins) (drop 1 (behind_word place (Branch test Constant) ins))
-behind_apart place (Branch test Index) ins = apart_by (operands_for place (Branch test Index) ins) (drop 1 (behind_word place (Branch test Index) ins))
-behind_apart place ReturnConstant ins = apart_by (operands_for place ReturnConstant ins) (drop 1 (behind_word place ReturnConstant ins))
-behind_apart place ReturnA ins = apart_by (operands_for place ReturnA ins) (drop 1 (behind_word place ReturnA ins))
-behind_apart place IndexFromA ins = refl
-behind_apart place LoadFromX ins = refl
+after_word_apart : (place : ℕ) (op : Op) (ins : Ins) → (is_absent (operands_for place op ins) || begins_blank (after_word place op ins)) ≡ true
+after_word_apart place LoadConstant ins = apart_by (operands_for place LoadConstant ins) (drop 1 (after_word place LoadConstant ins))
+after_word_apart place (LoadImage width) ins = apart_by (operands_for place (LoadImage width) ins) (drop 1 (after_word place (LoadImage width) ins))
+after_word_apart place (LoadIndexed width) ins = apart_by (operands_for place (LoadIndexed width) ins) (drop 1 (after_word place (LoadIndexed width) ins))
+after_word_apart place LoadScratch ins = apart_by (operands_for place LoadScratch ins) (drop 1 (after_word place LoadScratch ins))
+after_word_apart place LoadLength ins = apart_by (operands_for place LoadLength ins) (drop 1 (after_word place LoadLength ins))
+after_word_apart place IndexConstant ins = apart_by (operands_for place IndexConstant ins) (drop 1 (after_word place IndexConstant ins))
+after_word_apart place IndexScratch ins = apart_by (operands_for place IndexScratch ins) (drop 1 (after_word place IndexScratch ins))
+after_word_apart place IndexLength ins = apart_by (operands_for place IndexLength ins) (drop 1 (after_word place IndexLength ins))
+after_word_apart place IndexHeader ins = apart_by (operands_for place IndexHeader ins) (drop 1 (after_word place IndexHeader ins))
+after_word_apart place StoreA ins = apart_by (operands_for place StoreA ins) (drop 1 (after_word place StoreA ins))
+after_word_apart place StoreX ins = apart_by (operands_for place StoreX ins) (drop 1 (after_word place StoreX ins))
+after_word_apart place (Compute f Constant) ins = apart_by (operands_for place (Compute f Constant) ins) (drop 1 (after_word place (Compute f Constant) ins))
+after_word_apart place (Compute f Index) ins = apart_by (operands_for place (Compute f Index) ins) (drop 1 (after_word place (Compute f Index) ins))
+after_word_apart place Negate ins = refl
+after_word_apart place Jump ins = apart_by (operands_for place Jump ins) (drop 1 (after_word place Jump ins))
+after_word_apart place (Branch test Constant) ins = apart_by (operands_for place (Branch test Constant) ins) (drop 1 (after_word place (Branch test Constant) ins))
+after_word_apart place (Branch test Index) ins = apart_by (operands_for place (Branch test Index) ins) (drop 1 (after_word place (Branch test Index) ins))
+after_word_apart place ReturnConstant ins = apart_by (operands_for place ReturnConstant ins) (drop 1 (after_word place ReturnConstant ins))
+after_word_apart place ReturnA ins = apart_by (operands_for place ReturnA ins) (drop 1 (after_word place ReturnA ins))
+after_word_apart place IndexFromA ins = refl
+after_word_apart place LoadFromX ins = refl
 
 row_named : (place : ℕ) (op : Op) (ins : Ins) → row_of (mnemonic_for op) (operands_for place op ins) ≡ Some (row_for place op ins)
 row_named place LoadConstant ins = refl
@@ -198,27 +198,27 @@ row_named place ReturnA ins = refl
 row_named place IndexFromA ins = refl
 row_named place LoadFromX ins = refl
 
-pub instruction_printed : (place : ℕ) (op : Op) (ins : Ins) → ins.k < 2 ^ 32 → IsNear place op ins → Spells (word_of op ++ behind_word place op ins) (row_for place op ins)
+pub instruction_printed : (place : ℕ) (op : Op) (ins : Ins) → ins.k < 2 ^ 32 → IsNear place op ins → Spells (word_of op ++ after_word place op ins) (row_for place op ins)
 instruction_printed place op ins low near = record {
   word = word_of op;
-  behind = behind_word place op ins;
+  tail = after_word place op ins;
   mnemonic = mnemonic_for op;
   operands = operands_for place op ins;
-  begins = word_printed op (behind_word place op ins) (behind_stops place op ins);
+  begins = word_printed op (after_word place op ins) (after_word_stops place op ins);
   names = word_named op;
-  apart = behind_apart place op ins;
+  apart = after_word_apart place op ins;
   spelled = operands_printed place op ins low near;
   means = row_named place op ins;
 }
 
 -- a blank may stand before an instruction
-pub spells_behind : (bytes : List ℕ) (row : Row) → Spells bytes row → Spells (32 ∷ bytes) row
-spells_behind bytes row s = record {
+pub spells_after_blank : (bytes : List ℕ) (row : Row) → Spells bytes row → Spells (32 ∷ bytes) row
+spells_after_blank bytes row s = record {
   word = s.word;
-  behind = s.behind;
+  tail = s.tail;
   mnemonic = s.mnemonic;
   operands = s.operands;
-  begins = token_behind (Word s.word) bytes s.behind s.begins;
+  begins = token_after_blank (Word s.word) bytes s.tail s.begins;
   names = s.names;
   apart = s.apart;
   spelled = s.spelled;

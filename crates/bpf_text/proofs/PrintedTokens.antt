@@ -59,22 +59,22 @@ same_number a = grind (arith, nat_tests)
 
 -- ---- a blank before a token
 
-pub word_behind : (bytes : List ℕ) → word_at (32 ∷ bytes) ≡ word_at bytes
+pub word_after_blank : (bytes : List ℕ) → word_at (32 ∷ bytes) ≡ word_at bytes
 unfolding word_at
-word_behind bytes = rw (unblanked_more bytes)
+word_after_blank bytes = rw (unblanked_more bytes)
 
-number_behind : (bytes : List ℕ) → number_at (32 ∷ bytes) ≡ number_at bytes
+number_after_blank : (bytes : List ℕ) → number_at (32 ∷ bytes) ≡ number_at bytes
 unfolding number_at
-number_behind bytes = rw (unblanked_more bytes)
+number_after_blank bytes = rw (unblanked_more bytes)
 
-sign_behind : (sign : ℕ) (bytes : List ℕ) → sign_at sign (32 ∷ bytes) ≡ sign_at sign bytes
+sign_after_blank : (sign : ℕ) (bytes : List ℕ) → sign_at sign (32 ∷ bytes) ≡ sign_at sign bytes
 unfolding sign_at
-sign_behind sign bytes = rw (unblanked_more bytes)
+sign_after_blank sign bytes = rw (unblanked_more bytes)
 
-pub token_behind : (token : Token) (bytes rest : List ℕ) → IsToken token bytes rest → IsToken token (32 ∷ bytes) rest
-token_behind (Word word) bytes rest h = word_behind bytes ∙ h
-token_behind (Value number) bytes rest h = number_behind bytes ∙ h
-token_behind (Sign sign) bytes rest h = sign_behind sign bytes ∙ h
+pub token_after_blank : (token : Token) (bytes rest : List ℕ) → IsToken token bytes rest → IsToken token (32 ∷ bytes) rest
+token_after_blank (Word word) bytes rest h = word_after_blank bytes ∙ h
+token_after_blank (Value number) bytes rest h = number_after_blank bytes ∙ h
+token_after_blank (Sign sign) bytes rest h = sign_after_blank sign bytes ∙ h
 
 -- ---- each token
 

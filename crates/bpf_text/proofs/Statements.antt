@@ -7,7 +7,7 @@ use Rattle.bpf_text.specs.Lexis.{word_at, number_at, sign_at, is_over, begins_bl
 use Rattle.bpf_text.specs.Mnemonics.{mnemonic_of}
 use Rattle.bpf_text.specs.Operands.{Operands, operands_at, operands_of}
 use Rattle.bpf_text.specs.Grammar.{Word, Sign, Front}
-use Rattle.bpf_text.specs.Rows.{Row, is_absent, row_of, row_behind, statement_by, statement_of}
+use Rattle.bpf_text.specs.Rows.{Row, is_absent, row_of, row_after, statement_by, statement_of}
 use Rattle.bpf_text.specs.Source.{label_at, Begins, HasLabels, Spells, IsStatement}
 use Rattle.bpf_text.proofs.Fronts.{none_unless, sign_no_sign, sign_not_over, word_not_over, word_no_sign, number_no_sign}
 use Rattle.bpf_text.proofs.Grammars.{operands_sound, operands_complete}
@@ -17,45 +17,45 @@ same_some x y h = cc
 
 -- ---- labels
 
-label_sound : (bytes label behind : List ℕ) → label_at bytes ≡ Some (label, behind) → Front (Word label ∷ Sign 58 ∷ []) bytes behind
+label_sound : (bytes label tail : List ℕ) → label_at bytes ≡ Some (label, tail) → Front (Word label ∷ Sign 58 ∷ []) bytes tail
 unfolding label_at
-label_sound bytes label behind h =
-    option_and_then_some _ (word_at bytes) (label, behind) h (λ (w : List ℕ × List ℕ) is e1.
-    option_and_then_some _ (sign_at 58 w.1) (label, behind) e1 (λ (rest : List ℕ) colon e2.
+label_sound bytes label tail h =
+    option_and_then_some _ (word_at bytes) (label, tail) h (λ (w : List ℕ × List ℕ) is e1.
+    option_and_then_some _ (sign_at 58 w.1) (label, tail) e1 (λ (rest : List ℕ) colon e2.
     let P : List ℕ × List ℕ → Type 0 = λ y. Front (Word y.0 ∷ Sign 58 ∷ []) bytes y.1 in
-    subst P (same_some (w.0, rest) (label, behind) e2) (w.1, is, (rest, colon, refl))))
+    subst P (same_some (w.0, rest) (label, tail) e2) (w.1, is, (rest, colon, refl))))
 
-label_complete : (bytes label behind : List ℕ) → Front (Word label ∷ Sign 58 ∷ []) bytes behind → label_at bytes ≡ Some (label, behind)
+label_complete : (bytes label tail : List ℕ) → Front (Word label ∷ Sign 58 ∷ []) bytes tail → label_at bytes ≡ Some (label, tail)
 unfolding label_at
-label_complete bytes label behind (a, w, (b, colon, e)) = rw (w, colon) (ap (λ (r : List ℕ). Some (label, r)) e)
+label_complete bytes label tail (a, w, (b, colon, e)) = rw (w, colon) (ap (λ (r : List ℕ). Some (label, r)) e)
 
 pub labels_sound : (bytes : List ℕ) (labels : List (List ℕ)) (rest : List ℕ) → Begins bytes labels rest → HasLabels bytes labels rest
 labels_sound bytes [] rest h = h
-labels_sound bytes (label ∷ labels) rest (behind, here, later) = (behind, label_sound bytes label behind here, labels_sound behind labels rest later)
+labels_sound bytes (label ∷ labels) rest (tail, here, later) = (tail, label_sound bytes label tail here, labels_sound tail labels rest later)
 
 pub labels_complete : (bytes : List ℕ) (labels : List (List ℕ)) (rest : List ℕ) → HasLabels bytes labels rest → Begins bytes labels rest
 labels_complete bytes [] rest h = h
-labels_complete bytes (label ∷ labels) rest (behind, here, later) = (behind, label_complete bytes label behind here, labels_complete behind labels rest later)
+labels_complete bytes (label ∷ labels) rest (tail, here, later) = (tail, label_complete bytes label tail here, labels_complete tail labels rest later)
 
 -- ---- statements
 
-row_sound : (bytes word behind : List ℕ) (row : Row) → word_at bytes ≡ Some (word, behind) → row_behind word behind ≡ Some row → Spells bytes row
-unfolding row_behind
-row_sound bytes word behind row begins h =
+row_sound : (bytes word tail : List ℕ) (row : Row) → word_at bytes ≡ Some (word, tail) → row_after word tail ≡ Some row → Spells bytes row
+unfolding row_after
+row_sound bytes word tail row begins h =
     option_and_then_some _ (mnemonic_of word) row h (λ (m : Mnemonic) names e1.
-    option_and_then_some _ (operands_of behind) row e1 (λ (o : Operands) is e2.
-    spelled m o names is (is_absent o || begins_blank behind) refl e2))
+    option_and_then_some _ (operands_of tail) row e1 (λ (o : Operands) is e2.
+    spelled m o names is (is_absent o || begins_blank tail) refl e2))
   where
-    spelled : (m : Mnemonic) (o : Operands) → mnemonic_of word ≡ Some m → operands_of behind ≡ Some o → (b : Bool) → (is_absent o || begins_blank behind) ≡ b → cond b (row_of m o) None ≡ Some row → Spells bytes row
-    spelled m o names is true apart means = record { word = word; behind = behind; mnemonic = m; operands = o; begins = begins; names = names; apart = apart; spelled = operands_sound behind o is; means = means }
+    spelled : (m : Mnemonic) (o : Operands) → mnemonic_of word ≡ Some m → operands_of tail ≡ Some o → (b : Bool) → (is_absent o || begins_blank tail) ≡ b → cond b (row_of m o) None ≡ Some row → Spells bytes row
+    spelled m o names is true apart means = record { word = word; tail = tail; mnemonic = m; operands = o; begins = begins; names = names; apart = apart; spelled = operands_sound tail o is; means = means }
     spelled m o names is false apart means = absurd (cc)
 
-row_complete : (bytes : List ℕ) (row : Row) (s : Spells bytes row) → row_behind s.word s.behind ≡ Some row
-unfolding row_behind
+row_complete : (bytes : List ℕ) (row : Row) (s : Spells bytes row) → row_after s.word s.tail ≡ Some row
+unfolding row_after
 row_complete bytes row s =
     let names : mnemonic_of s.word ≡ Some s.mnemonic = s.names in
-    let operands : operands_of s.behind ≡ Some s.operands = operands_complete s.operands s.behind s.spelled.rest s.spelled.front s.spelled.over in
-    let apart : (is_absent s.operands || begins_blank s.behind) ≡ true = s.apart in
+    let operands : operands_of s.tail ≡ Some s.operands = operands_complete s.operands s.tail s.spelled.rest s.spelled.front s.spelled.over in
+    let apart : (is_absent s.operands || begins_blank s.tail) ≡ true = s.apart in
     rw (names, operands, apart) s.means
 
 mapped : (row : Option Row) (x : Option Row) → option_map Some row ≡ Some x → row ≡ x
@@ -66,12 +66,12 @@ by_sound : (bytes : List ℕ) (w : Option (List ℕ × List ℕ)) (row : Option 
 by_sound bytes None row w h =
     let both = cond_some (is_over bytes) None row h in
     subst (IsStatement bytes) both.1 both.0
-by_sound bytes (Some word) None w h = absurd (no_none (row_behind word.0 word.1) h)
+by_sound bytes (Some word) None w h = absurd (no_none (row_after word.0 word.1) h)
   where
     no_none : (r : Option Row) → ◌≡◌ {A = Option (Option Row)} (option_map Some r) (Some None) → ⊥
     no_none None e = cc
     no_none (Some x) e = cc
-by_sound bytes (Some word) (Some row) w h = row_sound bytes word.0 word.1 row w (inner (row_behind word.0 word.1) h)
+by_sound bytes (Some word) (Some row) w h = row_sound bytes word.0 word.1 row w (inner (row_after word.0 word.1) h)
   where
     inner : (r : Option Row) → ◌≡◌ {A = Option (Option Row)} (option_map Some r) (Some (Some row)) → r ≡ Some row
     inner None e = absurd (cc)
@@ -90,9 +90,9 @@ statement_complete bytes None over =
     let none : word_at bytes ≡ None = none_unless (word_at bytes) (λ w is. both_bool (is_over bytes) over (word_not_over bytes w is)) in
     rw (none, over)
 statement_complete bytes (Some row) s =
-    let begins : word_at bytes ≡ Some (s.word, s.behind) = s.begins in
-    let behind : row_behind s.word s.behind ≡ Some row = row_complete bytes row s in
-    rw (begins, behind)
+    let begins : word_at bytes ≡ Some (s.word, s.tail) = s.begins in
+    let tail : row_after s.word s.tail ≡ Some row = row_complete bytes row s in
+    rw (begins, tail)
 
 -- ---- no label begins a statement
 
@@ -127,7 +127,7 @@ statement_no_label bytes row is = none_unless (label_at bytes) (λ l here. clash
     clash : (r : Option Row) → IsStatement bytes r → (l : List ℕ × List ℕ) → Front (Word l.0 ∷ Sign 58 ∷ []) bytes l.1 → ⊥
     clash None over l (a, w, more) = both_bool (is_over bytes) over (word_not_over bytes (l.0, a) w)
     clash (Some r) s l (a, w, (b, colon, e)) =
-        let same : a ≡ s.behind = ap (λ (p : List ℕ × List ℕ). p.1) (same_word (word_at bytes) (l.0, a) (s.word, s.behind) w s.begins) in
-        let some : operands_of s.behind ≡ Some s.operands = operands_complete s.operands s.behind s.spelled.rest s.spelled.front s.spelled.over in
+        let same : a ≡ s.tail = ap (λ (p : List ℕ × List ℕ). p.1) (same_word (word_at bytes) (l.0, a) (s.word, s.tail) w s.begins) in
+        let some : operands_of s.tail ≡ Some s.operands = operands_complete s.operands s.tail s.spelled.rest s.spelled.front s.spelled.over in
         let none : operands_of a ≡ None = none_of a b colon in
-        neither (operands_of s.behind) s.operands (rw same at none) some
+        neither (operands_of s.tail) s.operands (rw same at none) some

@@ -18,7 +18,7 @@ IsToken (Sign sign) bytes rest = sign_at sign bytes ≡ Some rest
 -- bytes begin with tokens, and the rest follows
 abbrev pub Front : List Token → List ℕ → List ℕ → Type 0
 Front [] bytes rest = bytes ≡ rest
-Front (token ∷ tokens) bytes rest = (behind : List ℕ) × IsToken token bytes behind × Front tokens behind rest
+Front (token ∷ tokens) bytes rest = (tail : List ℕ) × IsToken token bytes tail × Front tokens tail rest
 
 -- bytes are tokens, and nothing but a comment follows
 pub record AreTokens (tokens : List Token) (bytes : List ℕ) : Type 0 where

@@ -61,15 +61,15 @@ is_absent Absent = true
 is_absent _ = false
 
 -- the instruction of a mnemonic and the bytes after it; a blank stands before operands
-unfoldable pub row_behind : List ℕ → List ℕ → Option Row
-row_behind word rest = do
+unfoldable pub row_after : List ℕ → List ℕ → Option Row
+row_after word rest = do
   mnemonic ← mnemonic_of word
   operands ← operands_of rest
   if is_absent operands || begins_blank rest then row_of mnemonic operands else None
 
 abbrev pub statement_by : List ℕ → Option (List ℕ × List ℕ) → Option (Option Row)
 statement_by bytes None = if is_over bytes then Some None else None
-statement_by bytes (Some word) = option_map Some (row_behind word.0 word.1)
+statement_by bytes (Some word) = option_map Some (row_after word.0 word.1)
 
 -- at most one instruction, and a comment
 unfoldable pub statement_of : List ℕ → Option (Option Row)

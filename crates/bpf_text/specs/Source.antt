@@ -27,7 +27,7 @@ label_at bytes = do
 -- these labels are read from bytes one after another, and the rest follows
 abbrev pub Begins : List ℕ → List (List ℕ) → List ℕ → Type 0
 Begins bytes [] rest = bytes ≡ rest
-Begins bytes (label ∷ labels) rest = (behind : List ℕ) × (label_at bytes ≡ Some (label, behind)) × Begins behind labels rest
+Begins bytes (label ∷ labels) rest = (tail : List ℕ) × (label_at bytes ≡ Some (label, tail)) × Begins tail labels rest
 
 -- a line: its labels, and the instruction, if it has one
 pub record Line : Type 0 where
@@ -37,18 +37,18 @@ pub record Line : Type 0 where
 -- bytes begin with these labels, each a word and a colon, and the rest follows
 abbrev pub HasLabels : List ℕ → List (List ℕ) → List ℕ → Type 0
 HasLabels bytes [] rest = bytes ≡ rest
-HasLabels bytes (label ∷ labels) rest = (behind : List ℕ) × Front (Word label ∷ Sign 58 ∷ []) bytes behind × HasLabels behind labels rest
+HasLabels bytes (label ∷ labels) rest = (tail : List ℕ) × Front (Word label ∷ Sign 58 ∷ []) bytes tail × HasLabels tail labels rest
 
 -- bytes spell an instruction: a mnemonic, a blank where operands follow, and the tokens of the operands
 pub record Spells (bytes : List ℕ) (row : Row) : Type 0 where
   pub word : List ℕ
-  pub behind : List ℕ
+  pub tail : List ℕ
   pub mnemonic : Mnemonic
   pub operands : Operands
-  pub begins : IsToken (Word word) bytes behind
+  pub begins : IsToken (Word word) bytes tail
   pub names : mnemonic_of word ≡ Some mnemonic
-  pub apart : (is_absent operands || begins_blank behind) ≡ true
-  pub spelled : AreTokens (tokens_of operands) behind
+  pub apart : (is_absent operands || begins_blank tail) ≡ true
+  pub spelled : AreTokens (tokens_of operands) tail
   pub means : row_of mnemonic operands ≡ Some row
 
 -- an instruction, or nothing but a comment
@@ -212,8 +212,8 @@ pub record IsBadLine (text : List ℕ) (line : ℕ) : Type 0 where
   pub front : List (List ℕ)
   pub good : List Line
   pub bad : List ℕ
-  pub behind : List (List ℕ)
-  pub all : lines_of text ≡ front ++ bad ∷ behind
+  pub tail : List (List ℕ)
+  pub all : lines_of text ≡ front ++ bad ∷ tail
   pub before : AreLines front good
   pub none : (here : Line) → ¬ IsLine bad here
   pub number : line ≡ length front + 1

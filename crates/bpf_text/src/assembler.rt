@@ -50,9 +50,9 @@ pub fn assemble_bytes(alloc: Global, text: &[u8]) -> Result<Vec<Ins>, CodeError>
     let mut rest = text;
     let mut number = 1;
     'lines: loop {
-        let (line, behind) = split_line(rest);
+        let (line, tail) = split_line(rest);
         add_line(&mut draft, line, number)?;
-        let Some(next) = behind else {
+        let Some(next) = tail else {
             return program(alloc, &draft);
         };
         rest = next;

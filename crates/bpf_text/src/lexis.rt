@@ -59,7 +59,7 @@ fn split_run(bytes: &[u8]) -> (&[u8], &[u8])
     ensures front { result.0.now ≡ run_of bytes.now }
     ensures back { result.1.now ≡ after_run bytes.now }
     ensures within { length result.0.now ≤ length bytes.now }
-    ensures behind { length result.1.now ≤ length bytes.now }
+    ensures tail { length result.1.now ≤ length bytes.now }
 {
     bytes.split_at(run_len(bytes))
 }

@@ -32,10 +32,10 @@ fn take_labels<'a>(
 {
     let mut again = false;
     let mut rest = bytes;
-    while let Some((name, behind)) = read_label(rest) {
+    while let Some((name, tail)) = read_label(rest) {
         again = again || labels.has(name);
         labels.push(name, place)?;
-        rest = behind;
+        rest = tail;
     }
     Ok((again, rest))
 }

@@ -1,6 +1,6 @@
 ghost use Rattle.std.specs.Prelude.{◌≡◌};
 ghost use Rattle.std.specs.Option.{option_map};
-ghost use Rattle.bpf_text.specs.Rows.{plain as plain_row, is_absent, row_of, row_behind, statement_of};
+ghost use Rattle.bpf_text.specs.Rows.{plain as plain_row, is_absent, row_of, row_after, statement_of};
 ghost use Rattle.bpf_text.specs.Views.{operands_view, row_view};
 
 use crate::lexis::{is_spaced, over, word};
@@ -99,9 +99,9 @@ fn is_none(operands: Operands) -> bool
 }
 
 /// The instruction of a mnemonic and the bytes after it.
-#[tactic(auto, unfolding(crate::specs::Rows::row_behind))]
+#[tactic(auto, unfolding(crate::specs::Rows::row_after))]
 fn read_row<'a>(name: &[u8], rest: &'a [u8]) -> Option<Row<'a>>
-    ensures { option_map row_view result ≡ row_behind name.now rest.now }
+    ensures { option_map row_view result ≡ row_after name.now rest.now }
 {
     let mnemonic = Mnemonic::of(name)?;
     let operands = read_operands(rest)?;

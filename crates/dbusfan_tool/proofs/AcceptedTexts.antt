@@ -60,8 +60,8 @@ here program place ins more are =
     let there : Some ins ≡ slice_get program place = rw e at is in
     cc
 
-behind : (program : List Ins) (place : ℕ) (ins : Ins) (more : List Ins) → AreFrom program place (ins ∷ more) → AreFrom program (place + 1) more
-behind program place ins more are = λ i.
+tail : (program : List Ins) (place : ℕ) (ins : Ins) (more : List Ins) → AreFrom program place (ins ∷ more) → AreFrom program (place + 1) more
+tail program place ins more are = λ i.
     let e : suc i + place ≡ i + (place + 1) = omega arith in
     let is : slice_get more i ≡ slice_get program (suc i + place) = are (suc i) in
     rw e at is
@@ -69,7 +69,7 @@ behind program place ins more are = λ i.
 texts : (program : List Ins) → WellFormed program → (rest : List Ins) (place : ℕ) → place + length rest ≡ length program → AreFrom program place rest → HasText (text_from program place rest)
 texts program fine [] place end are = ([], refl)
 texts program fine (ins ∷ more) place end are =
-    let later = texts program fine more (place + 1) (omega arith) (behind program place ins more are) in
+    let later = texts program fine more (place + 1) (omega arith) (tail program place ins more are) in
     let at : slice_get program place ≡ Some ins = here program place ins more are in
     let place_fine : At program place (IsFine (length program) place) = fine.fine place (omega arith) in
     line_here program place ins (op_of ins.code) (text_from program (place + 1) more) later (rw at at place_fine)

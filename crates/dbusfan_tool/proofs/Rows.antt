@@ -101,14 +101,14 @@ abbrev IsFound : Words → Type 0
 IsFound words = (front : Words) (owns : Bool) (edition : Option Edition) (all : Gathering) → gathered (having front owns edition AnyWord) words ≡ Some all → Found front owns edition words all
 
 -- a front, and the word of an edition
-record FoundBehind (front : Words) (owns : Bool) (words : Words) (all : Gathering) : Type 0 where
+record FoundAfter (front : Words) (owns : Bool) (words : Words) (all : Gathering) : Type 0 where
   edition : Edition
-  behind : Words
-  words_are : words ≡ word_of_edition edition ∷ behind
-  rest : Found front owns (Some edition) behind all
+  tail : Words
+  words_are : words ≡ word_of_edition edition ∷ tail
+  rest : Found front owns (Some edition) tail all
 
-abbrev IsFoundBehind : Words → Type 0
-IsFoundBehind words = (front : Words) (owns : Bool) (all : Gathering) → gathered (having front owns None EditionWord) words ≡ Some all → FoundBehind front owns words all
+abbrev IsFoundAfter : Words → Type 0
+IsFoundAfter words = (front : Words) (owns : Bool) (all : Gathering) → gathered (having front owns None EditionWord) words ≡ Some all → FoundAfter front owns words all
 
 ended_found : (front words : Words) (owns : Bool) (edition : Option Edition) (all : Gathering) → gathered (having front owns edition NameAlone) words ≡ Some all → (all.names ≡ front ++ words) × (all.owns ≡ owns) × (all.edition ≡ edition)
 ended_found front [] owns edition all e = (rw append-nil (cc), cc, cc)
@@ -132,33 +132,33 @@ end_found front words owns edition all e =
 owns_found : (front words : Words) (owns : Bool) (edition : Option Edition) (all : Gathering) → IsFound words → option_and_then (λ next. gathered next words) (with_owns (having front owns edition AnyWord)) ≡ Some all → Found front owns edition (owns_word ∷ words) all
 owns_found front words true edition all rest e = absurd (cc)
 owns_found front words false edition all rest e =
-    let behind = rest front true edition all e in
-    record { options = record { owns = true; edition = behind.options.edition }; names = behind.names; spells = owned behind.once behind.spells; all_names = behind.all_names; all_owns = behind.all_owns; all_edition = behind.all_edition; once = refl; apart = behind.apart }
+    let tail = rest front true edition all e in
+    record { options = record { owns = true; edition = tail.options.edition }; names = tail.names; spells = owned tail.once tail.spells; all_names = tail.all_names; all_owns = tail.all_owns; all_edition = tail.all_edition; once = refl; apart = tail.apart }
 
 -- an edition is given once at most
 none_beside : (edition : Option Edition) → (true && is_some edition) ≡ false → edition ≡ None
 none_beside None alone = refl
 none_beside (Some edition) alone = absurd (cc)
 
-edition_found : (front words : Words) (owns : Bool) (edition : Option Edition) (all : Gathering) → IsFoundBehind words → option_and_then (λ next. gathered next words) (with_edition (having front owns edition AnyWord)) ≡ Some all → Found front owns edition (edition_word ∷ words) all
+edition_found : (front words : Words) (owns : Bool) (edition : Option Edition) (all : Gathering) → IsFoundAfter words → option_and_then (λ next. gathered next words) (with_edition (having front owns edition AnyWord)) ≡ Some all → Found front owns edition (edition_word ∷ words) all
 edition_found front words owns (Some edition) all rest e = absurd (cc)
 edition_found front words owns None all rest e =
     let said = rest front owns all e in
-    let behind = said.rest in
-    let spells : Spells (record { owns = behind.options.owns; edition = Some said.edition }) behind.names (edition_word ∷ word_of_edition said.edition ∷ said.behind) = in_edition (none_beside behind.options.edition behind.apart) behind.spells in
-    record { options = record { owns = behind.options.owns; edition = Some said.edition }; names = behind.names; spells = subst (λ (words : Words). Spells (record { owns = behind.options.owns; edition = Some said.edition }) behind.names (edition_word ∷ words)) (sym said.words_are) spells; all_names = behind.all_names; all_owns = behind.all_owns; all_edition = behind.all_edition; once = behind.once; apart = refl }
+    let tail = said.rest in
+    let spells : Spells (record { owns = tail.options.owns; edition = Some said.edition }) tail.names (edition_word ∷ word_of_edition said.edition ∷ said.tail) = in_edition (none_beside tail.options.edition tail.apart) tail.spells in
+    record { options = record { owns = tail.options.owns; edition = Some said.edition }; names = tail.names; spells = subst (λ (words : Words). Spells (record { owns = tail.options.owns; edition = Some said.edition }) tail.names (edition_word ∷ words)) (sym said.words_are) spells; all_names = tail.all_names; all_owns = tail.all_owns; all_edition = tail.all_edition; once = tail.once; apart = refl }
 
 name_found : (front : Words) (word : List ℕ) (words : Words) (owns : Bool) (edition : Option Edition) (all : Gathering) → is_option word ≡ false → IsFound words → option_and_then (λ next. gathered next words) (with_name word (having front owns edition AnyWord)) ≡ Some all → Found front owns edition (word ∷ words) all
 name_found front word words owns edition all plain rest e =
     elim (cases_Bool (nat_lt (length front) 2)) [
       | inl room ↦
-          let behind = rest (front ++ word ∷ []) owns edition all (rw room at e) in
-          record { options = behind.options; names = word ∷ behind.names; spells = named plain behind.spells; all_names = behind.all_names ∙ append_assoc front (word ∷ []) behind.names; all_owns = behind.all_owns; all_edition = behind.all_edition; once = behind.once; apart = behind.apart }
+          let tail = rest (front ++ word ∷ []) owns edition all (rw room at e) in
+          record { options = tail.options; names = word ∷ tail.names; spells = named plain tail.spells; all_names = tail.all_names ∙ append_assoc front (word ∷ []) tail.names; all_owns = tail.all_owns; all_edition = tail.all_edition; once = tail.once; apart = tail.apart }
       | inr full ↦ let none : None ≡ Some all = rw full at e in absurd (cc)
     ]
 
-any_found : (word : List ℕ) (words : Words) → IsFound words → IsFoundBehind words → IsFound (word ∷ words)
-any_found word words rest behind front owns edition all e =
+any_found : (word : List ℕ) (words : Words) → IsFound words → IsFoundAfter words → IsFound (word ∷ words)
+any_found word words rest tail front owns edition all e =
     elim (cases_Bool (bytes_eq word end_word)) [
       | inl same ↦
           let is : word ≡ end_word = (bytes_eq-Decides word end_word).0 same in
@@ -170,7 +170,7 @@ any_found word words rest behind front owns edition all e =
         | inr no_owns ↦ elim (cases_Bool (bytes_eq word edition_word)) [
           | inl same ↦
               let is : word ≡ edition_word = (bytes_eq-Decides word edition_word).0 same in
-              subst (λ (x : List ℕ). Found front owns edition (x ∷ words) all) (sym is) (edition_found front words owns edition all behind (rw (no_end, no_owns, same) at e))
+              subst (λ (x : List ℕ). Found front owns edition (x ∷ words) all) (sym is) (edition_found front words owns edition all tail (rw (no_end, no_owns, same) at e))
           | inr no_edition ↦ elim (cases_Bool (is_option word)) [
             | inl option ↦ let none : None ≡ Some all = rw (no_end, no_owns, no_edition, option) at e in absurd (cc)
             | inr plain ↦ name_found front word words owns edition all plain rest (rw (no_end, no_owns, no_edition, plain) at e)
@@ -179,12 +179,12 @@ any_found word words rest behind front owns edition all e =
       ]
     ]
 
-said_found : (front : Words) (word : List ℕ) (words : Words) (owns : Bool) (said : Option Edition) (all : Gathering) → edition_of word ≡ said → IsFound words → option_and_then (λ next. gathered next words) (option_map (λ edition. having front owns (Some edition) AnyWord) said) ≡ Some all → FoundBehind front owns (word ∷ words) all
+said_found : (front : Words) (word : List ℕ) (words : Words) (owns : Bool) (said : Option Edition) (all : Gathering) → edition_of word ≡ said → IsFound words → option_and_then (λ next. gathered next words) (option_map (λ edition. having front owns (Some edition) AnyWord) said) ≡ Some all → FoundAfter front owns (word ∷ words) all
 said_found front word words owns None all is rest e = absurd (cc)
 said_found front word words owns (Some edition) all is rest e =
-    record { edition = edition; behind = words; words_are = ap (λ (x : List ℕ). x ∷ words) (word_said word edition is); rest = rest front owns (Some edition) all e }
+    record { edition = edition; tail = words; words_are = ap (λ (x : List ℕ). x ∷ words) (word_said word edition is); rest = rest front owns (Some edition) all e }
 
-found : (words : Words) → IsFound words × IsFoundBehind words
+found : (words : Words) → IsFound words × IsFoundAfter words
 found [] = (
   λ front owns edition all e. record { options = no_options; names = []; spells = nothing; all_names = rw append-nil (cc); all_owns = rw or-false (cc); all_edition = rw either-none (cc); once = and_false owns; apart = and_false (is_some edition) },
   λ front owns all e. absurd (cc),
@@ -292,19 +292,19 @@ row_of_read asked (word ∷ words) e = row_of_gathered asked word words (gathere
 
 -- A row is read.
 pub read_of_row : (asked : Asked) (words : Words) → IsRow asked words → asked_in words ≡ Some asked
-read_of_row asked words (match_row {words = behind} spells) =
+read_of_row asked words (match_row {words = tail} spells) =
     let read = spelled spells [] false None (lit≤ tt) refl refl in
     rw read.1 refl
-read_of_row asked words (asm_row {words = behind} spells) =
+read_of_row asked words (asm_row {words = tail} spells) =
     let read = spelled spells [] false None (lit≤ tt) refl refl in
     rw read.1 refl
-read_of_row asked words (check_row {words = behind} spells) =
+read_of_row asked words (check_row {words = tail} spells) =
     let read = spelled spells [] false None (lit≤ tt) refl refl in
     rw read.1 refl
-read_of_row asked words (compile_row {words = behind} spells) =
+read_of_row asked words (compile_row {words = tail} spells) =
     let read = spelled spells [] false None (lit≤ tt) refl refl in
     rw read.1 refl
-read_of_row asked words (run_row {words = behind} one spells) =
+read_of_row asked words (run_row {words = tail} one spells) =
     let read = spelled spells [] false None (lit≤ tt) refl refl in
     rw (read.1, one) refl
 

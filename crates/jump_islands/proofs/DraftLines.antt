@@ -128,7 +128,7 @@ place_ok : (W : Type 0) (done : List Ins) (t : TailTree) (i : ℕ) → IsTail W 
 place_ok W done t i tail small = record {
   within = omega (arith, tail.holds.long);
   reached = omega (arith, tail.holds.reached);
-  behind = tail.holds.below i small;
+  bounded = tail.holds.below i small;
   kept = reached_below t i (reach t i) (tail.holds.below i small) (tail.holds.reaches i small);
 }
 

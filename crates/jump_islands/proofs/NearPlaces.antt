@@ -114,12 +114,12 @@ place_first : (hit i : ℕ) (t : TailTree) (b : Bool) → IsPlace t hit → IsPl
 place_first hit i t false h p = p
 place_first hit i t true h p =
     let l = len-island hit t in
-    let n = p.behind in
+    let n = p.bounded in
     let m = p.kept in
     record {
       within = p.within;
       reached = rw (length-set t.reaches hit (len t + 1)) p.reached;
-      behind = omega arith;
+      bounded = omega arith;
       kept = elim (cases_eq i hit) [
         | inl e ↦ (let s : reach (with_island hit t) i ≡ len (with_island hit t) = rw e (reach_here t hit h.reached) in omega arith)
         | inr ne ↦ (let s : reach (with_island hit t) i ≡ reach t i = get_or-set_other t.reaches hit i (len t + 1) 0 ne in omega arith)

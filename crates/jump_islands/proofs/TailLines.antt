@@ -15,7 +15,7 @@ use Rattle.jump_islands.specs.PlainLength.{is_far, count, span, size_of, sizes_o
 use Rattle.jump_islands.specs.Tails.{TailTree, len, height, reach, jump_over, jump_to, branch_to, with_ins, with_place, with_island, is_near, is_first_far, with_first, with_islands, with_branch}
 use Rattle.jump_islands.proofs.ListPlaces.{slice_get-seam}
 use Rattle.jump_islands.proofs.TailFacts.{PlainPut, JumpPut, BranchPut, IsPut, Holds, IsTail, put_extends, reached_on, reached_above, reached_below}
-use Rattle.jump_islands.proofs.TailSteps.{island_holds, put_holds, put_top, put_behind, len-put}
+use Rattle.jump_islands.proofs.TailSteps.{island_holds, put_holds, put_top, put_after, len-put}
 use Rattle.jump_islands.proofs.NearPlaces.{count-le, len-first, len-second, Spans, first_far, second_far}
 
 -- ---- the length
@@ -28,7 +28,7 @@ short_on W draft t m ins x tail h same size zero i e =
     omega (arith, len-put x m)
 short_on W draft t m ins x tail h same size (suc d) i e =
     let f : i ≡ length draft - d = omega arith in
-    let below : height (with_place (with_ins x m)) i ≡ height m i = put_behind W draft m h x i (omega arith) in
+    let below : height (with_place (with_ins x m)) i ≡ height m i = put_after W draft m h x i (omega arith) in
     let back : height m i ≡ height t (length draft - d) = ap (λ (hs : List ℕ). get_or hs i 0) same ∙ ap (height t) f in
     let more : span (suc d) (sizes_of (ins ∷ draft)) ≡ size_of (op_of ins.code) ins (sizes_of draft) + span d (sizes_of draft) = sum_by-cons (λ (size : ℕ). size) _ (take d (sizes_of draft)) in
     let s = tail.short d in
@@ -55,10 +55,10 @@ size_some _ ins later = omega arith
 pub plain_tail : (W : Type 0) (draft : List Ins) (t : TailTree) (ins : Ins) → IsTail W draft t → is_plain_op (op_of ins.code) ≡ true → IsTail W (ins ∷ draft) (with_place (with_ins ins t))
 plain_tail W draft t ins tail plain =
     let u = with_place (with_ins ins t) in
-    let behind : height u (length draft) ≡ len t = put_behind W draft t tail.holds ins (length draft) (omega arith) ∙ tail.top in
+    let bounded : height u (length draft) ≡ len t = put_after W draft t tail.holds ins (length draft) (omega arith) ∙ tail.top in
     tail_with W draft t t ins ins tail tail.holds refl (let s = size_some (op_of ins.code) ins (sizes_of draft) in omega arith) (plain_put u (op_of ins.code) ins (length draft) plain (record {
-      above = put_top W draft t tail.holds ins ∙ ap (λ (h : ℕ). h + 1) (sym behind);
-      is = rw behind (slice_get-seam t.program ins);
+      above = put_top W draft t tail.holds ins ∙ ap (λ (h : ℕ). h + 1) (sym bounded);
+      is = rw bounded (slice_get-seam t.program ins);
     }))
 
 -- ---- a jump
@@ -68,13 +68,13 @@ jump_tail W draft t k tail =
     let x = jump_to (length draft - k) t in
     let u = with_place (with_ins x t) in
     let small = tail.holds.below (length draft - k) (omega arith) in
-    let behind = put_behind W draft t tail.holds x (length draft - k) (omega arith) in
+    let bounded = put_after W draft t tail.holds x (length draft - k) (omega arith) in
     let put : JumpPut u (jump_over k) (length draft) = record {
       at = len t;
       above = put_top W draft t tail.holds x;
       over = len t - height t (length draft - k);
       is = slice_get-seam t.program x;
-      to = omega (arith, behind, small);
+      to = omega (arith, bounded, small);
     } in
     tail_with W draft t t (jump_over k) x tail tail.holds refl (let s = size_some (op_of 5) (jump_over k) (sizes_of draft) in omega arith) put
 

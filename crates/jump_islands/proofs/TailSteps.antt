@@ -50,11 +50,11 @@ island_holds W draft t h place inside well = record {
   reaches = reaches;
 }
   where
-    behind : height t place ≤ len t
-    behind = h.below place inside
+    bounded : height t place ≤ len t
+    bounded = h.below place inside
 
     over : height t place + (len t - height t place) ≡ len t
-    over = omega (arith, behind)
+    over = omega (arith, bounded)
 
     is : slice_get (with_island place t).program (height t place + (len t - height t place)) ≡ Some (jump_to place t)
     is = at_seam t.program (jump_to place t) _ over
@@ -122,5 +122,5 @@ put_holds W draft t h ins x put = record {
 pub put_top : (W : Type 0) (draft : List Ins) (t : TailTree) → Holds W draft t → (x : Ins) → height (with_place (with_ins x t)) (length draft + 1) ≡ len t + 1
 put_top W draft t h x = get_or_push t.heights (len (with_ins x t)) 0 (length draft + 1) (omega (arith, h.long)) ∙ len-put x t
 
-pub put_behind : (W : Type 0) (draft : List Ins) (t : TailTree) → Holds W draft t → (x : Ins) (i : ℕ) → i ≤ length draft → height (with_place (with_ins x t)) i ≡ height t i
-put_behind W draft t h x i small = (put_extends t x).same i (omega (arith, h.long))
+pub put_after : (W : Type 0) (draft : List Ins) (t : TailTree) → Holds W draft t → (x : Ins) (i : ℕ) → i ≤ length draft → height (with_place (with_ins x t)) i ≡ height t i
+put_after W draft t h x i small = (put_extends t x).same i (omega (arith, h.long))

@@ -95,7 +95,7 @@ with_line draft line t = with_place (with_line_ins draft line t)
 pub record IsPlace (t : TailTree) (place : ℕ) : Type 0 where
   pub within : place < length t.heights
   pub reached : place < length t.reaches
-  pub behind : height t place ≤ len t
+  pub bounded : height t place ≤ len t
   pub kept : reach t place ≤ len t
 
 -- the places of a line's labels are places of the tail

@@ -84,7 +84,7 @@ impl Tail {
     /// The jump to a place.
     fn jump_to(&self, place: usize) -> Ins
         requires place { place < length self.now.heights }
-        requires behind { height self.now place ≤ len self.now }
+        requires bounded { height self.now place ≤ len self.now }
         requires few { len self.now ≤ 4096 }
         ensures { result ≡ jump_to place self.now }
     {
@@ -101,7 +101,7 @@ impl Tail {
     fn add_island(&mut self, place: usize) -> Result<(), LowerError>
         requires place { place < length self.old.heights }
         requires reach { place < length self.old.reaches }
-        requires behind { height self.old place ≤ len self.old }
+        requires bounded { height self.old place ≤ len self.old }
         requires few { len self.old ≤ 4096 }
         ensures added { OnOk result (self.new ≡ with_island place self.old) }
         ensures few { OnOk result (len self.new ≤ 4096) }

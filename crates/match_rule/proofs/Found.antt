@@ -13,7 +13,7 @@ use Rattle.match_rule.specs.Condition.{term_key, has_key, has_path, term_with}
 use Rattle.match_rule.specs.RuleTree.{RuleTree}
 use Rattle.match_rule.specs.Parts.{tree_at}
 use Rattle.match_rule.specs.Grammar.{is_blank, apostrophe, backslash, comma, equals, Piece, quoted, escaped, plain, pieces_bytes, pieces_value, ArePieces, Part, part_bytes, IsPart, AreParts, HaveOwnKeys, parts_bytes, IsEnding, rule_with, ReadsAs}
-use Rattle.match_rule.specs.Reading.{◌>>=◌, behind_blanks, after_step, value_from, with_byte, part_at, parts_from, terms_at, rule_at}
+use Rattle.match_rule.specs.Reading.{◌>>=◌, after_blanks, after_step, value_from, with_byte, part_at, parts_from, terms_at, rule_at}
 use Rattle.match_rule.proofs.PartReads.{ok, bind_ok, pair_ok, guard_ok, reads_from, word_is, term_is, part_len}
 use Rattle.match_rule.proofs.Turns.{blanks_len}
 use Rattle.match_rule.proofs.Spelled.{tail_bytes, tail_rest, begins_tail, quoted_regroup, part_regroup, parts_from-nil}
@@ -31,20 +31,20 @@ record Value (bytes value rest : List ℕ) : Type 0 where
 -- a section that is open, and then a value
 record Section (bytes value rest : List ℕ) : Type 0 where
   pub inside : List ℕ
-  pub behind : List ℕ
+  pub back : List ℕ
   pub later : List ℕ
   pub closed : list_all (λ byte. not (byte == apostrophe)) inside ≡ true
-  pub spelled : bytes ≡ inside ++ apostrophe ∷ behind
+  pub spelled : bytes ≡ inside ++ apostrophe ∷ back
   pub means : value ≡ inside ++ later
-  pub more : Value behind later rest
+  pub more : Value back later rest
 
 -- an apostrophe that spells itself, and then a value
 record Apostrophe (bytes value rest : List ℕ) : Type 0 where
-  pub behind : List ℕ
+  pub back : List ℕ
   pub later : List ℕ
-  pub spelled : bytes ≡ apostrophe ∷ behind
+  pub spelled : bytes ≡ apostrophe ∷ back
   pub means : value ≡ apostrophe ∷ later
-  pub more : Value behind later rest
+  pub more : Value back later rest
 
 at_end : (value rest : List ℕ) → value ≡ [] → rest ≡ [] → Value [] value rest
 at_end value rest v r = record { pieces = []; tail = None; are = tt; spelled = refl; means = v; ends = r }
@@ -87,7 +87,7 @@ no_plain false false slash follows p q r = r
 no_plain true ends slash follows p q r = absurd cc
 no_plain false true slash follows p q r = absurd cc
 
-begins : (bs : List ℕ) → begins_with apostrophe bs ≡ true → (behind : List ℕ) × (bs ≡ apostrophe ∷ behind)
+begins : (bs : List ℕ) → begins_with apostrophe bs ≡ true → (back : List ℕ) × (bs ≡ apostrophe ∷ back)
 begins [] e = absurd cc
 begins (b ∷ bs) e = (bs, ap (λ (x : ℕ). x ∷ bs) (eqb-true b apostrophe e))
 
@@ -111,12 +111,12 @@ outside b bs value rest false false false follows p q r s e more section escape 
     taken b bs value rest (no_plain (b == apostrophe) (b == comma) (b == backslash) (begins_with apostrophe bs) q p slash) e more
 
 closes : (b : ℕ) (bs value rest : List ℕ) → b ≡ apostrophe → Value bs value rest → Section (b ∷ bs) value rest
-closes b bs value rest is more = record { inside = []; behind = bs; later = value; closed = refl; spelled = ap (λ (x : ℕ). x ∷ bs) is; means = refl; more = more }
+closes b bs value rest is more = record { inside = []; back = bs; later = value; closed = refl; spelled = ap (λ (x : ℕ). x ∷ bs) is; means = refl; more = more }
 
 goes_on : (b : ℕ) (bs value later rest : List ℕ) → (b == apostrophe) ≡ false → value ≡ b ∷ later → Section bs later rest → Section (b ∷ bs) value rest
 goes_on b bs value later rest is v s = record {
   inside = b ∷ s.inside;
-  behind = s.behind;
+  back = s.back;
   later = s.later;
   closed = rw is s.closed;
   spelled = ap (λ (x : List ℕ). b ∷ x) s.spelled;
@@ -146,7 +146,7 @@ mutual
       let f = bind_ok (value_from Outside bs) _ (value, rest) e in
       let g = pair_ok (b ∷ f.0.0, f.0.1) (value, rest) f.2 in
       let is = eqb-true b apostrophe begun in
-      record { behind = bs; later = f.0.0; spelled = ap (λ (x : ℕ). x ∷ bs) is; means = sym g.0 ∙ ap (λ (x : ℕ). x ∷ f.0.0) is; more = outside_found bs f.0.0 rest (f.1 ∙ ap (λ (x : List ℕ). Ok (f.0.0, x)) g.1) }
+      record { back = bs; later = f.0.0; spelled = ap (λ (x : ℕ). x ∷ bs) is; means = sym g.0 ∙ ap (λ (x : ℕ). x ∷ f.0.0) is; more = outside_found bs f.0.0 rest (f.1 ∙ ap (λ (x : List ℕ). Ok (f.0.0, x)) g.1) }
 
 -- ---- parts
 
@@ -154,11 +154,11 @@ both : (a b : Bool) → a ≡ true → b ≡ true → (a && b) ≡ true
 both true b p q = q
 both false b p q = absurd cc
 
-blanks_found : (bytes : List ℕ) → (blanks : List ℕ) × (list_all is_blank blanks ≡ true) × (bytes ≡ blanks ++ behind_blanks bytes)
+blanks_found : (bytes : List ℕ) → (blanks : List ℕ) × (list_all is_blank blanks ≡ true) × (bytes ≡ blanks ++ after_blanks bytes)
 blanks_found [] = ([], refl, refl)
 blanks_found (b ∷ bs) = go (is_blank b) refl (blanks_found bs)
   where
-    go : (blank : Bool) → is_blank b ≡ blank → (blanks : List ℕ) × (list_all is_blank blanks ≡ true) × (bs ≡ blanks ++ behind_blanks bs) → (blanks : List ℕ) × (list_all is_blank blanks ≡ true) × (b ∷ bs ≡ blanks ++ cond blank (behind_blanks bs) (b ∷ bs))
+    go : (blank : Bool) → is_blank b ≡ blank → (blanks : List ℕ) × (list_all is_blank blanks ≡ true) × (bs ≡ blanks ++ after_blanks bs) → (blanks : List ℕ) × (list_all is_blank blanks ≡ true) × (b ∷ bs ≡ blanks ++ cond blank (after_blanks bs) (b ∷ bs))
     go true is found = (b ∷ found.0, both (is_blank b) (list_all is_blank found.0) is found.1, ap (λ (x : List ℕ). b ∷ x) found.2)
     go false is found = ([], refl, refl)
 
@@ -173,7 +173,7 @@ record Rest (front : List Term) (bytes : List ℕ) (terms : List Term) : Type 0 
   pub said : AreParts parts own
   pub once : HaveOwnKeys front own
 
-none_found : (front : List Term) (bytes : List ℕ) (terms : List Term) → behind_blanks bytes ≡ [] → front ≡ terms → Rest front bytes terms
+none_found : (front : List Term) (bytes : List ℕ) (terms : List Term) → after_blanks bytes ≡ [] → front ≡ terms → Rest front bytes terms
 none_found front bytes terms none same =
     let found = blanks_found bytes in
     let blank : bytes ≡ found.0 = found.2 ∙ ap (λ (x : List ℕ). found.0 ++ x) none ∙ append-nil found.0 in
@@ -198,13 +198,13 @@ record First (front : List Term) (bytes : List ℕ) (term : Term) (rest : List �
   pub spelled : bytes ≡ part_bytes part ++ tail_bytes tail
   pub ends : rest ≡ tail_rest tail
 
-first_found : (front : List Term) (bytes : List ℕ) (term : Term) (rest : List ℕ) → part_at front (behind_blanks bytes) ≡ Ok (term, rest) → First front bytes term rest
+first_found : (front : List Term) (bytes : List ℕ) (term : Term) (rest : List ℕ) → part_at front (after_blanks bytes) ≡ Ok (term, rest) → First front bytes term rest
 first_found front bytes term rest e =
-    let r = reads_from front (behind_blanks bytes) term rest e in
+    let r = reads_from front (after_blanks bytes) term rest e in
     let is = term_is r.key r.value term r.allowed in
     let v = outside_found r.spelling r.value rest r.spelled in
     let blanks = blanks_found bytes in
-    let word = word_is (behind_blanks bytes) r.word r.spelling r.has_word in
+    let word = word_is (after_blanks bytes) r.word r.spelling r.has_word in
     record {
       part = record { blanks = blanks.0; word = r.word; pieces = v.pieces };
       tail = v.tail;
@@ -248,25 +248,25 @@ more_found front bytes rest term part terms says new apart is more = go more.par
         later [] is = is
         later (b ∷ bs) is = is
 
-after_first : (n : ℕ) (front : List Term) (bytes : List ℕ) (terms : List Term) (term : Term) (rest : List ℕ) → First front bytes term rest → parts_from n (front ++ term ∷ []) (behind_blanks rest) ≡ Ok terms → Rest (front ++ term ∷ []) rest terms → Rest front bytes terms
+after_first : (n : ℕ) (front : List Term) (bytes : List ℕ) (terms : List Term) (term : Term) (rest : List ℕ) → First front bytes term rest → parts_from n (front ++ term ∷ []) (after_blanks rest) ≡ Ok terms → Rest (front ++ term ∷ []) rest terms → Rest front bytes terms
 after_first n front bytes terms term rest first e more = go first.tail first.spelled first.ends
   where
     go : (tail : Option (List ℕ)) → bytes ≡ part_bytes first.part ++ tail_bytes tail → rest ≡ tail_rest tail → Rest front bytes terms
     go None spelled ends =
-        let last : ok (front ++ term ∷ []) ≡ ok terms = sym (parts_from-nil n (front ++ term ∷ [])) ∙ ap (λ (x : List ℕ). parts_from n (front ++ term ∷ []) (behind_blanks x)) (sym ends) ∙ e in
+        let last : ok (front ++ term ∷ []) ≡ ok terms = sym (parts_from-nil n (front ++ term ∷ [])) ∙ ap (λ (x : List ℕ). parts_from n (front ++ term ∷ []) (after_blanks x)) (sym ends) ∙ e in
         let same : front ++ term ∷ [] ≡ terms = cc in
         last_found front bytes term first.part terms first.says first.new first.apart spelled same
     go (Some r) spelled ends = more_found front bytes r term first.part terms first.says first.new first.apart spelled (let P : List ℕ → Type 0 = λ x. Rest (front ++ term ∷ []) x terms in subst P ends more)
 
-parts_found : (n : ℕ) (front : List Term) (bytes : List ℕ) (terms : List Term) → length (behind_blanks bytes) ≤ n → parts_from n front (behind_blanks bytes) ≡ Ok terms → Rest front bytes terms
-parts_found zero front bytes terms enough e = go (behind_blanks bytes) refl enough
+parts_found : (n : ℕ) (front : List Term) (bytes : List ℕ) (terms : List Term) → length (after_blanks bytes) ≤ n → parts_from n front (after_blanks bytes) ≡ Ok terms → Rest front bytes terms
+parts_found zero front bytes terms enough e = go (after_blanks bytes) refl enough
   where
-    go : (text : List ℕ) → behind_blanks bytes ≡ text → length text ≤ 0 → Rest front bytes terms
+    go : (text : List ℕ) → after_blanks bytes ≡ text → length text ≤ 0 → Rest front bytes terms
     go [] is fits = none_found front bytes terms is cc
     go (b ∷ bs) is fits = absurd (omega arith)
-parts_found (suc n) front bytes terms enough e = go (behind_blanks bytes) refl enough e (λ f rest. parts_found n f rest terms)
+parts_found (suc n) front bytes terms enough e = go (after_blanks bytes) refl enough e (λ f rest. parts_found n f rest terms)
   where
-    go : (text : List ℕ) → behind_blanks bytes ≡ text → length text ≤ suc n → parts_from (suc n) front text ≡ Ok terms → ((f : List Term) (rest : List ℕ) → length (behind_blanks rest) ≤ n → parts_from n f (behind_blanks rest) ≡ Ok terms → Rest f rest terms) → Rest front bytes terms
+    go : (text : List ℕ) → after_blanks bytes ≡ text → length text ≤ suc n → parts_from (suc n) front text ≡ Ok terms → ((f : List Term) (rest : List ℕ) → length (after_blanks rest) ≤ n → parts_from n f (after_blanks rest) ≡ Ok terms → Rest f rest terms) → Rest front bytes terms
     go [] is fits e more = none_found front bytes terms is cc
     go (b ∷ bs) is fits e more =
         let p = bind_ok (part_at front (b ∷ bs)) _ terms e in
@@ -279,7 +279,7 @@ pub rule_found : (text : List ℕ) (rule : RuleTree) → rule_at text ≡ Ok rul
 rule_found text rule e =
     let g = guard_ok (nat_lt 1024 (length text)) TooLong (tree_at text) rule e in
     let f = bind_ok (terms_at text) _ rule g.1 in
-    let r = parts_found (length (behind_blanks text)) [] text f.0 (omega arith) f.1 in
+    let r = parts_found (length (after_blanks text)) [] text f.0 (omega arith) f.1 in
     let same : rule_with f.0 ≡ rule = let is = f.2 in cc in
     record {
       parts = r.parts;

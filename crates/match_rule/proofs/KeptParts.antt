@@ -13,7 +13,7 @@ use Rattle.match_rule.specs.declared.term.Term.TheVariants.{Asks, Eavesdrop}
 use Rattle.match_rule.specs.Key.{is_twice, is_path_twice}
 use Rattle.match_rule.specs.Condition.{key_of, term_key, has_key, has_path, conditions_in, is_eavesdrop, eavesdrops_in}
 use Rattle.match_rule.specs.Grammar.{rule_with}
-use Rattle.match_rule.specs.Reading.{◌>>=◌, behind_blanks, part_at, parts_from, terms_at}
+use Rattle.match_rule.specs.Reading.{◌>>=◌, after_blanks, part_at, parts_from, terms_at}
 use Rattle.match_rule.specs.Parts.{terms_of, conditions_with, eavesdrop_with, tree_at}
 use Rattle.match_rule.specs.RuleTree.{RuleTree}
 use Rattle.match_rule.proofs.PartReads.{reads_from, part_same, term_is}
@@ -95,21 +95,21 @@ pub record IsTurn (asked : List Condition) (eavesdrop : Option Bool) (rest text 
   pub kept : AreKept terms asked eavesdrop
   pub reads : parts_from (length rest) terms rest ≡ terms_at text
 
-pub first_turn : (text : List ℕ) → IsTurn [] None (behind_blanks text) text
+pub first_turn : (text : List ℕ) → IsTurn [] None (after_blanks text) text
 first_turn text = record { terms = []; kept = kept_none; reads = refl }
 
 same_part : (asked : List Condition) (eavesdrop : Option Bool) (rest text : List ℕ) (turn : IsTurn asked eavesdrop rest text) → part_at turn.terms rest ≡ part_at (terms_of asked eavesdrop) rest
 same_part asked eavesdrop rest text turn = part_same turn.terms (terms_of asked eavesdrop) rest turn.kept.keys turn.kept.paths
 
-pub next_turn : (asked : List Condition) (eavesdrop : Option Bool) (rest text : List ℕ) (term : Term) (behind : List ℕ) → IsTurn asked eavesdrop rest text → part_at (terms_of asked eavesdrop) rest ≡ Ok (term, behind) → IsTurn (conditions_with asked term) (eavesdrop_with eavesdrop term) (behind_blanks behind) text
-next_turn asked eavesdrop rest text term behind t e =
+pub next_turn : (asked : List Condition) (eavesdrop : Option Bool) (rest text : List ℕ) (term : Term) (tail : List ℕ) → IsTurn asked eavesdrop rest text → part_at (terms_of asked eavesdrop) rest ≡ Ok (term, tail) → IsTurn (conditions_with asked term) (eavesdrop_with eavesdrop term) (after_blanks tail) text
+next_turn asked eavesdrop rest text term tail t e =
     let part = same_part asked eavesdrop rest text t ∙ e in
-    let r = reads_from t.terms rest term behind part in
+    let r = reads_from t.terms rest term tail part in
     let key = (term_is r.key r.value term r.allowed).0 in
     record {
       terms = t.terms ++ term ∷ [];
       kept = kept_more t.terms asked eavesdrop term t.kept (ap (λ k. has_key k t.terms) key ∙ r.new);
-      reads = turn t.terms rest term behind part ∙ t.reads;
+      reads = turn t.terms rest term tail part ∙ t.reads;
     }
 
 -- a fault of a part is the text's

@@ -10,9 +10,9 @@ use Rattle.match_rule.specs.declared.fault.RuleError.TheVariants.{UnknownKey}
 use Rattle.match_rule.specs.declared.key.Key.{Key}
 use Rattle.match_rule.specs.declared.relation.Relation.{Relation}
 use Rattle.match_rule.specs.Rows.{row_of}
-use Rattle.match_rule.specs.Key.{key_words, arg_suffixes, key_named, digits_of, behind_digits, arg_number, suffixed_key, or_key, arg_key, is_of_arg}
+use Rattle.match_rule.specs.Key.{key_words, arg_suffixes, key_named, digits_of, after_digits, arg_number, suffixed_key, or_key, arg_key, is_of_arg}
 use Rattle.match_rule.specs.Grammar.{is_blank, comma, equals}
-use Rattle.match_rule.specs.Reading.{behind_blanks, word_at}
+use Rattle.match_rule.specs.Reading.{after_blanks, word_at}
 use Rattle.match_rule.proofs.Rows.{row_found}
 
 -- a byte that may stand in the word of a key
@@ -50,7 +50,7 @@ pub word_read : (word rest : List ℕ) → is_plain_word word ≡ true → word_
 word_read [] rest e = absurd cc
 word_read (b ∷ bs) rest e = front_read (b ∷ bs) rest e
 
-pub word_no_blank : (word rest : List ℕ) → is_plain_word word ≡ true → behind_blanks (word ++ rest) ≡ word ++ rest
+pub word_no_blank : (word rest : List ℕ) → is_plain_word word ≡ true → after_blanks (word ++ rest) ≡ word ++ rest
 word_no_blank [] rest e = absurd cc
 word_no_blank (b ∷ bs) rest e =
     let h = both (is_plain b) (list_all is_plain bs) e in
@@ -62,11 +62,11 @@ word_no_blank (b ∷ bs) rest e =
 digit_plain : (b : ℕ) → is_digit b ≡ true → is_plain b ≡ true
 digit_plain b e = grind (arith, nat_tests)
 
-pub split_digits : (bytes : List ℕ) → bytes ≡ digits_of bytes ++ behind_digits bytes
+pub split_digits : (bytes : List ℕ) → bytes ≡ digits_of bytes ++ after_digits bytes
 split_digits [] = refl
 split_digits (b ∷ bs) = go (is_digit b) (split_digits bs)
   where
-    go : (d : Bool) → bs ≡ digits_of bs ++ behind_digits bs → b ∷ bs ≡ cond d (b ∷ digits_of bs) [] ++ cond d (behind_digits bs) (b ∷ bs)
+    go : (d : Bool) → bs ≡ digits_of bs ++ after_digits bs → b ∷ bs ≡ cond d (b ∷ digits_of bs) [] ++ cond d (after_digits bs) (b ∷ bs)
     go true e = ap (λ (x : List ℕ). b ∷ x) e
     go false e = refl
 
@@ -91,19 +91,19 @@ suffix_plain digits suffix key e = go (length digits == 0) (row_of arg_suffixes 
     go false None is e = absurd cc
     go false (Some row) is e = row_found (λ (r : List ℕ × (Relation × ℕ)). list_all is_plain r.0) arg_suffixes suffix row refl is
 
-rest_plain : (rest : List ℕ) (key : Key) → arg_key (digits_of rest) (behind_digits rest) ≡ Ok key → list_all is_plain rest ≡ true
+rest_plain : (rest : List ℕ) (key : Key) → arg_key (digits_of rest) (after_digits rest) ≡ Ok key → list_all is_plain rest ≡ true
 rest_plain rest key e =
     ap (list_all is_plain) (split_digits rest)
-    ∙ list_all-append is_plain (digits_of rest) (behind_digits rest)
-    ∙ both_true (list_all is_plain (digits_of rest)) (list_all is_plain (behind_digits rest)) (all_plain (digits_of rest) (digits_are rest)) (suffix_plain (digits_of rest) (behind_digits rest) key e)
+    ∙ list_all-append is_plain (digits_of rest) (after_digits rest)
+    ∙ both_true (list_all is_plain (digits_of rest)) (list_all is_plain (after_digits rest)) (all_plain (digits_of rest) (digits_are rest)) (suffix_plain (digits_of rest) (after_digits rest) key e)
 
-arg_plain : (word : List ℕ) (key : Key) → cond (is_of_arg word) (arg_key (digits_of (drop 3 word)) (behind_digits (drop 3 word))) (Err UnknownKey) ≡ Ok key → is_plain_word word ≡ true
+arg_plain : (word : List ℕ) (key : Key) → cond (is_of_arg word) (arg_key (digits_of (drop 3 word)) (after_digits (drop 3 word))) (Err UnknownKey) ≡ Ok key → is_plain_word word ≡ true
 arg_plain [] key e = absurd cc
 arg_plain (a ∷ []) key e = absurd cc
 arg_plain (a ∷ b ∷ []) key e = absurd cc
 arg_plain (a ∷ b ∷ c ∷ rest) key e = go (a == 97) (b == 114) (c == 103) refl refl refl e
   where
-    go : (x y z : Bool) → (a == 97) ≡ x → (b == 114) ≡ y → (c == 103) ≡ z → cond (x && y && z) (arg_key (digits_of rest) (behind_digits rest)) (Err UnknownKey) ≡ Ok key → is_plain_word (a ∷ b ∷ c ∷ rest) ≡ true
+    go : (x y z : Bool) → (a == 97) ≡ x → (b == 114) ≡ y → (c == 103) ≡ z → cond (x && y && z) (arg_key (digits_of rest) (after_digits rest)) (Err UnknownKey) ≡ Ok key → is_plain_word (a ∷ b ∷ c ∷ rest) ≡ true
     go true true true p q r e =
         rw (eqb-true a 97 p, eqb-true b 114 q, eqb-true c 103 r) (rest_plain rest key e)
     go true true false p q r e = absurd cc
@@ -113,18 +113,18 @@ arg_plain (a ∷ b ∷ c ∷ rest) key e = go (a == 97) (b == 114) (c == 103) re
 pub known_plain : (word : List ℕ) (key : Key) → key_named word ≡ Ok key → is_plain_word word ≡ true
 known_plain word key e = go (row_of key_words word) refl e
   where
-    go : (found : Option Key) → row_of key_words word ≡ found → or_key found (cond (is_of_arg word) (arg_key (digits_of (drop 3 word)) (behind_digits (drop 3 word))) (Err UnknownKey)) ≡ Ok key → is_plain_word word ≡ true
+    go : (found : Option Key) → row_of key_words word ≡ found → or_key found (cond (is_of_arg word) (arg_key (digits_of (drop 3 word)) (after_digits (drop 3 word))) (Err UnknownKey)) ≡ Ok key → is_plain_word word ≡ true
     go (Some named) is e = row_found (λ (r : List ℕ × Key). is_plain_word r.0) key_words word named refl is
     go None is e = arg_plain word key e
 
 -- a word that begins with `arg`
-pub arg_named : (word rest : List ℕ) → Some rest ≡ cond (is_of_arg word) (Some (drop 3 word)) None → key_named word ≡ arg_key (digits_of rest) (behind_digits rest)
+pub arg_named : (word rest : List ℕ) → Some rest ≡ cond (is_of_arg word) (Some (drop 3 word)) None → key_named word ≡ arg_key (digits_of rest) (after_digits rest)
 arg_named [] rest e = absurd cc
 arg_named (a ∷ []) rest e = absurd cc
 arg_named (a ∷ b ∷ []) rest e = absurd cc
 arg_named (a ∷ b ∷ c ∷ tail) rest e = go (a == 97) (b == 114) (c == 103) refl refl refl e
   where
-    go : (x y z : Bool) → (a == 97) ≡ x → (b == 114) ≡ y → (c == 103) ≡ z → Some rest ≡ cond (x && y && z) (Some tail) None → key_named (a ∷ b ∷ c ∷ tail) ≡ arg_key (digits_of rest) (behind_digits rest)
+    go : (x y z : Bool) → (a == 97) ≡ x → (b == 114) ≡ y → (c == 103) ≡ z → Some rest ≡ cond (x && y && z) (Some tail) None → key_named (a ∷ b ∷ c ∷ tail) ≡ arg_key (digits_of rest) (after_digits rest)
     go true true true p q r e =
         let same : rest ≡ tail = cc in
         rw (eqb-true a 97 p, eqb-true b 114 q, eqb-true c 103 r, same) refl

@@ -107,8 +107,8 @@ own_same : (front others : List Term) (key : Key) → has_key key front ≡ has_
 own_same front others key p q = ap (λ b. cond b (Err KeyTwice) (cond (has_path key front) (Err PathTwice) (Ok key))) p ∙ ap (λ b. cond (has_key key others) (Err KeyTwice) (cond b (Err PathTwice) (Ok key))) q
 
 -- what a part gives from its key on, where a rule may have the key
-abbrev behind_own : Key × List ℕ → Result Key RuleError → Result (Term × List ℕ) RuleError
-behind_own key found = do
+abbrev after_own : Key × List ℕ → Result Key RuleError → Result (Term × List ℕ) RuleError
+after_own key found = do
   own ← found
   value ← value_from Outside key.1
   term ← or_fault BadValue (term_with own value.0)
@@ -119,9 +119,9 @@ pub part_same : (front others : List Term) (bytes : List ℕ) → ((key : Key) �
 unfolding part_at
 part_same front others bytes keys paths = go (key_at bytes)
   where
-    go : (found : Result (Key × List ℕ) RuleError) → (found >>= λ key. behind_own key (own_key front key.0)) ≡ (found >>= λ key. behind_own key (own_key others key.0))
+    go : (found : Result (Key × List ℕ) RuleError) → (found >>= λ key. after_own key (own_key front key.0)) ≡ (found >>= λ key. after_own key (own_key others key.0))
     go (Err fault) = refl
-    go (Ok key) = ap (behind_own key) (own_same front others key.0 (keys key.0) (paths key.0))
+    go (Ok key) = ap (after_own key) (own_same front others key.0 (keys key.0) (paths key.0))
 
 -- ---- what is read is spelled
 

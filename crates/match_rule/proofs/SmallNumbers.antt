@@ -11,7 +11,7 @@ use Rattle.match_rule.specs.declared.condition.Condition.TheVariants.{Kind, Send
 use Rattle.match_rule.specs.declared.term.Term.{Term}
 use Rattle.match_rule.specs.declared.term.Term.TheVariants.{Asks, Eavesdrop}
 use Rattle.match_rule.specs.Rows.{row_of}
-use Rattle.match_rule.specs.Key.{key_words, arg_suffixes, key_named, digits_of, behind_digits, up_to_max, arg_number, suffixed_key, or_key, arg_key, is_of_arg, max_arg}
+use Rattle.match_rule.specs.Key.{key_words, arg_suffixes, key_named, digits_of, after_digits, up_to_max, arg_number, suffixed_key, or_key, arg_key, is_of_arg, max_arg}
 use Rattle.match_rule.specs.Condition.{key_of, conditions_in}
 use Rattle.match_rule.specs.Grammar.{Part, AreParts}
 use Rattle.match_rule.specs.Parts.{is_small_source, has_small_number, have_small_numbers}
@@ -58,9 +58,9 @@ arg_key_small digits suffix key e = go (length digits == 0) e
 named_small : (word : List ℕ) (key : Key) → key_named word ≡ Ok key → is_small_key key ≡ true
 named_small word key e = go (row_of key_words word) refl (is_of_arg word) e
   where
-    go : (found : Option Key) → row_of key_words word ≡ found → (of_arg : Bool) → or_key found (cond of_arg (arg_key (digits_of (drop 3 word)) (behind_digits (drop 3 word))) (Err UnknownKey)) ≡ Ok key → is_small_key key ≡ true
+    go : (found : Option Key) → row_of key_words word ≡ found → (of_arg : Bool) → or_key found (cond of_arg (arg_key (digits_of (drop 3 word)) (after_digits (drop 3 word))) (Err UnknownKey)) ≡ Ok key → is_small_key key ≡ true
     go (Some named) is of_arg e = let same : key ≡ named = cc in ap is_small_key same ∙ row_found (λ (r : List ℕ × Key). is_small_key r.1) key_words word named refl is
-    go None is true e = arg_key_small (digits_of (drop 3 word)) (behind_digits (drop 3 word)) key e
+    go None is true e = arg_key_small (digits_of (drop 3 word)) (after_digits (drop 3 word)) key e
     go None is false e = absurd cc
 
 known_small : (word : List ℕ) (c : Condition) → key_named word ≡ Ok (key_of c) → has_small_number c ≡ true

@@ -13,7 +13,7 @@ use Rattle.match_rule.specs.Condition.{term_key, has_key, has_path}
 use Rattle.match_rule.specs.RuleTree.{RuleTree}
 use Rattle.match_rule.specs.Parts.{tree_at}
 use Rattle.match_rule.specs.Grammar.{is_blank, apostrophe, comma, equals, Piece, quoted, escaped, plain, pieces_bytes, pieces_value, ArePieces, Part, part_bytes, IsPart, AreParts, HaveOwnKeys, further_bytes, parts_bytes, IsEnding, rule_with, ReadsAs}
-use Rattle.match_rule.specs.Reading.{◌>>=◌, behind_blanks, step, after_step, value_from, with_byte, part_at, parts_from, terms_at, rule_at}
+use Rattle.match_rule.specs.Reading.{◌>>=◌, after_blanks, step, after_step, value_from, with_byte, part_at, parts_from, terms_at, rule_at}
 use Rattle.match_rule.proofs.Steps.{with_front}
 use Rattle.match_rule.proofs.KeyWords.{known_plain, word_read, word_no_blank}
 use Rattle.match_rule.proofs.PartReads.{reads_to}
@@ -85,7 +85,7 @@ both : (a b : Bool) → (a && b) ≡ true → (a ≡ true) × (b ≡ true)
 both true b e = (refl, e)
 both false b e = absurd cc
 
-blanks_read : (blanks rest : List ℕ) → list_all is_blank blanks ≡ true → behind_blanks (blanks ++ rest) ≡ behind_blanks rest
+blanks_read : (blanks rest : List ℕ) → list_all is_blank blanks ≡ true → after_blanks (blanks ++ rest) ≡ after_blanks rest
 blanks_read [] rest e = refl
 blanks_read (b ∷ bs) rest e = let h = both (is_blank b) (list_all is_blank bs) e in rw h.0 (blanks_read bs rest h.1)
 
@@ -114,9 +114,9 @@ further_is (part ∷ parts) ending is = refl
 pub part_regroup : (blanks word pieces rest : List ℕ) → (blanks ++ (word ++ equals ∷ pieces)) ++ rest ≡ blanks ++ (word ++ equals ∷ (pieces ++ rest))
 part_regroup blanks word pieces rest = append_assoc blanks (word ++ equals ∷ pieces) rest ∙ ap (λ (x : List ℕ). blanks ++ x) (append_assoc word (equals ∷ pieces) rest)
 
-behind_part_blanks : (part : Part) (term : Term) (rest : List ℕ) → IsPart part term → behind_blanks (part_bytes part ++ rest) ≡ part.word ++ equals ∷ (pieces_bytes part.pieces ++ rest)
-behind_part_blanks part term rest is =
-    ap behind_blanks (part_regroup part.blanks part.word (pieces_bytes part.pieces) rest)
+after_part_blanks : (part : Part) (term : Term) (rest : List ℕ) → IsPart part term → after_blanks (part_bytes part ++ rest) ≡ part.word ++ equals ∷ (pieces_bytes part.pieces ++ rest)
+after_part_blanks part term rest is =
+    ap after_blanks (part_regroup part.blanks part.word (pieces_bytes part.pieces) rest)
     ∙ blanks_read part.blanks (part.word ++ equals ∷ (pieces_bytes part.pieces ++ rest)) is.blank
     ∙ word_no_blank part.word (equals ∷ (pieces_bytes part.pieces ++ rest)) (known_plain part.word (term_key term) is.known)
 
@@ -138,14 +138,14 @@ part_read front part term tail is new apart =
 
 -- the parts of a text and its terms, in as many turns as there are bytes
 abbrev parts_in : List Term → List ℕ → Result (List Term) RuleError
-parts_in front bytes = parts_from (length (behind_blanks bytes)) front (behind_blanks bytes)
+parts_in front bytes = parts_from (length (after_blanks bytes)) front (after_blanks bytes)
 
 first_read : (front : List Term) (part : Part) (parts : List Part) (ending : List ℕ) (term : Term) → IsPart part term → IsLaterEnding ending → has_key (term_key term) front ≡ false → has_path (term_key term) front ≡ false → parts_in front (parts_bytes (part ∷ parts) ending) ≡ parts_in (front ++ term ∷ []) (tail_rest (tail_of parts ending))
 first_read front part parts ending term is ends new apart =
     let tail = tail_of parts ending in
     let text = part.word ++ equals ∷ (pieces_bytes part.pieces ++ tail_bytes tail) in
-    let behind : behind_blanks (parts_bytes (part ∷ parts) ending) ≡ text = ap (λ (rest : List ℕ). behind_blanks (part_bytes part ++ rest)) (further_is parts ending ends) ∙ behind_part_blanks part term (tail_bytes tail) is in
-    ap (λ (bytes : List ℕ). parts_from (length bytes) front bytes) behind
+    let back : after_blanks (parts_bytes (part ∷ parts) ending) ≡ text = ap (λ (rest : List ℕ). after_blanks (part_bytes part ++ rest)) (further_is parts ending ends) ∙ after_part_blanks part term (tail_bytes tail) is in
+    ap (λ (bytes : List ℕ). parts_from (length bytes) front bytes) back
     ∙ sym (turn front text term (tail_rest tail) (part_read front part term tail is new apart))
 
 pub parts_from-nil : (n : ℕ) (front : List Term) → parts_from n front [] ≡ Ok front
@@ -154,7 +154,7 @@ parts_from-nil (suc n) front = refl
 
 pub parts_read : (parts : List Part) (terms front : List Term) (ending : List ℕ) → IsEnding parts ending → AreParts parts terms → HaveOwnKeys front terms → parts_in front (parts_bytes parts ending) ≡ Ok (front ++ terms)
 parts_read [] [] front ending ends said once =
-    let blank : behind_blanks ending ≡ [] = ap behind_blanks (sym (append-nil ending)) ∙ blanks_read ending [] ends in
+    let blank : after_blanks ending ≡ [] = ap after_blanks (sym (append-nil ending)) ∙ blanks_read ending [] ends in
     ap (λ (bytes : List ℕ). parts_from (length bytes) front bytes) blank ∙ ap (λ (cs : List Term). Ok cs) (sym (append-nil front))
 parts_read [] (term ∷ terms) front ending ends said once = absurd said
 parts_read (part ∷ parts) [] front ending ends said once = absurd said

@@ -11,14 +11,14 @@ use Rattle.match_rule.specs.declared.term.Term.TheVariants.{Asks, Eavesdrop}
 use Rattle.match_rule.specs.Condition.{conditions_in}
 use Rattle.match_rule.specs.RuleTree.{slashes, relation_weight, condition_weight}
 use Rattle.match_rule.specs.Grammar.{is_blank}
-use Rattle.match_rule.specs.Reading.{◌>>=◌, behind_blanks, part_at, parts_from, terms_at}
+use Rattle.match_rule.specs.Reading.{◌>>=◌, after_blanks, part_at, parts_from, terms_at}
 use Rattle.match_rule.proofs.PartReads.{part_len, bind_ok, term_value}
 
-pub blanks_len : (bytes : List ℕ) → length (behind_blanks bytes) ≤ length bytes
+pub blanks_len : (bytes : List ℕ) → length (after_blanks bytes) ≤ length bytes
 blanks_len [] = omega arith
 blanks_len (b ∷ bs) = go (is_blank b) (blanks_len bs)
   where
-    go : (x : Bool) → length (behind_blanks bs) ≤ length bs → length (cond x (behind_blanks bs) (b ∷ bs)) ≤ length (b ∷ bs)
+    go : (x : Bool) → length (after_blanks bs) ≤ length bs → length (cond x (after_blanks bs) (b ∷ bs)) ≤ length (b ∷ bs)
     go true h = omega arith
     go false h = omega arith
 
@@ -31,26 +31,26 @@ enough_turns (suc n) zero front (b ∷ bs) p q = absurd (omega arith)
 enough_turns (suc n) (suc m) front [] p q = refl
 enough_turns (suc n) (suc m) front (b ∷ bs) p q = go (part_at front (b ∷ bs)) refl (λ f rest. enough_turns n m f rest)
   where
-    go : (found : Result (Term × List ℕ) RuleError) → part_at front (b ∷ bs) ≡ found → ((f : List Term) (rest : List ℕ) → length rest ≤ n → length rest ≤ m → parts_from n f rest ≡ parts_from m f rest) → (found >>= λ part. parts_from n (front ++ part.0 ∷ []) (behind_blanks part.1)) ≡ (found >>= λ part. parts_from m (front ++ part.0 ∷ []) (behind_blanks part.1))
+    go : (found : Result (Term × List ℕ) RuleError) → part_at front (b ∷ bs) ≡ found → ((f : List Term) (rest : List ℕ) → length rest ≤ n → length rest ≤ m → parts_from n f rest ≡ parts_from m f rest) → (found >>= λ part. parts_from n (front ++ part.0 ∷ []) (after_blanks part.1)) ≡ (found >>= λ part. parts_from m (front ++ part.0 ∷ []) (after_blanks part.1))
     go (Err fault) is more = refl
     go (Ok part) is more =
         let shorter = part_len front (b ∷ bs) part.0 part.1 is in
         let blanks = blanks_len part.1 in
-        more (front ++ part.0 ∷ []) (behind_blanks part.1) (omega arith) (omega arith)
+        more (front ++ part.0 ∷ []) (after_blanks part.1) (omega arith) (omega arith)
 
 -- one turn
-pub turn : (front : List Term) (bytes : List ℕ) (term : Term) (rest : List ℕ) → part_at front bytes ≡ Ok (term, rest) → parts_from (length (behind_blanks rest)) (front ++ term ∷ []) (behind_blanks rest) ≡ parts_from (length bytes) front bytes
+pub turn : (front : List Term) (bytes : List ℕ) (term : Term) (rest : List ℕ) → part_at front bytes ≡ Ok (term, rest) → parts_from (length (after_blanks rest)) (front ++ term ∷ []) (after_blanks rest) ≡ parts_from (length bytes) front bytes
 turn front [] term rest e = let shorter = part_len front [] term rest e in absurd (omega arith)
 turn front (b ∷ bs) term rest e =
     let shorter = part_len front (b ∷ bs) term rest e in
     let blanks = blanks_len rest in
-    enough_turns (length (behind_blanks rest)) (length bs) (front ++ term ∷ []) (behind_blanks rest) (omega arith) (omega arith)
-    ∙ sym (ap (λ found. found >>= λ part. parts_from (length bs) (front ++ part.0 ∷ []) (behind_blanks part.1)) e)
+    enough_turns (length (after_blanks rest)) (length bs) (front ++ term ∷ []) (after_blanks rest) (omega arith) (omega arith)
+    ∙ sym (ap (λ found. found >>= λ part. parts_from (length bs) (front ++ part.0 ∷ []) (after_blanks part.1)) e)
 
 -- the last turn
 pub turn_err : (front : List Term) (bytes : List ℕ) (fault : RuleError) → (length bytes == 0) ≡ false → part_at front bytes ≡ Err fault → parts_from (length bytes) front bytes ≡ Err fault
 turn_err front [] fault some e = absurd cc
-turn_err front (b ∷ bs) fault some e = ap (λ found. found >>= λ part. parts_from (length bs) (front ++ part.0 ∷ []) (behind_blanks part.1)) e
+turn_err front (b ∷ bs) fault some e = ap (λ found. found >>= λ part. parts_from (length bs) (front ++ part.0 ∷ []) (after_blanks part.1)) e
 
 -- what terms weigh together
 abbrev term_weight : Term → ℕ
@@ -94,7 +94,7 @@ parts_total zero front bytes terms e = let same : front ≡ terms = cc in rw (�
 parts_total (suc n) front [] terms e = let same : front ≡ terms = cc in rw (← same) (omega arith)
 parts_total (suc n) front (b ∷ bs) terms e =
     let part = bind_ok (part_at front (b ∷ bs)) _ terms e in
-    let more = parts_total n (front ++ part.0.0 ∷ []) (behind_blanks part.0.1) terms part.2 in
+    let more = parts_total n (front ++ part.0.0 ∷ []) (after_blanks part.0.1) terms part.2 in
     let joined = sum_by-append term_weight front (part.0.0 ∷ []) in
     let weighs = term_weight_le part.0.0 in
     let shorter = part_len front (b ∷ bs) part.0.0 part.0.1 part.1 in
@@ -103,7 +103,7 @@ parts_total (suc n) front (b ∷ bs) terms e =
 
 pub read_weight : (text : List ℕ) (terms : List Term) → length text ≤ 1024 → terms_at text ≡ Ok terms → 8 + sum_by condition_weight (conditions_in terms) ≤ 41992
 read_weight text terms short e =
-    let bound = parts_total (length (behind_blanks text)) [] (behind_blanks text) terms e in
+    let bound = parts_total (length (after_blanks text)) [] (after_blanks text) terms e in
     let blanks = blanks_len text in
     let same = total-conditions_in terms in
     omega arith

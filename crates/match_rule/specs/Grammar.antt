@@ -52,9 +52,9 @@ pieces_value (piece ∷ pieces) = piece_value piece ++ pieces_value pieces
 -- Between apostrophes is no apostrophe. A byte that spells itself is no apostrophe and no comma, and a
 -- backslash only where no apostrophe follows.
 abbrev pub IsPiece : Piece → List ℕ → Type 0
-IsPiece (quoted inside) behind = list_all (λ byte. not (byte == apostrophe)) inside ≡ true
-IsPiece escaped behind = Unit {0}
-IsPiece (plain byte) behind = (byte == apostrophe || byte == comma || byte == backslash && begins_with apostrophe behind) ≡ false
+IsPiece (quoted inside) tail = list_all (λ byte. not (byte == apostrophe)) inside ≡ true
+IsPiece escaped tail = Unit {0}
+IsPiece (plain byte) tail = (byte == apostrophe || byte == comma || byte == backslash && begins_with apostrophe tail) ≡ false
 
 abbrev pub ArePieces : List Piece → Type 0
 ArePieces [] = Unit {0}

@@ -46,9 +46,9 @@ digits_of [] = []
 digits_of (b ∷ bs) = if is_digit b then b ∷ digits_of bs else []
 
 -- what stands after those digits
-abbrev pub behind_digits : List ℕ → List ℕ
-behind_digits [] = []
-behind_digits (b ∷ bs) = if is_digit b then behind_digits bs else b ∷ bs
+abbrev pub after_digits : List ℕ → List ℕ
+after_digits [] = []
+after_digits (b ∷ bs) = if is_digit b then after_digits bs else b ∷ bs
 
 abbrev pub up_to_max : ℕ → Option ℕ
 up_to_max n = if nat_le n max_arg then Some n else None
@@ -85,7 +85,7 @@ or_key None other = other
 -- the key of a word, or why it is none
 abbrev pub key_named : List ℕ → Result Key RuleError
 key_named word =
-    or_key (row_of key_words word) (if is_of_arg word then arg_key (digits_of (drop 3 word)) (behind_digits (drop 3 word)) else Err UnknownKey)
+    or_key (row_of key_words word) (if is_of_arg word then arg_key (digits_of (drop 3 word)) (after_digits (drop 3 word)) else Err UnknownKey)
 
 -- ---- keys beside one another
 

@@ -25,9 +25,9 @@ Gives view (Ok x) read = read ≡ Ok (view x)
 Gives view (Err fault) read = fault ≢ NoMemory → read ≡ Err fault
 
 -- the bytes without the blanks in front
-abbrev pub behind_blanks : List ℕ → List ℕ
-behind_blanks [] = []
-behind_blanks (b ∷ bs) = if is_blank b then behind_blanks bs else b ∷ bs
+abbrev pub after_blanks : List ℕ → List ℕ
+after_blanks [] = []
+after_blanks (b ∷ bs) = if is_blank b then after_blanks bs else b ∷ bs
 
 abbrev pub with_byte : ℕ → List ℕ × List ℕ → List ℕ × List ℕ
 with_byte b found = (b ∷ found.0, found.1)
@@ -93,11 +93,11 @@ part_at front bytes = do
 abbrev pub parts_from : ℕ → List Term → List ℕ → Result (List Term) RuleError
 parts_from zero front bytes = Ok front
 parts_from (suc turns) front [] = Ok front
-parts_from (suc turns) front (b ∷ bs) = part_at front (b ∷ bs) >>= λ part. parts_from turns (front ++ part.0 ∷ []) (behind_blanks part.1)
+parts_from (suc turns) front (b ∷ bs) = part_at front (b ∷ bs) >>= λ part. parts_from turns (front ++ part.0 ∷ []) (after_blanks part.1)
 
 -- the terms of a text that isn't too long
 abbrev pub terms_at : List ℕ → Result (List Term) RuleError
-terms_at text = parts_from (length (behind_blanks text)) [] (behind_blanks text)
+terms_at text = parts_from (length (after_blanks text)) [] (after_blanks text)
 
 -- the rule, or the first fault
 abbrev pub rule_at : List ℕ → Result RuleTree RuleError

@@ -4,7 +4,7 @@ ghost use Rattle.std.specs.Prelude.{◌≡◌, true, drop, None, Some, option_ma
 ghost use Rattle.std.specs.List.{list_all};
 ghost use Rattle.signature.specs.Name.{is_digit};
 ghost use Rattle.match_rule.specs.Rows.{row_of};
-ghost use Rattle.match_rule.specs.Key.{arg_suffixes, digits_of, behind_digits, up_to_max, arg_number, numbered_key, arg_key, is_of_arg};
+ghost use Rattle.match_rule.specs.Key.{arg_suffixes, digits_of, after_digits, up_to_max, arg_number, numbered_key, arg_key, is_of_arg};
 
 use crate::fault::RuleError;
 use crate::key::Key;
@@ -15,7 +15,7 @@ use crate::source::Source;
 const MAX_ARG: u8 = 63;
 
 /// What follows `arg`, where a word begins so.
-pub(crate) fn behind_arg(word: &[u8]) -> Option<&[u8]>
+pub(crate) fn after_arg(word: &[u8]) -> Option<&[u8]>
     ensures { option_map (λ rest. rest.now) result ≡ (if is_of_arg word.now then Some (drop 3 word.now) else None) }
 {
     match word {
@@ -33,7 +33,7 @@ fn is_digit(byte: u8) -> bool
 /// The longest run of digits in front, and what follows it.
 fn split_digits(bytes: &[u8]) -> (&[u8], &[u8])
     ensures digits { result.0.now ≡ digits_of bytes.now }
-    ensures rest { result.1.now ≡ behind_digits bytes.now }
+    ensures rest { result.1.now ≡ after_digits bytes.now }
 {
     for (i, byte) in bytes.iter().enumerate() {
         if !is_digit(*byte) {
@@ -96,7 +96,7 @@ fn numbered_key(relation: Relation, greatest: u8, number: Option<u8>) -> Result<
 
 /// The key of a word from after its `arg` on.
 pub(crate) fn arg_key(rest: &[u8]) -> Result<Key, RuleError>
-    ensures { result ≡ arg_key (digits_of rest.now) (behind_digits rest.now) }
+    ensures { result ≡ arg_key (digits_of rest.now) (after_digits rest.now) }
 {
     let (digits, suffix) = split_digits(rest);
     if digits.is_empty() {

@@ -4,7 +4,7 @@ ghost use Rattle.std.specs.Prelude.{◌≡◌};
 ghost use Rattle.match_rule.specs.Rows.{row_of};
 ghost use Rattle.match_rule.specs.Key.{key_words, key_named, key_number, once_key, is_twice, path_key, path_namespace_key, is_path_twice};
 
-use crate::arg_key::{arg_key, behind_arg};
+use crate::arg_key::{after_arg, arg_key};
 use crate::fault::RuleError;
 use crate::relation::Relation;
 use crate::source::{Field, Source};
@@ -65,7 +65,7 @@ impl Key {
         if let Some(key) = key_of_word(word) {
             return Ok(key);
         }
-        match behind_arg(word) {
+        match after_arg(word) {
             Some(rest) => arg_key(rest),
             None => Err(RuleError::UnknownKey),
         }

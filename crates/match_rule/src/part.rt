@@ -10,7 +10,7 @@ use crate::key::Key;
 use crate::parts::Parts;
 use crate::quoting::{Quoting, Step};
 use crate::term::{Term, term_with};
-use crate::word::{begins_with_apostrophe, behind_blanks, word_at};
+use crate::word::{after_blanks, begins_with_apostrophe, word_at};
 use std::alloc::Global;
 
 /// A known key, and what follows its `=`.
@@ -62,11 +62,11 @@ pub(crate) fn parts_at(alloc: Global, text: &[u8]) -> Result<Parts, RuleError>
     ensures { Gives rule_of result (tree_at text.now) }
 {
     let mut parts = Parts::new(alloc);
-    let mut rest = behind_blanks(text);
+    let mut rest = after_blanks(text);
     while !rest.is_empty() {
-        let (term, behind) = part_at(alloc, &parts, rest)?;
+        let (term, tail) = part_at(alloc, &parts, rest)?;
         parts.add(term)?;
-        rest = behind_blanks(behind);
+        rest = after_blanks(tail);
     }
     Ok(parts)
 }

@@ -3,7 +3,7 @@
 ghost use Rattle.std.specs.Prelude.{◌≡◌, option_map};
 ghost use Rattle.match_rule.specs.Bytes.{begins_with};
 ghost use Rattle.match_rule.specs.Grammar.{is_blank, apostrophe};
-ghost use Rattle.match_rule.specs.Reading.{behind_blanks, word_at};
+ghost use Rattle.match_rule.specs.Reading.{after_blanks, word_at};
 
 fn is_blank(byte: u8) -> bool
     ensures { result ≡ is_blank byte }
@@ -22,8 +22,8 @@ pub(crate) fn begins_with_apostrophe(bytes: &[u8]) -> bool
 }
 
 /// The bytes without the blanks in front.
-pub(crate) fn behind_blanks(bytes: &[u8]) -> &[u8]
-    ensures { result.now ≡ behind_blanks bytes.now }
+pub(crate) fn after_blanks(bytes: &[u8]) -> &[u8]
+    ensures { result.now ≡ after_blanks bytes.now }
 {
     for (i, byte) in bytes.iter().enumerate() {
         if !is_blank(*byte) {

@@ -15,7 +15,7 @@ use Rattle.message_view.specs.Message.{Field}
 use Rattle.message_view.specs.Spelling.{field_value_place, field_bytes}
 use Rattle.message_view.specs.Valid.{IsField}
 use Rattle.message_build.specs.declared.kept_fields.Begun.{Begun}
-use Rattle.message_build.specs.StampWords.{IsBehind, LiesAt, begun_at}
+use Rattle.message_build.specs.StampWords.{IsAfter, LiesAt, begun_at}
 use Rattle.message_build.proofs.MovedFields.{field_spelled}
 
 abbrev pub begun : ℕ → ℕ → Begun
@@ -66,8 +66,8 @@ field_between order array a field more l =
     let whole = field_spelled order a.place field in
     let len : a.place + length (field_bytes order a.place field) - aligned 8 a.place ≡ length bare = omega (arith, ap (λ (x : List ℕ). length x) whole, length-append pad bare, length-zeros (padding 8 a.place)) in
     let rest : drop a.place array ≡ pad ++ (bare ++ more) = l.within ∙ l.rest ∙ ap (λ (x : List ℕ). x ++ more) whole ∙ append_assoc pad bare more in
-    let behind : drop (aligned 8 a.place) array ≡ bare ++ more = sym (dropped array a.place (padding 8 a.place)) ∙ ap (drop (padding 8 a.place)) rest ∙ drop_at pad (bare ++ more) (padding 8 a.place) (length-zeros (padding 8 a.place)) in
-    ap (λ (n : ℕ). take n (drop (aligned 8 a.place) array)) len ∙ ap (take (length bare)) behind ∙ take_at bare more (length bare) refl
+    let tail : drop (aligned 8 a.place) array ≡ bare ++ more = sym (dropped array a.place (padding 8 a.place)) ∙ ap (drop (padding 8 a.place)) rest ∙ drop_at pad (bare ++ more) (padding 8 a.place) (length-zeros (padding 8 a.place)) in
+    ap (λ (n : ℕ). take n (drop (aligned 8 a.place) array)) len ∙ ap (take (length bare)) tail ∙ take_at bare more (length bare) refl
   where
     dropped : (xs : List ℕ) (m n : ℕ) → drop n (drop m xs) ≡ drop (m + n) xs
     dropped xs m n = simp drop-drop
@@ -92,7 +92,7 @@ pub record Went (order : Order) (array : List ℕ) (a : At) (field : Field) (mor
   pub lies : LiesAt order array a field more
   pub code : x.code ≡ field.code
   pub start : x.place ≡ aligned 8 a.place
-  pub behind : IsBehind order a field more b
+  pub tail : IsAfter order a field more b
 
 pub went : (order : Order) (array : List ℕ) (a : At) (field : Field) (more : List ℕ) (x : Begun) (b : At) → LiesAt order array a field more → begun_at order a ≡ Ok (x, b) → Went order array a field more x b
 went order array a field more x b l e =
@@ -103,20 +103,20 @@ went order array a field more x b l e =
       lies = l;
       code = ap (λ (r : Begun × At). r.0.code) same;
       start = ap (λ (r : Begun × At). r.0.place) same;
-      behind = record { place = ap (λ (r : Begun × At). r.1.place) same; rest = ap (λ (r : Begun × At). r.1.rest) same };
+      tail = record { place = ap (λ (r : Begun × At). r.1.place) same; rest = ap (λ (r : Begun × At). r.1.rest) same };
     }
 
 pub went_fits : (order : Order) (array : List ℕ) (a : At) (field : Field) (more : List ℕ) (x : Begun) (b : At) (to : ℕ) → Went order array a field more x b → to ≡ b.place → (x.place ≤ to) × (to ≤ length array)
 went_fits order array a field more x b to w is =
     let within = field_within order array a field more w.lies in
     let start = w.start in
-    let end = w.behind.place in
+    let end = w.tail.place in
     (omega (arith, within.0, start, end), omega (arith, within.1, end))
 
 pub went_between : (order : Order) (array : List ℕ) (a : At) (field : Field) (more : List ℕ) (x : Begun) (b : At) (to : ℕ) → Went order array a field more x b → to ≡ b.place → take (to - x.place) (drop x.place array) ≡ field_bytes order 0 field
 went_between order array a field more x b to w is =
     let end = a.place + length (field_bytes order a.place field) in
-    let last : to ≡ end = is ∙ w.behind.place in
+    let last : to ≡ end = is ∙ w.tail.place in
     ap (λ (n : ℕ). take (n - x.place) (drop x.place array)) last
     ∙ ap (λ (n : ℕ). take (end - n) (drop n array)) w.start
     ∙ field_between order array a field more w.lies

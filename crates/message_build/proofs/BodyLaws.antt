@@ -23,12 +23,12 @@ no_bytes [] e = refl
 no_bytes (x ∷ xs) e = absurd (omega arith)
 
 -- what was read to its end is a body
-pub read_body : (types : DataTypes) (s body : List ℕ) (outside : MsgError) (values : Values) (behind : At) → SigText types s → IsBytes body → length body < 2 ^ 32
-    → members_at (value_at max_levels Little) types (at 0 body outside) ≡ Ok (values, behind) → length behind.rest ≡ 0 → IsBody s body
-read_body types s body outside values behind typed bytes few e end =
-    let t = members_takes max_levels Little types (at 0 body outside) (values, behind) bytes e in
+pub read_body : (types : DataTypes) (s body : List ℕ) (outside : MsgError) (values : Values) (tail : At) → SigText types s → IsBytes body → length body < 2 ^ 32
+    → members_at (value_at max_levels Little) types (at 0 body outside) ≡ Ok (values, tail) → length tail.rest ≡ 0 → IsBody s body
+read_body types s body outside values tail typed bytes few e end =
+    let t = members_takes max_levels Little types (at 0 body outside) (values, tail) bytes e in
     let whole = members_bytes Little 0 types values in
-    let is : body ≡ whole = t.0.parts ∙ ap (λ (l : List ℕ). whole ++ l) (no_bytes behind.rest end) ∙ append_nothing whole in
+    let is : body ≡ whole = t.0.parts ∙ ap (λ (l : List ℕ). whole ++ l) (no_bytes tail.rest end) ∙ append_nothing whole in
     (types, values, record { typed = typed; fit = t.1; spelled = is; counted = few })
 
 -- a body is read to its end
@@ -42,11 +42,11 @@ body_read types s body outside typed b =
     ap (λ (l : List ℕ). members_at (value_at max_levels Little) types (at 0 l outside)) whole ∙ members_again max_levels Little types 0 outside b.1 [] fit
 
 -- where it ends
-pub body_ends : (types : DataTypes) (s body : List ℕ) (outside : MsgError) (values : Values) (behind : At) → SigText types s → IsBody s body
-    → members_at (value_at max_levels Little) types (at 0 body outside) ≡ Ok (values, behind) → length behind.rest ≡ 0
-body_ends types s body outside values behind typed b e =
+pub body_ends : (types : DataTypes) (s body : List ℕ) (outside : MsgError) (values : Values) (tail : At) → SigText types s → IsBody s body
+    → members_at (value_at max_levels Little) types (at 0 body outside) ≡ Ok (values, tail) → length tail.rest ≡ 0
+body_ends types s body outside values tail typed b e =
     let last : At = at (0 + length (members_bytes Little 0 types b.1)) [] outside in
-    let x : Values × At = (values, behind) in
+    let x : Values × At = (values, tail) in
     let y : Values × At = (b.1, last) in
     let same : x ≡ y = ok_is x y (sym e ∙ body_read types s body outside typed b) in
     ap (λ (r : Values × At). length r.1.rest) same

@@ -29,10 +29,10 @@ four_set xs at a b c d le =
     let e2 : set (set (set xs at a) (at + 1) b) (at + 2) c ≡ front ++ set (set (set ys 0 a) 1 b) 2 c = ap (λ (l : List ℕ). set l (at + 2) c) e1 ∙ set_at front (set (set ys 0 a) 1 b) 2 (at + 2) c (omega (arith, len)) in
     ap (λ (l : List ℕ). set l (at + 3) d) e2 ∙ set_at front (set (set (set ys 0 a) 1 b) 2 c) 3 (at + 3) d (omega (arith, len))
     ∙ ap (λ (l : List ℕ). front ++ l) (first_four ys a b c d long)
-    ∙ ap (λ (l : List ℕ). front ++ a ∷ b ∷ c ∷ d ∷ l) (behind xs at)
+    ∙ ap (λ (l : List ℕ). front ++ a ∷ b ∷ c ∷ d ∷ l) (tail xs at)
   where
-    behind : (xs : List ℕ) (at : ℕ) → drop 4 (drop at xs) ≡ drop (at + 4) xs
-    behind xs at = simp drop-drop
+    tail : (xs : List ℕ) (at : ℕ) → drop 4 (drop at xs) ≡ drop (at + 4) xs
+    tail xs at = simp drop-drop
 
 -- a list of four
 pub four_bytes : (xs : List ℕ) → length xs ≡ 4 → xs ≡ get_or xs 0 0 ∷ get_or xs 1 0 ∷ get_or xs 2 0 ∷ get_or xs 3 0 ∷ []

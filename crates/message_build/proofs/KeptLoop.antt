@@ -11,7 +11,7 @@ use Rattle.message_view.specs.Spelling.{field_bytes, fields_bytes}
 use Rattle.message_view.specs.Valid.{AreFields}
 use Rattle.message_build.specs.declared.kept_fields.Found.{Found}
 use Rattle.message_build.specs.Stamped.{is_kept}
-use Rattle.message_build.specs.StampWords.{IsFound, IsBehind, LiesAt, is_kept_code, kept_bytes}
+use Rattle.message_build.specs.StampWords.{IsFound, IsAfter, LiesAt, is_kept_code, kept_bytes}
 use Rattle.message_build.proofs.MovedFields.{field_spelled}
 
 -- the fields that are left lie in the array, and what is written with those of them that are kept is the whole
@@ -49,7 +49,7 @@ written_more order bytes f fs found is = go (is_kept_code found.code) (ap is_kep
 -- what a search for the next field says
 pub record Says (order : Order) (array : List ℕ) (a b : At) (answer : Option Found) : Type 0 where
   pub found : (field : Field) (more : List ℕ) → LiesAt order array a field more → IsFound answer order field
-  pub behind : (field : Field) (more : List ℕ) → LiesAt order array a field more → IsBehind order a field more b
+  pub tail : (field : Field) (more : List ℕ) → LiesAt order array a field more → IsAfter order a field more b
 
 lies : (order : Order) (array : List ℕ) (a : At) (f : Field) (fs : List Field) → AreFields order a.place (f ∷ fs) → a.rest ≡ fields_bytes order a.place (f ∷ fs) → drop a.place array ≡ a.rest
     → LiesAt order array a f (fields_bytes order (a.place + length (field_bytes order a.place f)) fs)
@@ -65,13 +65,13 @@ goes_on order array a b bytes added whole found left fewer says is = go left.fie
         let first = field_bytes order a.place f in
         let place = a.place + length first in
         let l = lies order array a f fs are rest left.within in
-        let behind = says.behind f (fields_bytes order place fs) l in
+        let tail = says.tail f (fields_bytes order place fs) l in
         let dropped : drop place array ≡ fields_bytes order place fs = sym (twice array a.place (length first)) ∙ ap (drop (length first)) (left.within ∙ rest) ∙ drop_at first (fields_bytes order place fs) (length first) refl in
         record {
           fields = fs;
-          are = subst (λ (k : ℕ). AreFields order k fs) (sym behind.place) are.2;
-          rest = behind.rest ∙ ap (λ (k : ℕ). fields_bytes order k fs) (sym behind.place);
-          within = ap (λ (k : ℕ). drop k array) behind.place ∙ dropped ∙ sym behind.rest;
+          are = subst (λ (k : ℕ). AreFields order k fs) (sym tail.place) are.2;
+          rest = tail.rest ∙ ap (λ (k : ℕ). fields_bytes order k fs) (sym tail.place);
+          within = ap (λ (k : ℕ). drop k array) tail.place ∙ dropped ∙ sym tail.rest;
           written = ap (λ (x : List ℕ). x ++ fields_bytes order (length x) (filter is_kept fs)) is ∙ written_more order bytes f fs found (says.found f (fields_bytes order place fs) l) ∙ written;
         }
       where

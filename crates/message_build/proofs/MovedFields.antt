@@ -3,7 +3,7 @@ use Rattle.std.proofs.Common.{◌≡◌, ℕ, ◌+◌, ◌-◌, ◌%◌, List, [
 use Rattle.signature.specs.Alignment.{alignment_of}
 use Rattle.message_value.specs.declared.order.Order.{Order}
 use Rattle.message_value.specs.Spelling.{padding, aligned, zeros}
-use Rattle.message_value.proofs.MovedValues.{Alike, Alike-plus, aligned_alike, behind_alike, value_moved, bare_fits_moved}
+use Rattle.message_value.proofs.MovedValues.{Alike, Alike-plus, aligned_alike, after_alike, value_moved, bare_fits_moved}
 use Rattle.message_view.specs.Message.{Field}
 use Rattle.message_view.specs.Spelling.{field_front, field_value_place, field_bytes, fields_bytes}
 use Rattle.message_view.specs.Valid.{IsField}
@@ -35,7 +35,7 @@ fields_moved order p q s (f ∷ fs) =
     let a = field_bytes order p f in
     let b = field_bytes order q f in
     let first : a ≡ b = field_spelled order p f ∙ ap (λ (n : ℕ). zeros n ++ field_bytes order 0 f) (padding_8 p q s) ∙ sym (field_spelled order q f) in
-    ap (λ (x : List ℕ). a ++ x) (fields_moved order (p + length a) (q + length b) (behind_alike p q a b s first) fs) ∙ ap (λ (x : List ℕ). x ++ fields_bytes order (q + length b) fs) first
+    ap (λ (x : List ℕ). a ++ x) (fields_moved order (p + length a) (q + length b) (after_alike p q a b s first) fs) ∙ ap (λ (x : List ℕ). x ++ fields_bytes order (q + length b) fs) first
   where
     padding_8 : (p q : ℕ) → Alike p q → padding 8 p ≡ padding 8 q
     padding_8 p q s = ap (λ (r : ℕ). (8 - r) % 8) s.is

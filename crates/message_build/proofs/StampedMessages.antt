@@ -30,8 +30,8 @@ word_replaced : (a w v all whole : List ℕ) → length a ≡ 12 → length w �
 word_replaced a w v all whole twelve four is =
     let front : take 12 whole ≡ a = ap (take 12) is ∙ take_at a (w ++ all) 12 twelve in
     let sixteen : length (a ++ w) ≡ 16 = omega (arith, length-append a w) in
-    let behind : drop 16 whole ≡ all = ap (drop 16) (is ∙ sym (append_assoc a w all)) ∙ drop_at (a ++ w) all 16 sixteen in
-    ap (λ (l : List ℕ). l ++ (v ++ drop 16 whole)) front ∙ ap (λ (l : List ℕ). a ++ (v ++ l)) behind
+    let tail : drop 16 whole ≡ all = ap (drop 16) (is ∙ sym (append_assoc a w all)) ∙ drop_at (a ++ w) all 16 sixteen in
+    ap (λ (l : List ℕ). l ++ (v ++ drop 16 whole)) front ∙ ap (λ (l : List ℕ). a ++ (v ++ l)) tail
 
 -- the first twelve bytes
 abbrev first_bytes : Order → Header → ℕ → List ℕ

@@ -46,9 +46,9 @@ pub record LiesAt (order : Order) (array : List ℕ) (at : At) (field : Field) (
   pub within : drop at.place array ≡ at.rest
 
 -- the place after a field
-pub record IsBehind (order : Order) (at : At) (field : Field) (more : List ℕ) (behind : At) : Type 0 where
-  pub place : behind.place ≡ at.place + length (field_bytes order at.place field)
-  pub rest : behind.rest ≡ more
+pub record IsAfter (order : Order) (at : At) (field : Field) (more : List ℕ) (tail : At) : Type 0 where
+  pub place : tail.place ≡ at.place + length (field_bytes order at.place field)
+  pub rest : tail.rest ≡ more
 
 -- what is copied of a field to a place: it with the zeros before it, or nothing
 abbrev pub kept_bytes : ℕ → Found → List ℕ

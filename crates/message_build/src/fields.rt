@@ -13,7 +13,7 @@ use std::alloc::AllocError;
 pub(crate) const FIXED_LEN: usize = 16;
 
 /// Where a field ends that begins at a place, if there is one; `None` where it is longer than an array may be.
-fn end_behind(place: usize, field: &Option<HeaderField<'_>>) -> Option<usize>
+fn field_end(place: usize, field: &Option<HeaderField<'_>>) -> Option<usize>
     requires low { fixed_len ≤ place }
     requires high { place ≤ fixed_len + max_array_len }
     ensures { EndsWithin result place (length (bytes_at place field.now)) }
@@ -37,7 +37,7 @@ pub(crate) fn fields_end(fields: &[Option<HeaderField<'_>>]) -> Option<usize>
 {
     let mut end = FIXED_LEN;
     for field in fields {
-        end = end_behind(end, field)?;
+        end = field_end(end, field)?;
     }
     Some(end)
 }

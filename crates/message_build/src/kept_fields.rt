@@ -6,7 +6,7 @@ ghost use Rattle.message_view.specs.Message.{Field};
 ghost use Rattle.message_view.specs.Spelling.{fields_bytes};
 ghost use Rattle.message_view.specs.Valid.{AreFields};
 ghost use Rattle.message_build.specs.Stamped.{is_kept};
-ghost use Rattle.message_build.specs.StampWords.{begun_at, is_kept_code, kept_bytes, IsFound, IsBehind, LiesAt};
+ghost use Rattle.message_build.specs.StampWords.{begun_at, is_kept_code, kept_bytes, IsFound, IsAfter, LiesAt};
 ghost use Rattle.message_build.specs.Words.{Appends};
 
 use crate::appending::align;
@@ -55,7 +55,7 @@ pub(crate) fn between(bytes: &[u8], from: usize, to: usize) -> Option<&[u8]>
 fn next_field<'a>(array: &'a [u8], cursor: &mut Cursor<'_>, order: Order) -> Option<Found<'a>>
     ensures shorter { IfSome result (λ _. length cursor.new.rest < length cursor.old.rest) }
     ensures found { (field : Field) (more : List ℕ) → LiesAt order array.entry.now cursor.old field more → IsFound result order field }
-    ensures behind { (field : Field) (more : List ℕ) → LiesAt order array.entry.now cursor.old field more → IsBehind order cursor.old field more cursor.new }
+    ensures tail { (field : Field) (more : List ℕ) → LiesAt order array.entry.now cursor.old field more → IsAfter order cursor.old field more cursor.new }
 {
     match skip_field(cursor, order) {
         Ok(begun) => {

@@ -28,16 +28,16 @@ turn : {X : Type 0} (turns : ℕ) (reader : At → Result (X × At) MsgError) (a
 turn zero reader at enough some = absurd (let none : (length at.rest == 0) ≡ true = eq-eqb _ _ (omega arith) in cc)
 turn (suc before) reader at enough some = (before, refl, rw some refl)
 
-behind_first : {X : Type 0} (first : X) (r whole : Result (List X) MsgError) → Follows (r >>= λ more. Ok (first ∷ more)) whole → Follows r whole
-behind_first first (Ok more) whole h = h
-behind_first first (Err fault) whole h = h
+after_first : {X : Type 0} (first : X) (r whole : Result (List X) MsgError) → Follows (r >>= λ more. Ok (first ∷ more)) whole → Follows r whole
+after_first first (Ok more) whole h = h
+after_first first (Err fault) whole h = h
 
-pub goes_on : {X : Type 0} (reader : At → Result (X × At) MsgError) (at behind : At) (whole : Result (List X) MsgError) → Left reader at whole → (length at.rest == 0) ≡ false
-    → (first : X) × (reader at ≡ Ok (first, behind)) → length behind.rest < length at.rest → Left reader behind whole
-goes_on reader at behind whole left some next shorter =
+pub goes_on : {X : Type 0} (reader : At → Result (X × At) MsgError) (at tail : At) (whole : Result (List X) MsgError) → Left reader at whole → (length at.rest == 0) ≡ false
+    → (first : X) × (reader at ≡ Ok (first, tail)) → length tail.rest < length at.rest → Left reader tail whole
+goes_on reader at tail whole left some next shorter =
     let t = turn left.turns reader at left.enough some in
-    let one : each_at reader left.turns at ≡ (each_at reader t.0 behind >>= λ more. Ok (next.0 ∷ more)) = t.2 ∙ rw next.1 refl in
-    record { turns = t.0; enough = omega arith; same = behind_first next.0 (each_at reader t.0 behind) whole (rw one at left.same) }
+    let one : each_at reader left.turns at ≡ (each_at reader t.0 tail >>= λ more. Ok (next.0 ∷ more)) = t.2 ∙ rw next.1 refl in
+    record { turns = t.0; enough = omega arith; same = after_first next.0 (each_at reader t.0 tail) whole (rw one at left.same) }
 
 pub stops : {X : Type 0} (reader : At → Result (X × At) MsgError) (at : At) (whole : Result (List X) MsgError) (fault : MsgError) → Left reader at whole → (length at.rest == 0) ≡ false
     → reader at ≡ Err fault → whole ≡ Err fault

@@ -29,32 +29,32 @@ enough_turns {X = X} reader shorter (suc turns) more a le =
 -- ---- one turn, as a loop goes over the items
 
 -- the items up to the end, with as many turns as there are bytes
-abbrev pub each_behind : {X : Type 0} → (At → Result (X × At) MsgError) → At → Result (List X) MsgError
-each_behind reader a = each_at reader (length a.rest) a
+abbrev pub each_after : {X : Type 0} → (At → Result (X × At) MsgError) → At → Result (List X) MsgError
+each_after reader a = each_at reader (length a.rest) a
 
-pub behind_start : {X : Type 0} (reader : At → Result (X × At) MsgError) → ItemShorter reader → (turns : ℕ) (a : At) → length a.rest ≤ turns → each_at reader turns a ≡ each_behind reader a
-behind_start reader shorter turns a le =
+pub after_start : {X : Type 0} (reader : At → Result (X × At) MsgError) → ItemShorter reader → (turns : ℕ) (a : At) → length a.rest ≤ turns → each_at reader turns a ≡ each_after reader a
+after_start reader shorter turns a le =
     let more : turns ≡ length a.rest + (turns - length a.rest) = omega arith in
     ap (λ (k : ℕ). each_at reader k a) more ∙ enough_turns reader shorter (length a.rest) (turns - length a.rest) a (omega arith)
 
-pub behind_none : {X : Type 0} (reader : At → Result (X × At) MsgError) (a : At) → length a.rest ≡ 0 → each_behind reader a ≡ Ok []
-behind_none reader a e = nothing_left (length a.rest) reader a e
+pub after_none : {X : Type 0} (reader : At → Result (X × At) MsgError) (a : At) → length a.rest ≡ 0 → each_after reader a ≡ Ok []
+after_none reader a e = nothing_left (length a.rest) reader a e
 
 one_turn : {X : Type 0} (reader : At → Result (X × At) MsgError) (turns : ℕ) (a : At) → 0 < length a.rest → each_at reader (suc turns) a ≡ (reader a >>= λ first. each_at reader turns first.1 >>= λ more. Ok (first.0 ∷ more))
 one_turn reader turns a lt =
     let some : eqb (length a.rest) 0 ≡ false = ne_eqb _ _ (λ e. omega arith) in
     rw some refl
 
-behind_suc : {X : Type 0} (reader : At → Result (X × At) MsgError) (a : At) → 0 < length a.rest → each_behind reader a ≡ (reader a >>= λ first. each_at reader (length a.rest - 1) first.1 >>= λ more. Ok (first.0 ∷ more))
-behind_suc reader a lt =
+after_suc : {X : Type 0} (reader : At → Result (X × At) MsgError) (a : At) → 0 < length a.rest → each_after reader a ≡ (reader a >>= λ first. each_at reader (length a.rest - 1) first.1 >>= λ more. Ok (first.0 ∷ more))
+after_suc reader a lt =
     let is : length a.rest ≡ suc (length a.rest - 1) = omega arith in
     ap (λ (k : ℕ). each_at reader k a) is ∙ one_turn reader (length a.rest - 1) a lt
 
 -- one item, and those after it
-pub behind_one : {X : Type 0} (reader : At → Result (X × At) MsgError) → ItemShorter reader → (a : At) (found : X × At) → 0 < length a.rest → reader a ≡ Ok found → each_behind reader a ≡ (each_behind reader found.1 >>= λ more. Ok (found.0 ∷ more))
-behind_one reader shorter a found lt e =
+pub after_one : {X : Type 0} (reader : At → Result (X × At) MsgError) → ItemShorter reader → (a : At) (found : X × At) → 0 < length a.rest → reader a ≡ Ok found → each_after reader a ≡ (each_after reader found.1 >>= λ more. Ok (found.0 ∷ more))
+after_one reader shorter a found lt e =
     let less = shorter a found e in
-    behind_suc reader a lt ∙ rw (e, behind_start reader shorter (length a.rest - 1) found.1 (omega (arith, less))) refl
+    after_suc reader a lt ∙ rw (e, after_start reader shorter (length a.rest - 1) found.1 (omega (arith, less))) refl
 
-pub behind_fault : {X : Type 0} (reader : At → Result (X × At) MsgError) (a : At) (fault : MsgError) → 0 < length a.rest → reader a ≡ Err fault → each_behind reader a ≡ Err fault
-behind_fault reader a fault lt e = behind_suc reader a lt ∙ rw e refl
+pub after_fault : {X : Type 0} (reader : At → Result (X × At) MsgError) (a : At) (fault : MsgError) → 0 < length a.rest → reader a ≡ Err fault → each_after reader a ≡ Err fault
+after_fault reader a fault lt e = after_suc reader a lt ∙ rw e refl

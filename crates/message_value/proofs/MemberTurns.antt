@@ -27,12 +27,12 @@ all_members texts reader at types is fit = record { types = types; spelled = is;
 pub record NextMember (text : List ℕ) (after : List (List ℕ)) (reader : Reader) (at : At) (whole : Result (Values × At) MsgError) : Type 0 where
   pub type : DataType
   pub spelled : TypeText type text
-  pub on : (behind : At) → (value : Value) × (reader type at ≡ Ok (value, behind)) → MembersLeft after reader behind whole
+  pub on : (tail : At) → (value : Value) × (reader type at ≡ Ok (value, tail)) → MembersLeft after reader tail whole
   pub fails : (fault : MsgError) → reader type at ≡ Err fault → whole ≡ Err fault
 
-behind_first : (first : Value) (r whole : Result (Values × At) MsgError) → Ends (r >>= λ more. Ok (one_value first more.0, more.1)) whole → Ends r whole
-behind_first first (Ok more) whole h = h
-behind_first first (Err fault) whole h = h
+after_first : (first : Value) (r whole : Result (Values × At) MsgError) → Ends (r >>= λ more. Ok (one_value first more.0, more.1)) whole → Ends r whole
+after_first first (Ok more) whole h = h
+after_first first (Err fault) whole h = h
 
 pub next_member : (texts : List (List ℕ)) (text : List ℕ) (after : List (List ℕ)) (reader : Reader) (at : At) (whole : Result (Values × At) MsgError) → MembersLeft texts reader at whole → texts ≡ text ∷ after
     → NextMember text after reader at whole
@@ -43,9 +43,9 @@ next_member texts text after reader at whole left is = go left.types (sym is ∙
     go (one_more t ts) e fit same = record {
       type = t;
       spelled = record { spelled = cc; fits = fit.0 };
-      on = λ behind value.
-          let one : members_at reader (one_more t ts) at ≡ (members_at reader ts behind >>= λ more. Ok (one_value value.0 more.0, more.1)) = rw value.1 refl in
-          record { types = ts; spelled = cc; fit = fit.1; same = behind_first value.0 (members_at reader ts behind) whole (rw one at same) };
+      on = λ tail value.
+          let one : members_at reader (one_more t ts) at ≡ (members_at reader ts tail >>= λ more. Ok (one_value value.0 more.0, more.1)) = rw value.1 refl in
+          record { types = ts; spelled = cc; fit = fit.1; same = after_first value.0 (members_at reader ts tail) whole (rw one at same) };
       fails = λ fault failed.
           let one : members_at reader (one_more t ts) at ≡ Err fault = rw failed refl in
           rw one at same;

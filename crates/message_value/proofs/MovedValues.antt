@@ -63,8 +63,8 @@ aligned_alike p q s type =
     subst (λ (n : ℕ). Alike (aligned (alignment_of type) p) (q + n)) (padding_alike p q s type) (Alike-plus p q (padding (alignment_of type) p) s)
 
 -- after the same bytes
-pub behind_alike : (p q : ℕ) (a b : List ℕ) → Alike p q → a ≡ b → Alike (p + length a) (q + length b)
-behind_alike p q a b s e = subst (λ (x : List ℕ). Alike (p + length a) (q + length x)) e (Alike-plus p q (length a) s)
+pub after_alike : (p q : ℕ) (a b : List ℕ) → Alike p q → a ≡ b → Alike (p + length a) (q + length b)
+after_alike p q a b s e = subst (λ (x : List ℕ). Alike (p + length a) (q + length x)) e (Alike-plus p q (length a) s)
 
 -- ---- bytes
 
@@ -104,7 +104,7 @@ mutual
   elements_moved order p q s t no_values = refl
   elements_moved order p q s t (one_value v vs) =
       let e = padded_alike p q s t (λ at. bare_bytes order at t v) (bare_moved order (aligned (alignment_of t) p) (aligned (alignment_of t) q) (aligned_alike p q s t) t v) in
-      followed_alike p q (value_bytes order p t v) (value_bytes order q t v) (λ behind. elements_bytes order behind t vs) e (elements_moved order (p + length (value_bytes order p t v)) (q + length (value_bytes order q t v)) (behind_alike p q (value_bytes order p t v) (value_bytes order q t v) s e) t vs)
+      followed_alike p q (value_bytes order p t v) (value_bytes order q t v) (λ tail. elements_bytes order tail t vs) e (elements_moved order (p + length (value_bytes order p t v)) (q + length (value_bytes order q t v)) (after_alike p q (value_bytes order p t v) (value_bytes order q t v) s e) t vs)
 
   pub entries_moved : (order : Order) (p q : ℕ) → Alike p q → (k : ℕ) (v : DataType) (es : Entries) → entries_bytes order p k v es ≡ entries_bytes order q k v es
   entries_moved order p q s k v no_entries = refl
@@ -115,16 +115,16 @@ mutual
       let first = padded_alike a b start (basic k) (λ at. bare_bytes order at (basic k) key) (bare_moved order (aligned (alignment_of (basic k)) a) (aligned (alignment_of (basic k)) b) (aligned_alike a b start (basic k)) (basic k) key) in
       let c = a + length (value_bytes order a (basic k) key) in
       let d = b + length (value_bytes order b (basic k) key) in
-      let behind : Alike c d = behind_alike a b (value_bytes order a (basic k) key) (value_bytes order b (basic k) key) start first in
-      let second = padded_alike c d behind v (λ at. bare_bytes order at v value) (bare_moved order (aligned (alignment_of v) c) (aligned (alignment_of v) d) (aligned_alike c d behind v) v value) in
+      let tail : Alike c d = after_alike a b (value_bytes order a (basic k) key) (value_bytes order b (basic k) key) start first in
+      let second = padded_alike c d tail v (λ at. bare_bytes order at v value) (bare_moved order (aligned (alignment_of v) c) (aligned (alignment_of v) d) (aligned_alike c d tail v) v value) in
       let both = followed_alike a b (value_bytes order a (basic k) key) (value_bytes order b (basic k) key) (λ at. value_bytes order at v value) first second in
-      let e = padded_alike p q s an_entry (λ at. followed at (value_bytes order at (basic k) key) (λ behind. value_bytes order behind v value)) both in
-      followed_alike p q (entry_bytes order p k v key value) (entry_bytes order q k v key value) (λ at. entries_bytes order at k v es) e (entries_moved order (p + length (entry_bytes order p k v key value)) (q + length (entry_bytes order q k v key value)) (behind_alike p q (entry_bytes order p k v key value) (entry_bytes order q k v key value) s e) k v es)
+      let e = padded_alike p q s an_entry (λ at. followed at (value_bytes order at (basic k) key) (λ tail. value_bytes order tail v value)) both in
+      followed_alike p q (entry_bytes order p k v key value) (entry_bytes order q k v key value) (λ at. entries_bytes order at k v es) e (entries_moved order (p + length (entry_bytes order p k v key value)) (q + length (entry_bytes order q k v key value)) (after_alike p q (entry_bytes order p k v key value) (entry_bytes order q k v key value) s e) k v es)
 
   pub members_moved : (order : Order) (p q : ℕ) → Alike p q → (types : DataTypes) (vs : Values) → members_bytes order p types vs ≡ members_bytes order q types vs
   members_moved order p q s (one_more t ts) (one_value v vs) =
       let e = padded_alike p q s t (λ at. bare_bytes order at t v) (bare_moved order (aligned (alignment_of t) p) (aligned (alignment_of t) q) (aligned_alike p q s t) t v) in
-      followed_alike p q (value_bytes order p t v) (value_bytes order q t v) (λ behind. members_bytes order behind ts vs) e (members_moved order (p + length (value_bytes order p t v)) (q + length (value_bytes order q t v)) (behind_alike p q (value_bytes order p t v) (value_bytes order q t v) s e) ts vs)
+      followed_alike p q (value_bytes order p t v) (value_bytes order q t v) (λ tail. members_bytes order tail ts vs) e (members_moved order (p + length (value_bytes order p t v)) (q + length (value_bytes order q t v)) (after_alike p q (value_bytes order p t v) (value_bytes order q t v) s e) ts vs)
   members_moved order p q s _ _ = refl
 
 pub value_moved : (order : Order) (p q : ℕ) → Alike p q → (t : DataType) (v : Value) → value_bytes order p t v ≡ value_bytes order q t v
@@ -137,9 +137,9 @@ entry_moved order p q s k v key value =
     let b = aligned entry_alignment q in
     let start : Alike a b = aligned_alike p q s an_entry in
     let first = value_moved order a b start (basic k) key in
-    let behind = behind_alike a b (value_bytes order a (basic k) key) (value_bytes order b (basic k) key) start first in
-    let second = value_moved order (a + length (value_bytes order a (basic k) key)) (b + length (value_bytes order b (basic k) key)) behind v value in
-    padded_alike p q s an_entry (λ at. followed at (value_bytes order at (basic k) key) (λ behind. value_bytes order behind v value)) (followed_alike a b (value_bytes order a (basic k) key) (value_bytes order b (basic k) key) (λ at. value_bytes order at v value) first second)
+    let tail = after_alike a b (value_bytes order a (basic k) key) (value_bytes order b (basic k) key) start first in
+    let second = value_moved order (a + length (value_bytes order a (basic k) key)) (b + length (value_bytes order b (basic k) key)) tail v value in
+    padded_alike p q s an_entry (λ at. followed at (value_bytes order at (basic k) key) (λ tail. value_bytes order tail v value)) (followed_alike a b (value_bytes order a (basic k) key) (value_bytes order b (basic k) key) (λ at. value_bytes order at v value) first second)
 
 -- ---- what fits
 
@@ -169,7 +169,7 @@ mutual
   elements_fit_moved order levels p q s t (one_value v vs) has =
       let first = value_bytes order p t v in
       let moved = value_bytes order q t v in
-      (bare_fits_moved order levels (aligned (alignment_of t) p) (aligned (alignment_of t) q) (aligned_alike p q s t) t v has.0, elements_fit_moved order levels (p + length first) (q + length moved) (behind_alike p q first moved s (value_moved order p q s t v)) t vs has.1)
+      (bare_fits_moved order levels (aligned (alignment_of t) p) (aligned (alignment_of t) q) (aligned_alike p q s t) t v has.0, elements_fit_moved order levels (p + length first) (q + length moved) (after_alike p q first moved s (value_moved order p q s t v)) t vs has.1)
 
   pub entries_fit_moved : (order : Order) (levels p q : ℕ) → Alike p q → (k : ℕ) (v : DataType) (es : Entries) → EntriesFit order levels p k v es → EntriesFit order levels q k v es
   entries_fit_moved order levels p q s k v no_entries has = tt
@@ -179,12 +179,12 @@ mutual
       let start : Alike a b = aligned_alike p q s an_entry in
       let first = value_bytes order a (basic k) key in
       let moved = value_bytes order b (basic k) key in
-      let behind : Alike (a + length first) (b + length moved) = behind_alike a b first moved start (value_moved order a b start (basic k) key) in
+      let tail : Alike (a + length first) (b + length moved) = after_alike a b first moved start (value_moved order a b start (basic k) key) in
       let whole = entry_bytes order p k v key value in
       let other = entry_bytes order q k v key value in (
         bare_fits_moved order levels (aligned (alignment_of (basic k)) a) (aligned (alignment_of (basic k)) b) (aligned_alike a b start (basic k)) (basic k) key has.0,
-        bare_fits_moved order levels (aligned (alignment_of v) (a + length first)) (aligned (alignment_of v) (b + length moved)) (aligned_alike (a + length first) (b + length moved) behind v) v value has.1,
-        entries_fit_moved order levels (p + length whole) (q + length other) (behind_alike p q whole other s (entry_moved order p q s k v key value)) k v es has.2,
+        bare_fits_moved order levels (aligned (alignment_of v) (a + length first)) (aligned (alignment_of v) (b + length moved)) (aligned_alike (a + length first) (b + length moved) tail v) v value has.1,
+        entries_fit_moved order levels (p + length whole) (q + length other) (after_alike p q whole other s (entry_moved order p q s k v key value)) k v es has.2,
       )
 
   pub members_fit_moved : (order : Order) (levels p q : ℕ) → Alike p q → (types : DataTypes) (vs : Values) → MembersFit order levels p types vs → MembersFit order levels q types vs
@@ -192,7 +192,7 @@ mutual
   members_fit_moved order levels p q s (one_more t ts) (one_value v vs) has =
       let first = value_bytes order p t v in
       let moved = value_bytes order q t v in
-      (bare_fits_moved order levels (aligned (alignment_of t) p) (aligned (alignment_of t) q) (aligned_alike p q s t) t v has.0, members_fit_moved order levels (p + length first) (q + length moved) (behind_alike p q first moved s (value_moved order p q s t v)) ts vs has.1)
+      (bare_fits_moved order levels (aligned (alignment_of t) p) (aligned (alignment_of t) q) (aligned_alike p q s t) t v has.0, members_fit_moved order levels (p + length first) (q + length moved) (after_alike p q first moved s (value_moved order p q s t v)) ts vs has.1)
   members_fit_moved order levels p q s _ _ has = has
 
 -- ---- the same at a multiple of eight more

@@ -90,9 +90,9 @@ one_more_read : {X : Type 0} (result : Result X MsgError) (first : Value) (r : R
 one_more_read (Ok x) first r h = (first ∷ h.0, rw h.1 refl)
 one_more_read (Err fault) first r h = rw h refl
 
-some_step : (turns : ℕ) (reader : At → Result (Value × At) MsgError) (at behind : At) (first : Value) → (length at.rest == 0) ≡ false → reader at ≡ Ok (first, behind)
-    → each_at reader (suc turns) at ≡ (each_at reader turns behind >>= λ more. Ok (first ∷ more))
-some_step turns reader at behind first some e = rw (some, e) refl
+some_step : (turns : ℕ) (reader : At → Result (Value × At) MsgError) (at tail : At) (first : Value) → (length at.rest == 0) ≡ false → reader at ≡ Ok (first, tail)
+    → each_at reader (suc turns) at ≡ (each_at reader turns tail >>= λ more. Ok (first ∷ more))
+some_step turns reader at tail first some e = rw (some, e) refl
 
 no_step : (turns : ℕ) (reader : At → Result (Value × At) MsgError) (at : At) (fault : MsgError) → (length at.rest == 0) ≡ false → reader at ≡ Err fault → each_at reader (suc turns) at ≡ Err fault
 no_step turns reader at fault some e = rw (some, e) refl
@@ -151,10 +151,10 @@ pub record Inside (a : ℕ) (inner : At) : Type 0 where
   pub place : inner.place % a ≡ 0
   pub outside : inner.outside ≡ faults.ArrayLength
 
-pub extent_inside : (order : Order) (a : ℕ) (at inner behind : At) → 0 < a → extent_at order a at ≡ Ok (inner, behind) → Inside a inner
+pub extent_inside : (order : Order) (a : ℕ) (at inner tail : At) → 0 < a → extent_at order a at ≡ Ok (inner, tail) → Inside a inner
 unfolding extent_at
-extent_inside order a at inner behind some e =
-    let found : At × At = (inner, behind) in
+extent_inside order a at inner tail some e =
+    let found : At × At = (inner, tail) in
     let w = bind_ok (word_at order at) (λ len. within_limit len.0 len.1 >>= λ b. aligned_at a b >>= λ start. item_at len.0 start >>= λ bytes. Ok (inside start.place bytes.0, bytes.1)) found e in
     let l = bind_ok (within_limit w.0.0 w.0.1) (λ b. aligned_at a b >>= λ start. item_at w.0.0 start >>= λ bytes. Ok (inside start.place bytes.0, bytes.1)) found w.2 in
     let s = bind_ok (aligned_at a l.0) (λ start. item_at w.0.0 start >>= λ bytes. Ok (inside start.place bytes.0, bytes.1)) found l.2 in
@@ -172,14 +172,14 @@ numbers_some len (array t) are = absurd are
 numbers_some len (dict k v) are = absurd are
 numbers_some len (struct t ts) are = absurd are
 
-pub numbers_checked : {X : Type 0} (result : Result X MsgError) (levels : ℕ) (order : Order) (type : DataType) (len alignment : ℕ) (at inner behind : At) → AreNumbers len type → alignment ≡ alignment_of type → 0 < alignment
-    → extent_at order alignment at ≡ Ok (inner, behind) → Divides (length inner.rest % len == 0) result → ChecksAll result (each_at (value_at levels order type) (length inner.rest) inner)
-numbers_checked result levels order (basic code) len alignment at inner behind are same some e h =
-    let i = extent_inside order alignment at inner behind some e in
+pub numbers_checked : {X : Type 0} (result : Result X MsgError) (levels : ℕ) (order : Order) (type : DataType) (len alignment : ℕ) (at inner tail : At) → AreNumbers len type → alignment ≡ alignment_of type → 0 < alignment
+    → extent_at order alignment at ≡ Ok (inner, tail) → Divides (length inner.rest % len == 0) result → ChecksAll result (each_at (value_at levels order type) (length inner.rest) inner)
+numbers_checked result levels order (basic code) len alignment at inner tail are same some e h =
+    let i = extent_inside order alignment at inner tail some e in
     let width : alignment ≡ len = same ∙ number_aligned code are.0 ∙ are.2 in
     let here : inner.place % len ≡ 0 = rw width at i.place in
     numbers_read result levels order code len are (numbers_some len (basic code) are) (length inner.rest) inner (omega arith) here i.outside h
-numbers_checked result levels order variant len alignment at inner behind are same some e h = absurd are
-numbers_checked result levels order (array t) len alignment at inner behind are same some e h = absurd are
-numbers_checked result levels order (dict k v) len alignment at inner behind are same some e h = absurd are
-numbers_checked result levels order (struct t ts) len alignment at inner behind are same some e h = absurd are
+numbers_checked result levels order variant len alignment at inner tail are same some e h = absurd are
+numbers_checked result levels order (array t) len alignment at inner tail are same some e h = absurd are
+numbers_checked result levels order (dict k v) len alignment at inner tail are same some e h = absurd are
+numbers_checked result levels order (struct t ts) len alignment at inner tail are same some e h = absurd are

@@ -17,7 +17,7 @@ use Rattle.message_value.proofs.ReadItems.{at, Takes, Takes-then, Takes-as, Take
 
 abbrev pub each_bytes : {X : Type 0} → (ℕ → X → List ℕ) → ℕ → List X → List ℕ
 each_bytes bytes place [] = []
-each_bytes bytes place (x ∷ xs) = followed place (bytes place x) (λ behind. each_bytes bytes behind xs)
+each_bytes bytes place (x ∷ xs) = followed place (bytes place x) (λ tail. each_bytes bytes tail xs)
 
 abbrev pub EachFits : {X : Type 0} → (ℕ → X → List ℕ) → (ℕ → X → Type 0) → ℕ → List X → Type 0
 EachFits bytes Fits place [] = Unit {0}
@@ -79,8 +79,8 @@ each_again reader bytes Fits again pos (suc turns) place outside (x ∷ xs) fit 
 
 -- ---- the extent of an array
 
-pub record Extends (order : Order) (alignment : ℕ) (a : At) (first behind : At) : Type 0 where
-  pub takes : Takes a (array_bytes order alignment a.place first.rest) behind
+pub record Extends (order : Order) (alignment : ℕ) (a : At) (first tail : At) : Type 0 where
+  pub takes : Takes a (array_bytes order alignment a.place first.rest) tail
   pub place : first.place ≡ elements_place alignment a.place
   pub short : length first.rest ≤ max_array_len
   pub fits : IsBytes first.rest
@@ -98,8 +98,8 @@ extent_of order alignment len a w s bytes b first skipped start item is short ar
 pub extent_takes : (order : Order) (alignment : ℕ) (a : At) (found : At × At) → IsBytes a.rest → extent_at order alignment a ≡ Ok found → Extends order alignment a found.0 found.1
 unfolding extent_at
 extent_takes order alignment a found fits e =
-    let n = bind_ok (word_at order a) (λ len. within_limit len.0 len.1 >>= λ behind. aligned_at alignment behind >>= λ start. item_at len.0 start >>= λ bytes. Ok (inside start.place bytes.0, bytes.1)) found e in
-    let w = bind_ok (within_limit n.0.0 n.0.1) (λ behind. aligned_at alignment behind >>= λ start. item_at n.0.0 start >>= λ bytes. Ok (inside start.place bytes.0, bytes.1)) found n.2 in
+    let n = bind_ok (word_at order a) (λ len. within_limit len.0 len.1 >>= λ tail. aligned_at alignment tail >>= λ start. item_at len.0 start >>= λ bytes. Ok (inside start.place bytes.0, bytes.1)) found e in
+    let w = bind_ok (within_limit n.0.0 n.0.1) (λ tail. aligned_at alignment tail >>= λ start. item_at n.0.0 start >>= λ bytes. Ok (inside start.place bytes.0, bytes.1)) found n.2 in
     let s = bind_ok (aligned_at alignment w.0) (λ start. item_at n.0.0 start >>= λ bytes. Ok (inside start.place bytes.0, bytes.1)) found w.2 in
     let b = bind_ok (item_at n.0.0 s.0) (λ bytes. Ok (inside s.0.place bytes.0, bytes.1)) found s.2 in
     let limit = guard_ok (ltb max_array_len n.0.0) faults.ArrayLength n.0.1 w.0 w.1 in

@@ -16,11 +16,11 @@ abbrev pub at : ℕ → List ℕ → MsgError → At
 at place rest outside = record { place = place; rest = rest; outside = outside }
 
 -- what a reader took from the front
-pub record Takes (before : At) (text : List ℕ) (behind : At) : Type 0 where
-  pub parts : before.rest ≡ text ++ behind.rest
-  pub place : behind.place ≡ before.place + length text
-  pub outside : behind.outside ≡ before.outside
-  pub fits : IsBytes before.rest → IsBytes behind.rest
+pub record Takes (before : At) (text : List ℕ) (tail : At) : Type 0 where
+  pub parts : before.rest ≡ text ++ tail.rest
+  pub place : tail.place ≡ before.place + length text
+  pub outside : tail.outside ≡ before.outside
+  pub fits : IsBytes before.rest → IsBytes tail.rest
 
 -- what is left after it
 pub Takes-leaves : (a : At) (taken : List ℕ) (b : At) → Takes a taken b → length taken + length b.rest ≡ length a.rest
@@ -36,7 +36,7 @@ Takes-then a x b y c p q = record {
 
 -- the same text, and the same place after it
 pub Takes-as : (a : At) (x y : List ℕ) (b c : At) → Takes a x b → x ≡ y → b ≡ c → Takes a y c
-Takes-as a x y b c t text behind = subst (λ (z : List ℕ). Takes a z c) text (subst (λ (z : At). Takes a x z) behind t)
+Takes-as a x y b c t text tail = subst (λ (z : List ℕ). Takes a z c) text (subst (λ (z : At). Takes a x z) tail t)
 
 pub Takes-nothing : (a : At) → Takes a [] a
 Takes-nothing a = record { parts = refl; place = omega arith; outside = refl; fits = λ h. h }

@@ -22,7 +22,7 @@ Takes_least least before (Ok found) = length found.1.rest + least ≤ before
 Takes_least least before (Err fault) = Unit {0}
 
 abbrev Leaves_most : ℕ → Result At MsgError → Type 0
-Leaves_most before (Ok behind) = length behind.rest ≤ before
+Leaves_most before (Ok tail) = length tail.rest ≤ before
 Leaves_most before (Err fault) = Unit {0}
 
 fewer : {A : Type 0} (least less before more : ℕ) (r : Result (A × At) MsgError) → less ≤ least → before ≤ more → Takes_least least before r → Takes_least less more r
@@ -40,10 +40,10 @@ then least less before (Ok x) f h k = both (f x) (k x)
 then least less before (Err fault) f h k = tt
 
 -- a first step that takes as many as it will
-behind : {A B : Type 0} (least before : ℕ) (r : Result (A × At) MsgError) (f : A × At → Result (B × At) MsgError) → Takes_least 0 before r
+tail : {A B : Type 0} (least before : ℕ) (r : Result (A × At) MsgError) (f : A × At → Result (B × At) MsgError) → Takes_least 0 before r
     → ((x : A × At) → Takes_least least (length x.1.rest) (f x)) → Takes_least least before (r >>= f)
-behind least before (Ok x) f h k = fewer least least (length x.1.rest) before (f x) (omega arith) (omega arith) (k x)
-behind least before (Err fault) f h k = tt
+tail least before (Ok x) f h k = fewer least least (length x.1.rest) before (f x) (omega arith) (omega arith) (k x)
+tail least before (Err fault) f h k = tt
 
 skipping : {B : Type 0} (least before : ℕ) (r : Result At MsgError) (f : At → Result (B × At) MsgError) → Leaves_most before r
     → ((x : At) → Takes_least least (length x.rest) (f x)) → Takes_least least before (r >>= f)
@@ -90,7 +90,7 @@ word_takes_four order at = then 4 0 (length at.rest) (item_at 4 at) (λ bytes. O
 
 text_takes : (code len : ℕ) (at : At) → Takes_least 0 (length at.rest) (text_at code len at)
 unfolding text_at
-text_takes code len at = behind 0 (length at.rest) (item_at (len + 1) at) (λ bytes. ended code len bytes.0 bytes.1) (item_takes (len + 1) at) (λ x. go (not (is_text_of code (take len x.0))) (not (slice_index x.0 len == 0)) (take len x.0) x.1)
+text_takes code len at = tail 0 (length at.rest) (item_at (len + 1) at) (λ bytes. ended code len bytes.0 bytes.1) (item_takes (len + 1) at) (λ x. go (not (is_text_of code (take len x.0))) (not (slice_index x.0 len == 0)) (take len x.0) x.1)
   where
     go : (form end : Bool) (bytes : List ℕ) (x : At) → Takes_least 0 (length x.rest) (cond form (Err (text_fault code)) (cond end (Err faults.BadText) (Ok (bytes, x))))
     go true end bytes x = tt
@@ -116,7 +116,7 @@ text_value_takes order code at = then 1 0 (length at.rest) (cond (code == 103) (
 signature_takes : (at : At) → Takes_least 1 (length at.rest) (signature_at at)
 unfolding signature_at
 signature_takes at = then 1 0 (length at.rest) (byte_at at) (λ len. item_at (len.0 + 1) len.1 >>= λ bytes. typed (type_of (take len.0 bytes.0)) (slice_index bytes.0 len.0) bytes.1) (byte_takes_one at)
-    (λ len. behind 0 (length len.1.rest) (item_at (len.0 + 1) len.1) (λ bytes. typed (type_of (take len.0 bytes.0)) (slice_index bytes.0 len.0) bytes.1) (item_takes (len.0 + 1) len.1) (λ x. go (type_of (take len.0 x.0)) (slice_index x.0 len.0) x.1))
+    (λ len. tail 0 (length len.1.rest) (item_at (len.0 + 1) len.1) (λ bytes. typed (type_of (take len.0 bytes.0)) (slice_index bytes.0 len.0) bytes.1) (item_takes (len.0 + 1) len.1) (λ x. go (type_of (take len.0 x.0)) (slice_index x.0 len.0) x.1))
   where
     test : (b : Bool) (type : DataType) (x : At) → Takes_least 0 (length x.rest) (cond b (Ok (type, x)) (Err faults.BadText))
     test true type x = omega arith
@@ -151,10 +151,10 @@ number_value_takes order code at = then 1 0 (length at.rest) (item_at (number_le
 
 extent_takes : (order : Order) (alignment : ℕ) (at : At) → Takes_least 4 (length at.rest) (extent_at order alignment at)
 unfolding extent_at
-extent_takes order alignment at = then 4 0 (length at.rest) (word_at order at) (λ len. within_limit len.0 len.1 >>= λ behind. aligned_at alignment behind >>= λ start. item_at len.0 start >>= λ bytes. Ok (inside start.place bytes.0, bytes.1)) (word_takes_four order at)
-    (λ len. skipping 0 (length len.1.rest) (within_limit len.0 len.1) (λ behind. aligned_at alignment behind >>= λ start. item_at len.0 start >>= λ bytes. Ok (inside start.place bytes.0, bytes.1)) (limit (nat_lt max_array_len len.0) len.1)
+extent_takes order alignment at = then 4 0 (length at.rest) (word_at order at) (λ len. within_limit len.0 len.1 >>= λ tail. aligned_at alignment tail >>= λ start. item_at len.0 start >>= λ bytes. Ok (inside start.place bytes.0, bytes.1)) (word_takes_four order at)
+    (λ len. skipping 0 (length len.1.rest) (within_limit len.0 len.1) (λ tail. aligned_at alignment tail >>= λ start. item_at len.0 start >>= λ bytes. Ok (inside start.place bytes.0, bytes.1)) (limit (nat_lt max_array_len len.0) len.1)
     (λ b. skipping 0 (length b.rest) (aligned_at alignment b) (λ start. item_at len.0 start >>= λ bytes. Ok (inside start.place bytes.0, bytes.1)) (aligned_leaves alignment b)
-    (λ start. behind 0 (length start.rest) (item_at len.0 start) (λ bytes. Ok (inside start.place bytes.0, bytes.1)) (item_takes len.0 start) (λ x. same (inside start.place x.0) x.1))))
+    (λ start. tail 0 (length start.rest) (item_at len.0 start) (λ bytes. Ok (inside start.place bytes.0, bytes.1)) (item_takes len.0 start) (λ x. same (inside start.place x.0) x.1))))
   where
     limit : (b : Bool) (x : At) → Leaves_most (length x.rest) (cond b (Err faults.ArrayLength) (Ok x))
     limit true x = tt
@@ -166,12 +166,12 @@ Shortens reader = (type : DataType) (at : At) → Takes_least 1 (length at.rest)
 
 members_take : (reader : Reader) → Shortens reader → (types : DataTypes) (at : At) → Takes_least 0 (length at.rest) (members_at reader types at)
 members_take reader h no_types at = omega arith
-members_take reader h (one_more t ts) at = behind 0 (length at.rest) (reader t at) (λ value. members_at reader ts value.1 >>= λ more. Ok (one_value value.0 more.0, more.1)) (fewer 1 0 (length at.rest) (length at.rest) (reader t at) (omega arith) (omega arith) (h t at))
-    (λ value. behind 0 (length value.1.rest) (members_at reader ts value.1) (λ more. Ok (one_value value.0 more.0, more.1)) (members_take reader h ts value.1) (λ x. same (one_value value.0 x.0) x.1))
+members_take reader h (one_more t ts) at = tail 0 (length at.rest) (reader t at) (λ value. members_at reader ts value.1 >>= λ more. Ok (one_value value.0 more.0, more.1)) (fewer 1 0 (length at.rest) (length at.rest) (reader t at) (omega arith) (omega arith) (h t at))
+    (λ value. tail 0 (length value.1.rest) (members_at reader ts value.1) (λ more. Ok (one_value value.0 more.0, more.1)) (members_take reader h ts value.1) (λ x. same (one_value value.0 x.0) x.1))
 
 some_members_take : (reader : Reader) → Shortens reader → (t : DataType) (ts : DataTypes) (at : At) → Takes_least 1 (length at.rest) (members_at reader (one_more t ts) at)
 some_members_take reader h t ts at = then 1 0 (length at.rest) (reader t at) (λ value. members_at reader ts value.1 >>= λ more. Ok (one_value value.0 more.0, more.1)) (h t at)
-    (λ value. behind 0 (length value.1.rest) (members_at reader ts value.1) (λ more. Ok (one_value value.0 more.0, more.1)) (members_take reader h ts value.1) (λ x. same (one_value value.0 x.0) x.1))
+    (λ value. tail 0 (length value.1.rest) (members_at reader ts value.1) (λ more. Ok (one_value value.0 more.0, more.1)) (members_take reader h ts value.1) (λ x. same (one_value value.0 x.0) x.1))
 
 -- an array's elements are read elsewhere
 elsewhere : {A B : Type 0} (r : Result A MsgError) (f : A → B) (at : At) → Takes_least 0 (length at.rest) (r >>= λ found. Ok (f found, at))
@@ -186,7 +186,7 @@ container_takes reader h order (basic code) at = go (is_text_code code)
     go true = text_value_takes order code at
     go false = number_value_takes order code at
 container_takes reader h order variant at = then 1 0 (length at.rest) (signature_at at) (λ type. reader type.0 type.1 >>= λ value. Ok (of_type type.0 value.0, value.1)) (signature_takes at)
-    (λ type. behind 0 (length type.1.rest) (reader type.0 type.1) (λ value. Ok (of_type type.0 value.0, value.1)) (fewer 1 0 (length type.1.rest) (length type.1.rest) (reader type.0 type.1) (omega arith) (omega arith) (h type.0 type.1)) (λ x. same (of_type type.0 x.0) x.1))
+    (λ type. tail 0 (length type.1.rest) (reader type.0 type.1) (λ value. Ok (of_type type.0 value.0, value.1)) (fewer 1 0 (length type.1.rest) (length type.1.rest) (reader type.0 type.1) (omega arith) (omega arith) (h type.0 type.1)) (λ x. same (of_type type.0 x.0) x.1))
 container_takes reader h order (array t) at = then 1 0 (length at.rest) (extent_at order (alignment_of t) at) (λ extent. each_at (reader t) (length extent.0.rest) extent.0 >>= λ found. Ok (elements (values_of found), extent.1))
     (fewer 4 1 (length at.rest) (length at.rest) (extent_at order (alignment_of t) at) (omega arith) (omega arith) (extent_takes order (alignment_of t) at))
     (λ extent. elsewhere (each_at (reader t) (length extent.0.rest) extent.0) (λ found. elements (values_of found)) extent.1)
@@ -216,7 +216,7 @@ entry_takes_one : (levels : ℕ) (order : Order) (k : ℕ) (v : DataType) (at : 
 unfolding entry_at
 entry_takes_one levels order k v at = skipping 1 (length at.rest) (aligned_at entry_alignment at) (λ start. value_at levels order (basic k) start >>= λ key. value_at levels order v key.1 >>= λ value. Ok ((key.0, value.0), value.1)) (aligned_leaves entry_alignment at)
     (λ start. then 1 0 (length start.rest) (value_at levels order (basic k) start) (λ key. value_at levels order v key.1 >>= λ value. Ok ((key.0, value.0), value.1)) (value_takes_one levels order (basic k) start)
-    (λ key. behind 0 (length key.1.rest) (value_at levels order v key.1) (λ value. Ok ((key.0, value.0), value.1)) (fewer 1 0 (length key.1.rest) (length key.1.rest) (value_at levels order v key.1) (omega arith) (omega arith) (value_takes_one levels order v key.1)) (λ x. let made : Value × Value = (key.0, x.0) in same made x.1)))
+    (λ key. tail 0 (length key.1.rest) (value_at levels order v key.1) (λ value. Ok ((key.0, value.0), value.1)) (fewer 1 0 (length key.1.rest) (length key.1.rest) (value_at levels order v key.1) (omega arith) (omega arith) (value_takes_one levels order v key.1)) (λ x. let made : Value × Value = (key.0, x.0) in same made x.1)))
 
 -- ---- what was read
 

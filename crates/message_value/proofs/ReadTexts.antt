@@ -28,15 +28,15 @@ whole_item len bytes is last =
     let lt : len < length bytes = omega arith in
     sym (take_all (len + 1) bytes (omega arith)) ∙ take_more bytes len 0 lt ∙ ap (λ (b : ℕ). take len bytes ++ b ∷ []) last
 
-ended_is : (code len : ℕ) (bytes : List ℕ) (behind : At) (found : List ℕ × At) → length bytes ≡ len + 1 → ended code len bytes behind ≡ Ok found → (bytes ≡ found.0 ++ 0 ∷ []) × (length found.0 ≡ len) × (is_text_of code found.0 ≡ true) × (found.1 ≡ behind)
-ended_is code len bytes behind found is e =
-    let g = not_refused (not (is_text_of code (take len bytes))) (text_fault code) (cond (not (eqb (get_or bytes len 0) 0)) (Err faults.BadText) (Ok (take len bytes, behind))) found e in
-    let h = guard_ok (not (eqb (get_or bytes len 0) 0)) faults.BadText (take len bytes, behind) found g.1 in
+ended_is : (code len : ℕ) (bytes : List ℕ) (tail : At) (found : List ℕ × At) → length bytes ≡ len + 1 → ended code len bytes tail ≡ Ok found → (bytes ≡ found.0 ++ 0 ∷ []) × (length found.0 ≡ len) × (is_text_of code found.0 ≡ true) × (found.1 ≡ tail)
+ended_is code len bytes tail found is e =
+    let g = not_refused (not (is_text_of code (take len bytes))) (text_fault code) (cond (not (eqb (get_or bytes len 0) 0)) (Err faults.BadText) (Ok (take len bytes, tail))) found e in
+    let h = guard_ok (not (eqb (get_or bytes len 0) 0)) faults.BadText (take len bytes, tail) found g.1 in
     let last : get_or bytes len 0 ≡ 0 = eqb-true _ _ (not-false _ h.0) in
-    subst (λ (f : List ℕ × At). (bytes ≡ f.0 ++ 0 ∷ []) × (length f.0 ≡ len) × (is_text_of code f.0 ≡ true) × (f.1 ≡ behind)) h.1 (whole_item len bytes is last, length-take-le len bytes (omega arith), not-false _ g.0, refl)
+    subst (λ (f : List ℕ × At). (bytes ≡ f.0 ++ 0 ∷ []) × (length f.0 ≡ len) × (is_text_of code f.0 ≡ true) × (f.1 ≡ tail)) h.1 (whole_item len bytes is last, length-take-le len bytes (omega arith), not-false _ g.0, refl)
 
-ended_again : (code : ℕ) (bytes : List ℕ) (behind : At) → is_text_of code bytes ≡ true → ended code (length bytes) (bytes ++ 0 ∷ []) behind ≡ Ok (bytes, behind)
-ended_again code bytes behind is = rw (take_at bytes (0 ∷ []) (length bytes) refl, is, get_or_at bytes 0 [] 0 (length bytes) refl) refl
+ended_again : (code : ℕ) (bytes : List ℕ) (tail : At) → is_text_of code bytes ≡ true → ended code (length bytes) (bytes ++ 0 ∷ []) tail ≡ Ok (bytes, tail)
+ended_again code bytes tail is = rw (take_at bytes (0 ∷ []) (length bytes) refl, is, get_or_at bytes 0 [] 0 (length bytes) refl) refl
 
 pub text_takes : (code len : ℕ) (a : At) (found : List ℕ × At) → text_at code len a ≡ Ok found → Takes a (found.0 ++ 0 ∷ []) found.1 × (length found.0 ≡ len) × (is_text_of code found.0 ≡ true)
 unfolding text_at
@@ -143,19 +143,19 @@ within_width code bits lt = go (eqb code 98) refl lt
     go true is lt = subst (λ (k : ℕ). bits < 2 ^ (8 * number_len k)) (sym (eqb-true code 98 is)) (omega arith)
     go false is lt = lt
 
-counted_is : (code bits : ℕ) (behind : At) (found : Value × At) → bits < 2 ^ (8 * number_len code) → counted code bits behind ≡ Ok found → ((number bits, behind) ≡ found) × (bits < limit_of code)
-counted_is code bits behind found lt e =
-    let g = guard_ok (eqb code 98 && ltb 1 bits) faults.BadBool (number bits, behind) found e in
+counted_is : (code bits : ℕ) (tail : At) (found : Value × At) → bits < 2 ^ (8 * number_len code) → counted code bits tail ≡ Ok found → ((number bits, tail) ≡ found) × (bits < limit_of code)
+counted_is code bits tail found lt e =
+    let g = guard_ok (eqb code 98 && ltb 1 bits) faults.BadBool (number bits, tail) found e in
     (g.1, go (eqb code 98) g.0)
   where
     go : (b : Bool) → (b && ltb 1 bits) ≡ false → bits < cond b 2 (2 ^ (8 * number_len code))
     go true low = omega (arith, ltb-false 1 bits low)
     go false low = lt
 
-counted_again : (code bits : ℕ) (behind : At) → bits < limit_of code → counted code bits behind ≡ Ok (number bits, behind)
-counted_again code bits behind lt = go (eqb code 98) lt
+counted_again : (code bits : ℕ) (tail : At) → bits < limit_of code → counted code bits tail ≡ Ok (number bits, tail)
+counted_again code bits tail lt = go (eqb code 98) lt
   where
-    go : (b : Bool) → bits < cond b 2 (2 ^ (8 * number_len code)) → cond {A = Result (Value × At) MsgError} (b && ltb 1 bits) (Err faults.BadBool) (Ok (number bits, behind)) ≡ Ok (number bits, behind)
+    go : (b : Bool) → bits < cond b 2 (2 ^ (8 * number_len code)) → cond {A = Result (Value × At) MsgError} (b && ltb 1 bits) (Err faults.BadBool) (Ok (number bits, tail)) ≡ Ok (number bits, tail)
     go true lt = rw (le-ltb 1 bits (omega arith)) refl
     go false lt = refl
 
@@ -198,12 +198,12 @@ basic_again order levels code place outside (of_type t v) rest has = absurd has
 
 -- ---- a variant's signature
 
-typed_is : (read : Option DataType) (end : ℕ) (behind : At) (found : DataType × At) → typed read end behind ≡ Ok found → (read ≡ Some found.0) × (end ≡ 0) × (behind ≡ found.1)
-typed_is None end behind found e = absurd cc
-typed_is (Some type) end behind found e =
-    let p = passed_ok (eqb end 0) faults.BadText (type, behind) found e in
-    let made : DataType × At = (type, behind) in
-    subst (λ (f : DataType × At). (Some type ≡ Some f.0) × (end ≡ 0) × (behind ≡ f.1)) {x = made} p.1 (refl, eqb-true end 0 p.0, refl)
+typed_is : (read : Option DataType) (end : ℕ) (tail : At) (found : DataType × At) → typed read end tail ≡ Ok found → (read ≡ Some found.0) × (end ≡ 0) × (tail ≡ found.1)
+typed_is None end tail found e = absurd cc
+typed_is (Some type) end tail found e =
+    let p = passed_ok (eqb end 0) faults.BadText (type, tail) found e in
+    let made : DataType × At = (type, tail) in
+    subst (λ (f : DataType × At). (Some type ≡ Some f.0) × (end ≡ 0) × (tail ≡ f.1)) {x = made} p.1 (refl, eqb-true end 0 p.0, refl)
 
 pub signature_takes : (a : At) (found : DataType × At) → signature_at a ≡ Ok found → Takes a (signature_bytes found.0) found.1 × IsOneType found.0
 unfolding signature_at

@@ -43,8 +43,8 @@ types_take levels order reader takes (one_more t ts) a found fits e =
     let first = takes t a v.0 fits v.1 in
     let more = types_take levels order reader takes ts v.0.1 m.0 (first.0.fits fits) m.1 in
     let bytes = value_bytes order a.place t v.0.0 in
-    let behind : v.0.1.place ≡ a.place + length bytes = first.0.place in
-    let here : Takes v.0.1 (members_bytes order (a.place + length bytes) ts m.0.0) m.0.1 × MembersFit order levels (a.place + length bytes) ts m.0.0 = subst (λ (k : ℕ). Takes v.0.1 (members_bytes order k ts m.0.0) m.0.1 × MembersFit order levels k ts m.0.0) behind more in
+    let tail : v.0.1.place ≡ a.place + length bytes = first.0.place in
+    let here : Takes v.0.1 (members_bytes order (a.place + length bytes) ts m.0.0) m.0.1 × MembersFit order levels (a.place + length bytes) ts m.0.0 = subst (λ (k : ℕ). Takes v.0.1 (members_bytes order k ts m.0.0) m.0.1 × MembersFit order levels k ts m.0.0) tail more in
     let both = Takes-then a bytes v.0.1 (members_bytes order (a.place + length bytes) ts m.0.0) m.0.1 first.0 here.0 in
     let made : Values × At = (one_value v.0.0 m.0.0, m.0.1) in
     subst (λ (f : Values × At). Takes a (members_bytes order a.place (one_more t ts) f.0) f.1 × MembersFit order levels a.place (one_more t ts) f.0) {x = made} (ok_is made found m.2) (both, (first.1, here.1))
@@ -205,8 +205,8 @@ entry_takes levels order reader takes k v a found fits e =
     let start = aligned entry_alignment a.place in
     let key_here : Takes s.0 (value_bytes order start (basic k) x.0.0) x.0.1 × ValueFits order levels start (basic k) x.0.0 = subst (λ (p : ℕ). Takes s.0 (value_bytes order p (basic k) x.0.0) x.0.1 × ValueFits order levels p (basic k) x.0.0) first.1 key in
     let key_bytes = value_bytes order start (basic k) x.0.0 in
-    let behind : x.0.1.place ≡ start + length key_bytes = key_here.0.place ∙ ap (λ (p : ℕ). p + length key_bytes) first.1 in
-    let value_here : Takes x.0.1 (value_bytes order (start + length key_bytes) v y.0.0) y.0.1 × ValueFits order levels (start + length key_bytes) v y.0.0 = subst (λ (p : ℕ). Takes x.0.1 (value_bytes order p v y.0.0) y.0.1 × ValueFits order levels p v y.0.0) behind value in
+    let tail : x.0.1.place ≡ start + length key_bytes = key_here.0.place ∙ ap (λ (p : ℕ). p + length key_bytes) first.1 in
+    let value_here : Takes x.0.1 (value_bytes order (start + length key_bytes) v y.0.0) y.0.1 × ValueFits order levels (start + length key_bytes) v y.0.0 = subst (λ (p : ℕ). Takes x.0.1 (value_bytes order p v y.0.0) y.0.1 × ValueFits order levels p v y.0.0) tail value in
     let two = Takes-then s.0 key_bytes x.0.1 (value_bytes order (start + length key_bytes) v y.0.0) y.0.1 key_here.0 value_here.0 in
     let three = Takes-then a (zeros (padding entry_alignment a.place)) s.0 (key_bytes ++ value_bytes order (start + length key_bytes) v y.0.0) y.0.1 first.0 two in
     let made : (Value × Value) × At = ((x.0.0, y.0.0), y.0.1) in
@@ -221,7 +221,7 @@ entry_again levels order reader again k v place outside entry rest has =
     let key = value_bytes order start (basic k) entry.0 in
     let value = value_bytes order (start + length key) v entry.1 in
     let grouped : (skipped ++ (key ++ value)) ++ rest ≡ skipped ++ (key ++ (value ++ rest)) = append_assoc skipped (key ++ value) rest ∙ ap (λ (l : List ℕ). skipped ++ l) (append_assoc key value rest) in
-    let end : start + length key + length value ≡ place + length (pair_bytes order k v place entry) = omega (arith, length-append key value, length-padded entry_alignment place (λ start. followed start (value_bytes order start (basic k) entry.0) (λ behind. value_bytes order behind v entry.1))) in
+    let end : start + length key + length value ≡ place + length (pair_bytes order k v place entry) = omega (arith, length-append key value, length-padded entry_alignment place (λ start. followed start (value_bytes order start (basic k) entry.0) (λ tail. value_bytes order tail v entry.1))) in
     ap (λ (l : List ℕ). entry_at reader k v (at place l outside)) grouped
     ∙ rw (aligned_again entry_alignment place outside (key ++ (value ++ rest)), again (basic k) start outside entry.0 (value ++ rest) has.0, again v (start + length key) outside entry.1 rest has.1)
     (ap (λ (p : ℕ). Ok (entry, at p rest outside)) end)

@@ -18,7 +18,7 @@ one_read text found (Some t) is h =
     some_same : (a b : List ℕ) → Some a ≡ Some b → a ≡ b
     some_same a b e = cc
 
-pub signature_ok : (at middle behind : At) (len : ℕ) (bytes : List ℕ) (type : DataType) → byte_at at ≡ Ok (len, middle) → item_at (len + 1) middle ≡ Ok (bytes, behind)
-    → type_of (take len bytes) ≡ Some type → (slice_index bytes len == 0) ≡ true → signature_at at ≡ Ok (type, behind)
+pub signature_ok : (at middle tail : At) (len : ℕ) (bytes : List ℕ) (type : DataType) → byte_at at ≡ Ok (len, middle) → item_at (len + 1) middle ≡ Ok (bytes, tail)
+    → type_of (take len bytes) ≡ Some type → (slice_index bytes len == 0) ≡ true → signature_at at ≡ Ok (type, tail)
 unfolding signature_at
-signature_ok at middle behind len bytes type byte item is end = rw (byte, item, is, end) refl
+signature_ok at middle tail len bytes type byte item is end = rw (byte, item, is, end) refl

@@ -25,18 +25,18 @@ after r f x found e is = rw is at e
 
 -- ---- padding
 
-pub padding_fits : (alignment : ℕ) (at behind : At) → aligned_at alignment at ≡ Ok behind → padding alignment at.place ≤ length at.rest
+pub padding_fits : (alignment : ℕ) (at tail : At) → aligned_at alignment at ≡ Ok tail → padding alignment at.place ≤ length at.rest
 unfolding aligned_at
-padding_fits alignment at behind e =
-    let s = bind_ok (item_at (padding alignment at.place) at) (λ skipped. cond (list_all (λ byte. byte == 0) skipped.0) (Ok skipped.1) (Err faults.Padding)) behind e in
+padding_fits alignment at tail e =
+    let s = bind_ok (item_at (padding alignment at.place) at) (λ skipped. cond (list_all (λ byte. byte == 0) skipped.0) (Ok skipped.1) (Err faults.Padding)) tail e in
     let h = item_fits (padding alignment at.place) at s.0 s.1 in
     omega arith
 
-pub padding_gone : (alignment : ℕ) (at behind : At) (item : List ℕ × At) → aligned_at alignment at ≡ Ok behind → item_at (padding alignment at.place) at ≡ Ok item → aligned_at alignment at ≡ Ok item.1
+pub padding_gone : (alignment : ℕ) (at tail : At) (item : List ℕ × At) → aligned_at alignment at ≡ Ok tail → item_at (padding alignment at.place) at ≡ Ok item → aligned_at alignment at ≡ Ok item.1
 unfolding aligned_at
-padding_gone alignment at behind item e is =
-    let h = after (item_at (padding alignment at.place) at) (λ skipped. cond (list_all (λ byte. byte == 0) skipped.0) (Ok skipped.1) (Err faults.Padding)) item behind e is in
-    let same : item.1 ≡ behind = (passed_ok (list_all (λ byte. byte == 0) item.0) faults.Padding item.1 behind h).1 in
+padding_gone alignment at tail item e is =
+    let h = after (item_at (padding alignment at.place) at) (λ skipped. cond (list_all (λ byte. byte == 0) skipped.0) (Ok skipped.1) (Err faults.Padding)) item tail e is in
+    let same : item.1 ≡ tail = (passed_ok (list_all (λ byte. byte == 0) item.0) faults.Padding item.1 tail h).1 in
     e ∙ ap (λ (x : At). Ok x) (sym {a = item.1} same)
 
 -- ---- one item

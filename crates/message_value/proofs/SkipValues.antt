@@ -21,8 +21,8 @@ use Rattle.message_value.proofs.ValueSteps.{deeper, begun, basic_is, is_containe
 use Rattle.message_value.proofs.SkipTexts.{after}
 
 -- the place after a value that stands in another
-pub Reaches-map : {Y Z : Type 0} (behind : At) (read : Result (Y × At) MsgError) (f : Y → Z) → Reaches behind read → Reaches behind (read >>= λ found. Ok (f found.0, found.1))
-Reaches-map behind read f h = λ found e.
+pub Reaches-map : {Y Z : Type 0} (tail : At) (read : Result (Y × At) MsgError) (f : Y → Z) → Reaches tail read → Reaches tail (read >>= λ found. Ok (f found.0, found.1))
+Reaches-map tail read f h = λ found e.
     let s = bind_ok read (λ found. Ok (f found.0, found.1)) found e in
     h s.0 s.1 ∙ ap (λ (x : _ × At). x.1) {x = (f s.0.0, s.0.1)} (ok_is (f s.0.0, s.0.1) found s.2)
 
@@ -72,7 +72,7 @@ number_end order code at item found e is =
 -- ---- the extent of an array
 
 abbrev extent_of : Order → ℕ → ℕ × At → Result (At × At) MsgError
-extent_of order alignment len = within_limit len.0 len.1 >>= λ behind. aligned_at alignment behind >>= λ start. item_at len.0 start >>= λ bytes. Ok (inside start.place bytes.0, bytes.1)
+extent_of order alignment len = within_limit len.0 len.1 >>= λ tail. aligned_at alignment tail >>= λ start. item_at len.0 start >>= λ bytes. Ok (inside start.place bytes.0, bytes.1)
 
 pub extent_fits : (order : Order) (alignment : ℕ) (at : At) (found : At × At) → extent_at order alignment at ≡ Ok found → 4 ≤ length at.rest
 unfolding extent_at
@@ -84,21 +84,21 @@ pub record ExtentSteps (alignment len : ℕ) (at : At) (found : At × At) : Type
   pub gone : aligned_at alignment at ≡ Ok start
   pub item : List ℕ × At
   pub read : item_at len start ≡ Ok item
-  pub behind : item.1 ≡ found.1
+  pub tail : item.1 ≡ found.1
 
 pub extent_steps : (order : Order) (alignment : ℕ) (at : At) (len : ℕ) (middle : At) (found : At × At) → extent_at order alignment at ≡ Ok found → word_at order at ≡ Ok (len, middle) → ExtentSteps alignment len middle found
 unfolding extent_at
 extent_steps order alignment at len middle found e is =
     let word : ℕ × At = (len, middle) in
     let h = after (word_at order at) (extent_of order alignment) word found e is in
-    let rest : At → Result (At × At) MsgError = λ behind. aligned_at alignment behind >>= λ start. item_at len start >>= λ bytes. Ok (inside start.place bytes.0, bytes.1) in
-    let l = bind_ok (within_limit len middle) (λ behind. aligned_at alignment behind >>= λ start. item_at len start >>= λ bytes. Ok (inside start.place bytes.0, bytes.1)) found h in
+    let rest : At → Result (At × At) MsgError = λ tail. aligned_at alignment tail >>= λ start. item_at len start >>= λ bytes. Ok (inside start.place bytes.0, bytes.1) in
+    let l = bind_ok (within_limit len middle) (λ tail. aligned_at alignment tail >>= λ start. item_at len start >>= λ bytes. Ok (inside start.place bytes.0, bytes.1)) found h in
     let limit = not_refused (nat_lt max_array_len len) faults.ArrayLength (Ok middle) l.0 l.1 in
     let same : middle ≡ l.0 = ok_is middle l.0 limit.1 in
     let s = bind_ok (aligned_at alignment l.0) (λ start. item_at len start >>= λ bytes. Ok (inside start.place bytes.0, bytes.1)) found l.2 in
     let i = bind_ok (item_at len s.0) (λ bytes. Ok (inside s.0.place bytes.0, bytes.1)) found s.2 in
     let made : At × At = (inside s.0.place i.0.0, i.0.1) in
-    record { start = s.0; gone = ap (aligned_at alignment) same ∙ s.1; item = i.0; read = i.1; behind = ap (λ (x : At × At). x.1) {x = made} (ok_is made found i.2) }
+    record { start = s.0; gone = ap (aligned_at alignment) same ∙ s.1; item = i.0; read = i.1; tail = ap (λ (x : At × At). x.1) {x = made} (ok_is made found i.2) }
 
 pub same_at : (alignment : ℕ) (at x y : At) → aligned_at alignment at ≡ Ok x → aligned_at alignment at ≡ Ok y → x ≡ y
 same_at alignment at x y a b = cc
@@ -108,7 +108,7 @@ item_end alignment len at found start item steps gone is =
     let same : steps.start ≡ start = same_at alignment at steps.start start steps.gone gone in
     let read = subst (λ (x : At). item_at len x ≡ Ok steps.item) same steps.read in
     let one : item ≡ steps.item = cc in
-    ap (λ (x : List ℕ × At). x.1) one ∙ steps.behind
+    ap (λ (x : List ℕ × At). x.1) one ∙ steps.tail
 
 pub item_there : (alignment len : ℕ) (at : At) (found : At × At) (start : At) → ExtentSteps alignment len at found → aligned_at alignment at ≡ Ok start → len ≤ length start.rest
 item_there alignment len at found start steps gone =
@@ -155,8 +155,8 @@ pub read_same : {Y : Type 0} (read whole : Result (Y × At) MsgError) → whole 
 read_same read whole same h = (h.0, sym same ∙ h.1)
 
 -- the place after what is read is that of the whole
-pub Reaches-same : {Y : Type 0} (behind : At) (read whole : Result (Y × At) MsgError) → whole ≡ read → Reaches behind read → Reaches behind whole
-Reaches-same behind read whole same h = λ found e. h found (sym same ∙ e)
+pub Reaches-same : {Y : Type 0} (tail : At) (read whole : Result (Y × At) MsgError) → whole ≡ read → Reaches tail read → Reaches tail whole
+Reaches-same tail read whole same h = λ found e. h found (sym same ∙ e)
 
 pub array_extent : (reader : Reader) (order : Order) (t : DataType) (at : At) → IsRead (array_at reader order t at) → IsRead (extent_at order (alignment_of t) at)
 unfolding array_at
@@ -164,9 +164,9 @@ array_extent reader order t at h =
     let s = bind_ok (extent_at order (alignment_of t) at) (λ extent. each_at (reader t) (length extent.0.rest) extent.0 >>= λ found. Ok (elements (values_of found), extent.1)) h.0 h.1 in
     (s.0, s.1)
 
-pub array_end : (behind : At) (reader : Reader) (order : Order) (t : DataType) (at : At) → Reaches behind (extent_at order (alignment_of t) at) → Reaches behind (array_at reader order t at)
+pub array_end : (tail : At) (reader : Reader) (order : Order) (t : DataType) (at : At) → Reaches tail (extent_at order (alignment_of t) at) → Reaches tail (array_at reader order t at)
 unfolding array_at
-array_end behind reader order t at h = λ found e.
+array_end tail reader order t at h = λ found e.
     let s = bind_ok (extent_at order (alignment_of t) at) (λ extent. each_at (reader t) (length extent.0.rest) extent.0 >>= λ found. Ok (elements (values_of found), extent.1)) found e in
     let all = bind_ok (each_at (reader t) (length s.0.0.rest) s.0.0) (λ found. Ok (elements (values_of found), s.0.1)) found s.2 in
     let made : Value × At = (elements (values_of all.0), s.0.1) in
@@ -178,9 +178,9 @@ dict_extent reader order k v at h =
     let s = bind_ok (extent_at order entry_alignment at) (λ extent. each_at (entry_at reader k v) (length extent.0.rest) extent.0 >>= λ found. Ok (entries (entries_of found), extent.1)) h.0 h.1 in
     (s.0, s.1)
 
-pub dict_end : (behind : At) (reader : Reader) (order : Order) (k : ℕ) (v : DataType) (at : At) → Reaches behind (extent_at order entry_alignment at) → Reaches behind (dict_at reader order k v at)
+pub dict_end : (tail : At) (reader : Reader) (order : Order) (k : ℕ) (v : DataType) (at : At) → Reaches tail (extent_at order entry_alignment at) → Reaches tail (dict_at reader order k v at)
 unfolding dict_at
-dict_end behind reader order k v at h = λ found e.
+dict_end tail reader order k v at h = λ found e.
     let s = bind_ok (extent_at order entry_alignment at) (λ extent. each_at (entry_at reader k v) (length extent.0.rest) extent.0 >>= λ found. Ok (entries (entries_of found), extent.1)) found e in
     let all = bind_ok (each_at (entry_at reader k v) (length s.0.0.rest) s.0.0) (λ found. Ok (entries (entries_of found), s.0.1)) found s.2 in
     let made : Value × At = (entries (entries_of all.0), s.0.1) in
@@ -190,9 +190,9 @@ pub struct_read : (reader : Reader) (t : DataType) (ts : DataTypes) (at : At) �
 unfolding struct_at
 struct_read reader t ts at h = IsRead-map (members_at reader (one_more t ts) at) members h
 
-pub struct_end : (behind : At) (reader : Reader) (t : DataType) (ts : DataTypes) (at : At) → Reaches behind (members_at reader (one_more t ts) at) → Reaches behind (struct_at reader t ts at)
+pub struct_end : (tail : At) (reader : Reader) (t : DataType) (ts : DataTypes) (at : At) → Reaches tail (members_at reader (one_more t ts) at) → Reaches tail (struct_at reader t ts at)
 unfolding struct_at
-struct_end behind reader t ts at h = Reaches-map behind (members_at reader (one_more t ts) at) members h
+struct_end tail reader t ts at h = Reaches-map tail (members_at reader (one_more t ts) at) members h
 
 pub variant_signature : (reader : Reader) (at : At) → IsRead (variant_at reader at) → IsRead (signature_at at)
 unfolding variant_at
@@ -204,39 +204,39 @@ variant_value reader at middle type is h =
     let word : DataType × At = (type, middle) in
     IsRead-map (reader type middle) (λ value. of_type type value) (h.0, after (signature_at at) (λ type. reader type.0 type.1 >>= λ value. Ok (of_type type.0 value.0, value.1)) word h.0 h.1 is)
 
-pub variant_end : (behind : At) (reader : Reader) (at middle : At) (type : DataType) → signature_at at ≡ Ok (type, middle) → Reaches behind (reader type middle) → Reaches behind (variant_at reader at)
+pub variant_end : (tail : At) (reader : Reader) (at middle : At) (type : DataType) → signature_at at ≡ Ok (type, middle) → Reaches tail (reader type middle) → Reaches tail (variant_at reader at)
 unfolding variant_at
-variant_end behind reader at middle type is h = λ found e.
+variant_end tail reader at middle type is h = λ found e.
     let word : DataType × At = (type, middle) in
-    Reaches-map behind (reader type middle) (λ value. of_type type value) h found (after (signature_at at) (λ type. reader type.0 type.1 >>= λ value. Ok (of_type type.0 value.0, value.1)) word found e is)
+    Reaches-map tail (reader type middle) (λ value. of_type type value) h found (after (signature_at at) (λ type. reader type.0 type.1 >>= λ value. Ok (of_type type.0 value.0, value.1)) word found e is)
 
 -- ---- members
 
 -- the types that are left are those of values that are there, which end where all do
-pub record MembersAhead (texts : List (List ℕ)) (reader : Reader) (at : At) (behind : At) : Type 0 where
+pub record MembersAhead (texts : List (List ℕ)) (reader : Reader) (at : At) (tail : At) : Type 0 where
   pub types : DataTypes
   pub spelled : texts ≡ slices types
   pub fit : AllFit 0 0 types
   pub values : Values
-  pub read : members_at reader types at ≡ Ok (values, behind)
+  pub read : members_at reader types at ≡ Ok (values, tail)
 
-pub record NextAhead (front : List ℕ) (after : List (List ℕ)) (reader : Reader) (at : At) (behind : At) : Type 0 where
+pub record NextAhead (front : List ℕ) (after : List (List ℕ)) (reader : Reader) (at : At) (tail : At) : Type 0 where
   pub type : DataType
   pub spelled : TypeText type front
   pub read : IsRead (reader type at)
-  pub on : (middle : At) → Reaches middle (reader type at) → MembersAhead after reader middle behind
+  pub on : (middle : At) → Reaches middle (reader type at) → MembersAhead after reader middle tail
 
-pub next_ahead : (texts : List (List ℕ)) (front : List ℕ) (more : List (List ℕ)) (reader : Reader) (at behind : At) → MembersAhead texts reader at behind → texts ≡ front ∷ more → NextAhead front more reader at behind
-next_ahead texts front more reader at behind ahead is = go ahead.types (sym is ∙ ahead.spelled) ahead.fit ahead.read
+pub next_ahead : (texts : List (List ℕ)) (front : List ℕ) (more : List (List ℕ)) (reader : Reader) (at tail : At) → MembersAhead texts reader at tail → texts ≡ front ∷ more → NextAhead front more reader at tail
+next_ahead texts front more reader at tail ahead is = go ahead.types (sym is ∙ ahead.spelled) ahead.fit ahead.read
   where
-    go : (types : DataTypes) → front ∷ more ≡ slices types → AllFit 0 0 types → members_at reader types at ≡ Ok (ahead.values, behind) → NextAhead front more reader at behind
+    go : (types : DataTypes) → front ∷ more ≡ slices types → AllFit 0 0 types → members_at reader types at ≡ Ok (ahead.values, tail) → NextAhead front more reader at tail
     go no_types e fit read = absurd cc
     go (one_more t ts) e fit read =
-        let all : Values × At = (ahead.values, behind) in
+        let all : Values × At = (ahead.values, tail) in
         let s = bind_ok (reader t at) (λ value. members_at reader ts value.1 >>= λ more. Ok (one_value value.0 more.0, more.1)) all read in
         let m = bind_ok (members_at reader ts s.0.1) (λ more. Ok (one_value s.0.0 more.0, more.1)) all s.2 in
         let made : Values × At = (one_value s.0.0 m.0.0, m.0.1) in
-        let end : m.0.1 ≡ behind = ap (λ (x : Values × At). x.1) {x = made} (ok_is made all m.2) in
+        let end : m.0.1 ≡ tail = ap (λ (x : Values × At). x.1) {x = made} (ok_is made all m.2) in
         record {
           type = t;
           spelled = record { spelled = cc; fits = fit.0 };
@@ -249,19 +249,19 @@ next_ahead texts front more reader at behind ahead is = go ahead.types (sym is �
 pub all_ahead : (texts : List (List ℕ)) (reader : Reader) (at : At) (types : DataTypes) (found : Values × At) → texts ≡ slices types → AllFit 0 0 types → members_at reader types at ≡ Ok found → MembersAhead texts reader at found.1
 all_ahead texts reader at types found is fit e = record { types = types; spelled = is; fit = fit; values = found.0; read = e }
 
-pub ahead_end : (texts : List (List ℕ)) (reader : Reader) (at behind : At) → MembersAhead texts reader at behind → texts ≡ [] → at ≡ behind
-ahead_end texts reader at behind ahead is = go ahead.types (sym is ∙ ahead.spelled) ahead.read
+pub ahead_end : (texts : List (List ℕ)) (reader : Reader) (at tail : At) → MembersAhead texts reader at tail → texts ≡ [] → at ≡ tail
+ahead_end texts reader at tail ahead is = go ahead.types (sym is ∙ ahead.spelled) ahead.read
   where
-    go : (types : DataTypes) → [] ≡ slices types → members_at reader types at ≡ Ok (ahead.values, behind) → at ≡ behind
-    go no_types e read = let made : Values × At = (no_values, at) in let all : Values × At = (ahead.values, behind) in ap (λ (x : Values × At). x.1) {x = made} (ok_is made all read)
+    go : (types : DataTypes) → [] ≡ slices types → members_at reader types at ≡ Ok (ahead.values, tail) → at ≡ tail
+    go no_types e read = let made : Values × At = (no_values, at) in let all : Values × At = (ahead.values, tail) in ap (λ (x : Values × At). x.1) {x = made} (ok_is made all read)
     go (one_more t ts) e read = absurd cc
 
 -- ---- the items of basic types
 
-pub text_end : (order : Order) (code : ℕ) (type : TextType) (at start : At) (bytes : List ℕ) (behind : At) → aligned_at (basic_alignment code) at ≡ Ok start → code ≡ text_code type
-    → text_value_at order (text_code type) start ≡ Ok (text bytes, behind) → Reaches behind (basic_at order code at)
-text_end order code type at start bytes behind gone same is = λ found e.
-    let made : Value × At = (text bytes, behind) in
+pub text_end : (order : Order) (code : ℕ) (type : TextType) (at start : At) (bytes : List ℕ) (tail : At) → aligned_at (basic_alignment code) at ≡ Ok start → code ≡ text_code type
+    → text_value_at order (text_code type) start ≡ Ok (text bytes, tail) → Reaches tail (basic_at order code at)
+text_end order code type at start bytes tail gone same is = λ found e.
+    let made : Value × At = (text bytes, tail) in
     let all : text_value_at order (text_code type) start ≡ Ok found = basic_text order code type at start found gone same e in
     let one : made ≡ found = ok_is made found (sym {a = text_value_at order (text_code type) start} is ∙ all) in
     ap (λ (x : Value × At). x.1) {x = made} one
@@ -271,10 +271,10 @@ number_there order code len at start gone none same h =
     let fits = number_fits order code start h.0 (basic_number order code at start h.0 gone none h.1) in
     omega arith
 
-pub number_behind : (order : Order) (code len : ℕ) (at start : At) (bytes : List ℕ) (behind : At) → aligned_at (basic_alignment code) at ≡ Ok start → is_text_code code ≡ false → number_len code ≡ len
-    → item_at len start ≡ Ok (bytes, behind) → Reaches behind (basic_at order code at)
-number_behind order code len at start bytes behind gone none same is = λ found e.
-    number_end order code start (bytes, behind) found (basic_number order code at start found gone none e) (ap (λ (n : ℕ). item_at n start) same ∙ is)
+pub number_place : (order : Order) (code len : ℕ) (at start : At) (bytes : List ℕ) (tail : At) → aligned_at (basic_alignment code) at ≡ Ok start → is_text_code code ≡ false → number_len code ≡ len
+    → item_at len start ≡ Ok (bytes, tail) → Reaches tail (basic_at order code at)
+number_place order code len at start bytes tail gone none same is = λ found e.
+    number_end order code start (bytes, tail) found (basic_number order code at start found gone none e) (ap (λ (n : ℕ). item_at n start) same ∙ is)
 
 -- a boolean is a number of four bytes
 pub boolean_none : (code : ℕ) → code ≡ 98 → is_text_code code ≡ false

@@ -26,14 +26,14 @@ text_bytes_pos order code bytes = go (eqb code 103)
     go true = omega arith
     go false = omega (arith, length-append (word_bytes order (length bytes)) (bytes ++ 0 ∷ []), length-word_bytes order (length bytes))
 
-front_pos : (first behind : List ℕ) → 0 < length first → 0 < length (first ++ behind)
-front_pos first behind pos = omega (arith, length-append first behind)
+front_pos : (first tail : List ℕ) → 0 < length first → 0 < length (first ++ tail)
+front_pos first tail pos = omega (arith, length-append first tail)
 
-behind_pos : (first behind : List ℕ) → 0 < length behind → 0 < length (first ++ behind)
-behind_pos first behind pos = omega (arith, length-append first behind)
+tail_pos : (first tail : List ℕ) → 0 < length tail → 0 < length (first ++ tail)
+tail_pos first tail pos = omega (arith, length-append first tail)
 
-word_pos : (order : Order) (n : ℕ) (behind : List ℕ) → 0 < length (word_bytes order n ++ behind)
-word_pos order n behind = front_pos (word_bytes order n) behind (omega (arith, length-word_bytes order n))
+word_pos : (order : Order) (n : ℕ) (tail : List ℕ) → 0 < length (word_bytes order n ++ tail)
+word_pos order n tail = front_pos (word_bytes order n) tail (omega (arith, length-word_bytes order n))
 
 pub bare_bytes_pos : (order : Order) (levels place : ℕ) (type : DataType) (value : Value) → BareFits order levels place type value → 0 < length (bare_bytes order place type value)
 bare_bytes_pos order levels place (basic code) (number bits) has = omega (arith, length-number_bytes order code bits, number_len-pos code)
@@ -52,7 +52,7 @@ bare_bytes_pos order (suc levels) place (dict k v) (entries es) has = word_pos o
 bare_bytes_pos order (suc levels) place (struct t ts) (members no_values) has = absurd has
 bare_bytes_pos order (suc levels) place (struct t ts) (members (one_value v vs)) has =
     let start = aligned (alignment_of t) place in
-    front_pos (value_bytes order place t v) (members_bytes order (place + length (value_bytes order place t v)) ts vs) (behind_pos (zeros (padding (alignment_of t) place)) (bare_bytes order start t v) (bare_bytes_pos order levels start t v has.0))
+    front_pos (value_bytes order place t v) (members_bytes order (place + length (value_bytes order place t v)) ts vs) (tail_pos (zeros (padding (alignment_of t) place)) (bare_bytes order start t v) (bare_bytes_pos order levels start t v has.0))
 bare_bytes_pos order (suc levels) place variant (number bits) has = absurd has
 bare_bytes_pos order (suc levels) place variant (text bytes) has = absurd has
 bare_bytes_pos order (suc levels) place variant (elements vs) has = absurd has
@@ -78,7 +78,7 @@ bare_bytes_pos order (suc levels) place (struct t ts) (of_type s v) has = absurd
 pub value_bytes_pos : (order : Order) (levels place : ℕ) (type : DataType) (value : Value) → ValueFits order levels place type value → 0 < length (value_bytes order place type value)
 value_bytes_pos order levels place type value has =
     let start = aligned (alignment_of type) place in
-    behind_pos (zeros (padding (alignment_of type) place)) (bare_bytes order start type value) (bare_bytes_pos order levels start type value has)
+    tail_pos (zeros (padding (alignment_of type) place)) (bare_bytes order start type value) (bare_bytes_pos order levels start type value has)
 
 -- an entry whose key fits has a byte
 pub entry_bytes_pos : (order : Order) (levels place k : ℕ) (v : DataType) (key value : Value) → ValueFits order levels (aligned entry_alignment place) (basic k) key → 0 < length (entry_bytes order place k v key value)
@@ -86,7 +86,7 @@ entry_bytes_pos order levels place k v key value has =
     let start = aligned entry_alignment place in
     let first = value_bytes order start (basic k) key in
     let more = value_bytes order (start + length first) v value in
-    behind_pos (zeros (padding entry_alignment place)) (first ++ more) (front_pos first more (value_bytes_pos order levels start (basic k) key has))
+    tail_pos (zeros (padding entry_alignment place)) (first ++ more) (front_pos first more (value_bytes_pos order levels start (basic k) key has))
 
 -- ---- what is left after it
 
@@ -153,8 +153,8 @@ basic_leaves order code a found e = go (is_text_code code) e
 extent_leaves : (order : Order) (alignment : ℕ) (a : At) (found : At × At) → extent_at order alignment a ≡ Ok found → length found.1.rest < length a.rest
 unfolding extent_at
 extent_leaves order alignment a found e =
-    let n = bind_ok (word_at order a) (λ len. within_limit len.0 len.1 >>= λ behind. aligned_at alignment behind >>= λ start. item_at len.0 start >>= λ bytes. Ok (inside start.place bytes.0, bytes.1)) found e in
-    let w = bind_ok (within_limit n.0.0 n.0.1) (λ behind. aligned_at alignment behind >>= λ start. item_at n.0.0 start >>= λ bytes. Ok (inside start.place bytes.0, bytes.1)) found n.2 in
+    let n = bind_ok (word_at order a) (λ len. within_limit len.0 len.1 >>= λ tail. aligned_at alignment tail >>= λ start. item_at len.0 start >>= λ bytes. Ok (inside start.place bytes.0, bytes.1)) found e in
+    let w = bind_ok (within_limit n.0.0 n.0.1) (λ tail. aligned_at alignment tail >>= λ start. item_at n.0.0 start >>= λ bytes. Ok (inside start.place bytes.0, bytes.1)) found n.2 in
     let s = bind_ok (aligned_at alignment w.0) (λ start. item_at n.0.0 start >>= λ bytes. Ok (inside start.place bytes.0, bytes.1)) found w.2 in
     let b = bind_ok (item_at n.0.0 s.0) (λ bytes. Ok (inside s.0.place bytes.0, bytes.1)) found s.2 in
     let limit = guard_ok (ltb max_array_len n.0.0) faults.ArrayLength n.0.1 w.0 w.1 in

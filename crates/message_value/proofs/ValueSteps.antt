@@ -14,10 +14,10 @@ use Rattle.message_value.specs.Reading.{At, ◌>>=◌, item_at, aligned_at, sign
 use Rattle.message_value.specs.Words.{Checks, ChecksAll, basic_at}
 
 -- what was read stands in another value
-pub Checks-map : {X Y Z : Type 0} (result : Result X MsgError) (behind : At) (read : Result (Y × At) MsgError) (f : Y → Z) → Checks result behind read
-    → Checks result behind (read >>= λ found. Ok (f found.0, found.1))
-Checks-map (Ok x) behind read f h = (f h.0, rw h.1 refl)
-Checks-map (Err fault) behind read f h = rw h refl
+pub Checks-map : {X Y Z : Type 0} (result : Result X MsgError) (tail : At) (read : Result (Y × At) MsgError) (f : Y → Z) → Checks result tail read
+    → Checks result tail (read >>= λ found. Ok (f found.0, found.1))
+Checks-map (Ok x) tail read f h = (f h.0, rw h.1 refl)
+Checks-map (Err fault) tail read f h = rw h refl
 
 -- the readers of what is inside
 abbrev pub deeper : ℕ → Order → Result Reader MsgError
@@ -70,33 +70,33 @@ pub too_deep : (levels : ℕ) (order : Order) (type kind : DataType) (at start :
 too_deep levels order type kind at start fault is c e deep =
     rw is (begun levels order kind at start e ∙ ap (λ (l : ℕ). bare_at (deeper l order) order kind start) deep.0 ∙ deepest order kind start c ∙ ap (λ (f : MsgError). Err f) (sym deep.1))
 
-pub basic_checked : {X : Type 0} (result : Result X MsgError) (behind : At) (levels : ℕ) (order : Order) (type : DataType) (code : ℕ) (at : At) → type ≡ basic code
-    → Checks result behind (basic_at order code at) → Checks result behind (value_at levels order type at)
-basic_checked result behind levels order type code at is h = rw (is, basic_is levels order code at) h
+pub basic_checked : {X : Type 0} (result : Result X MsgError) (tail : At) (levels : ℕ) (order : Order) (type : DataType) (code : ℕ) (at : At) → type ≡ basic code
+    → Checks result tail (basic_at order code at) → Checks result tail (value_at levels order type at)
+basic_checked result tail levels order type code at is h = rw (is, basic_is levels order code at) h
 
 -- one level deeper
-inside : {X : Type 0} (result : Result X MsgError) (behind : At) (levels less : ℕ) (order : Order) (type : DataType) (at start : At) → levels ≡ suc less
-    → aligned_at (alignment_of type) at ≡ Ok start → Checks result behind (bare_at (Ok (value_at less order)) order type start) → Checks result behind (value_at levels order type at)
-inside result behind levels less order type at start one e h = rw (begun levels order type at start e, one) h
+inside : {X : Type 0} (result : Result X MsgError) (tail : At) (levels less : ℕ) (order : Order) (type : DataType) (at start : At) → levels ≡ suc less
+    → aligned_at (alignment_of type) at ≡ Ok start → Checks result tail (bare_at (Ok (value_at less order)) order type start) → Checks result tail (value_at levels order type at)
+inside result tail levels less order type at start one e h = rw (begun levels order type at start e, one) h
 
-pub variant_checked : {X : Type 0} (result : Result X MsgError) (behind : At) (levels less : ℕ) (order : Order) (type : DataType) (at : At) → type ≡ variant → levels ≡ suc less
-    → Checks result behind (variant_at (value_at less order) at) → Checks result behind (value_at levels order type at)
-variant_checked result behind levels less order type at is one h =
-    rw is (inside result behind levels less order variant at at one (aligned_one at) h)
+pub variant_checked : {X : Type 0} (result : Result X MsgError) (tail : At) (levels less : ℕ) (order : Order) (type : DataType) (at : At) → type ≡ variant → levels ≡ suc less
+    → Checks result tail (variant_at (value_at less order) at) → Checks result tail (value_at levels order type at)
+variant_checked result tail levels less order type at is one h =
+    rw is (inside result tail levels less order variant at at one (aligned_one at) h)
 
-pub array_checked : {X : Type 0} (result : Result X MsgError) (behind : At) (levels less : ℕ) (order : Order) (type t : DataType) (at start : At) → type ≡ array t → levels ≡ suc less
-    → aligned_at 4 at ≡ Ok start → Checks result behind (array_at (value_at less order) order t start) → Checks result behind (value_at levels order type at)
-array_checked result behind levels less order type t at start is one e h = rw is (inside result behind levels less order (array t) at start one e h)
+pub array_checked : {X : Type 0} (result : Result X MsgError) (tail : At) (levels less : ℕ) (order : Order) (type t : DataType) (at start : At) → type ≡ array t → levels ≡ suc less
+    → aligned_at 4 at ≡ Ok start → Checks result tail (array_at (value_at less order) order t start) → Checks result tail (value_at levels order type at)
+array_checked result tail levels less order type t at start is one e h = rw is (inside result tail levels less order (array t) at start one e h)
 
-pub dict_checked : {X : Type 0} (result : Result X MsgError) (behind : At) (levels less : ℕ) (order : Order) (type : DataType) (k : ℕ) (v : DataType) (at start : At) → type ≡ dict k v → levels ≡ suc less
-    → aligned_at 4 at ≡ Ok start → Checks result behind (dict_at (value_at less order) order k v start) → Checks result behind (value_at levels order type at)
-dict_checked result behind levels less order type k v at start is one e h = rw is (inside result behind levels less order (dict k v) at start one e h)
+pub dict_checked : {X : Type 0} (result : Result X MsgError) (tail : At) (levels less : ℕ) (order : Order) (type : DataType) (k : ℕ) (v : DataType) (at start : At) → type ≡ dict k v → levels ≡ suc less
+    → aligned_at 4 at ≡ Ok start → Checks result tail (dict_at (value_at less order) order k v start) → Checks result tail (value_at levels order type at)
+dict_checked result tail levels less order type k v at start is one e h = rw is (inside result tail levels less order (dict k v) at start one e h)
 
-pub struct_checked : {X : Type 0} (result : Result X MsgError) (behind : At) (levels less : ℕ) (order : Order) (type t : DataType) (ts : DataTypes) (at start : At) → type ≡ struct t ts → levels ≡ suc less
-    → aligned_at 8 at ≡ Ok start → Checks result behind (members_at (value_at less order) (one_more t ts) start) → Checks result behind (value_at levels order type at)
+pub struct_checked : {X : Type 0} (result : Result X MsgError) (tail : At) (levels less : ℕ) (order : Order) (type t : DataType) (ts : DataTypes) (at start : At) → type ≡ struct t ts → levels ≡ suc less
+    → aligned_at 8 at ≡ Ok start → Checks result tail (members_at (value_at less order) (one_more t ts) start) → Checks result tail (value_at levels order type at)
 unfolding struct_at
-struct_checked result behind levels less order type t ts at start is one e h =
-    rw is (inside result behind levels less order (struct t ts) at start one e (Checks-map result behind (members_at (value_at less order) (one_more t ts) start) members h))
+struct_checked result tail levels less order type t ts at start is one e h =
+    rw is (inside result tail levels less order (struct t ts) at start one e (Checks-map result tail (members_at (value_at less order) (one_more t ts) start) members h))
 
 -- ---- a variant, an entry and arrays
 
@@ -104,37 +104,37 @@ pub no_signature_at : (reader : Reader) (at : At) (fault : MsgError) → signatu
 unfolding variant_at
 no_signature_at reader at fault e = rw e refl
 
-pub after_signature : {X : Type 0} (result : Result X MsgError) (behind : At) (reader : Reader) (at middle : At) (type : DataType) → signature_at at ≡ Ok (type, middle)
-    → Checks result behind (reader type middle) → Checks result behind (variant_at reader at)
+pub after_signature : {X : Type 0} (result : Result X MsgError) (tail : At) (reader : Reader) (at middle : At) (type : DataType) → signature_at at ≡ Ok (type, middle)
+    → Checks result tail (reader type middle) → Checks result tail (variant_at reader at)
 unfolding variant_at
-after_signature result behind reader at middle type e h = rw e (Checks-map result behind (reader type middle) (λ value. of_type type value) h)
+after_signature result tail reader at middle type e h = rw e (Checks-map result tail (reader type middle) (λ value. of_type type value) h)
 
 -- the elements, and the place after the extent
-extent_then : {X Y Z : Type 0} (result : Result X MsgError) (behind : At) (read : Result (List Y) MsgError) (f : List Y → Z) → ChecksAll result read
-    → Checks result behind (read >>= λ found. Ok (f found, behind))
-extent_then (Ok x) behind read f h = (f h.0, rw h.1 refl)
-extent_then (Err fault) behind read f h = rw h refl
+extent_then : {X Y Z : Type 0} (result : Result X MsgError) (tail : At) (read : Result (List Y) MsgError) (f : List Y → Z) → ChecksAll result read
+    → Checks result tail (read >>= λ found. Ok (f found, tail))
+extent_then (Ok x) tail read f h = (f h.0, rw h.1 refl)
+extent_then (Err fault) tail read f h = rw h refl
 
 pub no_extent : (reader : Reader) (order : Order) (t : DataType) (alignment : ℕ) (at : At) (fault : MsgError) → alignment ≡ alignment_of t → extent_at order alignment at ≡ Err fault → array_at reader order t at ≡ Err fault
 unfolding array_at
 no_extent reader order t alignment at fault same e = let here = rw same at e in rw here refl
 
-pub after_extent : {X : Type 0} (result : Result X MsgError) (behind : At) (reader : Reader) (order : Order) (t : DataType) (alignment : ℕ) (at inner : At) → alignment ≡ alignment_of t → extent_at order alignment at ≡ Ok (inner, behind)
-    → ChecksAll result (each_at (reader t) (length inner.rest) inner) → Checks result behind (array_at reader order t at)
+pub after_extent : {X : Type 0} (result : Result X MsgError) (tail : At) (reader : Reader) (order : Order) (t : DataType) (alignment : ℕ) (at inner : At) → alignment ≡ alignment_of t → extent_at order alignment at ≡ Ok (inner, tail)
+    → ChecksAll result (each_at (reader t) (length inner.rest) inner) → Checks result tail (array_at reader order t at)
 unfolding array_at
-after_extent result behind reader order t alignment at inner same e h =
+after_extent result tail reader order t alignment at inner same e h =
     let here = rw same at e in
-    rw here (extent_then result behind (each_at (reader t) (length inner.rest) inner) (λ found. elements (values_of found)) h)
+    rw here (extent_then result tail (each_at (reader t) (length inner.rest) inner) (λ found. elements (values_of found)) h)
 
 pub no_dict_extent : (reader : Reader) (order : Order) (k : ℕ) (v : DataType) (at : At) (fault : MsgError) → extent_at order entry_alignment at ≡ Err fault → dict_at reader order k v at ≡ Err fault
 unfolding dict_at
 no_dict_extent reader order k v at fault e = rw e refl
 
-pub after_dict_extent : {X : Type 0} (result : Result X MsgError) (behind : At) (reader : Reader) (order : Order) (k : ℕ) (v : DataType) (at inner : At) → extent_at order entry_alignment at ≡ Ok (inner, behind)
-    → ChecksAll result (each_at (entry_at reader k v) (length inner.rest) inner) → Checks result behind (dict_at reader order k v at)
+pub after_dict_extent : {X : Type 0} (result : Result X MsgError) (tail : At) (reader : Reader) (order : Order) (k : ℕ) (v : DataType) (at inner : At) → extent_at order entry_alignment at ≡ Ok (inner, tail)
+    → ChecksAll result (each_at (entry_at reader k v) (length inner.rest) inner) → Checks result tail (dict_at reader order k v at)
 unfolding dict_at
-after_dict_extent result behind reader order k v at inner e h =
-    rw e (extent_then result behind (each_at (entry_at reader k v) (length inner.rest) inner) (λ found. entries (entries_of found)) h)
+after_dict_extent result tail reader order k v at inner e h =
+    rw e (extent_then result tail (each_at (entry_at reader k v) (length inner.rest) inner) (λ found. entries (entries_of found)) h)
 
 pub unaligned_entry : (reader : Reader) (k : ℕ) (v : DataType) (at : At) (fault : MsgError) → aligned_at entry_alignment at ≡ Err fault → entry_at reader k v at ≡ Err fault
 unfolding entry_at
@@ -145,11 +145,11 @@ pub no_key : (levels : ℕ) (order : Order) (k : ℕ) (v : DataType) (at start :
 unfolding entry_at
 no_key levels order k v at start fault e key = rw (e, basic_is levels order k start, key) refl
 
-pub after_key : {X : Type 0} (result : Result X MsgError) (behind : At) (levels : ℕ) (order : Order) (k : ℕ) (v : DataType) (at start middle : At) → aligned_at entry_alignment at ≡ Ok start
-    → (key : Value) × (basic_at order k start ≡ Ok (key, middle)) → Checks result behind (value_at levels order v middle) → Checks result behind (entry_at (value_at levels order) k v at)
+pub after_key : {X : Type 0} (result : Result X MsgError) (tail : At) (levels : ℕ) (order : Order) (k : ℕ) (v : DataType) (at start middle : At) → aligned_at entry_alignment at ≡ Ok start
+    → (key : Value) × (basic_at order k start ≡ Ok (key, middle)) → Checks result tail (value_at levels order v middle) → Checks result tail (entry_at (value_at levels order) k v at)
 unfolding entry_at
-after_key result behind levels order k v at start middle e key h =
-    rw (e, basic_is levels order k start, key.1) (Checks-map result behind (value_at levels order v middle) (λ value. (key.0, value)) h)
+after_key result tail levels order k v at start middle e key h =
+    rw (e, basic_is levels order k start, key.1) (Checks-map result tail (value_at levels order v middle) (λ value. (key.0, value)) h)
 
 alignment_of_basic : (code : ℕ) → 0 < basic_alignment code
 alignment_of_basic code = go (code == 121 || code == 103) (code == 110 || code == 113) (code == 120 || code == 116 || code == 100)

@@ -57,10 +57,10 @@ text_fault code = if code == 111 then faults.BadName else if code == 103 then fa
 
 -- the text of an item: its form, and then its end
 abbrev pub ended : ℕ → ℕ → List ℕ → At → Result (List ℕ × At) MsgError
-ended code len bytes behind =
+ended code len bytes tail =
     if not (is_text_of code (take len bytes)) then Err (text_fault code)
     else if not (slice_index bytes len == 0) then Err faults.BadText
-    else Ok (take len bytes, behind)
+    else Ok (take len bytes, tail)
 
 -- a text of `len` bytes with its zero byte, as one item
 unfoldable pub text_at : ℕ → ℕ → At → Result (List ℕ × At) MsgError
@@ -87,8 +87,8 @@ text_value_at order code at = do
 
 -- the type of an item: one complete type, and then its end
 abbrev pub typed : Option DataType → ℕ → At → Result (DataType × At) MsgError
-typed None end behind = Err faults.BadSignature
-typed (Some type) end behind = if end == 0 then Ok (type, behind) else Err faults.BadText
+typed None end tail = Err faults.BadSignature
+typed (Some type) end tail = if end == 0 then Ok (type, tail) else Err faults.BadText
 
 -- a variant's signature
 unfoldable pub signature_at : At → Result (DataType × At) MsgError
@@ -101,7 +101,7 @@ signature_at at = do
 
 -- the value of a number's bits; a boolean is 0 or 1
 abbrev pub counted : ℕ → ℕ → At → Result (Value × At) MsgError
-counted code bits behind = if code == 98 && nat_lt 1 bits then Err faults.BadBool else Ok (number bits, behind)
+counted code bits tail = if code == 98 && nat_lt 1 bits then Err faults.BadBool else Ok (number bits, tail)
 
 unfoldable pub number_value_at : Order → ℕ → At → Result (Value × At) MsgError
 number_value_at order code at = do
@@ -121,8 +121,8 @@ within_limit len at = if nat_lt max_array_len len then Err faults.ArrayLength el
 unfoldable pub extent_at : Order → ℕ → At → Result (At × At) MsgError
 extent_at order alignment at = do
   len ← word_at order at
-  behind ← within_limit len.0 len.1
-  start ← aligned_at alignment behind
+  tail ← within_limit len.0 len.1
+  start ← aligned_at alignment tail
   bytes ← item_at len.0 start
   Ok (inside start.place bytes.0, bytes.1)
 

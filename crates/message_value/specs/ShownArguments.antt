@@ -13,4 +13,4 @@ shown_arg arg = record { code = arg.code; place = arg.place; len = arg.len; text
 
 -- It is the argument that reading gives, which ends at a place.
 abbrev pub ShowsArgument : Order → DataType → ℕ → Arg → At → Result (Value × At) MsgError → Type 0
-ShowsArgument order type place arg behind read = (found : Value × At) → read ≡ Ok found → (behind ≡ found.1) × (shown_arg arg ≡ argument_of order place type found.0)
+ShowsArgument order type place arg tail read = (found : Value × At) → read ≡ Ok found → (tail ≡ found.1) × (shown_arg arg ≡ argument_of order place type found.0)

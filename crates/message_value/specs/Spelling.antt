@@ -71,7 +71,7 @@ abbrev mutual
   bare_bytes order place (basic code) (number bits) = number_bytes order (width_of code) bits
   bare_bytes order place (basic code) (text bytes) = text_bytes order code bytes
   bare_bytes order place variant (of_type type value) =
-      followed place (signature_bytes type) (λ behind. padded (alignment_of type) behind (λ start. bare_bytes order start type value))
+      followed place (signature_bytes type) (λ tail. padded (alignment_of type) tail (λ start. bare_bytes order start type value))
   bare_bytes order place (array t) (elements vs) =
       array_bytes order (alignment_of t) place (elements_bytes order (elements_place (alignment_of t) place) t vs)
   bare_bytes order place (dict k v) (entries es) =
@@ -83,7 +83,7 @@ abbrev mutual
   pub elements_bytes : Order → ℕ → DataType → Values → List ℕ
   elements_bytes order place t no_values = []
   elements_bytes order place t (one_value v vs) =
-      followed place (padded (alignment_of t) place (λ start. bare_bytes order start t v)) (λ behind. elements_bytes order behind t vs)
+      followed place (padded (alignment_of t) place (λ start. bare_bytes order start t v)) (λ tail. elements_bytes order tail t vs)
 
   -- one entry after the other: its key, and its value
   pub entries_bytes : Order → ℕ → ℕ → DataType → Entries → List ℕ
@@ -91,14 +91,14 @@ abbrev mutual
   entries_bytes order place k v (one_entry key value es) =
       followed place
       (padded entry_alignment place (λ start.
-      followed start (padded (alignment_of (basic k)) start (λ at. bare_bytes order at (basic k) key)) (λ behind.
-      padded (alignment_of v) behind (λ at. bare_bytes order at v value))))
-      (λ behind. entries_bytes order behind k v es)
+      followed start (padded (alignment_of (basic k)) start (λ at. bare_bytes order at (basic k) key)) (λ tail.
+      padded (alignment_of v) tail (λ at. bare_bytes order at v value))))
+      (λ tail. entries_bytes order tail k v es)
 
   -- one member after the other
   pub members_bytes : Order → ℕ → DataTypes → Values → List ℕ
   members_bytes order place (one_more t ts) (one_value v vs) =
-      followed place (padded (alignment_of t) place (λ start. bare_bytes order start t v)) (λ behind. members_bytes order behind ts vs)
+      followed place (padded (alignment_of t) place (λ start. bare_bytes order start t v)) (λ tail. members_bytes order tail ts vs)
   members_bytes order place _ _ = []
 
 -- a value with the zeros before it
@@ -108,4 +108,4 @@ value_bytes order place type value = padded (alignment_of type) place (λ start.
 -- a dict entry with the zeros before it
 abbrev pub entry_bytes : Order → ℕ → ℕ → DataType → Value → Value → List ℕ
 entry_bytes order place k v key value =
-    padded entry_alignment place (λ start. followed start (value_bytes order start (basic k) key) (λ behind. value_bytes order behind v value))
+    padded entry_alignment place (λ start. followed start (value_bytes order start (basic k) key) (λ tail. value_bytes order tail v value))

@@ -16,23 +16,23 @@ use Rattle.message_value.specs.Reading.{At, ◌>>=◌, aligned_at, text_value_at
 
 -- What a call returned, and where it then stands, is what reading gives.
 abbrev pub Reads : {X Y : Type 0} → (X → Y) → Result X MsgError → At → Result (Y × At) MsgError → Type 0
-Reads view (Ok x) behind read = read ≡ Ok (view x, behind)
-Reads view (Err fault) behind read = read ≡ Err fault
+Reads view (Ok x) tail read = read ≡ Ok (view x, tail)
+Reads view (Err fault) tail read = read ≡ Err fault
 
 -- the same where only the place changes
 abbrev pub Skips : {X : Type 0} → Result X MsgError → At → Result At MsgError → Type 0
-Skips (Ok x) behind read = read ≡ Ok behind
-Skips (Err fault) behind read = read ≡ Err fault
+Skips (Ok x) tail read = read ≡ Ok tail
+Skips (Err fault) tail read = read ≡ Err fault
 
 -- the same where what was read isn't kept
 abbrev pub Checks : {X Y : Type 0} → Result X MsgError → At → Result (Y × At) MsgError → Type 0
-Checks (Ok x) behind read = (y : _) × (read ≡ Ok (y, behind))
-Checks (Err fault) behind read = read ≡ Err fault
+Checks (Ok x) tail read = (y : _) × (read ≡ Ok (y, tail))
+Checks (Err fault) tail read = read ≡ Err fault
 
 -- the same of a type's text
 abbrev pub ReadsType : Result (List ℕ) MsgError → At → Result (DataType × At) MsgError → Type 0
-ReadsType (Ok text) behind read = (type : DataType) × TypeText type text × (length text ≤ 255) × (read ≡ Ok (type, behind))
-ReadsType (Err fault) behind read = read ≡ Err fault
+ReadsType (Ok text) tail read = (type : DataType) × TypeText type text × (length text ≤ 255) × (read ≡ Ok (type, tail))
+ReadsType (Err fault) tail read = read ≡ Err fault
 
 -- What a call returned is what reading gives, seen by a view of each.
 abbrev pub Gives : {X Y Z : Type 0} → (X → Z) → (Y → Z) → Result X MsgError → Result Y MsgError → Type 0
@@ -88,11 +88,11 @@ IsRead read = (found : _) × (read ≡ Ok found)
 
 -- the same where only the place changes
 abbrev pub IsGone : Result At MsgError → Type 0
-IsGone read = (behind : At) × (read ≡ Ok behind)
+IsGone read = (tail : At) × (read ≡ Ok tail)
 
 -- a place is the one after what reading gives, where it gives something
 abbrev pub Reaches : {Y : Type 0} → At → Result (Y × At) MsgError → Type 0
-Reaches behind read = (found : _) → read ≡ Ok found → behind ≡ found.1
+Reaches tail read = (found : _) → read ≡ Ok found → tail ≡ found.1
 
 -- its values are no texts
 abbrev pub IsNoText : DataType → Type 0

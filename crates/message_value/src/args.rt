@@ -39,8 +39,8 @@ impl<'a> Args<'a> {
 
     /// The arguments that a body has, of the types of its signature.
     pub fn new(order: Order, signature: Signature<'a>, cursor: Cursor<'a>) -> Args<'a>
-        requires { (types : DataTypes) × SigText types signature × ((values : Values) × (behind : At) × (members_at (value_at max_levels order) types cursor ≡ Ok (values, behind))) }
-        ensures { (types : DataTypes) (values : Values) (behind : At) → SigText types signature.entry → members_at (value_at max_levels order) types cursor.entry ≡ Ok (values, behind) → result ≡ arguments_from order cursor.entry.place types values }
+        requires { (types : DataTypes) × SigText types signature × ((values : Values) × (tail : At) × (members_at (value_at max_levels order) types cursor ≡ Ok (values, tail))) }
+        ensures { (types : DataTypes) (values : Values) (tail : At) → SigText types signature.entry → members_at (value_at max_levels order) types cursor.entry ≡ Ok (values, tail) → result ≡ arguments_from order cursor.entry.place types values }
     {
         Args {
             order,

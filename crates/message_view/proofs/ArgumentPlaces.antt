@@ -23,7 +23,7 @@ use Rattle.message_view.specs.Places.{slice_at, LiesIn}
 use Rattle.message_view.specs.Spelling.{body_place, header_bytes, body_bytes, arguments_of, message_bytes}
 use Rattle.message_view.specs.Valid.{Valid}
 use Rattle.message_view.proofs.TextBytes.{text_bytes}
-use Rattle.message_view.proofs.TextStands.{Stands, stands_here, stands_before, stands_behind, stands_slice}
+use Rattle.message_view.proofs.TextStands.{Stands, stands_here, stands_before, stands_after, stands_slice}
 
 -- ---- one argument
 
@@ -42,9 +42,9 @@ text_before : (bytes more : List ℕ) (start place len : ℕ) (text : Option (Li
 text_before bytes more start place len None has = tt
 text_before bytes more start place len (Some text) has = (has.0, stands_before bytes text more start place has.1)
 
-text_behind : (first bytes : List ℕ) (n start place len : ℕ) (text : Option (List ℕ)) → length first ≡ n → TextStands bytes (start + n) place len text → TextStands (first ++ bytes) start place len text
-text_behind first bytes n start place len None is has = tt
-text_behind first bytes n start place len (Some text) is has = (has.0, stands_behind first bytes text n start place is has.1)
+text_after : (first bytes : List ℕ) (n start place len : ℕ) (text : Option (List ℕ)) → length first ≡ n → TextStands bytes (start + n) place len text → TextStands (first ++ bytes) start place len text
+text_after first bytes n start place len None is has = tt
+text_after first bytes n start place len (Some text) is has = (has.0, stands_after first bytes text n start place is has.1)
 
 place_before : (bytes more : List ℕ) (start : ℕ) (a : Argument) → HasPlace bytes start a → HasPlace (bytes ++ more) start a
 place_before bytes more start a has = record {
@@ -53,11 +53,11 @@ place_before bytes more start a has = record {
   stands = text_before bytes more start a.place a.len a.text has.stands;
 }
 
-place_behind : (first bytes : List ℕ) (n start : ℕ) (a : Argument) → length first ≡ n → HasPlace bytes (start + n) a → HasPlace (first ++ bytes) start a
-place_behind first bytes n start a is has = record {
+place_after : (first bytes : List ℕ) (n start : ℕ) (a : Argument) → length first ≡ n → HasPlace bytes (start + n) a → HasPlace (first ++ bytes) start a
+place_after first bytes n start a is has = record {
   code = has.code;
   within = omega (arith, has.within, length-append first bytes);
-  stands = text_behind first bytes n start a.place a.len a.text is has.stands;
+  stands = text_after first bytes n start a.place a.len a.text is has.stands;
 }
 
 -- ---- all of them
@@ -66,9 +66,9 @@ abbrev pub HavePlaces : List ℕ → ℕ → List Argument → Type 0
 HavePlaces bytes start [] = Unit {0}
 HavePlaces bytes start (a ∷ more) = HasPlace bytes start a × HavePlaces bytes start more
 
-pub places_behind : (first bytes : List ℕ) (n start : ℕ) (arguments : List Argument) → length first ≡ n → HavePlaces bytes (start + n) arguments → HavePlaces (first ++ bytes) start arguments
-places_behind first bytes n start [] is have = tt
-places_behind first bytes n start (a ∷ more) is have = (place_behind first bytes n start a is have.0, places_behind first bytes n start more is have.1)
+pub places_after : (first bytes : List ℕ) (n start : ℕ) (arguments : List Argument) → length first ≡ n → HavePlaces bytes (start + n) arguments → HavePlaces (first ++ bytes) start arguments
+places_after first bytes n start [] is have = tt
+places_after first bytes n start (a ∷ more) is have = (place_after first bytes n start a is have.0, places_after first bytes n start more is have.1)
 
 -- ---- types
 
@@ -117,7 +117,7 @@ bare_has order start type value typed fits = whole_has (bare_bytes order start t
 value_has : (order : Order) (place : ℕ) (type : DataType) (value : Value) → Fits 0 0 type → BareFits order max_levels (aligned (alignment_of type) place) type value → HasPlace (value_bytes order place type value) place (argument_of order (aligned (alignment_of type) place) type value)
 value_has order place type value typed fits =
     let start : ℕ = aligned (alignment_of type) place in
-    place_behind (zeros (padding (alignment_of type) place)) (bare_bytes order start type value) (padding (alignment_of type) place) place (argument_of order start type value) (length-zeros (padding (alignment_of type) place)) (bare_has order start type value typed fits)
+    place_after (zeros (padding (alignment_of type) place)) (bare_bytes order start type value) (padding (alignment_of type) place) place (argument_of order start type value) (length-zeros (padding (alignment_of type) place)) (bare_has order start type value typed fits)
 
 -- one value after the other
 pub arguments_have : (order : Order) (place : ℕ) (types : DataTypes) (values : Values) → AllFit 0 0 types → MembersFit order max_levels place types values → HavePlaces (members_bytes order place types values) place (arguments_from order place types values)
@@ -125,7 +125,7 @@ arguments_have order place (one_more t ts) (one_value v vs) typed fit =
     let first : List ℕ = value_bytes order place t v in
     let more : List ℕ = members_bytes order (place + length first) ts vs in (
       place_before first more place (argument_of order (aligned (alignment_of t) place) t v) (value_has order place t v typed.0 fit.0),
-      places_behind first more (length first) place (arguments_from order (place + length first) ts vs) refl (arguments_have order (place + length first) ts vs typed.1 fit.1),
+      places_after first more (length first) place (arguments_from order (place + length first) ts vs) refl (arguments_have order (place + length first) ts vs typed.1 fit.1),
     )
 arguments_have order place _ _ typed fit = tt
 
@@ -142,12 +142,12 @@ message_places bytes m valid =
     let w2 : List ℕ = word_bytes m.order (length header) in
     let r3 : List ℕ = header ++ (pad ++ body) in
     let all : List Argument = arguments_of m in
-    places_behind (order_byte m.order ∷ kind_byte m.kind ∷ m.flags ∷ 1 ∷ []) (w0 ++ (w1 ++ (w2 ++ r3))) 4 0 all refl
-    (places_behind w0 (w1 ++ (w2 ++ r3)) 4 4 all (length-word_bytes m.order (length body))
-    (places_behind w1 (w2 ++ r3) 4 8 all (length-word_bytes m.order m.serial)
-    (places_behind w2 r3 4 12 all (length-word_bytes m.order (length header))
-    (places_behind header (pad ++ body) (length header) 16 all refl
-    (places_behind pad body (padding 8 (length header)) (16 + length header) all (length-zeros (padding 8 (length header)))
+    places_after (order_byte m.order ∷ kind_byte m.kind ∷ m.flags ∷ 1 ∷ []) (w0 ++ (w1 ++ (w2 ++ r3))) 4 0 all refl
+    (places_after w0 (w1 ++ (w2 ++ r3)) 4 4 all (length-word_bytes m.order (length body))
+    (places_after w1 (w2 ++ r3) 4 8 all (length-word_bytes m.order m.serial)
+    (places_after w2 r3 4 12 all (length-word_bytes m.order (length header))
+    (places_after header (pad ++ body) (length header) 16 all refl
+    (places_after pad body (padding 8 (length header)) (16 + length header) all (length-zeros (padding 8 (length header)))
     (arguments_have m.order (body_place (length header)) m.types m.arguments valid.types.fits valid.arguments))))))
 
 -- ---- slices

@@ -132,15 +132,15 @@ two = path_field ∷ interface_field ∷ []
 
 two_read : (turns : ℕ) (rest : List ℕ) → fields_from (suc (suc turns)) Little [] (inside 16 (take 28 three_bytes ++ rest)) ≡ fields_from turns Little two (inside 44 rest)
 two_read turns rest =
-    let behind = drop 11 (take 28 three_bytes) ++ rest in
-    one_turn (suc turns) [] (inside 16 (take 28 three_bytes ++ rest)) (path_field, inside 27 behind) (omega arith) (field_again Little [] path_field 16 faults.ArrayLength behind (path_is Little) refl)
-    ∙ one_turn turns (path_field ∷ []) (inside 27 behind) (interface_field, inside 44 rest) (omega arith) (field_again Little (path_field ∷ []) interface_field 27 faults.ArrayLength rest (interface_is Little) refl)
+    let tail = drop 11 (take 28 three_bytes) ++ rest in
+    one_turn (suc turns) [] (inside 16 (take 28 three_bytes ++ rest)) (path_field, inside 27 tail) (omega arith) (field_again Little [] path_field 16 faults.ArrayLength tail (path_is Little) refl)
+    ∙ one_turn turns (path_field ∷ []) (inside 27 tail) (interface_field, inside 44 rest) (omega arith) (field_again Little (path_field ∷ []) interface_field 27 faults.ArrayLength rest (interface_is Little) refl)
 
 three_read : (turns : ℕ) (rest : List ℕ) → fields_from (suc (suc (suc turns))) Little [] (inside 16 (three_bytes ++ rest)) ≡ fields_from turns Little three (inside 58 rest)
 three_read turns rest =
-    let behind = drop 28 three_bytes ++ rest in
-    two_read (suc turns) behind
-    ∙ one_turn turns two (inside 44 behind) (member_field, inside 58 rest) (omega arith) (field_again Little two member_field 44 faults.ArrayLength rest (member_is Little) refl)
+    let tail = drop 28 three_bytes ++ rest in
+    two_read (suc turns) tail
+    ∙ one_turn turns two (inside 44 tail) (member_field, inside 58 rest) (omega arith) (field_again Little two member_field 44 faults.ArrayLength rest (member_is Little) refl)
 
 fields_read : fields_from 42 Little [] (inside 16 three_bytes) ≡ Ok three
 fields_read = fields_again 42 Little [] three 16 faults.ArrayLength (path_is Little, refl, (interface_is Little, refl, (member_is Little, refl, tt))) (nothing_front three) (omega arith)
@@ -229,9 +229,9 @@ empty : message_at (take 0 little) ≡ Err faults.Short
 unfolding message_at framed_message
 empty = refl
 
-one_behind : message_at (little ++ 0 ∷ []) ≡ Err faults.Trailing
+one_after : message_at (little ++ 0 ∷ []) ≡ Err faults.Trailing
 unfolding message_at framed_message
-one_behind = refl
+one_after = refl
 
 -- ---- with a body
 

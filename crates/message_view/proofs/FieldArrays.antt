@@ -51,15 +51,15 @@ differ field later known more once is = ne_eqb _ _ (λ same. never same (once_at
     never same none = eqb-false later.code field.code (found_none (eqb later.code field.code) later.value (field_with field.code more) none).0 (sym same)
 
 -- what follows is the same with a longer front
-once_behind : (o : Option FieldCode) (code : ℕ) (first : Field) (more : List Field) → IsOnce o code (first ∷ more) → IsOnce o code more
-once_behind (Some known) code first more once = (found_none (eqb first.code code) first.value (field_with code more) once).1
-once_behind None code first more once = tt
+once_after : (o : Option FieldCode) (code : ℕ) (first : Field) (more : List Field) → IsOnce o code (first ∷ more) → IsOnce o code more
+once_after (Some known) code first more once = (found_none (eqb first.code code) first.value (field_with code more) once).1
+once_after None code first more once = tt
 
 pub Apart-push : (front : List Field) (field : Field) (more : List Field) → Apart front more → IsOnce (code_of field.code) field.code more → Apart (front ++ field ∷ []) more
 Apart-push front field [] apart once = tt
 Apart-push front field (later ∷ more) apart once = (
   once_from (code_of later.code) later.code (front ++ field ∷ []) (λ known e. with_push later.code front field (once_at (code_of later.code) later.code front known apart.0 e) (differ field later known more once e)),
-  Apart-push front field more apart.1 (once_behind (code_of field.code) field.code later more once),
+  Apart-push front field more apart.1 (once_after (code_of field.code) field.code later more once),
 )
 
 pub Apart-pull : (front : List Field) (field : Field) (more : List Field) → Apart (front ++ field ∷ []) more → Apart front more × IsOnce (code_of field.code) field.code more

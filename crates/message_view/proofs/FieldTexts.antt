@@ -21,7 +21,7 @@ use Rattle.message_view.specs.Places.{text_field_code, text_extent, extent_from,
 use Rattle.message_view.specs.Valid.{Valid, IsAllowed, AreFields, levels_in_field}
 use Rattle.message_value.specs.Words.{AreBytes}
 use Rattle.message_view.proofs.TextBytes.{text_bytes}
-use Rattle.message_view.proofs.TextStands.{Stands, stands_here, stands_before, stands_behind, stands_within, stands_slice}
+use Rattle.message_view.proofs.TextStands.{Stands, stands_here, stands_before, stands_after, stands_within, stands_slice}
 
 -- ---- a text among bytes
 
@@ -45,7 +45,7 @@ is_typed Sender field allowed = allowed.0
 -- a text stands after its padding and its length
 long_text_stands : (order : Order) (place : ℕ) (text : List ℕ) → AreBytes text → Stands (zeros (padding 4 place) ++ (word_bytes order (length text) ++ (text ++ 0 ∷ []))) place (aligned 4 place + 4) text
 long_text_stands order place text are =
-    stands_behind (zeros (padding 4 place)) (word_bytes order (length text) ++ (text ++ 0 ∷ [])) text (padding 4 place) place (aligned 4 place + 4) (length-zeros (padding 4 place))
+    stands_after (zeros (padding 4 place)) (word_bytes order (length text) ++ (text ++ 0 ∷ [])) text (padding 4 place) place (aligned 4 place + 4) (length-zeros (padding 4 place))
     (stands_here (word_bytes order (length text)) text (0 ∷ []) (aligned 4 place) (aligned 4 place + 4) are (ap (λ (n : ℕ). aligned 4 place + n) (length-word_bytes order (length text))))
 
 value_stands : (known : TextField) (order : Order) (place : ℕ) (text : List ℕ) → AreBytes text → Stands (value_bytes order place (basic (text_type known)) (text_value text)) place (aligned 4 place + 4) text
@@ -69,11 +69,11 @@ said_before bytes more start None (Some text) said = absurd said
 said_before bytes more start (Some extent) None said = absurd said
 said_before bytes more start (Some extent) (Some text) said = (said.0, stands_before bytes text more start extent.place said.1)
 
-said_behind : (first bytes : List ℕ) (n start : ℕ) (extent : Option Extent) (text : Option (List ℕ)) → length first ≡ n → Said bytes (start + n) extent text → Said (first ++ bytes) start extent text
-said_behind first bytes n start None None is said = tt
-said_behind first bytes n start None (Some text) is said = absurd said
-said_behind first bytes n start (Some extent) None is said = absurd said
-said_behind first bytes n start (Some extent) (Some text) is said = (said.0, stands_behind first bytes text n start extent.place is said.1)
+said_after : (first bytes : List ℕ) (n start : ℕ) (extent : Option Extent) (text : Option (List ℕ)) → length first ≡ n → Said bytes (start + n) extent text → Said (first ++ bytes) start extent text
+said_after first bytes n start None None is said = tt
+said_after first bytes n start None (Some text) is said = absurd said
+said_after first bytes n start (Some extent) None is said = absurd said
+said_after first bytes n start (Some extent) (Some text) is said = (said.0, stands_after first bytes text n start extent.place is said.1)
 
 -- ---- the fields
 
@@ -83,8 +83,8 @@ field_stands known order place code type text are is =
     let front : List ℕ = code ∷ signature_bytes type in
     let at : ℕ = aligned 8 place + length front in
     let value : Stands (value_bytes order at type (text_value text)) at (aligned 4 at + 4) text = subst (λ (t : DataType). Stands (value_bytes order at t (text_value text)) at (aligned 4 at + 4) text) (sym is) (value_stands known order at text are) in
-    stands_behind (zeros (padding 8 place)) (front ++ value_bytes order at type (text_value text)) text (padding 8 place) place (aligned 4 at + 4) (length-zeros (padding 8 place))
-    (stands_behind front (value_bytes order at type (text_value text)) text (length front) (aligned 8 place) (aligned 4 at + 4) refl value)
+    stands_after (zeros (padding 8 place)) (front ++ value_bytes order at type (text_value text)) text (padding 8 place) place (aligned 4 at + 4) (length-zeros (padding 8 place))
+    (stands_after front (value_bytes order at type (text_value text)) text (length front) (aligned 8 place) (aligned 4 at + 4) refl value)
 
 -- a text that fits its type
 fitting_bytes : (order : Order) (place code : ℕ) (type : DataType) (text : List ℕ) → type ≡ basic code → BareFits order levels_in_field place type (text_value text) → AreBytes text
@@ -113,7 +113,7 @@ fields_said known order place (field ∷ fields) are =
     (λ e.
     let allowed : IsAllowed (code_of code) field = subst (λ (c : ℕ). IsAllowed (code_of c) field) (eqb-true field.code code e) are.0.allowed in
     said_before first more place (text_extent place field) (text_in (Some field.value)) (field_said known order place (aligned (alignment_of field.type) (field_value_place place field)) field.code field.type field.value (is_typed known field allowed) are.0.shaped))
-    (λ e. said_behind first more (length first) place (extent_from order (place + length first) code fields) (text_in (field_with code fields)) refl (fields_said known order (place + length first) fields are.2))
+    (λ e. said_after first more (length first) place (extent_from order (place + length first) code fields) (text_in (field_with code fields)) refl (fields_said known order (place + length first) fields are.2))
 
 -- ---- the message
 
@@ -126,10 +126,10 @@ texts_said known bytes m valid =
     let r2 : List ℕ = header_bytes m ++ last in
     let extent : Option Extent = extent_of known m in
     let text : Option (List ℕ) = text_of known m in
-    said_behind (order_byte m.order ∷ kind_byte m.kind ∷ m.flags ∷ 1 ∷ []) (w0 ++ (w1 ++ (w2 ++ r2))) 4 0 extent text refl
-    (said_behind w0 (w1 ++ (w2 ++ r2)) 4 4 extent text (length-word_bytes m.order (length (body_bytes m)))
-    (said_behind w1 (w2 ++ r2) 4 8 extent text (length-word_bytes m.order m.serial)
-    (said_behind w2 r2 4 12 extent text (length-word_bytes m.order (length (header_bytes m)))
+    said_after (order_byte m.order ∷ kind_byte m.kind ∷ m.flags ∷ 1 ∷ []) (w0 ++ (w1 ++ (w2 ++ r2))) 4 0 extent text refl
+    (said_after w0 (w1 ++ (w2 ++ r2)) 4 4 extent text (length-word_bytes m.order (length (body_bytes m)))
+    (said_after w1 (w2 ++ r2) 4 8 extent text (length-word_bytes m.order m.serial)
+    (said_after w2 r2 4 12 extent text (length-word_bytes m.order (length (header_bytes m)))
     (said_before (header_bytes m) last 16 extent text (fields_said known m.order fixed_len m.fields valid.fields)))))
 
 -- ---- slices

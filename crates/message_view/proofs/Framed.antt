@@ -30,22 +30,22 @@ gave_fields fields (Ok front) is = (front, refl, is)
 gave_fields fields (Err other) never = absurd never
 
 -- the array that the code cut out is the one that is read
-pub array_is : (fixed : Fixed) (bytes behind array : List ℕ) → IsFixed fixed bytes → behind ≡ drop 16 bytes → array ≡ take fixed.fields_len behind → length array ≡ fixed.fields_len
+pub array_is : (fixed : Fixed) (bytes tail array : List ℕ) → IsFixed fixed bytes → tail ≡ drop 16 bytes → array ≡ take fixed.fields_len tail → length array ≡ fixed.fields_len
     → fields_from (length array) fixed.order [] (inside 16 array) ≡ fields_of bytes
-array_is fixed bytes behind array is behind_is front_is len =
-    let cut : array ≡ take (fields_len bytes) (drop 16 bytes) = front_is ∙ rw (is.fields, behind_is) refl in
+array_is fixed bytes tail array is tail_is front_is len =
+    let cut : array ≡ take (fields_len bytes) (drop 16 bytes) = front_is ∙ rw (is.fields, tail_is) refl in
     rw (len, cut, is.order, is.fields) refl
 
 -- and so are the bytes after it
-pub skipped_is : (fixed : Fixed) (bytes behind rest skipped : List ℕ) (n : ℕ) → IsFixed fixed bytes → behind ≡ drop 16 bytes → rest ≡ drop fixed.fields_len behind → n ≡ padding 8 fixed.fields_len → skipped ≡ take n rest → skipped ≡ header_padding bytes
-skipped_is fixed bytes behind rest skipped n is behind_is rest_is n_is front_is =
-    front_is ∙ rw (n_is, rest_is, behind_is, is.fields) (ap (take (padding 8 (fields_len bytes))) (drop-drop _ _ bytes))
+pub skipped_is : (fixed : Fixed) (bytes tail rest skipped : List ℕ) (n : ℕ) → IsFixed fixed bytes → tail ≡ drop 16 bytes → rest ≡ drop fixed.fields_len tail → n ≡ padding 8 fixed.fields_len → skipped ≡ take n rest → skipped ≡ header_padding bytes
+skipped_is fixed bytes tail rest skipped n is tail_is rest_is n_is front_is =
+    front_is ∙ rw (n_is, rest_is, tail_is, is.fields) (ap (take (padding 8 (fields_len bytes))) (drop-drop _ _ bytes))
 
 -- the body that the code cut off
-pub body_is : (fixed : Fixed) (bytes behind rest body : List ℕ) (n : ℕ) → IsFixed fixed bytes → behind ≡ drop 16 bytes → rest ≡ drop fixed.fields_len behind → n ≡ padding 8 fixed.fields_len → body ≡ drop n rest → body ≡ body_of bytes
-body_is fixed bytes behind rest body n is behind_is rest_is n_is back_is =
+pub body_is : (fixed : Fixed) (bytes tail rest body : List ℕ) (n : ℕ) → IsFixed fixed bytes → tail ≡ drop 16 bytes → rest ≡ drop fixed.fields_len tail → n ≡ padding 8 fixed.fields_len → body ≡ drop n rest → body ≡ body_of bytes
+body_is fixed bytes tail rest body n is tail_is rest_is n_is back_is =
     back_is
-    ∙ rw (n_is, rest_is, behind_is, is.fields) (ap (drop (padding 8 (fields_len bytes))) (drop-drop (fields_len bytes) 16 bytes) ∙ drop-drop (padding 8 (fields_len bytes)) (16 + fields_len bytes) bytes)
+    ∙ rw (n_is, rest_is, tail_is, is.fields) (ap (drop (padding 8 (fields_len bytes))) (drop-drop (fields_len bytes) 16 bytes) ∙ drop-drop (padding 8 (fields_len bytes)) (16 + fields_len bytes) bytes)
 
 -- where it is read
 pub cursor_is : (bytes body : List ℕ) (place : ℕ) (cursor : At) → length bytes ≡ whole_len bytes → body ≡ body_of bytes → place ≡ length bytes - length body → cursor ≡ in_body place body → cursor ≡ body_at bytes

@@ -82,25 +82,25 @@ slots_same front field unknown =
         sym (more_fields k front field ∙ rw differ (or_none (field_with k front)))
 
 -- a known field that was read, with the slots after it
-pub kept_next : (order : Order) (front : List Field) (old middle behind : At) (byte : ℕ) (code : FieldCode) (value : Value) (slots kept : Slots) → slots ≡ slots_of front → kept ≡ slice_set slots (slot_of code) (Some value)
-    → Some code ≡ code_of byte → code_at front old ≡ Ok (byte, middle) → content_at order (Some code) middle ≡ Ok ((basic (type_code code), value), behind)
-    → (field_at order front old ≡ Ok (field_of (code_byte code) (basic (type_code code)) value, behind)) × (kept ≡ slots_of (front ++ field_of (code_byte code) (basic (type_code code)) value ∷ []))
+pub kept_next : (order : Order) (front : List Field) (old middle tail : At) (byte : ℕ) (code : FieldCode) (value : Value) (slots kept : Slots) → slots ≡ slots_of front → kept ≡ slice_set slots (slot_of code) (Some value)
+    → Some code ≡ code_of byte → code_at front old ≡ Ok (byte, middle) → content_at order (Some code) middle ≡ Ok ((basic (type_code code), value), tail)
+    → (field_at order front old ≡ Ok (field_of (code_byte code) (basic (type_code code)) value, tail)) × (kept ≡ slots_of (front ++ field_of (code_byte code) (basic (type_code code)) value ∷ []))
 unfolding field_at
-kept_next order front old middle behind byte code value slots kept is put named coded valued =
+kept_next order front old middle tail byte code value slots kept is put named coded valued =
     let byte_is : code_byte code ≡ byte = code_byte-code_of byte code (sym named) in
-    let content : content_at order (code_of byte) middle ≡ Ok ((basic (type_code code), value), behind) = rw (← named) valued in
+    let content : content_at order (code_of byte) middle ≡ Ok ((basic (type_code code), value), tail) = rw (← named) valued in
     let once : field_with (code_byte code) front ≡ None = ap (λ (k : ℕ). field_with k front) byte_is ∙ once_at (code_of byte) byte front code (code_takes front old (byte, middle) coded).3 (sym named) in (
-      rw (coded, content) (ap (λ (k : ℕ). Ok (field_of k (basic (type_code code)) value, behind)) (sym byte_is)),
+      rw (coded, content) (ap (λ (k : ℕ). Ok (field_of k (basic (type_code code)) value, tail)) (sym byte_is)),
       put ∙ rw is (slots_more front code (basic (type_code code)) value once),
     )
 
 -- a field of which nothing is known
-pub passed_next : (order : Order) (front : List Field) (old middle behind : At) (byte : ℕ) (slots : Slots) (type : DataType) (value : Value) → slots ≡ slots_of front
-    → None ≡ code_of byte → code_at front old ≡ Ok (byte, middle) → content_at order None middle ≡ Ok ((type, value), behind)
-    → (field_at order front old ≡ Ok (field_of byte type value, behind)) × (slots ≡ slots_of (front ++ field_of byte type value ∷ []))
+pub passed_next : (order : Order) (front : List Field) (old middle tail : At) (byte : ℕ) (slots : Slots) (type : DataType) (value : Value) → slots ≡ slots_of front
+    → None ≡ code_of byte → code_at front old ≡ Ok (byte, middle) → content_at order None middle ≡ Ok ((type, value), tail)
+    → (field_at order front old ≡ Ok (field_of byte type value, tail)) × (slots ≡ slots_of (front ++ field_of byte type value ∷ []))
 unfolding field_at
-passed_next order front old middle behind byte slots type value is unknown coded passed =
-    let content : content_at order (code_of byte) middle ≡ Ok ((type, value), behind) = rw (← unknown) passed in
+passed_next order front old middle tail byte slots type value is unknown coded passed =
+    let content : content_at order (code_of byte) middle ≡ Ok ((type, value), tail) = rw (← unknown) passed in
     (rw (coded, content) refl, is ∙ slots_same front (field_of byte type value) (sym unknown))
 
 pub passed_fault : (order : Order) (front : List Field) (old middle : At) (byte : ℕ) (fault : MsgError) → None ≡ code_of byte → code_at front old ≡ Ok (byte, middle) → content_at order None middle ≡ Err fault → field_at order front old ≡ Err fault

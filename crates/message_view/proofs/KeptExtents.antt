@@ -108,39 +108,39 @@ extents_same order start front extents field unknown are = λ name.
     are name ∙ sym (extent_other order start (text_field_code name) front field other)
 
 -- what is kept with one more field
-front_push : (order : Order) (start : ℕ) (front : List Field) (fields kept : Fields) (old behind : At) (field : Field) → IsFront order start front fields old → field_at order front old ≡ Ok (field, behind)
-    → shown kept ≡ slots_of (front ++ field ∷ []) → AreExtents order start (front ++ field ∷ []) (lying kept) → IsFront order start (front ++ field ∷ []) kept behind
-front_push order start front fields kept old behind field is read shows lie =
-    let r = field_takes order front old (field, behind) is.fits read in
+front_push : (order : Order) (start : ℕ) (front : List Field) (fields kept : Fields) (old tail : At) (field : Field) → IsFront order start front fields old → field_at order front old ≡ Ok (field, tail)
+    → shown kept ≡ slots_of (front ++ field ∷ []) → AreExtents order start (front ++ field ∷ []) (lying kept) → IsFront order start (front ++ field ∷ []) kept tail
+front_push order start front fields kept old tail field is read shows lie =
+    let r = field_takes order front old (field, tail) is.fits read in
     record { shows = shows; lie = lie; fits = r.takes.fits is.fits; place = r.takes.place ∙ sym (fields_push order start front field old.place is.place) }
 
 -- ---- what a turn keeps
 
 -- a known field that was read
-pub front_next : (order : Order) (start : ℕ) (front : List Field) (fields kept : Fields) (old middle behind : At) (byte : ℕ) (code : FieldCode) (content : Content) → IsFront order start front fields old
-    → shown kept ≡ slice_set (shown fields) (slot_of code) (Some (value_of content)) → lying kept ≡ slice_set (lying fields) (slot_of code) (lies_in (Some content)) → LiesBefore behind.place content
-    → Some code ≡ code_of byte → code_at front old ≡ Ok (byte, middle) → content_at order (Some code) middle ≡ Ok ((basic (type_code code), value_of content), behind)
-    → (field : Field) × (field_at order front old ≡ Ok (field, behind)) × IsFront order start (front ++ field ∷ []) kept behind
-front_next order start front fields kept old middle behind byte code content is shows lies before named coded valued =
+pub front_next : (order : Order) (start : ℕ) (front : List Field) (fields kept : Fields) (old middle tail : At) (byte : ℕ) (code : FieldCode) (content : Content) → IsFront order start front fields old
+    → shown kept ≡ slice_set (shown fields) (slot_of code) (Some (value_of content)) → lying kept ≡ slice_set (lying fields) (slot_of code) (lies_in (Some content)) → LiesBefore tail.place content
+    → Some code ≡ code_of byte → code_at front old ≡ Ok (byte, middle) → content_at order (Some code) middle ≡ Ok ((basic (type_code code), value_of content), tail)
+    → (field : Field) × (field_at order front old ≡ Ok (field, tail)) × IsFront order start (front ++ field ∷ []) kept tail
+front_next order start front fields kept old middle tail byte code content is shows lies before named coded valued =
     let field = field_of (code_byte code) (basic (type_code code)) (value_of content) in
-    let n = kept_next order front old middle behind byte code (value_of content) (shown fields) (shown kept) is.shows shows named coded valued in
-    let r = field_takes order front old (field, behind) is.fits n.0 in
+    let n = kept_next order front old middle tail byte code (value_of content) (shown fields) (shown kept) is.shows shows named coded valued in
+    let r = field_takes order front old (field, tail) is.fits n.0 in
     let once : field_with (code_byte code) front ≡ None = once_at (code_of (code_byte code)) (code_byte code) front code r.once (code_again code) in
     let nine : length (lying fields) ≡ 9 = length-map fields.slots lies_in ∙ sym (length-map fields.slots (option_map value_of)) ∙ ap (λ (x : Slots). length x) is.shows in
     let own : (name : TextField) → named_code name ≡ code → lies_in (Some content) ≡ text_extent old.place field = λ name same.
-    before ∙ subst (λ (c : FieldCode). behind.place ≡ old.place + length (field_bytes order old.place (field_of (code_byte code) (basic (type_code c)) (value_of content))) → extent_before behind.place (value_of content) ≡ text_extent old.place (field_of (code_byte code) (basic (type_code c)) (value_of content))) same (name_before order old.place (code_byte code) behind.place name (value_of content)) r.takes.place in
+    before ∙ subst (λ (c : FieldCode). tail.place ≡ old.place + length (field_bytes order old.place (field_of (code_byte code) (basic (type_code c)) (value_of content))) → extent_before tail.place (value_of content) ≡ text_extent old.place (field_of (code_byte code) (basic (type_code c)) (value_of content))) same (name_before order old.place (code_byte code) tail.place name (value_of content)) r.takes.place in
     let more = extents_more order start front (lying fields) code field old.place (lies_in (Some content)) nine refl once is.place own is.lie in
-    (field, n.0, front_push order start front fields kept old behind field is n.0 n.1 (rw lies more))
+    (field, n.0, front_push order start front fields kept old tail field is n.0 n.1 (rw lies more))
 
 -- what a reader of a field's content answers, where nothing is known of the field
-pub front_passed : {X : Type 0} (order : Order) (start : ℕ) (front : List Field) (fields : Fields) (old middle behind : At) (byte : ℕ) (result : Result X MsgError) → IsFront order start front fields old
-    → None ≡ code_of byte → code_at front old ≡ Ok (byte, middle) → Checks result behind (content_at order None middle)
-    → KeepsNext result order start front fields behind (field_at order front old)
-front_passed order start front fields old middle behind byte (Ok x) is unknown coded checks =
-    let n = passed_next order front old middle behind byte (shown fields) checks.0.0 checks.0.1 is.shows unknown coded checks.1 in
+pub front_passed : {X : Type 0} (order : Order) (start : ℕ) (front : List Field) (fields : Fields) (old middle tail : At) (byte : ℕ) (result : Result X MsgError) → IsFront order start front fields old
+    → None ≡ code_of byte → code_at front old ≡ Ok (byte, middle) → Checks result tail (content_at order None middle)
+    → KeepsNext result order start front fields tail (field_at order front old)
+front_passed order start front fields old middle tail byte (Ok x) is unknown coded checks =
+    let n = passed_next order front old middle tail byte (shown fields) checks.0.0 checks.0.1 is.shows unknown coded checks.1 in
     let field = field_of byte checks.0.0 checks.0.1 in
-    (field, n.0, front_push order start front fields fields old behind field is n.0 n.1 (extents_same order start front (lying fields) field (sym unknown) is.lie))
-front_passed order start front fields old middle behind byte (Err fault) is unknown coded checks = passed_fault order front old middle byte fault unknown coded checks
+    (field, n.0, front_push order start front fields fields old tail field is n.0 n.1 (extents_same order start front (lying fields) field (sym unknown) is.lie))
+front_passed order start front fields old middle tail byte (Err fault) is unknown coded checks = passed_fault order front old middle byte fault unknown coded checks
 
 -- ---- before the first field
 

@@ -32,12 +32,12 @@ turn : (turns : ℕ) (order : Order) (front : List Field) (at : At) → length a
 turn zero order front at enough some = absurd (let none : (length at.rest == 0) ≡ true = eq-eqb _ _ (omega arith) in cc)
 turn (suc before) order front at enough some = (before, refl, rw some refl)
 
-pub goes_on : (order : Order) (start : ℕ) (fields after : Fields) (at behind : At) (whole : Result (List Field) MsgError) (so_far : SoFar order start fields at whole) → (length at.rest == 0) ≡ false
-    → (field : Field) × (field_at order so_far.front at ≡ Ok (field, behind)) × IsFront order start (so_far.front ++ field ∷ []) after behind → SoFar order start after behind whole × (length behind.rest < length at.rest)
-goes_on order start fields after at behind whole so_far some next =
+pub goes_on : (order : Order) (start : ℕ) (fields after : Fields) (at tail : At) (whole : Result (List Field) MsgError) (so_far : SoFar order start fields at whole) → (length at.rest == 0) ≡ false
+    → (field : Field) × (field_at order so_far.front at ≡ Ok (field, tail)) × IsFront order start (so_far.front ++ field ∷ []) after tail → SoFar order start after tail whole × (length tail.rest < length at.rest)
+goes_on order start fields after at tail whole so_far some next =
     let t = turn so_far.turns order so_far.front at so_far.enough some in
-    let fewer = field_shorter order so_far.front at (next.0, behind) next.1 in
-    let same : fields_from t.0 order (so_far.front ++ next.0 ∷ []) behind ≡ whole = sym (t.2 ∙ rw next.1 refl) ∙ so_far.same in
+    let fewer = field_shorter order so_far.front at (next.0, tail) next.1 in
+    let same : fields_from t.0 order (so_far.front ++ next.0 ∷ []) tail ≡ whole = sym (t.2 ∙ rw next.1 refl) ∙ so_far.same in
     (record { front = so_far.front ++ next.0 ∷ []; turns = t.0; enough = omega arith; is = next.2; same = same }, fewer)
 
 pub stops : (order : Order) (start : ℕ) (fields : Fields) (at : At) (whole : Result (List Field) MsgError) (fault : MsgError) (so_far : SoFar order start fields at whole) → (length at.rest == 0) ≡ false

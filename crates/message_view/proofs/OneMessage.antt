@@ -293,16 +293,16 @@ reads_valid bytes m fits e =
     framed_valid bytes m fits w.fixed w.whole w.parts
 
 -- the arguments of bytes that were read as a message
-members_passed : (order : Order) (types : DataTypes) (a : At) (arguments : Values) → arguments_at order types a ≡ Ok arguments → (behind : At) × (members_at (value_at 64 order) types a ≡ Ok (arguments, behind))
+members_passed : (order : Order) (types : DataTypes) (a : At) (arguments : Values) → arguments_at order types a ≡ Ok arguments → (tail : At) × (members_at (value_at 64 order) types a ≡ Ok (arguments, tail))
 unfolding arguments_at
 members_passed order types a arguments e =
     let b = bind_ok (members_at (value_at 64 order) types a) all_read arguments e in
     let p = passed_ok (eqb (length b.0.1.rest) 0) faults.Trailing b.0.0 arguments b.2 in
     (b.0.1, b.1 ∙ ap (λ (x : Values). Ok (x, b.0.1)) p.1)
 
-pub members_read : (bytes : List ℕ) (m : Message) → AreParts bytes m → (behind : At) × (members_at (value_at 64 m.order) m.types (body_at bytes) ≡ Ok (m.arguments, behind))
+pub members_read : (bytes : List ℕ) (m : Message) → AreParts bytes m → (tail : At) × (members_at (value_at 64 m.order) m.types (body_at bytes) ≡ Ok (m.arguments, tail))
 members_read bytes m p =
-    subst (λ (x : Message). (behind : At) × (members_at (value_at 64 x.order) x.types (body_at bytes) ≡ Ok (x.arguments, behind))) {x = message_of bytes p.kind p.front p.arguments} p.is
+    subst (λ (x : Message). (tail : At) × (members_at (value_at 64 x.order) x.types (body_at bytes) ≡ Ok (x.arguments, tail))) {x = message_of bytes p.kind p.front p.arguments} p.is
     (members_passed (order_in bytes) (types_in p.front) (body_at bytes) p.arguments p.found)
 
 -- ---- bytes with a fault are no message

@@ -73,15 +73,15 @@ laid_lies order kind flags serial fields body serial_fits fields_fit body_fits =
     let t8 : take 4 (drop 8 bytes) ≡ w1 = ap (take 4) d8 ∙ take_at w1 r1 4 l1 in
     let t12 : take 4 (drop 12 bytes) ≡ w2 = ap (take 4) d12 ∙ take_at w2 r2 4 l2 in
     let len : fields_len bytes ≡ length fields = word_is order 12 (length fields) bytes o t12 fields_fit in
-    let behind : drop (16 + length fields) bytes ≡ pad ++ body = sym (drop-drop (length fields) 16 bytes) ∙ ap (drop (length fields)) d16 ∙ drop_at fields (pad ++ body) (length fields) refl in
-    let last : drop (body_place (length fields)) bytes ≡ body = sym (drop-drop (padding 8 (length fields)) (16 + length fields) bytes) ∙ ap (drop (padding 8 (length fields))) behind ∙ drop_at pad body (padding 8 (length fields)) lp in
+    let tail : drop (16 + length fields) bytes ≡ pad ++ body = sym (drop-drop (length fields) 16 bytes) ∙ ap (drop (length fields)) d16 ∙ drop_at fields (pad ++ body) (length fields) refl in
+    let last : drop (body_place (length fields)) bytes ≡ body = sym (drop-drop (padding 8 (length fields)) (16 + length fields) bytes) ∙ ap (drop (padding 8 (length fields))) tail ∙ drop_at pad body (padding 8 (length fields)) lp in
     record {
       is_order = o;
       is_body_len = word_is order 4 (length body) bytes o t4 body_fits;
       is_serial = word_is order 8 serial bytes o t8 serial_fits;
       is_len = len;
       are_fields = ap (take (length fields)) d16 ∙ take_at fields (pad ++ body) (length fields) refl;
-      are_zeros = ap (λ (k : ℕ). take (padding 8 k) (drop (16 + k) bytes)) len ∙ ap (take (padding 8 (length fields))) behind ∙ take_at pad body (padding 8 (length fields)) lp;
+      are_zeros = ap (λ (k : ℕ). take (padding 8 k) (drop (16 + k) bytes)) len ∙ ap (take (padding 8 (length fields))) tail ∙ take_at pad body (padding 8 (length fields)) lp;
       is_body = ap (λ (k : ℕ). drop (body_place k) bytes) len ∙ last;
       is_whole = length-laid order kind flags serial fields body;
     }

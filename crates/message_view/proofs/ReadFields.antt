@@ -158,8 +158,8 @@ no_known_fault None field is = refl
 abbrev pub content_bytes : Order → ℕ → DataType → Value → List ℕ
 content_bytes order place type value = signature_bytes type ++ value_bytes order (place + length (signature_bytes type)) type value
 
-pub record Holds (order : Order) (known : Option FieldCode) (a : At) (type : DataType) (value : Value) (behind : At) : Type 0 where
-  pub takes : Takes a (content_bytes order a.place type value) behind
+pub record Holds (order : Order) (known : Option FieldCode) (a : At) (type : DataType) (value : Value) (tail : At) : Type 0 where
+  pub takes : Takes a (content_bytes order a.place type value) tail
   pub typed : IsOneType type
   pub shaped : ValueFits order 63 (a.place + length (signature_bytes type)) type value
   pub right_type : type_fault known type ≡ None
@@ -195,8 +195,8 @@ content_again order known place outside field rest typed shaped allowed =
 
 -- ---- a field
 
-pub record ReadsField (order : Order) (front : List Field) (a : At) (field : Field) (behind : At) : Type 0 where
-  pub takes : Takes a (field_bytes order a.place field) behind
+pub record ReadsField (order : Order) (front : List Field) (a : At) (field : Field) (tail : At) : Type 0 where
+  pub takes : Takes a (field_bytes order a.place field) tail
   pub is : IsField order a.place field
   pub once : IsOnce (code_of field.code) field.code front
 

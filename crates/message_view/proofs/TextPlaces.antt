@@ -39,16 +39,16 @@ long_within order code a found e =
     omega (arith, t.0.place, length-append found.0 (0 ∷ []))
 
 abbrev IsWithin : Value → ℕ → Type 0
-IsWithin (text bytes) behind = length bytes < behind
-IsWithin _ behind = Unit {0}
+IsWithin (text bytes) tail = length bytes < tail
+IsWithin _ tail = Unit {0}
 
 -- it lies before the place after it
-pub text_within : (order : Order) (code : ℕ) (a : At) (bytes : List ℕ) (behind : At) → text_value_at order code a ≡ Ok (text bytes, behind) → length bytes < behind.place
+pub text_within : (order : Order) (code : ℕ) (a : At) (bytes : List ℕ) (tail : At) → text_value_at order code a ≡ Ok (text bytes, tail) → length bytes < tail.place
 unfolding text_value_at
-text_within order code a bytes behind e =
-    let b = bind_ok (cond (eqb code 103) (short_text_at a) (long_text_at order code a)) (λ found. Ok (text found.0, found.1)) (text bytes, behind) e in
+text_within order code a bytes tail e =
+    let b = bind_ok (cond (eqb code 103) (short_text_at a) (long_text_at order code a)) (λ found. Ok (text found.0, found.1)) (text bytes, tail) e in
     let made : Value × At = (text b.0.0, b.0.1) in
-    subst (λ (f : Value × At). IsWithin f.0 f.1.place) {x = made} (ok_is made (text bytes, behind) b.2) (some (eqb code 103) b.0 b.1)
+    subst (λ (f : Value × At). IsWithin f.0 f.1.place) {x = made} (ok_is made (text bytes, tail) b.2) (some (eqb code 103) b.0 b.1)
   where
     some : (g : Bool) (found : List ℕ × At) → cond g (short_text_at a) (long_text_at order code a) ≡ Ok found → length found.0 < found.1.place
     some true found e = short_within a found e
@@ -100,23 +100,23 @@ text_reaches order place code t bytes long four =
     omega (arith, padded, by_four, len, length-append skipped (front ++ value), length-append front value, length-zeros (padding 8 place))
 
 -- so it lies where it does by the place after it
-text_before : (order : Order) (place code t behind : ℕ) (value : Value) → eqb t 103 ≡ false → alignment_of (basic t) ≡ 4 → behind ≡ place + length (field_bytes order place (field_of code (basic t) value))
-    → extent_before behind value ≡ text_extent place (field_of code (basic t) value)
-text_before order place code t behind (number bits) long four is = refl
-text_before order place code t behind (text bytes) long four is =
+text_before : (order : Order) (place code t tail : ℕ) (value : Value) → eqb t 103 ≡ false → alignment_of (basic t) ≡ 4 → tail ≡ place + length (field_bytes order place (field_of code (basic t) value))
+    → extent_before tail value ≡ text_extent place (field_of code (basic t) value)
+text_before order place code t tail (number bits) long four is = refl
+text_before order place code t tail (text bytes) long four is =
     let reach = text_reaches order place code t bytes long four in
-    let begins : behind - 1 - length bytes ≡ aligned 4 (field_value_place place (field_of code (basic t) (text bytes))) + 4 = omega (arith, reach, is) in
+    let begins : tail - 1 - length bytes ≡ aligned 4 (field_value_place place (field_of code (basic t) (text bytes))) + 4 = omega (arith, reach, is) in
     rw begins refl
-text_before order place code t behind (elements vs) long four is = refl
-text_before order place code t behind (entries es) long four is = refl
-text_before order place code t behind (members vs) long four is = refl
-text_before order place code t behind (of_type s v) long four is = refl
+text_before order place code t tail (elements vs) long four is = refl
+text_before order place code t tail (entries es) long four is = refl
+text_before order place code t tail (members vs) long four is = refl
+text_before order place code t tail (of_type s v) long four is = refl
 
-pub name_before : (order : Order) (place code behind : ℕ) (name : TextField) (value : Value) → behind ≡ place + length (field_bytes order place (field_of code (basic (type_code (named_code name))) value))
-    → extent_before behind value ≡ text_extent place (field_of code (basic (type_code (named_code name))) value)
-name_before order place code behind names.Path value is = text_before order place code 111 behind value refl refl is
-name_before order place code behind names.Interface value is = text_before order place code 115 behind value refl refl is
-name_before order place code behind names.Member value is = text_before order place code 115 behind value refl refl is
-name_before order place code behind names.ErrorName value is = text_before order place code 115 behind value refl refl is
-name_before order place code behind names.Destination value is = text_before order place code 115 behind value refl refl is
-name_before order place code behind names.Sender value is = text_before order place code 115 behind value refl refl is
+pub name_before : (order : Order) (place code tail : ℕ) (name : TextField) (value : Value) → tail ≡ place + length (field_bytes order place (field_of code (basic (type_code (named_code name))) value))
+    → extent_before tail value ≡ text_extent place (field_of code (basic (type_code (named_code name))) value)
+name_before order place code tail names.Path value is = text_before order place code 111 tail value refl refl is
+name_before order place code tail names.Interface value is = text_before order place code 115 tail value refl refl is
+name_before order place code tail names.Member value is = text_before order place code 115 tail value refl refl is
+name_before order place code tail names.ErrorName value is = text_before order place code 115 tail value refl refl is
+name_before order place code tail names.Destination value is = text_before order place code 115 tail value refl refl is
+name_before order place code tail names.Sender value is = text_before order place code 115 tail value refl refl is

@@ -80,7 +80,7 @@ kept_first fixed sections bytes read is same found =
       read = same ∙ found.2;
       is = ap (kept_like fixed.order fixed.kind fixed.flags fixed.serial (shown sections.fields)) (extents_are m (lying sections.fields) found.6) ∙ rw (is.order, is.flags, is.serial, found.3) refl;
       typed = found.4;
-      behind = found.5;
+      tail = found.5;
     }
 
 -- ---- bytes that are known to be a message
@@ -92,7 +92,7 @@ known_framing bytes m valid = framing_again bytes (valid_fixed bytes m valid)
 pub known_whole : (bytes : List ℕ) (m : Message) → Valid bytes m → length bytes ≡ whole_len bytes
 known_whole bytes m valid = (message_whole bytes m (valid_reads bytes m valid)).whole
 
--- nothing behind the fixed part has a fault
+-- nothing after the fixed part has a fault
 pub known_sound : (bytes : List ℕ) (m : Message) (fault : MsgError) → Valid bytes m → framed_message bytes ≡ Err fault → ⊥
 known_sound bytes m fault valid failed =
     let whole = known_whole bytes m valid in
@@ -123,7 +123,7 @@ kept_is bytes now body signature m kept keeps same valid =
 
 -- and so is the body
 pub body_kept : (bytes now body signature : List ℕ) (m : Message) (kept : Kept) → IsKept bytes body signature kept → bytes ≡ now → Valid now m → body ≡ body_bytes m
-body_kept bytes now body signature m kept keeps same valid = keeps.behind ∙ ap body_of same ∙ (valid_lies now m valid).is_body
+body_kept bytes now body signature m kept keeps same valid = keeps.tail ∙ ap body_of same ∙ (valid_lies now m valid).is_body
 
 -- and the signature is that of its arguments
 pub signature_kept : (bytes now body signature given : List ℕ) (m : Message) (kept : Kept) → IsKept bytes body signature kept → bytes ≡ now → Valid now m → given ≡ signature → SigText m.types given
@@ -159,18 +159,18 @@ reading_only bytes (Err fault) m read valid = absurd (fault_invalid bytes fault 
 
 -- the body is where the code's cursor stands
 pub body_cursor : (bytes body signature : List ℕ) (kept : Kept) (place : ℕ) (cursor : At) → IsKept bytes body signature kept → place ≡ length bytes - length body → cursor ≡ in_body place body → cursor ≡ body_at bytes
-body_cursor bytes body signature kept place cursor keeps left is = cursor_is bytes body place cursor (message_whole bytes keeps.message keeps.read).whole keeps.behind left is
+body_cursor bytes body signature kept place cursor keeps left is = cursor_is bytes body place cursor (message_whole bytes keeps.message keeps.read).whole keeps.tail left is
 
 -- it fits
 pub body_fits : (bytes body signature : List ℕ) (kept : Kept) → IsKept bytes body signature kept → (length body ≤ length bytes) × (length bytes ≤ 134217728)
 body_fits bytes body signature kept keeps =
     let w = message_whole bytes keeps.message keeps.read in
-    let len : length body ≡ length bytes - body_place (fields_len bytes) = ap (λ (x : List ℕ). length x) keeps.behind ∙ length-drop (body_place (fields_len bytes)) bytes in
+    let len : length body ≡ length bytes - body_place (fields_len bytes) = ap (λ (x : List ℕ). length x) keeps.tail ∙ length-drop (body_place (fields_len bytes)) bytes in
     (omega (arith, len), omega (arith, w.whole, w.fixed.whole))
 
 -- what the arguments are read from
 pub args_found : (bytes now body signature given : List ℕ) (kept : Kept) (cursor : At) → IsKept bytes body signature kept → bytes ≡ now → given ≡ signature → cursor ≡ body_at now
-    → (types : DataTypes) × SigText types given × ((values : Values) × (behind : At) × (members_at (value_at 64 kept.order) types cursor ≡ Ok (values, behind)))
+    → (types : DataTypes) × SigText types given × ((values : Values) × (tail : At) × (members_at (value_at 64 kept.order) types cursor ≡ Ok (values, tail)))
 args_found bytes now body signature given kept cursor keeps same is place =
     let m = keeps.message in
     let found = members_read bytes m (message_whole bytes m keeps.read).parts in
@@ -181,7 +181,7 @@ args_found bytes now body signature given kept cursor keeps same is place =
 
 -- they are those of the message that the bytes spell
 pub args_are : (bytes now body signature given : List ℕ) (m : Message) (kept : Kept) (cursor : At) (args : List Argument) → IsKept bytes body signature kept → bytes ≡ now → Valid now m → given ≡ signature → cursor ≡ body_at now
-    → ((types : DataTypes) (values : Values) (behind : At) → SigText types given → members_at (value_at 64 kept.order) types cursor ≡ Ok (values, behind) → args ≡ arguments_from kept.order cursor.place types values) → args ≡ arguments_of m
+    → ((types : DataTypes) (values : Values) (tail : At) → SigText types given → members_at (value_at 64 kept.order) types cursor ≡ Ok (values, tail) → args ≡ arguments_from kept.order cursor.place types values) → args ≡ arguments_of m
 unfolding args_found
 args_are bytes now body signature given m kept cursor args keeps same valid is place given_by =
     let found = args_found bytes now body signature given kept cursor keeps same is place in

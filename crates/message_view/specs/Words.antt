@@ -39,12 +39,12 @@ lies_in _ = None
 
 -- where a text lies whose zero byte is the last one before a place
 abbrev pub extent_before : ℕ → Value → Option Extent
-extent_before behind (text bytes) = Some (record { place = behind - 1 - length bytes; len = length bytes })
-extent_before behind _ = None
+extent_before end (text bytes) = Some (record { place = end - 1 - length bytes; len = length bytes })
+extent_before end _ = None
 
 -- the text of a content, if it is one, lies there
 abbrev pub LiesBefore : ℕ → Content → Type 0
-LiesBefore behind content = lies_in (Some content) ≡ extent_before behind (value_of content)
+LiesBefore end content = lies_in (Some content) ≡ extent_before end (value_of content)
 
 -- the bytes after the header and its padding
 abbrev pub body_of : List ℕ → List ℕ
@@ -102,8 +102,8 @@ pub record IsFront (order : Order) (start : ℕ) (front : List Field) (fields : 
 
 -- What a reader of the next field answers, and what it then keeps: reading gives one field after those in front.
 abbrev pub KeepsNext : {X : Type 0} → Result X MsgError → Order → ℕ → List Field → Fields → At → Result (Field × At) MsgError → Type 0
-KeepsNext (Ok x) order start front fields behind read = (field : Field) × (read ≡ Ok (field, behind)) × IsFront order start (front ++ field ∷ []) fields behind
-KeepsNext (Err fault) order start front fields behind read = read ≡ Err fault
+KeepsNext (Ok x) order start front fields tail read = (field : Field) × (read ≡ Ok (field, tail)) × IsFront order start (front ++ field ∷ []) fields tail
+KeepsNext (Err fault) order start front fields tail read = read ≡ Err fault
 
 -- what a test of some bytes answers, whose value isn't kept
 abbrev pub Passes : {X Y : Type 0} → Result X MsgError → Result Y MsgError → Type 0
@@ -144,8 +144,8 @@ pub record IsKept (bytes body signature : List ℕ) (kept : Kept) : Type 0 where
   pub read : message_at bytes ≡ Ok message
   pub is : kept ≡ kept_of message (slots_of message.fields)
   pub typed : SigText message.types signature
-  pub behind : body ≡ body_of bytes
+  pub tail : body ≡ body_of bytes
 
--- what a view keeps of a fixed part and of what is behind it
+-- what a view keeps of a fixed part and of what is after it
 abbrev pub kept_by : Fixed → Sections → Kept
 kept_by fixed sections = record { order = fixed.order; kind = fixed.kind; flags = fixed.flags; serial = fixed.serial; texts = map text_in (shown sections.fields); numbers = map number_in (shown sections.fields); extents = extents_in (lying sections.fields) }

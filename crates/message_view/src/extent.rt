@@ -44,13 +44,13 @@ pub struct Extent {
 
 impl Extent {
     /// Where a text lies whose zero byte is the last one before a place.
-    pub(crate) fn before(found: &str, behind: u32) -> Self
-        requires { length found.now < behind }
-        ensures { Some result ≡ extent_before behind (text found.now) }
+    pub(crate) fn before(found: &str, end: u32) -> Self
+        requires { length found.now < end }
+        ensures { Some result ≡ extent_before end (text found.now) }
     {
         let len = found.len() as u32;
         Extent {
-            place: behind - 1 - len,
+            place: end - 1 - len,
             len,
         }
     }

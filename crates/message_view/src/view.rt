@@ -66,9 +66,9 @@ fn split_sections<'a>(fixed: &Fixed, bytes: &'a [u8]) -> Result<Sections<'a>, Ms
     ensures { ReadsHeader result fixed.now.kind bytes.entry.now }
 {
     let fields_len = fixed.fields_len as usize;
-    let (_, behind_fixed) = bytes.split_at(FIXED_LEN);
-    let (array, behind_fields) = behind_fixed.split_at(fields_len);
-    let (skipped, body) = behind_fields.split_at(padding(8, fields_len));
+    let (_, after_fixed) = bytes.split_at(FIXED_LEN);
+    let (array, after_fields) = after_fixed.split_at(fields_len);
+    let (skipped, body) = after_fields.split_at(padding(8, fields_len));
     let fields = Fields::read(fixed.order, FIXED_LEN, array)?;
     if let Some(fault) = header_fault(fixed.kind, &fields, skipped) {
         return Err(fault);

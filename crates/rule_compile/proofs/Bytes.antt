@@ -14,15 +14,15 @@ use Rattle.rule_compile.proofs.Combined.{Extends, extends_none, extends_more, ex
 -- ---- where a text lies
 
 lies_inside : (image : List ℕ) (place : ℕ) (text : List ℕ) → Lies image place text → place + length text ≤ length image
-lies_inside image place text (front, behind, is, at) =
-    omega (arith, ap length is, length-append front (text ++ behind), length-append text behind, at)
+lies_inside image place text (front, tail, is, at) =
+    omega (arith, ap length is, length-append front (text ++ tail), length-append text tail, at)
 
 lies_at : (image : List ℕ) (place : ℕ) (text : List ℕ) (i : ℕ) → Lies image place text → i < length text → slice_index image (place + i) ≡ slice_index text i
-lies_at image place text i (front, behind, is, at) inside =
+lies_at image place text i (front, tail, is, at) inside =
     ap (λ (bytes : List ℕ). slice_index bytes (place + i)) is
-    ∙ ap (λ (p : ℕ). slice_index (front ++ (text ++ behind)) (p + i)) (sym at)
-    ∙ get_or-append-add front (text ++ behind) i 0
-    ∙ get_or_append_left text behind 0 i inside
+    ∙ ap (λ (p : ℕ). slice_index (front ++ (text ++ tail)) (p + i)) (sym at)
+    ∙ get_or-append-add front (text ++ tail) i 0
+    ∙ get_or_append_left text tail 0 i inside
 
 loads_byte : (image : List ℕ) (place : ℕ) (text : List ℕ) (at : ℕ) → Lies image place text → at + 1 ≤ length text → load_byte image (place + at) ≡ Some (slice_index text at)
 loads_byte image place text at lies inside =

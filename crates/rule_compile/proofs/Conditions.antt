@@ -62,10 +62,10 @@ tests_kind image kind name is known =
 -- ---- the sender
 
 bit_shared : (bit power : ℕ) → bit < 2 → 0 < power → not (eqb (bit * power) 0) ≡ eqb bit 1
-bit_shared zero power small behind = let e : 0 * power ≡ 0 = omega arith in rw e refl
-bit_shared (suc zero) power small behind =
+bit_shared zero power small lit = let e : 0 * power ≡ 0 = omega arith in rw e refl
+bit_shared (suc zero) power small lit =
     let e : 1 * power ≡ 0 → ⊥ = λ h. omega arith in rw (ne_eqb (1 * power) 0 e) refl
-bit_shared (suc (suc bit)) power small behind = absurd (omega arith)
+bit_shared (suc (suc bit)) power small lit = absurd (omega arith)
 
 tests_owns : (image : List ℕ) (slots : List ℕ) (slot : ℕ) (owned : Bool) → load_word image (840 + 4 * (slot / 32)) ≡ Some (slice_index slots (slot / 32)) → owned ≡ has_slot slots slot → Tests image Any (owned ≡ true) (owns slot)
 tests_owns image slots slot owned is agrees =
@@ -101,7 +101,7 @@ tests_if_there : (image : List ℕ) (at : ℕ) (shown : Option (List ℕ)) (Q : 
 tests_if_there image at None Q f shows extends tail =
     tests_same image Any _ _ (λ rest. is_there at (f rest)) (λ both. both.1, λ none. absurd none) (tests_then image Any (0 < 0) ⊥ (is_there at) f (tests_is_there image Any at 0 shows.0) extends (λ less. absurd (omega arith)))
 tests_if_there image at (Some text) Q f tells extends tail =
-    tests_same image Any _ _ (λ rest. is_there at (f rest)) (λ both. both.1, λ q. (tells.behind_start, q)) (tests_then image Any (0 < tells.place) (Q text) (is_there at) f (tests_is_there image Any at tells.place tells.place_word) extends (λ less. tail text tells))
+    tests_same image Any _ _ (λ rest. is_there at (f rest)) (λ both. both.1, λ q. (tells.after_start, q)) (tests_then image Any (0 < tells.place) (Q text) (is_there at) f (tests_is_there image Any at tells.place tells.place_word) extends (λ less. tail text tells))
 
 any_path : (image : List ℕ) (at : ℕ) (path : Option (List ℕ)) → ShowsText image at path → Tests image Any (IsSomeAnd path (λ p. Unit {0})) (is_there at)
 any_path image at path shows = tests_if_there image at path (λ p. Unit {0}) (λ rest. rest) shows extends_none (λ text tells. tests_none image Any (Unit {0}) tt)

@@ -119,15 +119,15 @@ drafted_closed items done draft e so inside = λ place.
     subst At (sym (all_items items done draft e so)) (subst From (zero-add place) (closed_from draft 0 (length items) items (zero-add (length items)) (all_bound items done draft e so) inside place))
 
 -- an item's jumps stay inside the instructions after it
-inside_at : (items : List Item) (place behind : ℕ) (d : Item) → place + 1 + behind ≡ length items → AreInside items → IsInside behind (get_or items place d)
-inside_at [] place behind d e inside = absurd (omega (arith, e))
-inside_at (item ∷ items) zero behind d e inside =
-    let same : length items ≡ behind = omega (arith, e) in
+inside_at : (items : List Item) (place ahead_len : ℕ) (d : Item) → place + 1 + ahead_len ≡ length items → AreInside items → IsInside ahead_len (get_or items place d)
+inside_at [] place ahead_len d e inside = absurd (omega (arith, e))
+inside_at (item ∷ items) zero ahead_len d e inside =
+    let same : length items ≡ ahead_len = omega (arith, e) in
     let In : ℕ → Type 0 = λ many. IsInside many item in
     subst In same inside.0
-inside_at (item ∷ items) (suc place) behind d e inside = inside_at items place behind d (omega (arith, e)) inside.1
+inside_at (item ∷ items) (suc place) ahead_len d e inside = inside_at items place ahead_len d (omega (arith, e)) inside.1
 
-pub inside_behind : (items : List Item) (place : ℕ) (d : Item) → place < length items → AreInside (reverse items) → IsInside (length items - 1 - place) (get_or items (length items - 1 - place) d)
-inside_behind items place d h inside =
+pub inside_after : (items : List Item) (place : ℕ) (d : Item) → place < length items → AreInside (reverse items) → IsInside (length items - 1 - place) (get_or items (length items - 1 - place) d)
+inside_after items place d h inside =
     let In : Item → Type 0 = λ item. IsInside (length items - 1 - place) item in
     subst In (get_or-reverse items place d h) (inside_at (reverse items) place (length items - 1 - place) d (omega (arith, length-reverse items)) inside)

@@ -41,8 +41,8 @@ rest_of text start = ap (λ (n : ℕ). take n (drop start text)) (sym (length-dr
 
 -- a part of a text in front of others
 abbrev pub inner : ℕ → ℕ → List ℕ → List Ins → List Ins → List Ins
-inner at place part behind rest =
-    has_len AtLeast (place + length part) at (same_bytes place part (image_word (at + 4) ∷ branch Equal (place + length part) (length rest - length behind) 0 ∷ rest))
+inner at place part exit rest =
+    has_len AtLeast (place + length part) at (same_bytes place part (image_word (at + 4) ∷ branch Equal (place + length part) (length rest - length exit) 0 ∷ rest))
 
 along_more : (at place : ℕ) (part : List ℕ) (parts : List (List ℕ)) (rest : List Ins) → 0 < length parts → along at place (part ∷ parts) rest ≡ inner at place part rest (along at (place + length part) parts rest)
 along_more at place part [] rest h = absurd (omega (arith, h))
@@ -65,9 +65,9 @@ along_before at start end text rest before within one slash =
     let to : start + suc n ≡ end = omega arith in
     let same : drop (suc n) left ≡ drop end text = drop-drop (suc n) start text ∙ ap (λ (i : ℕ). drop i text) to in
     let cut_so : parts_of left ≡ take (end - start) left ∷ parts_of (drop end text) = cut ∙ ap (λ (i : ℕ). take i left ∷ parts_of (drop (suc n) left)) size ∙ ap (λ (others : List ℕ). take (end - start) left ∷ parts_of others) same in
-    let behind : 0 < length (drop end text) = rw length-drop (omega arith) in
+    let some_left : 0 < length (drop end text) = rw length-drop (omega arith) in
     let here : start + length (take (end - start) left) ≡ end = rw (length_part text start end (omega arith) (omega arith)) (omega arith) in
-    ap (λ (parts : List (List ℕ)). along at start parts rest) cut_so ∙ along_more at start (take (end - start) left) (parts_of (drop end text)) rest (some_parts (drop end text) behind) ∙ ap (λ (i : ℕ). inner at start (take (end - start) left) rest (along at i (parts_of (drop end text)) rest)) here
+    ap (λ (parts : List (List ℕ)). along at start parts rest) cut_so ∙ along_more at start (take (end - start) left) (parts_of (drop end text)) rest (some_parts (drop end text) exit) ∙ ap (λ (i : ℕ). inner at start (take (end - start) left) rest (along at i (parts_of (drop end text)) rest)) here
 
 -- the last part of a text
 pub along_last : (at start : ℕ) (text : List ℕ) (rest : List Ins) → start < length text → ((k : ℕ) → start ≤ k → k + 1 < length text → get_or text k 0 ≢ 47) → along at start (parts_of (drop start text)) rest ≡ along at start (drop start text ∷ []) rest

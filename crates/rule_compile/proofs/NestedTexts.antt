@@ -19,7 +19,7 @@ AlongParts text place (part ∷ next ∷ more) = (place + length part ≤ length
 abbrev Meets : List ℕ → List (List ℕ) → Type 0
 Meets text [] = Unit {0}
 Meets text (part ∷ []) = MatchBool (ends_with 47 part) (Begins text part) (text ≡ part)
-Meets text (part ∷ next ∷ more) = (behind : List ℕ) × (text ≡ part ++ behind) × ((behind ≡ []) ⊎ Meets behind (next ∷ more))
+Meets text (part ∷ next ∷ more) = (remainder : List ℕ) × (text ≡ part ++ remainder) × ((remainder ≡ []) ⊎ Meets remainder (next ∷ more))
 
 -- the first part of a text that isn't empty has a byte
 record Parted (parts : List (List ℕ)) : Type 0 where
@@ -41,7 +41,7 @@ parted b bs = go (b == 47)
 
 -- the text begins with the value's first byte, and ends after it where that is a `/`, or goes on nested
 abbrev Follows : List ℕ → ℕ → List ℕ → Type 0
-Follows text b bs = (behind : List ℕ) × (text ≡ b ∷ behind) × (((b == 47) ≡ true) × (behind ≡ []) ⊎ AreNested behind bs)
+Follows text b bs = (remainder : List ℕ) × (text ≡ b ∷ remainder) × (((b == 47) ≡ true) × (remainder ≡ []) ⊎ AreNested remainder bs)
 
 nested_follows : (text : List ℕ) (b c : ℕ) (cs : List ℕ) → AreNested text (b ∷ c ∷ cs) → Follows text b (c ∷ cs)
 nested_follows text b c cs (inl same) = (c ∷ cs, same, inr (inl refl))
@@ -60,14 +60,14 @@ nested_follows text b c cs (inr (inr folder)) = (c ∷ cs ++ folder.1.0, folder.
 follows_nested : (text : List ℕ) (b c : ℕ) (cs : List ℕ) → Follows text b (c ∷ cs) → AreNested text (b ∷ c ∷ cs)
 follows_nested text b c cs w = go w.0 w.1 w.2
   where
-    go : (behind : List ℕ) → text ≡ b ∷ behind → (((b == 47) ≡ true) × (behind ≡ []) ⊎ AreNested behind (c ∷ cs)) → AreNested text (b ∷ c ∷ cs)
-    go behind is (inl ends) =
+    go : (remainder : List ℕ) → text ≡ b ∷ remainder → (((b == 47) ≡ true) × (remainder ≡ []) ⊎ AreNested remainder (c ∷ cs)) → AreNested text (b ∷ c ∷ cs)
+    go remainder is (inl ends) =
         let one : text ≡ b ∷ [] = is ∙ ap (λ (x : List ℕ). b ∷ x) ends.1 in
         inr (inl (ap (ends_with 47) one ∙ ends.0, (c ∷ cs, ap (λ (x : List ℕ). x ++ (c ∷ cs)) (sym one))))
-    go behind is (inr (inl same)) = inl (is ∙ ap (λ (x : List ℕ). b ∷ x) same)
+    go remainder is (inr (inl same)) = inl (is ∙ ap (λ (x : List ℕ). b ∷ x) same)
     go [] is (inr (inr (inl folder))) = absurd (let h : false ≡ true = folder.0 in cc)
     go (u ∷ us) is (inr (inr (inl folder))) = inr (inl (ap (ends_with 47) is ∙ folder.0, (folder.1.0, ap (λ (x : List ℕ). b ∷ x) folder.1.1 ∙ ap (λ (x : List ℕ). x ++ folder.1.0) (sym is))))
-    go behind is (inr (inr (inr folder))) = inr (inr (folder.0, (folder.1.0, is ∙ ap (λ (x : List ℕ). b ∷ x) folder.1.1)))
+    go remainder is (inr (inr (inr folder))) = inr (inr (folder.0, (folder.1.0, is ∙ ap (λ (x : List ℕ). b ∷ x) folder.1.1)))
 
 -- a value of one byte
 nested_one : (text : List ℕ) (b : ℕ) (slash : Bool) → (b == 47) ≡ slash → AreNested text (b ∷ []) ↔ MatchBool slash (Begins text (b ∷ [])) (text ≡ b ∷ [])
@@ -88,10 +88,10 @@ nested_one text b false is = (forth text, λ same. inl same)
     forth text (inr (inr folder)) = absurd (let e : true ≡ false = sym folder.0 ∙ is in cc)
 
 -- a byte in front of the first part, which isn't empty
-meets_front : (text : List ℕ) (b q : ℕ) (qs : List ℕ) (more : List (List ℕ)) → Meets text ((b ∷ q ∷ qs) ∷ more) ↔ ((behind : List ℕ) × (text ≡ b ∷ behind) × Meets behind ((q ∷ qs) ∷ more))
+meets_front : (text : List ℕ) (b q : ℕ) (qs : List ℕ) (more : List (List ℕ)) → Meets text ((b ∷ q ∷ qs) ∷ more) ↔ ((remainder : List ℕ) × (text ≡ b ∷ remainder) × Meets remainder ((q ∷ qs) ∷ more))
 meets_front text b q qs [] = go (ends_with 47 (q ∷ qs))
   where
-    go : (slash : Bool) → MatchBool slash (Begins text (b ∷ q ∷ qs)) (text ≡ b ∷ q ∷ qs) ↔ ((behind : List ℕ) × (text ≡ b ∷ behind) × MatchBool slash (Begins behind (q ∷ qs)) (behind ≡ q ∷ qs))
+    go : (slash : Bool) → MatchBool slash (Begins text (b ∷ q ∷ qs)) (text ≡ b ∷ q ∷ qs) ↔ ((remainder : List ℕ) × (text ≡ b ∷ remainder) × MatchBool slash (Begins remainder (q ∷ qs)) (remainder ≡ q ∷ qs))
     go true = (λ w. (q ∷ qs ++ w.0, w.1, (w.0, refl)), λ w. (w.2.0, w.1 ∙ ap (λ (x : List ℕ). b ∷ x) w.2.1))
     go false = (λ e. (q ∷ qs, e, refl), λ w. w.1 ∙ ap (λ (x : List ℕ). b ∷ x) w.2)
 meets_front text b q qs (next ∷ more) = (λ w. (q ∷ qs ++ w.0, w.1, (w.0, refl, w.2)), λ w. (w.2.0, w.1 ∙ ap (λ (x : List ℕ). b ∷ x) w.2.1, w.2.2))
@@ -115,7 +115,7 @@ meets_more text b c cs true q qs more is rest = (λ n. forth (nested_follows tex
         alternative (inr meets) = inr ((rest w.0).1 meets)
 meets_more text b c cs false q qs more is rest = (λ n. (meets_front text b q qs more).1 (forth (nested_follows text b c cs n)), λ m. let w = (meets_front text b q qs more).0 m in follows_nested text b c cs (w.0, w.1, inr ((rest w.0).1 w.2)))
   where
-    forth : Follows text b (c ∷ cs) → (behind : List ℕ) × (text ≡ b ∷ behind) × Meets behind ((q ∷ qs) ∷ more)
+    forth : Follows text b (c ∷ cs) → (remainder : List ℕ) × (text ≡ b ∷ remainder) × Meets remainder ((q ∷ qs) ∷ more)
     forth w = (w.0, w.1, alternative w.2)
       where
         alternative : (((b == 47) ≡ true) × (w.0 ≡ []) ⊎ AreNested w.0 (c ∷ cs)) → Meets w.0 ((q ∷ qs) ∷ more)
@@ -139,12 +139,12 @@ nested_meets b (c ∷ cs) text = go (parts_of (c ∷ cs)) (parted c cs) (λ t. n
 -- ---- from a place on
 
 -- the lengths of what a place divides
-left_len : (text : List ℕ) (place : ℕ) (part behind : List ℕ) → place ≤ length text → drop place text ≡ part ++ behind → length text ≡ place + length part + length behind
-left_len text place part behind fits goes = omega (arith, length-drop place text, length-append part behind, ap length goes)
+left_len : (text : List ℕ) (place : ℕ) (part remainder : List ℕ) → place ≤ length text → drop place text ≡ part ++ remainder → length text ≡ place + length part + length remainder
+left_len text place part remainder fits goes = omega (arith, length-drop place text, length-append part remainder, ap length goes)
 
 -- what is left after a part
-left_behind : (text : List ℕ) (place : ℕ) (part behind : List ℕ) → drop place text ≡ part ++ behind → drop (place + length part) text ≡ behind
-left_behind text place part behind goes = sym (drop-drop (length part) place text) ∙ ap (drop (length part)) goes ∙ drop_at part behind (length part) refl
+left_after : (text : List ℕ) (place : ℕ) (part remainder : List ℕ) → drop place text ≡ part ++ remainder → drop (place + length part) text ≡ remainder
+left_after text place part remainder goes = sym (drop-drop (length part) place text) ∙ ap (drop (length part)) goes ∙ drop_at part remainder (length part) refl
 
 along_meets : (parts : List (List ℕ)) (text : List ℕ) (place : ℕ) → place ≤ length text → AlongParts text place parts ↔ Meets (drop place text) parts
 along_meets [] text place fits = (λ w. w, λ w. w)
@@ -154,10 +154,10 @@ along_meets (part ∷ []) text place fits = go (ends_with 47 part)
     go true = (λ w. w.1, λ w. (let h = left_len text place part w.0 fits w.1 in omega arith, w))
     go false = (λ w. forth w.0 w.1.0 w.1.1, λ e. (let h = left_len text place part [] fits (e ∙ sym (append-nil part)) in omega arith, ([], e ∙ sym (append-nil part))))
       where
-        forth : length text ≡ place + length part → (behind : List ℕ) → drop place text ≡ part ++ behind → drop place text ≡ part
-        forth ends behind goes =
-            let h = left_len text place part behind fits goes in
-            let none : behind ≡ [] = nil_from_length behind (omega arith) in
+        forth : length text ≡ place + length part → (remainder : List ℕ) → drop place text ≡ part ++ remainder → drop place text ≡ part
+        forth ends remainder goes =
+            let h = left_len text place part remainder fits goes in
+            let none : remainder ≡ [] = nil_from_length remainder (omega arith) in
             goes ∙ ap (λ (x : List ℕ). part ++ x) none ∙ append-nil part
 along_meets (part ∷ next ∷ more) text place fits = (λ w. (w.1.0, w.1.1, forth w.0 w.1.0 w.1.1 (λ h. along_meets (next ∷ more) text (place + length part) h) w.2), λ w. (let h = left_len text place part w.0 fits w.1 in omega arith, (w.0, w.1), back w.0 w.1 (λ h. along_meets (next ∷ more) text (place + length part) h) w.2))
   where
@@ -168,15 +168,15 @@ along_meets (part ∷ next ∷ more) text place fits = (λ w. (w.1.0, w.1.1, for
     Rest : Type 0
     Rest = place + length part ≤ length text → AlongParts text (place + length part) (next ∷ more) ↔ Meets (drop (place + length part) text) (next ∷ more)
 
-    forth : place + length part ≤ length text → (behind : List ℕ) → drop place text ≡ part ++ behind → Rest → (length text ≡ place + length part) ⊎ AlongParts text (place + length part) (next ∷ more) → (behind ≡ []) ⊎ Meets behind (next ∷ more)
-    forth fits_part behind goes rest (inl ends) = inl (let h = left_len text place part behind fits goes in nil_from_length behind (omega arith))
-    forth fits_part behind goes rest (inr along) = inr (subst P (left_behind text place part behind goes) ((rest fits_part).0 along))
+    forth : place + length part ≤ length text → (remainder : List ℕ) → drop place text ≡ part ++ remainder → Rest → (length text ≡ place + length part) ⊎ AlongParts text (place + length part) (next ∷ more) → (remainder ≡ []) ⊎ Meets remainder (next ∷ more)
+    forth fits_part remainder goes rest (inl ends) = inl (let h = left_len text place part remainder fits goes in nil_from_length remainder (omega arith))
+    forth fits_part remainder goes rest (inr along) = inr (subst P (left_after text place part remainder goes) ((rest fits_part).0 along))
 
-    back : (behind : List ℕ) → drop place text ≡ part ++ behind → Rest → (behind ≡ []) ⊎ Meets behind (next ∷ more) → (length text ≡ place + length part) ⊎ AlongParts text (place + length part) (next ∷ more)
-    back behind goes rest (inl none) = inl (let h = left_len text place part behind fits goes in let n : length behind ≡ 0 = ap length none in omega arith)
-    back behind goes rest (inr meets) =
-        let h = left_len text place part behind fits goes in
-        inr ((rest (omega arith)).1 (subst P (sym (left_behind text place part behind goes)) meets))
+    back : (remainder : List ℕ) → drop place text ≡ part ++ remainder → Rest → (remainder ≡ []) ⊎ Meets remainder (next ∷ more) → (length text ≡ place + length part) ⊎ AlongParts text (place + length part) (next ∷ more)
+    back remainder goes rest (inl none) = inl (let h = left_len text place part remainder fits goes in let n : length remainder ≡ 0 = ap length none in omega arith)
+    back remainder goes rest (inr meets) =
+        let h = left_len text place part remainder fits goes in
+        inr ((rest (omega arith)).1 (subst P (sym (left_after text place part remainder goes)) meets))
 
 -- ---- both
 

@@ -74,10 +74,10 @@ want_total test k rest =
     let b = branch_total test k 0 (length rest - 1) rest in
     omega arith
 
-settle_total : (test : Test) (k : ℕ) (behind rest : List Ins) → total (settle test k behind rest) ≤ 2 + total rest
-settle_total test k behind rest =
-    let a = one_far (span (length rest - length behind) (sizes_of rest)) in
-    let b = branch_total test k (length rest - length behind) 0 rest in
+settle_total : (test : Test) (k : ℕ) (exit rest : List Ins) → total (settle test k exit rest) ≤ 2 + total rest
+settle_total test k exit rest =
+    let a = one_far (span (length rest - length exit) (sizes_of rest)) in
+    let b = branch_total test k (length rest - length exit) 0 rest in
     omega arith
 
 -- ---- pieces
@@ -140,8 +140,8 @@ abbrev weight_of_parts : List (List ℕ) → ℕ
 weight_of_parts [] = 0
 weight_of_parts (part ∷ parts) = length part + 9 + weight_of_parts parts
 
-may_end_total : (at n : ℕ) (behind rest : List Ins) → total (may_end at n behind rest) ≤ 3 + total rest
-may_end_total at n behind rest = omega (arith, image_total (at + 4) (settle Equal n behind rest), settle_total Equal n behind rest)
+may_end_total : (at n : ℕ) (exit rest : List Ins) → total (may_end at n exit rest) ≤ 3 + total rest
+may_end_total at n exit rest = omega (arith, image_total (at + 4) (settle Equal n exit rest), settle_total Equal n exit rest)
 
 part_total : (test : Test) (at place : ℕ) (part : List ℕ) (rest : List Ins) → total (has_len test (place + length part) at (same_bytes place part rest)) ≤ length part + 6 + total rest
 part_total test at place part rest = omega (arith, len_total test (place + length part) at (same_bytes place part rest), same_total place part rest)

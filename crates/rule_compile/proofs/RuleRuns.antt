@@ -133,7 +133,7 @@ tests_offered image None false shows =
     tests_same image Any _ _ (offered false) (λ _. inl refl, λ _. refl) (tests_word image Any 56 0 Equal 0 shows.0)
 tests_offered image (Some text) false tells =
     tests_same image Any _ _ (offered false) (
-      λ e. absurd (let z = eqb-true tells.place 0 e in let behind = tells.behind_start in omega arith),
+      λ e. absurd (let z = eqb-true tells.place 0 e in let start = tells.after_start in omega arith),
       λ p. elim p [ inl e ↦ absurd cc | inr e ↦ absurd (false≢true e) ],
     ) (tests_word image Any 56 tells.place Equal 0 tells.place_word)
 

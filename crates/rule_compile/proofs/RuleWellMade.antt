@@ -112,8 +112,8 @@ branch_sound test k hit miss rest h m s =
 want_sound : (test : Test) (k : ℕ) (rest : List Ins) → IsSound rest → IsSound (want test k rest)
 want_sound test k rest s = branch_sound test k 0 (length rest - 1) rest s.some (omega (arith, s.some)) s
 
-settle_sound : (test : Test) (k : ℕ) (behind rest : List Ins) → IsSound behind → IsSound rest → IsSound (settle test k behind rest)
-settle_sound test k behind rest b s = branch_sound test k (length rest - length behind) 0 rest (omega (arith, s.some, b.some)) s.some s
+settle_sound : (test : Test) (k : ℕ) (exit rest : List Ins) → IsSound exit → IsSound rest → IsSound (settle test k exit rest)
+settle_sound test k exit rest b s = branch_sound test k (length rest - length exit) 0 rest (omega (arith, s.some, b.some)) s.some s
 
 -- the program's last instruction, which says no match
 last_sound : IsSound (returns 0 ∷ [])
@@ -174,8 +174,8 @@ namespace_sound at separator value rest small s =
 part_sound : (test : Test) (at place : ℕ) (part : List ℕ) (rest : List Ins) → at < 1024 → IsSound rest → IsSound (has_len test (place + length part) at (same_bytes place part rest))
 part_sound test at place part rest small s = len_sound test (place + length part) at (same_bytes place part rest) small (same_sound place part rest s)
 
-may_end_sound : (at n : ℕ) (behind rest : List Ins) → at < 1024 → IsSound behind → IsSound rest → IsSound (may_end at n behind rest)
-may_end_sound at n behind rest small b s = image_sound (at + 4) (settle Equal n behind rest) (omega arith) (settle_sound Equal n behind rest b s)
+may_end_sound : (at n : ℕ) (exit rest : List Ins) → at < 1024 → IsSound exit → IsSound rest → IsSound (may_end at n exit rest)
+may_end_sound at n exit rest small b s = image_sound (at + 4) (settle Equal n exit rest) (omega arith) (settle_sound Equal n exit rest b s)
 
 along_sound : (at place : ℕ) (parts : List (List ℕ)) (rest : List Ins) → at < 1024 → IsSound rest → IsSound (along at place parts rest)
 along_sound at place [] rest small s = s

@@ -21,11 +21,11 @@ use Rattle.rule_compile.proofs.Pieces.{RunsTo, Guarded}
 
 -- ---- after a front
 
-slice_get-behind : (front more : List Ins) (p : ℕ) → slice_get (front ++ more) (length front + p) ≡ slice_get more p
-slice_get-behind [] more p = let e : 0 + p ≡ p = omega arith in ap (slice_get more) e
-slice_get-behind (ins ∷ front) more p =
+slice_get-exit : (front more : List Ins) (p : ℕ) → slice_get (front ++ more) (length front + p) ≡ slice_get more p
+slice_get-exit [] more p = let e : 0 + p ≡ p = omega arith in ap (slice_get more) e
+slice_get-exit (ins ∷ front) more p =
     let e : suc (length front) + p ≡ suc (length front + p) = omega arith in
-    ap (slice_get (ins ∷ (front ++ more))) e ∙ slice_get-behind front more p
+    ap (slice_get (ins ∷ (front ++ more))) e ∙ slice_get-exit front more p
 
 -- a configuration
 abbrev state : ℕ → ℕ → ℕ → (ℕ → Option ℕ) → State
@@ -36,66 +36,66 @@ abbrev Later : List Ins → List Ins → List ℕ → ℕ → ℕ → Type 0
 Later front more image v n =
     (p a x : ℕ) (words : ℕ → Option ℕ) → EndsFrom more image v n (state p a x words) → EndsFrom (front ++ more) image v n (state (length front + p) a x words)
 
-arrives_behind : (front more : List Ins) (image : List ℕ) (v n p a x : ℕ) (words : ℕ → Option ℕ) (k : ℕ) (effect : Effect) → Later front more image v n → Arrives (after (state p a x words) k effect) v n (EndsFrom more image v n) → Arrives (after (state (length front + p) a x words) k effect) v n (EndsFrom (front ++ more) image v n)
-arrives_behind front more image v n p a x words k (SetA w) later h =
+arrives_after : (front more : List Ins) (image : List ℕ) (v n p a x : ℕ) (words : ℕ → Option ℕ) (k : ℕ) (effect : Effect) → Later front more image v n → Arrives (after (state p a x words) k effect) v n (EndsFrom more image v n) → Arrives (after (state (length front + p) a x words) k effect) v n (EndsFrom (front ++ more) image v n)
+arrives_after front more image v n p a x words k (SetA w) later h =
     let e : length front + (p + 1) ≡ length front + p + 1 = omega arith in
     subst (λ (q : ℕ). EndsFrom (front ++ more) image v n (state q w x words)) e (later (p + 1) w x words h)
-arrives_behind front more image v n p a x words k (SetX w) later h =
+arrives_after front more image v n p a x words k (SetX w) later h =
     let e : length front + (p + 1) ≡ length front + p + 1 = omega arith in
     subst (λ (q : ℕ). EndsFrom (front ++ more) image v n (state q a w words)) e (later (p + 1) a w words h)
-arrives_behind front more image v n p a x words k (SetWord w) later h =
+arrives_after front more image v n p a x words k (SetWord w) later h =
     let e : length front + (p + 1) ≡ length front + p + 1 = omega arith in
     subst (λ (q : ℕ). EndsFrom (front ++ more) image v n (state q a x (with_word words k w))) e (later (p + 1) a x (with_word words k w) h)
-arrives_behind front more image v n p a x words k (Skip d) later h =
+arrives_after front more image v n p a x words k (Skip d) later h =
     let e : length front + (p + 1 + d) ≡ length front + p + 1 + d = omega arith in
     subst (λ (q : ℕ). EndsFrom (front ++ more) image v n (state q a x words)) e (later (p + 1 + d) a x words h)
-arrives_behind front more image v n p a x words k (Finish w) later h = h
+arrives_after front more image v n p a x words k (Finish w) later h = h
 
-effect_behind : (front more : List Ins) (image : List ℕ) (v n p a x : ℕ) (words : ℕ → Option ℕ) (k : ℕ) (o : Option Effect) → Later front more image v n → IsSomeAnd (option_map (after (state p a x words) k) o) (λ next. Arrives next v n (EndsFrom more image v n)) → IsSomeAnd (option_map (after (state (length front + p) a x words) k) o) (λ next. Arrives next v n (EndsFrom (front ++ more) image v n))
-effect_behind front more image v n p a x words k None later h = absurd h
-effect_behind front more image v n p a x words k (Some effect) later h =
-    arrives_behind front more image v n p a x words k effect later h
+effect_after : (front more : List Ins) (image : List ℕ) (v n p a x : ℕ) (words : ℕ → Option ℕ) (k : ℕ) (o : Option Effect) → Later front more image v n → IsSomeAnd (option_map (after (state p a x words) k) o) (λ next. Arrives next v n (EndsFrom more image v n)) → IsSomeAnd (option_map (after (state (length front + p) a x words) k) o) (λ next. Arrives next v n (EndsFrom (front ++ more) image v n))
+effect_after front more image v n p a x words k None later h = absurd h
+effect_after front more image v n p a x words k (Some effect) later h =
+    arrives_after front more image v n p a x words k effect later h
 
-op_behind : (front more : List Ins) (image : List ℕ) (v n p a x : ℕ) (words : ℕ → Option ℕ) (ins : Ins) (o : Option Op) → Later front more image v n → IsSomeAnd (option_and_then (λ op. option_map (after (state p a x words) ins.k) (effect_of op ins image a x (words ins.k))) o) (λ next. Arrives next v n (EndsFrom more image v n)) → IsSomeAnd (option_and_then (λ op. option_map (after (state (length front + p) a x words) ins.k) (effect_of op ins image a x (words ins.k))) o) (λ next. Arrives next v n (EndsFrom (front ++ more) image v n))
-op_behind front more image v n p a x words ins None later h = absurd h
-op_behind front more image v n p a x words ins (Some op) later h =
-    effect_behind front more image v n p a x words ins.k (effect_of op ins image a x (words ins.k)) later h
+op_after : (front more : List Ins) (image : List ℕ) (v n p a x : ℕ) (words : ℕ → Option ℕ) (ins : Ins) (o : Option Op) → Later front more image v n → IsSomeAnd (option_and_then (λ op. option_map (after (state p a x words) ins.k) (effect_of op ins image a x (words ins.k))) o) (λ next. Arrives next v n (EndsFrom more image v n)) → IsSomeAnd (option_and_then (λ op. option_map (after (state (length front + p) a x words) ins.k) (effect_of op ins image a x (words ins.k))) o) (λ next. Arrives next v n (EndsFrom (front ++ more) image v n))
+op_after front more image v n p a x words ins None later h = absurd h
+op_after front more image v n p a x words ins (Some op) later h =
+    effect_after front more image v n p a x words ins.k (effect_of op ins image a x (words ins.k)) later h
 
-ins_behind : (front more : List Ins) (image : List ℕ) (v n p a x : ℕ) (words : ℕ → Option ℕ) (o : Option Ins) → Later front more image v n → IsSomeAnd (option_and_then (λ ins. step_at ins image (state p a x words)) o) (λ next. Arrives next v n (EndsFrom more image v n)) → IsSomeAnd (option_and_then (λ ins. step_at ins image (state (length front + p) a x words)) o) (λ next. Arrives next v n (EndsFrom (front ++ more) image v n))
-ins_behind front more image v n p a x words None later h = absurd h
-ins_behind front more image v n p a x words (Some ins) later h =
-    op_behind front more image v n p a x words ins (op_of ins.code) later h
+ins_after : (front more : List Ins) (image : List ℕ) (v n p a x : ℕ) (words : ℕ → Option ℕ) (o : Option Ins) → Later front more image v n → IsSomeAnd (option_and_then (λ ins. step_at ins image (state p a x words)) o) (λ next. Arrives next v n (EndsFrom more image v n)) → IsSomeAnd (option_and_then (λ ins. step_at ins image (state (length front + p) a x words)) o) (λ next. Arrives next v n (EndsFrom (front ++ more) image v n))
+ins_after front more image v n p a x words None later h = absurd h
+ins_after front more image v n p a x words (Some ins) later h =
+    op_after front more image v n p a x words ins (op_of ins.code) later h
 
 -- a run of the instructions after a front is one of the whole
-pub ends_behind : (front more : List Ins) (image : List ℕ) (v n p a x : ℕ) (words : ℕ → Option ℕ) → EndsFrom more image v n (record { place = p; a = a; x = x; words = words }) → EndsFrom (front ++ more) image v n (record { place = length front + p; a = a; x = x; words = words })
-ends_behind front more image v zero p a x words h = absurd h
-ends_behind front more image v (suc n) p a x words h =
-    rw (slice_get-behind front more p) (ins_behind front more image v n p a x words (slice_get more p) (ends_behind front more image v n) h)
+pub ends_after : (front more : List Ins) (image : List ℕ) (v n p a x : ℕ) (words : ℕ → Option ℕ) → EndsFrom more image v n (record { place = p; a = a; x = x; words = words }) → EndsFrom (front ++ more) image v n (record { place = length front + p; a = a; x = x; words = words })
+ends_after front more image v zero p a x words h = absurd h
+ends_after front more image v (suc n) p a x words h =
+    rw (slice_get-exit front more p) (ins_after front more image v n p a x words (slice_get more p) (ends_after front more image v n) h)
 
 -- ---- one instruction
 
 -- from the place after a front on
-runs_behind : (front more : List Ins) (image : List ℕ) (a x v d : ℕ) → length front ≡ d → RunsTo more image a x v → (n : ℕ) × EndsFrom (front ++ more) image v n (state d a x (λ k. None))
-runs_behind front more image a x v d is run =
+runs_after : (front more : List Ins) (image : List ℕ) (a x v d : ℕ) → length front ≡ d → RunsTo more image a x v → (n : ℕ) × EndsFrom (front ++ more) image v n (state d a x (λ k. None))
+runs_after front more image a x v d is run =
     let e : length front + 0 ≡ d = omega arith in
-    (run.0, subst (λ (q : ℕ). EndsFrom (front ++ more) image v run.0 (state q a x (λ k. None))) e (ends_behind front more image v run.0 0 a x (λ k. None) run.1))
+    (run.0, subst (λ (q : ℕ). EndsFrom (front ++ more) image v run.0 (state q a x (λ k. None))) e (ends_after front more image v run.0 0 a x (λ k. None) run.1))
 
 -- a load of the image's word
 pub runs_image_word : (rest : List Ins) (image : List ℕ) (at w a x v : ℕ) → load_word image at ≡ Some w → RunsTo rest image w x v → RunsTo (image_word at ∷ rest) image a x v
 runs_image_word rest image at w a x v is run =
-    let later = runs_behind (image_word at ∷ []) rest image w x v 1 refl run in
+    let later = runs_after (image_word at ∷ []) rest image w x v 1 refl run in
     (suc later.0, rw is later.1)
 
 -- a load at an offset from X
 pub runs_indexed : (rest : List Ins) (image : List ℕ) (width : Width) (k w a x v : ℕ) → load width image (x + k) ≡ Some w → RunsTo rest image w x v → RunsTo (indexed width k ∷ rest) image a x v
 runs_indexed rest image Word k w a x v is run =
-    let later = runs_behind (indexed Word k ∷ []) rest image w x v 1 refl run in
+    let later = runs_after (indexed Word k ∷ []) rest image w x v 1 refl run in
     (suc later.0, rw is later.1)
 runs_indexed rest image Half k w a x v is run =
-    let later = runs_behind (indexed Half k ∷ []) rest image w x v 1 refl run in
+    let later = runs_after (indexed Half k ∷ []) rest image w x v 1 refl run in
     (suc later.0, rw is later.1)
 runs_indexed rest image Byte k w a x v is run =
-    let later = runs_behind (indexed Byte k ∷ []) rest image w x v 1 refl run in
+    let later = runs_after (indexed Byte k ∷ []) rest image w x v 1 refl run in
     (suc later.0, rw is later.1)
 
 -- a load outside the image says no match
@@ -104,7 +104,7 @@ outside_image_word rest image at a x is = (1, rw is (refl, refl))
 
 pub runs_index_from_a : (rest : List Ins) (image : List ℕ) (a x v : ℕ) → RunsTo rest image a a v → RunsTo (index_from_a ∷ rest) image a x v
 runs_index_from_a rest image a x v run =
-    let later = runs_behind (index_from_a ∷ []) rest image a a v 1 refl run in (suc later.0, later.1)
+    let later = runs_after (index_from_a ∷ []) rest image a a v 1 refl run in (suc later.0, later.1)
 
 -- an end
 pub runs_returns : (rest : List Ins) (image : List ℕ) (a x v : ℕ) → RunsTo (returns v ∷ rest) image a x v
@@ -118,14 +118,14 @@ branch_op SharesBit = refl
 
 -- A branch goes over the instructions of its first distance where the comparison holds, and over those of its second
 -- where it doesn't.
-pub runs_hit : (front behind : List Ins) (image : List ℕ) (test : Test) (k hit miss a x v : ℕ) → passes test a k ≡ true → length front ≡ hit → RunsTo behind image a x v → RunsTo (branch test k hit miss ∷ (front ++ behind)) image a x v
-runs_hit front behind image test k hit miss a x v holds is run =
-    let later = runs_behind (branch test k hit miss ∷ front) behind image a x v (1 + hit) (omega arith) run in
+pub runs_hit : (front exit : List Ins) (image : List ℕ) (test : Test) (k hit miss a x v : ℕ) → passes test a k ≡ true → length front ≡ hit → RunsTo exit image a x v → RunsTo (branch test k hit miss ∷ (front ++ exit)) image a x v
+runs_hit front exit image test k hit miss a x v holds is run =
+    let later = runs_after (branch test k hit miss ∷ front) exit image a x v (1 + hit) (omega arith) run in
     (suc later.0, rw (branch_op test, holds) later.1)
 
-pub runs_miss : (front behind : List Ins) (image : List ℕ) (test : Test) (k hit miss a x v : ℕ) → passes test a k ≡ false → length front ≡ miss → RunsTo behind image a x v → RunsTo (branch test k hit miss ∷ (front ++ behind)) image a x v
-runs_miss front behind image test k hit miss a x v fails is run =
-    let later = runs_behind (branch test k hit miss ∷ front) behind image a x v (1 + miss) (omega arith) run in
+pub runs_miss : (front exit : List Ins) (image : List ℕ) (test : Test) (k hit miss a x v : ℕ) → passes test a k ≡ false → length front ≡ miss → RunsTo exit image a x v → RunsTo (branch test k hit miss ∷ (front ++ exit)) image a x v
+runs_miss front exit image test k hit miss a x v fails is run =
+    let later = runs_after (branch test k hit miss ∷ front) exit image a x v (1 + miss) (omega arith) run in
     (suc later.0, rw (branch_op test, fails) later.1)
 
 -- ---- tests that end the run, and jumps past the piece
@@ -143,13 +143,13 @@ stops_want rest image test k a x (front, is) fails =
     subst (λ (code : List Ins). RunsTo (branch test k 0 (length rest - 1) ∷ code) image a x 0) (sym is) run
 
 -- a jump to the instructions after the piece where the test holds
-pub runs_settle : (middle behind rest : List Ins) (image : List ℕ) (test : Test) (k a x v : ℕ) → rest ≡ middle ++ behind → passes test a k ≡ true → RunsTo behind image a x v → RunsTo (settle test k behind rest) image a x v
-runs_settle middle behind rest image test k a x v is holds run =
-    let e : length middle ≡ length rest - length behind = omega (arith, ap length is, length-append middle behind) in
-    let on = runs_hit middle behind image test k (length rest - length behind) 0 a x v holds e run in
-    subst (λ (code : List Ins). RunsTo (branch test k (length rest - length behind) 0 ∷ code) image a x v) (sym is) on
+pub runs_settle : (middle exit rest : List Ins) (image : List ℕ) (test : Test) (k a x v : ℕ) → rest ≡ middle ++ exit → passes test a k ≡ true → RunsTo exit image a x v → RunsTo (settle test k exit rest) image a x v
+runs_settle middle exit rest image test k a x v is holds run =
+    let e : length middle ≡ length rest - length exit = omega (arith, ap length is, length-append middle exit) in
+    let on = runs_hit middle exit image test k (length rest - length exit) 0 a x v holds e run in
+    subst (λ (code : List Ins). RunsTo (branch test k (length rest - length exit) 0 ∷ code) image a x v) (sym is) on
 
 -- and on to the rest where it doesn't
-pub stays_settle : (behind rest : List Ins) (image : List ℕ) (test : Test) (k a x v : ℕ) → passes test a k ≡ false → RunsTo rest image a x v → RunsTo (settle test k behind rest) image a x v
-stays_settle behind rest image test k a x v fails run =
-    runs_miss [] rest image test k (length rest - length behind) 0 a x v fails refl run
+pub stays_settle : (exit rest : List Ins) (image : List ℕ) (test : Test) (k a x v : ℕ) → passes test a k ≡ false → RunsTo rest image a x v → RunsTo (settle test k exit rest) image a x v
+stays_settle exit rest image test k a x v fails run =
+    runs_miss [] rest image test k (length rest - length exit) 0 a x v fails refl run

@@ -45,9 +45,9 @@ extends_is_there_if true at f extends = extends_then (is_there at) f (extends_is
 extends_is_there_if false at f extends = extends
 
 tests_is_there_if : (image : List ℕ) (X : ℕ → Type 0) (P : Type 0) (empty : Bool) (at place : ℕ) (f : List Ins → List Ins) → load_word image at ≡ Some place → 0 < place → Tests image X P f → Tests image X P (λ rest. is_there_if empty at (f rest))
-tests_is_there_if image X P true at place f is behind t =
-    tests_same image X _ _ (λ rest. is_there at (f rest)) (λ both. both.1, λ p. (behind, p)) (tests_both image X (0 < place) P (is_there at) f (tests_is_there image X at place is) t)
-tests_is_there_if image X P false at place f is behind t = t
+tests_is_there_if image X P true at place f is begun t =
+    tests_same image X _ _ (λ rest. is_there at (f rest)) (λ both. both.1, λ p. (begun, p)) (tests_both image X (0 < place) P (is_there at) f (tests_is_there image X at place is) t)
+tests_is_there_if image X P false at place f is begun t = t
 
 tests_absent : (image : List ℕ) (X : ℕ → Type 0) (P : Type 0) (empty : Bool) (at : ℕ) (f : List Ins → List Ins) → empty ≡ true → load_word image at ≡ Some 0 → Extends f → (P → ⊥) → Tests image X P (λ rest. is_there_if empty at (f rest))
 tests_absent image X P true at f e is extends none =
@@ -75,7 +75,7 @@ tests_about_none image P test n at f place len small extends none =
 
 tests_about : (image : List ℕ) (P : Type 0) (test : Test) (n at : ℕ) (text : List ℕ) (f : List Ins → List Ins) → (tells : Tells image at text) → Extends f → (passes test (length text) n ≡ true → Tests image (At tells.place) P f) → Tests image Any ((passes test (length text) n ≡ true) × P) (about test n at f)
 tests_about image P test n at text f tells extends t =
-    tests_then image Any (passes test (length text) n ≡ true) P (has_len test n at) (λ rest. is_there_if (n == 0) at (index_text at (f rest))) (tests_has_len image Any at (length text) test n tells.len_word) (extends_inner n at f extends) (λ e. tests_is_there_if image Any P (n == 0) at tells.place (λ rest. index_text at (f rest)) tells.place_word tells.behind_start (tests_index_text image P f at tells.place tells.place_word (t e)))
+    tests_then image Any (passes test (length text) n ≡ true) P (has_len test n at) (λ rest. is_there_if (n == 0) at (index_text at (f rest))) (tests_has_len image Any at (length text) test n tells.len_word) (extends_inner n at f extends) (λ e. tests_is_there_if image Any P (n == 0) at tells.place (λ rest. index_text at (f rest)) tells.place_word tells.after_start (tests_index_text image P f at tells.place tells.place_word (t e)))
 
 -- ---- the text is a value
 

@@ -40,7 +40,7 @@ want test k rest = branch test k 0 (length rest - 1) ∷ rest
 
 -- if the test holds, jump past the piece
 abbrev pub settle : Test → ℕ → List Ins → List Ins → List Ins
-settle test k behind rest = branch test k (length rest - length behind) 0 ∷ rest
+settle test k exit rest = branch test k (length rest - length exit) 0 ∷ rest
 
 -- two and four bytes as a number, the highest first
 abbrev pub two : ℕ → ℕ → ℕ

@@ -17,7 +17,7 @@ parts_of (b ∷ bs) = if b == 47 then (b ∷ []) ∷ parts_of bs else with_front
 
 -- if the text has `n` bytes, it ends here: jump past the piece
 abbrev pub may_end : ℕ → ℕ → List Ins → List Ins → List Ins
-may_end at n behind rest = image_word (at + 4) ∷ settle Equal n behind rest
+may_end at n exit rest = image_word (at + 4) ∷ settle Equal n exit rest
 
 -- The text goes on from a place with these parts of a value: it may end after each `/`, and go on after the value where
 -- that ends with one.

@@ -17,8 +17,8 @@ instructions items = map ins_of items
 
 -- an item that doesn't jump past the end, where this number of instructions follows it
 abbrev pub IsInside : ℕ → Item → Type 0
-IsInside behind (Plain ins) = is_plain_op (op_of ins.code) ≡ true
-IsInside behind (Branch test k hit miss) = (hit < behind) × (miss < behind)
+IsInside ahead_len (Plain ins) = is_plain_op (op_of ins.code) ≡ true
+IsInside ahead_len (Branch test k hit miss) = (hit < ahead_len) × (miss < ahead_len)
 
 abbrev pub AreInside : List Item → Type 0
 AreInside [] = Unit {0}

@@ -76,9 +76,9 @@ impl Code {
     fn has_text_type(&mut self, n: u8) -> Result<(), AllocError>
         ensures { OnOk result (self.new ≡ has_text_type n self.old) }
     {
-        let behind = self.len();
+        let exit_len = self.len();
         self.want(Test::Equal, u32::from(b'o'))?;
-        self.settle(Test::Equal, u32::from(b's'), behind)?;
+        self.settle(Test::Equal, u32::from(b's'), exit_len)?;
         self.image_word(u32::from(argument_at(n)))
     }
 

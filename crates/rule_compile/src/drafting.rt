@@ -28,7 +28,7 @@ fn labels_of(alloc: Global, draft: &mut Draft, count: usize) -> Result<Vec<Label
 /// Adds the line of the item at a place, whose jumps go to later places.
 fn add_item(draft: &mut Draft, labels: &[Label], place: usize, item: Item) -> Result<(), LowerError>
     requires labels { AreLabels labels.now (length draft.old.bound) }
-    requires inside { (behind : ℕ) × (place + 1 + behind ≡ length labels.now) × IsInside behind item }
+    requires inside { (ahead_len : ℕ) × (place + 1 + ahead_len ≡ length labels.now) × IsInside ahead_len item }
     ensures added { OnOk result (draft.new ≡ with_item place item draft.old) }
     ensures only { IfErr result (λ e. e ≡ LowerError.NoMemory) }
 {

@@ -15,7 +15,7 @@ fn part_start(text: &[u8], end: usize) -> usize
     requires within { end ≤ length text.now }
     ensures before { result < end }
     ensures one { (k : ℕ) → result ≤ k → k + 1 < end → slice_index text.now k ≢ 47 }
-    ensures behind { 0 < result → slice_index text.now (result - 1) ≡ 47 }
+    ensures slash { 0 < result → slice_index text.now (result - 1) ≡ 47 }
 {
     let mut start = end - 1;
     while start > 0 && text[start - 1] != b'/' {
@@ -48,21 +48,21 @@ impl Code {
         }
     }
 
-    /// The text goes on from a place with a part of a value. If it ends after that part, jump to the last `behind`
+    /// The text goes on from a place with a part of a value. If it ends after that part, jump to the last `exit_len`
     /// instructions.
     fn inner_part(
         &mut self,
         at: u16,
         place: usize,
         part: &[u8],
-        behind: usize,
+        exit_len: usize,
     ) -> Result<(), AllocError>
-        requires behind { 0 < behind }
+        requires exit_len { 0 < exit_len }
         requires fits { place + length part.now < 2 ^ 32 }
-        ensures { OnOk result (self.new ≡ has_len AtLeast (place + length part.now) at (same_bytes place part.now (image_word (at + 4) ∷ branch Equal (place + length part.now) (length self.old - behind) 0 ∷ self.old))) }
+        ensures { OnOk result (self.new ≡ has_len AtLeast (place + length part.now) at (same_bytes place part.now (image_word (at + 4) ∷ branch Equal (place + length part.now) (length self.old - exit_len) 0 ∷ self.old))) }
     {
         let end = (place + part.len()) as u32;
-        self.settle(Test::Equal, end, behind)?;
+        self.settle(Test::Equal, end, exit_len)?;
         self.image_word(u32::from(at) + 4)?;
         self.same_bytes(place as u32, part)?;
         self.has_len(Test::AtLeast, end, at)
@@ -74,13 +74,13 @@ impl Code {
         requires fits { length value.now < 2 ^ 32 }
         ensures { OnOk result (self.new ≡ along at 0 (parts_of value.now) self.old) }
     {
-        let behind = self.len();
+        let exit_len = self.len();
         let mut start = part_start(value, value.len());
         self.last_part(at, start, &value[start..])?;
         while start > 0 {
             let end = start;
             start = part_start(value, end);
-            self.inner_part(at, start, &value[start..end], behind)?;
+            self.inner_part(at, start, &value[start..end], exit_len)?;
         }
         Ok(())
     }

@@ -141,12 +141,12 @@ impl Code {
         })
     }
 
-    /// If the test holds, jump to the last `behind` instructions.
-    pub(crate) fn settle(&mut self, test: Test, k: u32, behind: usize) -> Result<(), AllocError>
-        requires { 0 < behind }
-        ensures { OnOk result (self.new ≡ branch test k (length self.old - behind) 0 ∷ self.old) }
+    /// If the test holds, jump to the last `exit_len` instructions.
+    pub(crate) fn settle(&mut self, test: Test, k: u32, exit_len: usize) -> Result<(), AllocError>
+        requires { 0 < exit_len }
+        ensures { OnOk result (self.new ≡ branch test k (length self.old - exit_len) 0 ∷ self.old) }
     {
-        let hit = self.len().saturating_sub(behind);
+        let hit = self.len().saturating_sub(exit_len);
         self.put(Item::Branch {
             test,
             k,

@@ -123,10 +123,10 @@ impl Code {
         ensures { OnOk result (self.new ≡ in_namespace at separator value.now self.old) }
     {
         let len = value.len() as u32;
-        let behind = self.len();
+        let exit_len = self.len();
         self.want(Test::Equal, u32::from(separator))?;
         self.indexed(Width::Byte, len)?;
-        self.settle(Test::Equal, len, behind)?;
+        self.settle(Test::Equal, len, exit_len)?;
         self.image_word(u32::from(at) + 4)?;
         self.begins_with(Test::AtLeast, at, value.as_bytes())
     }

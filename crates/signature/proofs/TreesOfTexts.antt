@@ -8,7 +8,7 @@ use Rattle.signature.specs.declared.code.Code.TheVariants.{CloseStruct, CloseEnt
 use Rattle.signature.specs.Code.{code_of}
 use Rattle.signature.specs.DataType.{DataType, DataTypes, basic, variant, array, dict, struct, no_types, one_more, spelling, spellings, slices, Fits, AllFit, SigText, TypeText}
 use Rattle.signature.specs.Reading.{fault_of}
-use Rattle.signature.specs.Trees.{Ahead, Behind, types_then, entry_then, text_end, struct_end, with_type, with_array, with_struct, with_entry, with_code, and_then, ahead_of, whole, only_type, types_of, type_of}
+use Rattle.signature.specs.Trees.{Ahead, After, types_then, entry_then, text_end, struct_end, with_type, with_array, with_struct, with_entry, with_code, and_then, ahead_of, whole, only_type, types_of, type_of}
 use Rattle.signature.proofs.Spelled.{basic_code}
 use Rattle.signature.proofs.Signatures.{some_types, fault_of-SigText}
 
@@ -16,7 +16,7 @@ use Rattle.signature.proofs.Signatures.{some_types, fault_of-SigText}
 
 array_then : (r : Option Ahead) (t : DataType) → and_then (and_then r (with_type t)) with_array ≡ and_then r (with_type (array t))
 array_then None t = refl
-array_then (Some (types_then ts behind)) t = refl
+array_then (Some (types_then ts past)) t = refl
 array_then (Some (entry_then k v ahead)) t = refl
 
 dict_then : (r : Option Ahead) (k : ℕ) (v : DataType) → and_then (and_then (and_then (and_then (and_then r (with_code CloseEntry 125)) (with_type v)) (with_type (basic k))) with_entry) with_array ≡ and_then r (with_type (dict k v))
@@ -27,9 +27,9 @@ abbrev with_types : DataTypes → Ahead → Option Ahead
 with_types no_types ahead = Some ahead
 with_types (one_more t ts) ahead = and_then (with_types ts ahead) (with_type t)
 
-with_types-none : (ts : DataTypes) (behind : Behind) → with_types ts (types_then no_types behind) ≡ Some (types_then ts behind)
-with_types-none no_types behind = refl
-with_types-none (one_more t ts) behind = ap (λ r. and_then r (with_type t)) (with_types-none ts behind)
+with_types-none : (ts : DataTypes) (past : After) → with_types ts (types_then no_types past) ≡ Some (types_then ts past)
+with_types-none no_types past = refl
+with_types-none (one_more t ts) past = ap (λ r. and_then r (with_type t)) (with_types-none ts past)
 
 struct_then : (r : Option Ahead) (t : DataType) (ts : DataTypes) → and_then (and_then (and_then (and_then r (with_code CloseStruct 41)) (with_types ts)) (with_type t)) with_struct ≡ and_then r (with_type (struct t ts))
 struct_then None t ts = refl

@@ -10,23 +10,23 @@ use Rattle.signature.specs.Reading.{fault_of}
 -- or the struct or the entry that they stand in.
 mutual
   pub data Ahead : Type 0 where
-    types_then : DataTypes → Behind → Ahead
+    types_then : DataTypes → After → Ahead
     entry_then : (key : ℕ) (value : DataType) → Ahead → Ahead
 
-  pub data Behind : Type 0 where
-    text_end : Behind
-    struct_end : Ahead → Behind
-    entry_end : Ahead → Behind
+  pub data After : Type 0 where
+    text_end : After
+    struct_end : Ahead → After
+    entry_end : Ahead → After
 
 -- one more type in front
 abbrev pub with_type : DataType → Ahead → Option Ahead
-with_type t (types_then ts behind) = Some (types_then (one_more t ts) behind)
+with_type t (types_then ts past) = Some (types_then (one_more t ts) past)
 with_type t (entry_then k v ahead) = None
 
 -- an `a` in front
 abbrev pub with_array : Ahead → Option Ahead
-with_array (types_then (one_more t ts) behind) = Some (types_then (one_more (array t) ts) behind)
-with_array (types_then no_types behind) = None
+with_array (types_then (one_more t ts) past) = Some (types_then (one_more (array t) ts) past)
+with_array (types_then no_types past) = None
 with_array (entry_then k v ahead) = with_type (dict k v) ahead
 
 -- a `(` in front

@@ -21,8 +21,8 @@ words_written a b c d e n texts arguments rest w0 w1 w2 w3 w4 w5 none one two th
     let middle = texts ++ arguments in
     let head = words_bytes (a ∷ b ∷ c ∷ d ∷ e ∷ n ∷ []) in
     let first : w1 ≡ words_bytes (a ∷ b ∷ c ∷ d ∷ e ∷ 0 ∷ []) = one ∙ ap (λ (x : List ℕ). x ++ words_bytes (a ∷ b ∷ c ∷ d ∷ e ∷ 0 ∷ [])) none in
-    let behind : w3 ≡ w1 ++ words_bytes middle = then_words w1 texts arguments w2 w3 two three in
-    let all : w3 ≡ words_bytes (a ∷ b ∷ c ∷ d ∷ e ∷ 0 ∷ []) ++ words_bytes middle = behind ∙ ap (λ (x : List ℕ). x ++ words_bytes middle) first in
+    let end : w3 ≡ w1 ++ words_bytes middle = then_words w1 texts arguments w2 w3 two three in
+    let all : w3 ≡ words_bytes (a ∷ b ∷ c ∷ d ∷ e ∷ 0 ∷ []) ++ words_bytes middle = end ∙ ap (λ (x : List ℕ). x ++ words_bytes middle) first in
     let counted : w4 ≡ head ++ words_bytes middle = four ∙ ap (λ (x : List ℕ). with_word x 20 n) all ∙ count_set a b c d e n (words_bytes middle) in
     then_words head middle rest w4 w5 counted five
     ∙ ap (λ (x : List ℕ). head ++ words_bytes x) (append_assoc texts arguments rest)

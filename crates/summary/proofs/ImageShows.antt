@@ -11,7 +11,7 @@ use Rattle.message_view.specs.Message.{Message}
 use Rattle.message_view.specs.Places.{extent_of, text_of}
 use Rattle.message_view.specs.Spelling.{arguments_of, message_bytes}
 use Rattle.message_view.specs.Valid.{Valid}
-use Rattle.message_view.proofs.TextStands.{Stands, stands_behind, stands_moved, stands_within}
+use Rattle.message_view.proofs.TextStands.{Stands, stands_after, stands_moved, stands_within}
 use Rattle.message_view.proofs.FieldTexts.{Said, texts_said}
 use Rattle.message_view.proofs.ArgumentPlaces.{TextStands, HavePlaces, message_places}
 use Rattle.summary.specs.declared.edition.Edition.{Edition}
@@ -40,12 +40,12 @@ size_below Two = omega arith
 
 -- where a text stands, it lies
 stands_lies : (image text : List ℕ) (place : ℕ) → Stands image 0 place text → Lies image place text
-stands_lies image text place s = (s.front, s.behind, s.parts, omega (arith, s.here))
+stands_lies image text place s = (s.front, s.tail, s.parts, omega (arith, s.here))
 
 -- a text of the message stands further back in the image
 image_stands : (image : List ℕ) (edition : Edition) (message text : List ℕ) (place : ℕ) → IsImage image edition message → Stands message 0 place text → Stands image 0 (size_of edition + place) text
 image_stands image edition message text place is stands =
-    rw is.parts (stands_behind is.summary message text (size_of edition) 0 (size_of edition + place) is.size (stands_moved message text (size_of edition) 0 place stands))
+    rw is.parts (stands_after is.summary message text (size_of edition) 0 (size_of edition + place) is.size (stands_moved message text (size_of edition) 0 place stands))
 
 -- two words tell of a text
 text_told : (image : List ℕ) (edition : Edition) (message text words more : List ℕ) (start i at place len : ℕ) → IsImage image edition message → Follow image start words more → i + 1 < length words → start + 4 * i ≡ at
@@ -57,7 +57,7 @@ text_told image edition message text words more start i at place len is follow i
     record {
       bytes = stands.made;
       place = size_of edition + place;
-      behind_start = omega (arith, size_above edition);
+      after_start = omega (arith, size_above edition);
       place_word = one_follows image start i (size_of edition + place) at words more follow (omega arith) place_is small there;
       len_word = one_follows image start (i + 1) (length text) (at + 4) words more follow inside (len_is ∙ same) short (omega arith);
       lies = stands_lies image text (size_of edition + place) (image_stands image edition message text place is stands);
@@ -174,11 +174,11 @@ inner_follow : (image : List ℕ) (at : ℕ) (a b c more : List ℕ) → Follow 
 inner_follow image at a b c more follow = subst (λ (words : List ℕ). Follow image at words more) (append_assoc a b c) follow
 
 -- the words of the first text, and of those after it
-text_follow : (image : List ℕ) (edition : Edition) (at behind : ℕ) (extent : Option Extent) (texts words more : List ℕ) → at + 8 ≡ behind → Follow image at ((extent_words edition extent ++ texts) ++ words) more
-    → Follow image at (extent_words edition extent ++ (texts ++ words)) more × Follow image behind (texts ++ words) more
-text_follow image edition at behind extent texts words more there follow =
+text_follow : (image : List ℕ) (edition : Edition) (at end : ℕ) (extent : Option Extent) (texts words more : List ℕ) → at + 8 ≡ end → Follow image at ((extent_words edition extent ++ texts) ++ words) more
+    → Follow image at (extent_words edition extent ++ (texts ++ words)) more × Follow image end (texts ++ words) more
+text_follow image edition at end extent texts words more there follow =
     let first = inner_follow image at (extent_words edition extent) texts words more follow in
-    (first, next_follow image at 2 behind (extent_words edition extent) (texts ++ words) more (length-extent_words edition extent) there first)
+    (first, next_follow image at 2 end (extent_words edition extent) (texts ++ words) more (length-extent_words edition extent) there first)
 
 words_show : (edition : Edition) (image bytes : List ℕ) (m : Message) (slots : List ℕ) → Valid bytes m → length slots ≡ 32 → ((i : ℕ) → get_or slots i 0 < 2 ^ 32)
     → IsImage image edition (message_bytes m) → Follow image 0 (summary_words edition m slots) (message_bytes m) → Shows edition image m slots

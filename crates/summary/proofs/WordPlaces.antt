@@ -20,8 +20,8 @@ zeros_left bytes len more zeros =
     rw (← drop-drop more len bytes, zeros, drop-replicate {X = ℕ} more (976 - len) 0, fewer) refl
 
 -- a word that is written where the zeros begin leaves zeros
-pub zeros_behind : (bytes word : List ℕ) (len n : ℕ) → length bytes ≡ 976 → len + 4 ≤ 976 → length word ≡ 4 → n ≡ 4 → drop len bytes ≡ replicate (976 - len) 0 → drop (len + 4) (put_mid len n bytes word) ≡ replicate (976 - (len + 4)) 0
-zeros_behind bytes word len n long room four is zeros =
+pub zeros_go_on : (bytes word : List ℕ) (len n : ℕ) → length bytes ≡ 976 → len + 4 ≤ 976 → length word ≡ 4 → n ≡ 4 → drop len bytes ≡ replicate (976 - len) 0 → drop (len + 4) (put_mid len n bytes word) ≡ replicate (976 - (len + 4)) 0
+zeros_go_on bytes word len n long room four is zeros =
     drop-put_mid len n bytes word (len + 4) (omega arith) (omega arith) (omega arith) ∙ zeros_left bytes len 4 zeros
 
 -- and one before them leaves all

@@ -10,7 +10,7 @@ use Rattle.summary.specs.declared.edition.Edition.TheVariants.{One, Two}
 
 -- the text lies at a place of the image
 abbrev pub Lies : List ℕ → ℕ → List ℕ → Type 0
-Lies image place text = (front : List ℕ) × (behind : List ℕ) × (image ≡ front ++ (text ++ behind)) × (length front ≡ place)
+Lies image place text = (front : List ℕ) × (tail : List ℕ) × (image ≡ front ++ (text ++ tail)) × (length front ≡ place)
 
 -- each is a byte
 abbrev pub AreBytes : List ℕ → Type 0
@@ -20,7 +20,7 @@ AreBytes bytes = (i : ℕ) → slice_index bytes i < 256
 pub record Tells (image : List ℕ) (at : ℕ) (text : List ℕ) : Type 0 where
   pub bytes : AreBytes text
   pub place : ℕ
-  pub behind_start : 0 < place
+  pub after_start : 0 < place
   pub place_word : load_word image at ≡ Some place
   pub len_word : load_word image (at + 4) ≡ Some (length text)
   pub lies : Lies image place text

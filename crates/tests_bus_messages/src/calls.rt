@@ -51,11 +51,11 @@ fn shown<'a>(call: &Call<'a>) -> (&'static str, &'a str, u32) {
         Call::Attach(_, _) => ("Attach", "", 0),
         Call::Detach(id) => ("Detach", "", *id),
         Call::StartServiceByName(name) => ("StartServiceByName", *name, 0),
-        _ => shown_behind(call),
+        _ => shown_rest(call),
     }
 }
 
-fn shown_behind<'a>(call: &Call<'a>) -> (&'static str, &'a str, u32) {
+fn shown_rest<'a>(call: &Call<'a>) -> (&'static str, &'a str, u32) {
     match call {
         Call::ListActivatableNames => ("ListActivatableNames", "", 0),
         Call::ListQueuedOwners(name) => ("ListQueuedOwners", *name, 0),

@@ -13,7 +13,7 @@ loop-name-preserved c =
     let name : List ℕ = c.in-Some.name.now in
     record {
       names = names ++ name ∷ [];
-      begins = begins_more c.args.bytes.now c.loop-name.rest.now c.in-Some.behind.now name names c.loop-name.invariant.begins (sym c.in-Some.ensures.value);
+      begins = begins_more c.args.bytes.now c.loop-name.rest.now c.in-Some.tail.now name names c.loop-name.invariant.begins (sym c.in-Some.ensures.value);
       labels = labels_pushed before old c.push.new.self place names name c.loop-name.invariant.labels c.in_ok-push.ensures;
       repeated = elim c.if-again.branch [
         | then-again w ↦ w.again-is ∙ w.if-again.true ∙ repeated_then before place names name c.loop-name.again c.loop-name.invariant.repeated w.if-again.true

@@ -9,16 +9,16 @@ use Rattle.match_rule.proofs.KeptParts.{first_turn, next_turn, fault_turn, last_
 use Rattle.match_rule.proofs.part.parts_at.Goals as goal
 
 pub loop-rest-init : goal.loop-rest-init
-loop-rest-init c = rw (c.new-parts.ensures.conditions, c.new-parts.ensures.eavesdrop, c.behind_blanks-rest.ensures) (first_turn c.args.text.now)
+loop-rest-init c = rw (c.new-parts.ensures.conditions, c.new-parts.ensures.eavesdrop, c.after_blanks-rest.ensures) (first_turn c.args.text.now)
 
 pub loop-rest-preserved : goal.loop-rest-preserved
-loop-rest-preserved c = rw (c.in_ok-add.ensures.conditions, c.in_ok-add.ensures.eavesdrop, c.behind_blanks-rest-in-loop-rest.ensures) (next_turn c.loop-rest.parts.conditions.items c.loop-rest.parts.eavesdrop c.loop-rest.rest.now c.args.text.now c.in_ok-term.term c.in_ok-term.behind.now c.loop-rest.invariant c.in_ok-term.ensures)
+loop-rest-preserved c = rw (c.in_ok-add.ensures.conditions, c.in_ok-add.ensures.eavesdrop, c.after_blanks-rest-in-loop-rest.ensures) (next_turn c.loop-rest.parts.conditions.items c.loop-rest.parts.eavesdrop c.loop-rest.rest.now c.args.text.now c.in_ok-term.term c.in_ok-term.tail.now c.loop-rest.invariant c.in_ok-term.ensures)
 
 pub loop-rest-smaller : goal.loop-rest-smaller
 loop-rest-smaller c =
-    let shorter = part_len _ c.loop-rest.rest.now c.in_ok-term.term c.in_ok-term.behind.now c.in_ok-term.ensures in
-    let blanks = blanks_len c.in_ok-term.behind.now in
-    rw c.behind_blanks-rest-in-loop-rest.ensures (omega arith)
+    let shorter = part_len _ c.loop-rest.rest.now c.in_ok-term.term c.in_ok-term.tail.now c.in_ok-term.ensures in
+    let blanks = blanks_len c.in_ok-term.tail.now in
+    rw c.after_blanks-rest-in-loop-rest.ensures (omega arith)
 
 pub returns-in_err-term : goal.returns-in_err-term
 returns-in_err-term c =

@@ -6,8 +6,8 @@ pub loop-found-preserved : goal.loop-found-preserved
 loop-found-preserved c =
     let front = c.loop-found.invariant.0 in (
       front_kept _ _ _ _ front c.in_ok-push_found.ensures,
-      λ fields are is. goes_on _ _ c.loop-found.cursor c.next_field.new.cursor _ _ _ c.in-Some.found (c.loop-found.invariant.1 fields are is) c.in-Some.ensures.shorter (record { found = c.in-Some.ensures.found; behind = c.in-Some.ensures.behind }) c.in_ok-push_found.ensures,
+      λ fields are is. goes_on _ _ c.loop-found.cursor c.next_field.new.cursor _ _ _ c.in-Some.found (c.loop-found.invariant.1 fields are is) c.in-Some.ensures.shorter (record { found = c.in-Some.ensures.found; tail = c.in-Some.ensures.tail }) c.in_ok-push_found.ensures,
     )
 
 pub returns-clause-kept : goal.returns-clause-kept
-returns-clause-kept c = λ fields are is. at_end _ _ c.loop-found.cursor c.next_field.new.cursor _ _ (c.loop-found.invariant.1 fields are is) (record { found = c.in_default.ensures.found; behind = c.in_default.ensures.behind })
+returns-clause-kept c = λ fields are is. at_end _ _ c.loop-found.cursor c.next_field.new.cursor _ _ (c.loop-found.invariant.1 fields are is) (record { found = c.in_default.ensures.found; tail = c.in_default.ensures.tail })

@@ -1,7 +1,7 @@
 use Rattle.std.proofs.Common.{◌≡◌, ℕ, ap, sym, ◌∙◌, Ok}
 use Rattle.signature.specs.BasicType.{byte_of, basic_alignment}
 use Rattle.message_value.specs.Reading.{aligned_at}
-use Rattle.message_value.proofs.SkipValues.{basic_gone, basic_text, text_end, number_there, number_behind, boolean_none, boolean_len}
+use Rattle.message_value.proofs.SkipValues.{basic_gone, basic_text, text_end, number_there, number_place, boolean_none, boolean_len}
 use Rattle.message_value.proofs.skip.skip_basic.Goals as goal
 
 pub skip_padding-requires-clause-read : goal.skip_padding-requires-clause-read
@@ -27,7 +27,7 @@ skip-requires c =
 pub returns-in-Boolean : goal.returns-in-Boolean
 returns-in-Boolean c =
     let gone : aligned_at (basic_alignment (byte_of c.args.basic)) c.args.cursor.now ≡ Ok c.skip_padding.new.self = ap (λ (n : ℕ). aligned_at n c.args.cursor.now) (sym c.alignment.ensures) ∙ c.skip_padding.ensures.gone in
-    number_behind c.args.order (byte_of c.args.basic) 4 c.args.cursor.now c.skip_padding.new.self c.skip.result.now c.skip.new.self gone (boolean_none (byte_of c.args.basic) c.in-Boolean.ensures) (boolean_len (byte_of c.args.basic) c.in-Boolean.ensures) c.skip.ensures.read
+    number_place c.args.order (byte_of c.args.basic) 4 c.args.cursor.now c.skip_padding.new.self c.skip.result.now c.skip.new.self gone (boolean_none (byte_of c.args.basic) c.in-Boolean.ensures) (boolean_len (byte_of c.args.basic) c.in-Boolean.ensures) c.skip.ensures.read
 
 pub skip-requires-in-Number : goal.skip-requires-in-Number
 skip-requires-in-Number c =
@@ -37,4 +37,4 @@ skip-requires-in-Number c =
 pub returns-in-Number : goal.returns-in-Number
 returns-in-Number c =
     let gone : aligned_at (basic_alignment (byte_of c.args.basic)) c.args.cursor.now ≡ Ok c.skip_padding.new.self = ap (λ (n : ℕ). aligned_at n c.args.cursor.now) (sym c.alignment.ensures) ∙ c.skip_padding.ensures.gone in
-    number_behind c.args.order (byte_of c.args.basic) c.in-Number.len c.args.cursor.now c.skip_padding.new.self c.skip-in-Number.result.now c.skip-in-Number.new.self gone c.in-Number.ensures.0 c.in-Number.ensures.2 c.skip-in-Number.ensures.read
+    number_place c.args.order (byte_of c.args.basic) c.in-Number.len c.args.cursor.now c.skip_padding.new.self c.skip-in-Number.result.now c.skip-in-Number.new.self gone c.in-Number.ensures.0 c.in-Number.ensures.2 c.skip-in-Number.ensures.read

@@ -11,9 +11,9 @@ one_more : (bytes : List ℕ) (i : ℕ) (found : Bool) → i < length bytes → 
 one_more bytes i found small =
     either found (get_or bytes i 0 == 0) (list_any (λ byte. byte == 0) (drop (i + 1) bytes)) ∙ ap (λ (l : List ℕ). found || list_any (λ byte. byte == 0) l) (sym (drop_more bytes i 0 small))
 
-behind_all : (bytes : List ℕ) (i : ℕ) (found : Bool) → length bytes ≤ i → (found || list_any (λ byte. byte == 0) (drop i bytes)) ≡ found
-behind_all bytes i true past = refl
-behind_all bytes i false past = rw (drop_all i bytes past) refl
+none_after : (bytes : List ℕ) (i : ℕ) (found : Bool) → length bytes ≤ i → (found || list_any (λ byte. byte == 0) (drop i bytes)) ≡ found
+none_after bytes i true past = refl
+none_after bytes i false past = rw (drop_all i bytes past) refl
 
 pub loop-byte-init : goal.loop-byte-init
 loop-byte-init c = refl
@@ -23,4 +23,4 @@ loop-byte-preserved c = one_more c.args.bytes.now c.loop-byte.byte-index c.loop-
 
 pub returns : goal.returns
 returns c =
-    sym (behind_all c.args.bytes.now c.loop-byte.byte-index c.loop-byte.found c.loop-byte-test.false) ∙ c.loop-byte.invariant
+    sym (none_after c.args.bytes.now c.loop-byte.byte-index c.loop-byte.found c.loop-byte-test.false) ∙ c.loop-byte.invariant

@@ -2,7 +2,7 @@ use Rattle.std.proofs.Common.{◌≡◌, ◌-◌, ◌<◌, length, reverse, sym,
 use Rattle.std.proofs.lemmas.List.{get_or-reverse, length-reverse}
 use Rattle.rule_compile.specs.declared.piece.Item.{Item}
 use Rattle.rule_compile.specs.declared.piece.Item.TheVariants.{Plain}
-use Rattle.rule_compile.proofs.DraftItems.{more_drafted, drafted_same, drafted_closed, inside_behind}
+use Rattle.rule_compile.proofs.DraftItems.{more_drafted, drafted_same, drafted_closed, inside_after}
 use Rattle.rule_compile.proofs.drafting.draft_of.Goals as goal
 
 -- what a read outside the items would give
@@ -14,7 +14,7 @@ unfolding no_item
 add_item-requires-clause-inside c =
     let items = c.items-items.result.now in
     let many : length c.as_slice.result.now ≡ length items = ap length c.as_slice.ensures.value ∙ c.in_ok-labels.ensures.labels.many in
-    (length items - 1 - c.loop-place.place, omega arith, inside_behind items c.loop-place.place no_item (omega arith) c.items-items.ensures.inside)
+    (length items - 1 - c.loop-place.place, omega arith, inside_after items c.loop-place.place no_item (omega arith) c.items-items.ensures.inside)
 
 pub loop-place-preserved : goal.loop-place-preserved
 unfolding no_item

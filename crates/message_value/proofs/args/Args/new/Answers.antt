@@ -7,4 +7,4 @@ invariant_of-result c =
     new_left c.args.order c.types.result c.args.cursor r.0 c.args.signature (r.2.0, r.2.1) (c.types.ensures r.0 r.1) r.1 r.2.2
 
 pub returns : goal.returns
-returns c = λ types values behind is e. new_is c.args.order c.types.result c.args.cursor types c.args.signature (values, behind) (c.types.ensures types is) is e
+returns c = λ types values tail is e. new_is c.args.order c.types.result c.args.cursor types c.args.signature (values, tail) (c.types.ensures types is) is e

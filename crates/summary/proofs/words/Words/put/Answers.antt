@@ -1,5 +1,5 @@
 use Rattle.std.proofs.Common.{◌≡◌, ◌+◌, ◌-◌, ◌≤◌, length, ap, ◌∙◌, arith}
-use Rattle.summary.proofs.WordPlaces.{length_shown, zeros_behind}
+use Rattle.summary.proofs.WordPlaces.{length_shown, zeros_go_on}
 use Rattle.summary.proofs.words.Words.put.Goals as goal
 
 pub invariant_of-self : goal.invariant_of-self
@@ -8,4 +8,4 @@ invariant_of-self c =
     let room : c.self.inside.len + 4 ≤ 976 = omega (arith, len, c.requires) in
     let four : length c.copy_from_slice.new.self ≡ 4 = ap length (c.copy_from_slice.ensures.after ∙ c.to_be_bytes.ensures) in
     let is : c.self.inside.len + 4 - c.self.inside.len ≡ 4 = omega arith in
-    (room, zeros_behind c.self.inside.bytes c.copy_from_slice.new.self c.self.inside.len (c.self.inside.len + 4 - c.self.inside.len) c.self.told room four is c.self.invariant.1)
+    (room, zeros_go_on c.self.inside.bytes c.copy_from_slice.new.self c.self.inside.len (c.self.inside.len + 4 - c.self.inside.len) c.self.told room four is c.self.invariant.1)
