@@ -15,16 +15,17 @@ use Rattle.message_view.specs.Header.{kind_byte, kind_of}
 use Rattle.message_view.specs.Message.{Message, sender_of}
 use Rattle.message_view.specs.Spelling.{arguments_of}
 use Rattle.message_view.specs.Valid.{Valid}
-use Rattle.match_rule.specs.declared.kind_name.KindName.{KindName}
-use Rattle.match_rule.specs.declared.kind_name.KindName.TheVariants.{Signal, MethodCall, MethodReturn, Error}
-use Rattle.match_rule.specs.declared.source.Field.{Field}
-use Rattle.match_rule.specs.declared.source.Field.TheVariants.{Interface, Member, Path, Destination}
-use Rattle.match_rule.specs.declared.source.Source.TheVariants.{Header, Arg}
-use Rattle.match_rule.specs.declared.relation.Relation.{Relation}
-use Rattle.match_rule.specs.declared.relation.Relation.TheVariants as relations
+use Rattle.match_key.specs.declared.kind_name.KindName.{KindName}
+use Rattle.match_key.specs.declared.kind_name.KindName.TheVariants.{Signal, MethodCall, MethodReturn, Error}
+use Rattle.match_key.specs.declared.source.Field.{Field}
+use Rattle.match_key.specs.declared.source.Field.TheVariants.{Interface, Member, Path, Destination}
+use Rattle.match_key.specs.declared.source.Source.TheVariants.{Header, Arg}
+use Rattle.match_key.specs.declared.relation.Relation.{Relation}
+use Rattle.match_key.specs.declared.relation.Relation.TheVariants as relations
 use Rattle.match_rule.specs.declared.condition.Condition.{Condition}
 use Rattle.match_rule.specs.declared.condition.Condition.TheVariants.{Kind, Sender, Compares}
-use Rattle.match_rule.specs.Condition.{kind_meant, value_of}
+use Rattle.match_key.specs.Kinds.{kind_meant}
+use Rattle.match_rule.specs.Condition.{value_of}
 use Rattle.match_rule.specs.Holds.{Begins, InPathNamespace, InNamespace, AreNested, Relates, field_of, ConditionHolds}
 use Rattle.match_rule.specs.Parts.{has_small_number}
 use Rattle.match_rule.specs.RuleTree.{is_owned_name}

@@ -8,10 +8,10 @@ use Rattle.std.proofs.lemmas.List.Sums.{sum_by-cons}
 use Rattle.std.proofs.lemmas.Slice.Eq.{bytes_eq-Decides}
 use Rattle.message_view.specs.Message.{Message, path_of, interface_of, member_of}
 use Rattle.message_view.specs.Spelling.{arguments_of}
-use Rattle.match_rule.specs.declared.source.Field.TheVariants.{Interface, Member, Path, Destination}
-use Rattle.match_rule.specs.declared.source.Source.{Source}
-use Rattle.match_rule.specs.declared.source.Source.TheVariants.{Header, Arg}
-use Rattle.match_rule.specs.declared.relation.Relation.TheVariants as relations
+use Rattle.match_key.specs.declared.source.Field.TheVariants.{Interface, Member, Path, Destination}
+use Rattle.match_key.specs.declared.source.Source.{Source}
+use Rattle.match_key.specs.declared.source.Source.TheVariants.{Header, Arg}
+use Rattle.match_key.specs.declared.relation.Relation.TheVariants as relations
 use Rattle.match_rule.specs.declared.condition.Condition.{Condition}
 use Rattle.match_rule.specs.declared.condition.Condition.TheVariants.{Kind, Sender, Compares}
 use Rattle.match_rule.specs.Arguments.{text_in}

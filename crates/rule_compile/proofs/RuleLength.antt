@@ -13,14 +13,14 @@ use Rattle.bpf_code.specs.Table.{op_of}
 use Rattle.jump_islands.specs.Draft.{DraftTree, instructions_of}
 use Rattle.jump_islands.specs.PlainLength.{is_far, count, span, size_of, sizes_of, plain_length}
 use Rattle.match_rule.specs.Bytes.{ends_with}
-use Rattle.match_rule.specs.declared.source.Source.TheVariants.{Header, Arg}
-use Rattle.match_rule.specs.declared.relation.Relation.{Relation}
-use Rattle.match_rule.specs.declared.relation.Relation.TheVariants as relations
+use Rattle.match_key.specs.declared.source.Source.TheVariants.{Header, Arg}
+use Rattle.match_key.specs.declared.relation.Relation.{Relation}
+use Rattle.match_key.specs.declared.relation.Relation.TheVariants as relations
 use Rattle.match_rule.specs.declared.condition.Condition.{Condition}
 use Rattle.match_rule.specs.declared.condition.Condition.TheVariants.{Kind, Sender, Compares}
 use Rattle.match_rule.specs.RuleTree.{RuleTree, is_owned_name, slashes, relation_weight, condition_weight, weight_of}
 use Rattle.message_view.specs.Header.{kind_byte}
-use Rattle.match_rule.specs.Condition.{kind_meant}
+use Rattle.match_key.specs.Kinds.{kind_meant}
 use Rattle.rule_compile.specs.Code.{image_word, indexed, index_from_a, branch, want, settle, two, four, same_bytes, has_len, is_there, is_there_if, index_text, is_text, in_namespace}
 use Rattle.rule_compile.specs.Folders.{with_front, parts_of, may_end, along, is_nested}
 use Rattle.rule_compile.specs.RuleCode.{argument_at, field_at, has_type, has_text_type, owns, path_namespace, relation_code, there_code, type_code, condition_code, rank_of, of_rank, from_rank, offered, verdicts, rule_code}

@@ -19,15 +19,15 @@ use Rattle.bpf_code.specs.Flow.{At, Reads}
 use Rattle.bpf_code.specs.Program.{IsJumpFine, IsFine, IsReturn}
 use Rattle.jump_islands.specs.WellMade.{AreWellMade}
 use Rattle.message_view.specs.Header.{kind_byte}
-use Rattle.match_rule.specs.declared.source.Field.{Field}
-use Rattle.match_rule.specs.declared.source.Field.TheVariants.{Interface, Member, Path, Destination}
-use Rattle.match_rule.specs.declared.source.Source.TheVariants.{Header, Arg}
-use Rattle.match_rule.specs.declared.relation.Relation.{Relation}
-use Rattle.match_rule.specs.declared.relation.Relation.TheVariants as relations
+use Rattle.match_key.specs.declared.source.Field.{Field}
+use Rattle.match_key.specs.declared.source.Field.TheVariants.{Interface, Member, Path, Destination}
+use Rattle.match_key.specs.declared.source.Source.TheVariants.{Header, Arg}
+use Rattle.match_key.specs.declared.relation.Relation.{Relation}
+use Rattle.match_key.specs.declared.relation.Relation.TheVariants as relations
 use Rattle.match_rule.specs.declared.condition.Condition.{Condition}
 use Rattle.match_rule.specs.declared.condition.Condition.TheVariants.{Kind, Sender, Compares}
 use Rattle.match_rule.specs.Bytes.{ends_with}
-use Rattle.match_rule.specs.Condition.{kind_meant}
+use Rattle.match_key.specs.Kinds.{kind_meant}
 use Rattle.match_rule.specs.Parts.{has_small_number, have_small_numbers}
 use Rattle.match_rule.specs.RuleTree.{RuleTree, is_owned_name}
 use Rattle.rule_compile.specs.Code.{image_word, indexed, index_from_a, returns, branch, want, settle, two, four, same_bytes, has_len, is_there, is_there_if, index_text, is_text, in_namespace}

@@ -1,6 +1,6 @@
 // The conditions of rules.
 ghost use Rattle.std.specs.Prelude.{◌≡◌, ◌<◌, ◌^◌, length, OnOk};
-ghost use Rattle.match_rule.specs.Condition.{kind_meant};
+ghost use Rattle.match_key.specs.Kinds.{kind_meant};
 ghost use Rattle.message_view.specs.Header.{kind_byte};
 ghost use Rattle.bpf_code.specs.declared.operation.Test.TheVariants.{Equal};
 ghost use Rattle.match_rule.specs.RuleTree.{condition_weight};

@@ -1,7 +1,7 @@
 // How conditions compare.
 
 ghost use Rattle.std.specs.Prelude.{◌≡◌};
-ghost use Rattle.match_rule.specs.Key.{relation_number, once_relation};
+ghost use Rattle.match_key.specs.Key.{relation_number, once_relation};
 
 /// How a text stands to the value of a condition (D-Bus Specification, "Match Rules").
 #[derive(Clone, Copy, Debug)]

@@ -3,8 +3,8 @@
 ghost use Rattle.std.specs.Prelude.{◌≡◌, true, drop, None, Some, option_map, if◌then◌else◌};
 ghost use Rattle.std.specs.List.{list_all};
 ghost use Rattle.signature.specs.Name.{is_digit};
-ghost use Rattle.match_rule.specs.Rows.{row_of};
-ghost use Rattle.match_rule.specs.Key.{arg_suffixes, digits_of, after_digits, up_to_max, arg_number, numbered_key, arg_key, is_of_arg};
+ghost use Rattle.match_key.specs.Rows.{row_of};
+ghost use Rattle.match_key.specs.Key.{arg_suffixes, digits_of, after_digits, up_to_max, arg_number, numbered_key, arg_key, is_of_arg};
 
 use crate::fault::RuleError;
 use crate::key::Key;

@@ -1,7 +1,7 @@
 // The words for kinds of messages.
 
 ghost use Rattle.std.specs.Prelude.{◌≡◌};
-ghost use Rattle.match_rule.specs.Condition.{kind_named, kind_word, kind_meant};
+ghost use Rattle.match_key.specs.Kinds.{kind_named, kind_word, kind_meant};
 
 use message_view::Kind;
 
@@ -16,7 +16,7 @@ pub enum KindName {
 
 impl KindName {
     /// The kind that a word names.
-    pub(crate) fn named(word: &[u8]) -> Option<Self>
+    pub fn named(word: &[u8]) -> Option<Self>
         ensures { result ≡ kind_named word.now }
     {
         if word == b"signal".as_slice() {

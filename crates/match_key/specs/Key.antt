@@ -1,17 +1,17 @@
 -- The keys of rules (D-Bus Specification, "Match Rules").
 use Rattle.std.specs.Prelude.{ℕ, ◌+◌, ◌-◌, ◌*◌, Bool, false, ◌&&◌, ◌||◌, List, [], ◌∷◌, drop, length, Option, Some, None, Result, Ok, Err, codes, nat_le, ◌==◌, if◌then◌else◌}
 use Rattle.signature.specs.Name.{is_digit}
-use Rattle.match_rule.specs.declared.fault.RuleError.{RuleError}
-use Rattle.match_rule.specs.declared.fault.RuleError.TheVariants.{UnknownKey, ArgNumber}
-use Rattle.match_rule.specs.declared.source.Field.{Field}
-use Rattle.match_rule.specs.declared.source.Field.TheVariants.{Interface, Member, Path, Destination}
-use Rattle.match_rule.specs.declared.source.Source.{Source}
-use Rattle.match_rule.specs.declared.source.Source.TheVariants.{Header, Arg}
-use Rattle.match_rule.specs.declared.relation.Relation.{Relation}
-use Rattle.match_rule.specs.declared.relation.Relation.TheVariants.{Equal, PathNamespace, NameNamespace, NestedPath}
-use Rattle.match_rule.specs.declared.key.Key.{Key}
-use Rattle.match_rule.specs.declared.key.Key.TheVariants.{Kind, Sender, Eavesdrop, Compares}
-use Rattle.match_rule.specs.Rows.{row_of}
+use Rattle.match_key.specs.declared.fault.RuleError.{RuleError}
+use Rattle.match_key.specs.declared.fault.RuleError.TheVariants.{UnknownKey, ArgNumber}
+use Rattle.match_key.specs.declared.source.Field.{Field}
+use Rattle.match_key.specs.declared.source.Field.TheVariants.{Interface, Member, Path, Destination}
+use Rattle.match_key.specs.declared.source.Source.{Source}
+use Rattle.match_key.specs.declared.source.Source.TheVariants.{Header, Arg}
+use Rattle.match_key.specs.declared.relation.Relation.{Relation}
+use Rattle.match_key.specs.declared.relation.Relation.TheVariants.{Equal, PathNamespace, NameNamespace, NestedPath}
+use Rattle.match_key.specs.declared.key.Key.{Key}
+use Rattle.match_key.specs.declared.key.Key.TheVariants.{Kind, Sender, Eavesdrop, Compares}
+use Rattle.match_key.specs.Rows.{row_of}
 
 -- ---- the words of keys
 

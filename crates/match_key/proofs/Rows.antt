@@ -5,7 +5,7 @@ use Rattle.std.specs.List.{list_all}
 use Rattle.std.specs.Str.{bytes_eq}
 use Rattle.std.proofs.lemmas.Bool.{and_parts}
 use Rattle.std.proofs.lemmas.Slice.Eq.{bytes_eq-Decides}
-use Rattle.match_rule.specs.Rows.{row_of}
+use Rattle.match_key.specs.Rows.{row_of}
 
 -- what holds of each row holds of the one that is found
 pub row_found : {A : Type 0} (test : List ℕ × A → Bool) (rows : List (List ℕ × A)) (word : List ℕ) (x : A) → list_all test rows ≡ true → row_of rows word ≡ Some x → test (word, x) ≡ true

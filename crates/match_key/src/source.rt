@@ -1,7 +1,7 @@
 // What conditions compare.
 
 ghost use Rattle.std.specs.Prelude.{◌≡◌};
-ghost use Rattle.match_rule.specs.Key.{field_number, source_number};
+ghost use Rattle.match_key.specs.Key.{field_number, source_number};
 
 /// A header field whose text a rule may ask for (D-Bus Specification, "Match Rules").
 #[derive(Clone, Copy, Debug)]

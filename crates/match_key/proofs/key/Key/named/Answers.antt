@@ -1,6 +1,6 @@
 use Rattle.std.proofs.Common.{sym, ◌∙◌}
-use Rattle.match_rule.proofs.KeyWords.{arg_named}
-use Rattle.match_rule.proofs.key.Key.named.Goals as goal
+use Rattle.match_key.proofs.ArgNames.{arg_named}
+use Rattle.match_key.proofs.key.Key.named.Goals as goal
 
 pub returns-in-Some-after_arg : goal.returns-in-Some-after_arg
 returns-in-Some-after_arg c =

@@ -1,8 +1,8 @@
 // The keys of rules.
 
 ghost use Rattle.std.specs.Prelude.{◌≡◌};
-ghost use Rattle.match_rule.specs.Rows.{row_of};
-ghost use Rattle.match_rule.specs.Key.{key_words, key_named, key_number, once_key, is_twice, path_key, path_namespace_key, is_path_twice};
+ghost use Rattle.match_key.specs.Rows.{row_of};
+ghost use Rattle.match_key.specs.Key.{key_words, key_named, key_number, once_key, is_twice, path_key, path_namespace_key, is_path_twice};
 
 use crate::arg_key::{after_arg, arg_key};
 use crate::fault::RuleError;
@@ -45,21 +45,21 @@ fn key_of_word(word: &[u8]) -> Option<Key>
 
 impl Key {
     /// The key `path`.
-    pub(crate) fn path() -> Self
+    pub fn path() -> Self
         ensures { result ≡ path_key }
     {
         Key::Compares(Source::Header(Field::Path), Relation::Equal)
     }
 
     /// The key `path_namespace`.
-    pub(crate) fn path_namespace() -> Self
+    pub fn path_namespace() -> Self
         ensures { result ≡ path_namespace_key }
     {
         Key::Compares(Source::Header(Field::Path), Relation::PathNamespace)
     }
 
     /// The key of a word.
-    pub(crate) fn named(word: &[u8]) -> Result<Self, RuleError>
+    pub fn named(word: &[u8]) -> Result<Self, RuleError>
         ensures { result ≡ key_named word.now }
     {
         if let Some(key) = key_of_word(word) {
@@ -96,14 +96,14 @@ impl Key {
     }
 
     /// Whether a rule that has it may not have the other.
-    pub(crate) fn is_twice(self, other: Key) -> bool
+    pub fn is_twice(self, other: Key) -> bool
         ensures { result ≡ is_twice self other }
     {
         self.once() == other.once()
     }
 
     /// Whether one is `path` and the other `path_namespace`.
-    pub(crate) fn is_path_twice(self, other: Key) -> bool
+    pub fn is_path_twice(self, other: Key) -> bool
         ensures { result ≡ is_path_twice self other }
     {
         self == Key::path() && other == Key::path_namespace()
