@@ -67,7 +67,7 @@ along_before at start end text rest before within one slash =
     let cut_so : parts_of left ≡ take (end - start) left ∷ parts_of (drop end text) = cut ∙ ap (λ (i : ℕ). take i left ∷ parts_of (drop (suc n) left)) size ∙ ap (λ (others : List ℕ). take (end - start) left ∷ parts_of others) same in
     let some_left : 0 < length (drop end text) = rw length-drop (omega arith) in
     let here : start + length (take (end - start) left) ≡ end = rw (length_part text start end (omega arith) (omega arith)) (omega arith) in
-    ap (λ (parts : List (List ℕ)). along at start parts rest) cut_so ∙ along_more at start (take (end - start) left) (parts_of (drop end text)) rest (some_parts (drop end text) exit) ∙ ap (λ (i : ℕ). inner at start (take (end - start) left) rest (along at i (parts_of (drop end text)) rest)) here
+    ap (λ (parts : List (List ℕ)). along at start parts rest) cut_so ∙ along_more at start (take (end - start) left) (parts_of (drop end text)) rest (some_parts (drop end text) some_left) ∙ ap (λ (i : ℕ). inner at start (take (end - start) left) rest (along at i (parts_of (drop end text)) rest)) here
 
 -- the last part of a text
 pub along_last : (at start : ℕ) (text : List ℕ) (rest : List Ins) → start < length text → ((k : ℕ) → start ≤ k → k + 1 < length text → get_or text k 0 ≢ 47) → along at start (parts_of (drop start text)) rest ≡ along at start (drop start text ∷ []) rest
