@@ -96,7 +96,7 @@ Agree text at value from to = (i : ℕ) → from ≤ i → i < to → slice_inde
 
 stands_agree : (text : List ℕ) (at : ℕ) (value : List ℕ) → Stands text at value → Agree text at value 0 (length value)
 stands_agree text at value (rest, is) i low high =
-    sym (get_or-drop text at i 0) ∙ ap (λ (bytes : List ℕ). slice_index bytes i) is ∙ get_or_append_left value rest 0 i high
+    sym (get_or-drop at text i 0) ∙ ap (λ (bytes : List ℕ). slice_index bytes i) is ∙ get_or_append_left value rest 0 i high
 
 agree_stands : (text : List ℕ) (at : ℕ) (value : List ℕ) → at + length value ≤ length text → Agree text at value 0 (length value) → Stands text at value
 agree_stands text at [] inside agree = stands_none text at
@@ -170,13 +170,13 @@ word_agrees text at value i same k low high = go (k - i) (omega arith)
         ap (slice_index text) f ∙ is ∙ ap (slice_index value) (sym e)
 
     go : (d : ℕ) → k ≡ i + d → slice_index text (at + k) ≡ slice_index value k
-    go 0 e =
+    go zero e =
         let f : at + i + 0 ≡ at + i = omega arith in
         let g : i ≡ i + 0 = omega arith in
         shown 0 e (ap (slice_index text) f ∙ same.0 ∙ ap (slice_index value) g)
-    go 1 e = shown 1 e same.1
-    go 2 e = shown 2 e same.2
-    go 3 e = shown 3 e same.3
+    go (suc zero) e = shown 1 e same.1
+    go (suc (suc zero)) e = shown 2 e same.2
+    go (suc (suc (suc zero))) e = shown 3 e same.3
     go (suc (suc (suc (suc d)))) e = absurd (omega (arith, e, high))
 
 agree_word : (text : List ℕ) (at : ℕ) (value : List ℕ) (i : ℕ) → Agree text at value i (i + 4) → SameWord text at value i

@@ -1,5 +1,5 @@
 -- Two pieces that test a fact in turn, with other pieces between them.
-use Rattle.std.proofs.Common.{◌≡◌, ℕ, List, ◌⊎◌, ◌↔◌, inl, inr}
+use Rattle.std.proofs.Common.{ℕ, List, ◌⊎◌, ◌↔◌, inl, inr}
 use Rattle.bpf_code.specs.declared.instruction.Ins.{Ins}
 use Rattle.rule_compile.proofs.Pieces.{Guarded, Leads, Any, Tests}
 use Rattle.rule_compile.proofs.Combined.{Extends, guards, tests_none, tests_same, tests_both}

@@ -1,5 +1,5 @@
 -- What the program of a rule does: it says whether the rule holds.
-use Rattle.std.proofs.Common.{◌≡◌, ℕ, zero, suc, ◌+◌, ◌<◌, ◌≤◌, Bool, true, false, not, ◌&&◌, List, [], ◌∷◌, get_or, eqb, Option, Some, None, ◌⊎◌, ◌↔◌, inl, inr, refl, arith, if◌then◌else◌, All, IfSome}
+use Rattle.std.proofs.Common.{◌≡◌, ℕ, zero, suc, ◌<◌, Bool, true, false, not, ◌&&◌, List, [], ◌∷◌, get_or, eqb, Option, Some, None, ◌⊎◌, ◌↔◌, inl, inr, refl, arith, if◌then◌else◌, All, IfSome}
 use Rattle.std.proofs.lemmas.Bool.{false≢true, true≢false, cases_eq, eqb-true, eqb-false, and_parts}
 use Rattle.std.proofs.lemmas.List.Elements.{All-nil, All-cons, All-head, All-tail}
 use Rattle.std.specs.List.{list_any}

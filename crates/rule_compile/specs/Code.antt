@@ -8,7 +8,7 @@ use Rattle.bpf_code.specs.declared.operation.Width.{Width}
 use Rattle.bpf_code.specs.declared.operation.Width.TheVariants.{Word, Half, Byte}
 use Rattle.bpf_code.specs.declared.operation.Operand.TheVariants.{Constant}
 use Rattle.bpf_code.specs.declared.operation.Test.{Test}
-use Rattle.bpf_code.specs.declared.operation.Test.TheVariants.{Equal, Above, AtLeast}
+use Rattle.bpf_code.specs.declared.operation.Test.TheVariants.{Equal, Above}
 use Rattle.bpf_code.specs.Table.{code_of}
 
 -- ---- instructions
