@@ -160,8 +160,9 @@ offered eavesdrops rest = if eavesdrops then rest else image_word 56 ∷ want Eq
 abbrev pub verdicts : List Ins
 verdicts = returns 1 ∷ returns 0 ∷ []
 
--- The program of a rule, before it is lowered: its jumps may go over any number of instructions. The words of all conditions
--- are tested before any bytes, which are compared from the highest rank on: messages whose lengths fit differ most in those.
+-- The program of a rule, before it is lowered: its jumps may go over any number of instructions. The words of all
+-- conditions are tested before any bytes. These are compared from the highest rank on, since messages whose lengths fit
+-- differ most in those texts.
 abbrev pub rule_code : ℕ → RuleTree → List Ins
 rule_code slot rule =
     rising (part_code Words slot) ranks rule.conditions (falling (part_code Bytes slot) ranks rule.conditions (offered rule.eavesdrops verdicts))
