@@ -1,9 +1,7 @@
 // Who owns a name that a client asks about.
 
-use crate::connection::Connection;
-use crate::dispatch::BUS_NAME;
-use crate::refused::Refused;
 use bus_messages::{ErrorName, UniqueName};
+use connections::{BUS_NAME, Connection, Refused};
 use owners::WellKnown;
 use program_table::Mailbox;
 use published::Naming;
@@ -42,23 +40,24 @@ impl AskedName {
     }
 }
 
-impl<J: Naming, M: Mailbox + Carrier> Connection<J, M> {
-    /// The owner of the name that a text is, or why that can't be told.
-    pub(crate) fn owner(&mut self, text: &str) -> Result<Option<Owner>, Refused> {
-        match AskedName::read(text)? {
-            AskedName::Bus => Ok(Some(Owner::Bus)),
-            AskedName::Unique(None) => Ok(None),
-            AskedName::Unique(Some(number)) => {
-                if self.pass.is_connected(number)? {
-                    Ok(Some(Owner::Connection(number)))
-                } else {
-                    Ok(None)
-                }
+/// The owner of the name that a text is, or why that can't be told.
+pub(crate) fn owner_of<J: Naming, M: Mailbox + Carrier>(
+    connection: &mut Connection<J, M>,
+    text: &str,
+) -> Result<Option<Owner>, Refused> {
+    match AskedName::read(text)? {
+        AskedName::Bus => Ok(Some(Owner::Bus)),
+        AskedName::Unique(None) => Ok(None),
+        AskedName::Unique(Some(number)) => {
+            if connection.pass.is_connected(number)? {
+                Ok(Some(Owner::Connection(number)))
+            } else {
+                Ok(None)
             }
-            AskedName::WellKnown(name) => {
-                let owner = self.pass.owner_of(&name)?;
-                Ok(owner.map(|number| Owner::Connection(number)))
-            }
+        }
+        AskedName::WellKnown(name) => {
+            let owner = connection.pass.owner_of(&name)?;
+            Ok(owner.map(|number| Owner::Connection(number)))
         }
     }
 }
