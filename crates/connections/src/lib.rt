@@ -1,7 +1,7 @@
 //! A client that is connected to the bus: its pass, its unique name, the serials of the messages that the bus makes
-//! for it, and the mailbox to which its answers go. Here a call is answered or refused, changes of names are announced,
-//! and a connection leaves the bus. The methods of the bus, which stand above, use that a call whose caller waits for no
-//! answer never ends for want of room for one (`NeverSlow`); sessions use that a broadcast is routed by its pass.
+//! for it, and the mailbox to which its answers go. A call is answered or refused here, changes of names are announced,
+//! and a connection leaves the bus. The methods of the bus, which stand above, use that a call whose caller waits for
+//! no answer never ends for want of room for one (`NeverSlow`); sessions use that a broadcast is routed by its pass.
 #![tactic(auto)]
 
 mod announcements;
