@@ -1,5 +1,8 @@
 // Who owns a name that a client asks about.
 
+ghost use Rattle.program_table.specs.History.{after};
+ghost use Rattle.bus_methods.specs.Asked.{IsAsked, TellsOwner, IsOwnerOf};
+
 use bus_messages::{ErrorName, UniqueName};
 use connections::{BUS_NAME, Connection, Refused};
 use owners::WellKnown;
@@ -26,7 +29,9 @@ pub(crate) enum AskedName {
 
 impl AskedName {
     /// The name that a text is, or `InvalidArgs` where it is none.
-    pub(crate) fn read(text: &str) -> Result<AskedName, Refused> {
+    pub(crate) fn read(text: &str) -> Result<AskedName, Refused>
+        ensures { IsAsked text.now result }
+    {
         if text == BUS_NAME {
             return Ok(AskedName::Bus);
         }
@@ -41,11 +46,26 @@ impl AskedName {
 }
 
 /// The owner of the name that a text is, or why that can't be told.
-pub(crate) fn owner_of<J: Naming, M: Mailbox + Carrier>(
+pub(crate) fn owner_named<J: Naming, M: Mailbox + Carrier>(
     connection: &mut Connection<J, M>,
     text: &str,
-) -> Result<Option<Owner>, Refused> {
-    match AskedName::read(text)? {
+) -> Result<Option<Owner>, Refused>
+    ensures { IsOwnerOf (after connection.new.pass.seen) text.now result }
+{
+    match AskedName::read(text) {
+        Ok(name) => owner_of(connection, name),
+        Err(why) => Err(why),
+    }
+}
+
+/// The owner of a name in what the pass has then seen.
+fn owner_of<J: Naming, M: Mailbox + Carrier>(
+    connection: &mut Connection<J, M>,
+    name: AskedName,
+) -> Result<Option<Owner>, Refused>
+    ensures { TellsOwner (after connection.new.pass.seen) name result }
+{
+    match name {
         AskedName::Bus => Ok(Some(Owner::Bus)),
         AskedName::Unique(None) => Ok(None),
         AskedName::Unique(Some(number)) => {
@@ -55,9 +75,9 @@ pub(crate) fn owner_of<J: Naming, M: Mailbox + Carrier>(
                 Ok(None)
             }
         }
-        AskedName::WellKnown(name) => {
-            let owner = connection.pass.owner_of(&name)?;
-            Ok(owner.map(|number| Owner::Connection(number)))
-        }
+        AskedName::WellKnown(name) => match connection.pass.owner_of(&name)? {
+            Some(number) => Ok(Some(Owner::Connection(number))),
+            None => Ok(None),
+        },
     }
 }

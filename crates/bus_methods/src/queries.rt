@@ -2,7 +2,7 @@
 
 ghost use Rattle.connections.specs.Answers.{NeverSlow};
 
-use crate::owner::{AskedName, Owner, owner_of};
+use crate::owner::{AskedName, Owner, owner_named};
 use bus_messages::{Body, ErrorName, UniqueName};
 use connections::{AnswerError, BUS_NAME, Connection, Home, Refused, Request, Site};
 use owners::WellKnown;
@@ -21,7 +21,7 @@ pub(crate) fn get_name_owner<J: Naming, M: Mailbox + Carrier, W: Wait, R: Wait +
 ) -> Result<(), AnswerError>
     ensures { NeverSlow request.wants_answer result }
 {
-    match owner_of(connection, name) {
+    match owner_named(connection, name) {
         Ok(Some(Owner::Bus)) => connection.answer(site, home, request, Body::Text(BUS_NAME)),
         Ok(Some(Owner::Connection(number))) => {
             let owner = UniqueName::new(number);
@@ -48,7 +48,7 @@ pub(crate) fn name_has_owner<J: Naming, M: Mailbox + Carrier, W: Wait, R: Wait +
 ) -> Result<(), AnswerError>
     ensures { NeverSlow request.wants_answer result }
 {
-    match owner_of(connection, name) {
+    match owner_named(connection, name) {
         Ok(owner) => connection.answer(site, home, request, Body::Truth(owner.is_some())),
         Err(why) => connection.refuse(site, home, request, why),
     }
@@ -66,7 +66,7 @@ pub(crate) fn answer_of_owned<J: Naming, M: Mailbox + Carrier, W: Wait, R: Wait 
 ) -> Result<(), AnswerError>
     ensures { NeverSlow request.wants_answer result }
 {
-    let why = match (owner_of(connection, name), found) {
+    let why = match (owner_named(connection, name), found) {
         (Ok(Some(_)), Ok(body)) => return connection.answer(site, home, request, body),
         (Ok(Some(_)), Err(error)) => Refused::Error(error),
         (Ok(None), _) => Refused::Error(missing),
@@ -179,7 +179,7 @@ fn queue_of_one<J: Naming, M: Mailbox + Carrier>(
     name: &str,
 ) -> Result<Vec<u64>, Refused> {
     let mut queue = Vec::new(alloc);
-    if let Some(Owner::Connection(number)) = owner_of(connection, name)? {
+    if let Some(Owner::Connection(number)) = owner_named(connection, name)? {
         queue.push(number)?;
     }
     Ok(queue)
