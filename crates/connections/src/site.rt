@@ -8,16 +8,16 @@ use std::sync::Wait;
 
 /// The bus, with the runtime and the allocator of one call.
 #[derive(Drop)]
-pub(crate) struct Site<'a, J: Naming, M: Mailbox, W: Wait, R: Wait + Drop> {
-    pub(crate) rt: &'a W,
-    pub(crate) alloc: Global,
-    pub(crate) bus: &'a Bus<J, M, R>,
+pub struct Site<'a, J: Naming, M: Mailbox, W: Wait, R: Wait + Drop> {
+    pub rt: &'a W,
+    pub alloc: Global,
+    pub bus: &'a Bus<J, M, R>,
 }
 
 impl<J: Naming, M: Mailbox, W: Wait, R: Wait + Drop> Site<'_, J, M, W, R> {
     /// Gives a pass's reader back to the bus. A pass whose connection the bus couldn't close, since the bus has ended,
     /// is dropped.
-    pub(crate) fn give_back(&self, pass: Pass<J, M>) {
+    pub fn give_back(&self, pass: Pass<J, M>) {
         if pass.is_closed() || pass.connection() == 0 {
             self.bus.take_back(self.rt, pass);
         }

@@ -1,7 +1,7 @@
 // Serials of the bus's own messages.
 
 ghost use Rattle.std.specs.Prelude.{◌≡◌, ◌≢◌};
-ghost use Rattle.sessions.specs.Serials.{serial_after};
+ghost use Rattle.connections.specs.Serials.{serial_after};
 
 use std::marker::Model;
 

@@ -1,8 +1,8 @@
 // A session's own mailbox.
 
-ghost use Rattle.std.specs.Prelude.{◌≡◌};
+ghost use Rattle.std.specs.Prelude.{◌≡◌, IfErr};
 
-use crate::error::SessionError;
+use crate::error::AnswerError;
 use bytes::Bytes;
 use outbox::{Item, Seat};
 use program_table::Mailbox;
@@ -12,7 +12,7 @@ use std::sync::Wait;
 
 /// A session's own mailbox, and a seat at its outbox. All that is written to the client goes through this outbox.
 #[derive(Drop)]
-pub(crate) struct Home<M: Mailbox + Carrier> {
+pub struct Home<M: Mailbox + Carrier> {
     mailbox: M,
     seat: Seat,
     // Something was put that nobody was asked to write out.
@@ -21,7 +21,8 @@ pub(crate) struct Home<M: Mailbox + Carrier> {
 }
 
 impl<M: Mailbox + Carrier> Home<M> {
-    pub(crate) fn new(mailbox: M) -> Home<M> {
+    /// What goes through the outbox of this mailbox.
+    pub fn new(mailbox: M) -> Home<M> {
         let seat = mailbox.outbox().seat();
         Home {
             mailbox,
@@ -31,7 +32,7 @@ impl<M: Mailbox + Carrier> Home<M> {
     }
 
     /// Another handle of the mailbox, for the bus.
-    pub(crate) fn share(&self) -> Result<M, AllocError> {
+    pub fn share(&self) -> Result<M, AllocError> {
         self.mailbox.share()
     }
 
@@ -40,22 +41,24 @@ impl<M: Mailbox + Carrier> Home<M> {
     /// # Errors
     ///
     /// `Slow` where the outbox is full or shut.
-    pub(crate) fn put<W: Wait>(&mut self, rt: &W, bytes: Bytes) -> Result<(), SessionError> {
+    pub fn put<W: Wait>(&mut self, rt: &W, bytes: Bytes) -> Result<(), AnswerError>
+        ensures { IfErr result (λ error. error ≡ AnswerError.Slow) }
+    {
         self.is_waiting = true;
         let item = Item { bytes, mark: None };
         match self.mailbox.outbox().put(rt, &mut self.seat, item) {
             Ok(()) => Ok(()),
-            Err(_) => Err(SessionError::Slow),
+            Err(_) => Err(AnswerError::Slow),
         }
     }
 
     /// Whether the outbox was shut, since a message found no room.
-    pub(crate) fn is_shut(&mut self) -> bool {
+    pub fn is_shut(&mut self) -> bool {
         self.mailbox.outbox().is_shut(&mut self.seat)
     }
 
     /// Writes out what was put since the last call.
-    pub(crate) fn push_out<W: Wait>(&mut self, rt: &W) {
+    pub fn push_out<W: Wait>(&mut self, rt: &W) {
         if self.is_waiting {
             self.is_waiting = false;
             self.mailbox.push_out(rt);

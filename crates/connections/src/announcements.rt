@@ -1,7 +1,10 @@
 // What the bus announces of names.
 
+ghost use Rattle.std.specs.Prelude.{◌≡◌, IfErr};
+ghost use Rattle.connections.specs.Broadcasts.{Broadcasts};
+
 use crate::connection::Connection;
-use crate::error::SessionError;
+use crate::error::AnswerError;
 use crate::site::Site;
 use bus_messages::{BuildError, Bytes, UniqueName, name_acquired, name_lost, name_owner_changed};
 use message_view::View;
@@ -19,11 +22,13 @@ impl<J: Naming, M: Mailbox + Carrier> Connection<J, M> {
     /// # Errors
     ///
     /// `NoMemory` where memory refused one of them, or the bus has ended. The others are sent all the same.
-    pub(crate) fn announce<W: Wait, R: Wait + Drop>(
+    pub fn announce<W: Wait, R: Wait + Drop>(
         &mut self,
         site: &Site<'_, J, M, W, R>,
         change: &Change,
-    ) -> Result<(), SessionError> {
+    ) -> Result<(), AnswerError>
+        ensures { IfErr result (λ error. error ≡ AnswerError.NoMemory) }
+    {
         let name = change.name.as_str();
         let lost = match change.old {
             Some(old) => self.tell_lost(site, old, name),
@@ -45,7 +50,9 @@ impl<J: Naming, M: Mailbox + Carrier> Connection<J, M> {
     pub(crate) fn announce_arrival<W: Wait, R: Wait + Drop>(
         &mut self,
         site: &Site<'_, J, M, W, R>,
-    ) -> Result<(), SessionError> {
+    ) -> Result<(), AnswerError>
+        ensures { IfErr result (λ error. error ≡ AnswerError.NoMemory) }
+    {
         let number = self.pass.connection();
         let name = UniqueName::new(number);
         let changed = self.tell_changed(site, name.as_str(), None, Some(number));
@@ -61,7 +68,9 @@ impl<J: Naming, M: Mailbox + Carrier> Connection<J, M> {
     pub(crate) fn announce_departure<W: Wait, R: Wait + Drop>(
         &mut self,
         site: &Site<'_, J, M, W, R>,
-    ) -> Result<(), SessionError> {
+    ) -> Result<(), AnswerError>
+        ensures { IfErr result (λ error. error ≡ AnswerError.NoMemory) }
+    {
         let number = self.pass.connection();
         let name = UniqueName::new(number);
         self.tell_changed(site, name.as_str(), Some(number), None)
@@ -72,7 +81,9 @@ impl<J: Naming, M: Mailbox + Carrier> Connection<J, M> {
         site: &Site<'_, J, M, W, R>,
         old: u64,
         name: &str,
-    ) -> Result<(), SessionError> {
+    ) -> Result<(), AnswerError>
+        ensures { IfErr result (λ error. error ≡ AnswerError.NoMemory) }
+    {
         let to = UniqueName::new(old);
         let serial = self.serials.take();
         let built = name_lost(site.alloc, serial, to.as_str(), name);
@@ -84,7 +95,9 @@ impl<J: Naming, M: Mailbox + Carrier> Connection<J, M> {
         site: &Site<'_, J, M, W, R>,
         new: u64,
         name: &str,
-    ) -> Result<(), SessionError> {
+    ) -> Result<(), AnswerError>
+        ensures { IfErr result (λ error. error ≡ AnswerError.NoMemory) }
+    {
         let to = UniqueName::new(new);
         let serial = self.serials.take();
         let built = name_acquired(site.alloc, serial, to.as_str(), name);
@@ -97,16 +110,18 @@ impl<J: Naming, M: Mailbox + Carrier> Connection<J, M> {
         site: &Site<'_, J, M, W, R>,
         to: &UniqueName,
         built: Result<Bytes, BuildError>,
-    ) -> Result<(), SessionError> {
+    ) -> Result<(), AnswerError>
+        ensures { IfErr result (λ error. error ≡ AnswerError.NoMemory) }
+    {
         let Ok(bytes) = built else {
-            return Err(SessionError::NoMemory);
+            return Err(AnswerError::NoMemory);
         };
         match site
             .bus
             .unicast(site.rt, site.alloc, &mut self.pass, to.as_str(), &bytes)
         {
             Ok(_) => Ok(()),
-            Err(_) => Err(SessionError::NoMemory),
+            Err(_) => Err(AnswerError::NoMemory),
         }
     }
 
@@ -116,13 +131,15 @@ impl<J: Naming, M: Mailbox + Carrier> Connection<J, M> {
         name: &str,
         old: Option<u64>,
         new: Option<u64>,
-    ) -> Result<(), SessionError> {
+    ) -> Result<(), AnswerError>
+        ensures { IfErr result (λ error. error ≡ AnswerError.NoMemory) }
+    {
         let serial = self.serials.take();
         let old = old.map(|number| UniqueName::new(number));
         let new = new.map(|number| UniqueName::new(number));
         let built = name_owner_changed(site.alloc, serial, name, text_of(&old), text_of(&new));
         let Ok(bytes) = built else {
-            return Err(SessionError::NoMemory);
+            return Err(AnswerError::NoMemory);
         };
         let view = View::of_message(bytes.as_slice());
         self.broadcast(site, Source::Bus, &view, &bytes)
@@ -133,19 +150,23 @@ impl<J: Naming, M: Mailbox + Carrier> Connection<J, M> {
     /// # Errors
     ///
     /// `NoMemory` where memory was refused or the bus has ended.
-    pub(crate) fn broadcast<W: Wait, R: Wait + Drop>(
+    pub fn broadcast<W: Wait, R: Wait + Drop>(
         &mut self,
         site: &Site<'_, J, M, W, R>,
         source: Source,
         view: &View<'_>,
         bytes: &Bytes,
-    ) -> Result<(), SessionError> {
+    ) -> Result<(), AnswerError>
+        ensures error { IfErr result (λ error. error ≡ AnswerError.NoMemory) }
+        ensures routed { Broadcasts M.outbox_of source view.now self.old.pass result self.new.pass }
+        ensures name { self.new.name ≡ self.old.name }
+    {
         match site
             .bus
             .route(site.rt, site.alloc, &mut self.pass, source, view, bytes)
         {
             Ok(_) => Ok(()),
-            Err(_) => Err(SessionError::NoMemory),
+            Err(_) => Err(AnswerError::NoMemory),
         }
     }
 }

@@ -1,6 +1,9 @@
 // A client that has said Hello.
 
-use crate::error::SessionError;
+ghost use Rattle.std.specs.Prelude.{◌≡◌, ◌≢◌, false, Err, IsOk};
+ghost use Rattle.connections.specs.Answers.{NeverSlow};
+
+use crate::error::AnswerError;
 use crate::home::Home;
 use crate::identity::Identity;
 use crate::refused::Refused;
@@ -19,24 +22,30 @@ use std::sync::Wait;
 
 /// A client on the bus: its pass, its unique name, and the serials of the messages that the bus makes for its session.
 #[derive(Drop)]
-pub(crate) struct Connection<J: Naming, M: Mailbox>
+pub struct Connection<J: Naming, M: Mailbox>
 where
     Published: Protocol<Shown<J, M>, LinkedList<Command<M>>>,
 {
-    pub(crate) pass: Pass<J, M>,
-    pub(crate) name: UniqueName,
+    pub pass: Pass<J, M>,
+    pub name: UniqueName,
+    /// What the client is told of the bus.
+    pub identity: Identity,
     pub(crate) serials: Serials,
-    pub(crate) identity: Identity,
 }
 
 impl<J: Naming, M: Mailbox + Carrier> Connection<J, M> {
-    /// The connection of a pass that is connected under this number.
-    pub(crate) fn new(pass: Pass<J, M>, number: u64, identity: Identity) -> Connection<J, M> {
+    /// The connection of a pass that is connected, named by its number.
+    pub fn new(pass: Pass<J, M>, identity: Identity) -> Connection<J, M>
+        ensures pass { result.pass ≡ pass }
+        ensures name { result.name ≡ pass.connection }
+        ensures identity { result.identity ≡ identity }
+    {
+        let name = UniqueName::new(pass.connection());
         Connection {
             pass,
-            name: UniqueName::new(number),
-            serials: Serials::new(),
+            name,
             identity,
+            serials: Serials::new(),
         }
     }
 
@@ -45,13 +54,18 @@ impl<J: Naming, M: Mailbox + Carrier> Connection<J, M> {
     /// # Errors
     ///
     /// `Slow`, and `NoMemory` where not even the error NoMemory could be built.
-    pub(crate) fn answer<W: Wait, R: Wait + Drop>(
+    pub fn answer<W: Wait, R: Wait + Drop>(
         &mut self,
         site: &Site<'_, J, M, W, R>,
         home: &mut Home<M>,
         request: Request,
         body: Body<'_>,
-    ) -> Result<(), SessionError> {
+    ) -> Result<(), AnswerError>
+        ensures silent { request.wants_answer ≡ false → IsOk result }
+        ensures error { NeverSlow request.wants_answer result }
+        ensures pass { self.new.pass ≡ self.old.pass }
+        ensures name { self.new.name ≡ self.old.name }
+    {
         if !request.wants_answer {
             return Ok(());
         }
@@ -68,15 +82,22 @@ impl<J: Naming, M: Mailbox + Carrier> Connection<J, M> {
     /// # Errors
     ///
     /// As those of `answer`, and `NoMemory` where the bus has ended.
-    pub(crate) fn refuse<W: Wait, R: Wait + Drop>(
+    pub fn refuse<W: Wait, R: Wait + Drop>(
         &mut self,
         site: &Site<'_, J, M, W, R>,
         home: &mut Home<M>,
         request: Request,
         why: Refused,
-    ) -> Result<(), SessionError> {
+    ) -> Result<(), AnswerError>
+        // The bus has ended, and with it the session.
+        ensures ended { why ≡ Refused.Ended → result ≡ Err AnswerError.NoMemory }
+        ensures silent { why ≢ Refused.Ended → request.wants_answer ≡ false → IsOk result }
+        ensures error { NeverSlow request.wants_answer result }
+        ensures pass { self.new.pass ≡ self.old.pass }
+        ensures name { self.new.name ≡ self.old.name }
+    {
         let Refused::Error(name) = why else {
-            return Err(SessionError::NoMemory);
+            return Err(AnswerError::NoMemory);
         };
         if !request.wants_answer {
             return Ok(());
@@ -92,7 +113,7 @@ impl<J: Naming, M: Mailbox + Carrier> Connection<J, M> {
         request: Request,
         serial: u32,
         name: ErrorName,
-    ) -> Result<(), SessionError> {
+    ) -> Result<(), AnswerError> {
         let to = Some(self.name.as_str());
         let bytes = error_bytes(site.alloc, serial, to, request, name)?;
         home.put(site.rt, bytes)
@@ -110,12 +131,12 @@ pub(crate) fn error_bytes(
     to: Option<&str>,
     request: Request,
     name: ErrorName,
-) -> Result<Bytes, SessionError> {
+) -> Result<Bytes, AnswerError> {
     match error(alloc, serial, to, request.serial, name) {
         Ok(bytes) => Ok(bytes),
         Err(_) => {
             error(alloc, serial, to, request.serial, ErrorName::NoMemory).map_err(
-                |_| SessionError::NoMemory,
+                |_| AnswerError::NoMemory,
             )
         }
     }
