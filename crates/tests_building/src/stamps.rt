@@ -1,5 +1,6 @@
 // Stamps, and want of memory for them.
 
+use crate::signals::signal;
 use message_build::{StampError, stamp};
 use message_view::View;
 use std::alloc::Global;
@@ -55,4 +56,22 @@ fn stamp_with_refusals(rt: HostRuntime) {
         Ok(stamped) => assert_eq!(rt; stamped.as_slice(), stamped_bytes().as_slice()),
         Err(e) => assert_eq!(rt; e, StampError::NoMemory),
     }
+}
+
+// The bytes of a stamp are known to be a message: their view is had without a check of the body.
+#[test]
+fn known_message(rt: HostRuntime) -> Result<(), Fail> {
+    let mut builder = signal(rt.alloc());
+    builder.arg_str("hi")?;
+    let built = builder.finish(rt.alloc())?;
+    let view = View::read(built.as_slice())?;
+    let stamped = stamp(rt.alloc(), &view, ":1.1")?;
+    let known = View::of_message(stamped.as_slice());
+    assert_eq!(rt; known.raw(), stamped.as_slice());
+    assert_eq!(rt; known.member(), Some("c"));
+    assert_eq!(rt; known.sender(), Some(":1.1"));
+    assert_eq!(rt; known.signature(), b"s".as_slice());
+    assert_eq!(rt; known.body(), b"\x02\0\0\0hi\0".as_slice());
+    assert_eq!(rt; View::read(stamped.as_slice())?.body(), known.body());
+    Ok(())
 }
