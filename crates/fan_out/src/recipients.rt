@@ -174,9 +174,7 @@ pub(crate) fn mark_recipients<'a, M: Mailbox>(
     let mut offered = state.offered(view);
     match offered.next() {
         None => 0,
-        Some(first) => {
-            consider_offered(state, sender, view, piece, first, &mut offered, marks)
-        }
+        Some(first) => { consider_offered(state, sender, view, piece, first, &mut offered, marks) }
     }
 }
 
