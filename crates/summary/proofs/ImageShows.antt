@@ -65,6 +65,7 @@ text_told image edition message text words more start i at place len is follow i
       after_start = omega (arith, size_above edition);
       place_word = one_follows image start i (summary_len edition + place) at words more follow (omega arith) place_is small there;
       len_word = one_follows image start (i + 1) (length text) (at + 4) words more follow inside (len_is ∙ same) short (omega arith);
+      end_fits = omega (arith, within, is.fits, size_below edition);
       lies = stands_lies image text (summary_len edition + place) (image_stands image edition message text place is stands);
     }
 

@@ -1,5 +1,5 @@
 -- What the loads of an image say of its message.
-use Rattle.std.specs.Prelude.{◌≡◌, ℕ, ◌+◌, ◌/◌, ◌<◌, List, ◌++◌, length, min, Option, Some, None, IfSome, slice_get, slice_index}
+use Rattle.std.specs.Prelude.{◌≡◌, ℕ, ◌+◌, ◌/◌, ◌^◌, ◌<◌, List, ◌++◌, length, min, Option, Some, None, IfSome, slice_get, slice_index}
 use Rattle.bpf_code.specs.Loads.{load_word}
 use Rattle.message_value.specs.Arguments.{Argument}
 use Rattle.message_value.specs.Order.{order_byte}
@@ -27,6 +27,7 @@ pub record Tells (image : List ℕ) (at : ℕ) (text : List ℕ) : Type 0 where
   pub after_start : 0 < place
   pub place_word : load_word image at ≡ Some place
   pub len_word : load_word image (at + 4) ≡ Some (length text)
+  pub end_fits : place + length text < 2 ^ 32
   pub lies : Lies image place text
 
 -- of a text that is absent both are 0
