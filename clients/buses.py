@@ -5,6 +5,7 @@ import subprocess
 import tempfile
 import time
 
+import broker
 import wire
 
 HERE = os.path.dirname(os.path.abspath(__file__))
@@ -17,15 +18,20 @@ def program():
 
 
 class Bus:
-    """A bus in a process of its own, on a Unix socket or a TCP port. Ours has a worker for each processor that it may run on
-    when it begins, or as many as are asked for."""
+    """A bus in a process of its own, on a Unix socket or a TCP port (dbus-broker on a Unix socket alone). Ours has a worker for
+    each processor that it may run on when it begins, or as many as are asked for."""
 
     def __init__(self, kind, transport="unix", limit=None, workers=None):
         self.kind = kind
+        self.controller = None
         self.folder = tempfile.mkdtemp(prefix="dbusfan-clients-")
         socket = os.path.join(self.folder, "bus")
         wanted = f"unix:path={socket}" if transport == "unix" else "tcp:host=127.0.0.1,port=0"
         self.log = open(os.path.join(self.folder, "log"), "wb")
+        if kind == "dbus-broker":
+            self.address = wanted
+            self.process, self.controller = broker.start(socket, self.log)
+            return
         if kind == "dbusfan":
             words = [program(), "serve", "--listen", wanted, "--guid", GUID]
         else:
@@ -83,6 +89,8 @@ class Bus:
     def stop(self):
         self.process.kill()
         self.process.wait()
+        if self.controller:
+            self.controller.close()
         self.log.close()
         shutil.rmtree(self.folder)
 

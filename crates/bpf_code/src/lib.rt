@@ -7,9 +7,11 @@
 mod byte_form;
 mod error;
 mod instruction;
+mod laws;
 mod operation;
 
 pub use byte_form::{bytes_of, decode, encode};
 pub use error::CodeError;
 pub use instruction::Ins;
+pub use laws::a_row_has_one_code;
 pub use operation::{Arithmetic, Op, Operand, Test, Width};

@@ -1,5 +1,7 @@
 // The command `serve`.
 
+ghost use Rattle.dbusfan_serve.specs.Status.{IsStatus};
+
 use crate::fault::Fault;
 use crate::machine::machine_id;
 use crate::options::Options;
@@ -44,6 +46,7 @@ where
         + RandomSource
         + Sync
         + Alloc,
+    ensures { IsStatus result }
 {
     if asks_for_help(words) {
         return match said(HELP, out) {

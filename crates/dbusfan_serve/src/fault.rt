@@ -1,5 +1,8 @@
 // What `serve` is refused for.
 
+ghost use Rattle.std.specs.Prelude.{◌≡◌};
+ghost use Rattle.dbusfan_serve.specs.Status.{status_of, IsStatus};
+
 use dbusfan_tool::{Output, Writer};
 use std::io;
 use std::io::ErrorKind;
@@ -19,7 +22,10 @@ pub(crate) enum Fault {
 
 impl Fault {
     /// The status that the program ends with.
-    fn status(self) -> u8 {
+    fn status(self) -> u8
+        ensures value { result ≡ status_of self }
+        ensures row { IsStatus result }
+    {
         match self {
             Fault::Usage => 3,
             Fault::File | Fault::Socket => 4,
@@ -38,7 +44,10 @@ impl Fault {
     }
 
     /// Writes the fault's line to standard error, and answers the status.
-    pub(crate) fn tell<E: Writer>(self, err: &mut Output<E>) -> u8 {
+    pub(crate) fn tell<E: Writer>(self, err: &mut Output<E>) -> u8
+        ensures value { result ≡ status_of self }
+        ensures row { IsStatus result }
+    {
         err.put(self.line());
         self.status()
     }

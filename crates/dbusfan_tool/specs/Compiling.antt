@@ -4,8 +4,8 @@ use Rattle.std.specs.Option.{option_map}
 use Rattle.bpf_code.specs.declared.instruction.Ins.{Ins}
 use Rattle.bpf_code.specs.Program.{WellFormed}
 use Rattle.bpf_text.specs.Source.{SourceText}
-use Rattle.match_rule.specs.declared.fault.RuleError.{RuleError}
-use Rattle.match_rule.specs.declared.fault.RuleError.TheVariants.{TooLong}
+use Rattle.match_key.specs.declared.fault.RuleError.{RuleError}
+use Rattle.match_key.specs.declared.fault.RuleError.TheVariants.{TooLong}
 use Rattle.match_rule.specs.RuleTree.{RuleTree, sender_name_of, weight_of}
 use Rattle.match_rule.specs.Grammar.{ReadsAs}
 use Rattle.match_rule.specs.Reading.{rule_at}

@@ -101,26 +101,26 @@ fn consider_all<'a, M: Mailbox>(
     state: &BusState<M>,
     piece: Piece,
     first: &Entry,
-    others: Offered<'_>,
+    others: &mut Offered<'_>,
     mut programs: Programs<'_, 'a>,
     one: &mut Option<Image<'a>>,
     marks: &mut Marks,
 ) -> u32
     requires state { IsState state.now }
-    requires few { length others + 1 ≤ max_entries }
-    requires connected { (e : Entry) → Contains (first.now ∷ others) e → is_connected e.connection state.now.connections ≡ true }
+    requires few { length others.old + 1 ≤ max_entries }
+    requires connected { (e : Entry) → Contains (first.now ∷ others.old) e → is_connected e.connection state.now.connections ≡ true }
     requires none_run { programs.tally.runs ≡ 0 }
     requires one { ForSome one.old (IsImage One programs.view.now programs.owned.now) }
     requires none_marked { marks.old.places ≡ replicate MAX_RECIPIENTS false }
-    ensures few { result ≤ length others.entry + 1 }
+    ensures few { result ≤ length others.old + 1 }
     ensures enough { mark_count marks.new.places ≤ result }
     ensures exact { (sender : Option ℕ) (m : Message)
         → Valid programs.entry.view.now m
-        → AreDecided state.now sender m programs.entry.view.now programs.entry.owned.now (first.now ∷ others.entry)
-        → AreMarked state.now sender m piece.part piece.of (first.now ∷ others.entry) marks.new.places }
+        → AreDecided state.now sender m programs.entry.view.now programs.entry.owned.now (first.now ∷ others.old)
+        → AreMarked state.now sender m piece.part piece.of (first.now ∷ others.old) marks.new.places }
 {
     consider(state, piece, first, &mut programs, one, marks);
-    for entry in others {
+    while let Some(entry) = others.next() {
         consider(state, piece, entry, &mut programs, one, marks);
     }
     programs.runs()
@@ -135,14 +135,14 @@ fn consider_offered<'a, M: Mailbox>(
     view: &View<'a>,
     piece: Piece,
     first: &Entry,
-    others: Offered<'_>,
+    others: &mut Offered<'_>,
     marks: &mut Marks,
 ) -> u32
     requires state { IsState state.now }
-    requires offered { (m : Message) → Valid view.now m → AreOffered state.now.registrations.entries m (first.now ∷ others) }
+    requires offered { (m : Message) → Valid view.now m → AreOffered state.now.registrations.entries m (first.now ∷ others.old) }
     requires none_marked { marks.old.places ≡ replicate MAX_RECIPIENTS false }
     ensures exact { (m : Message) → Valid view.now m → AreMarkedRecipients state.now sender m piece.part piece.of marks.new.places }
-    ensures most { result ≤ length others.entry + 1 }
+    ensures most { result ≤ length others.old + 1 }
     ensures least { mark_count marks.new.places ≤ result }
 {
     ends_in_one_way();
@@ -174,7 +174,7 @@ pub(crate) fn mark_recipients<'a, M: Mailbox>(
     let mut offered = state.offered(view);
     match offered.next() {
         None => 0,
-        Some(first) => consider_offered(state, sender, view, piece, first, offered, marks),
+        Some(first) => { consider_offered(state, sender, view, piece, first, &mut offered, marks) }
     }
 }
 

@@ -4,18 +4,18 @@ use Rattle.std.proofs.lemmas.List.Elements.{All-head, All-tail}
 use Rattle.std.specs.Prelude.{Option, Some, None, All, IfSome, IsSomeAnd, slice_get, if◌then◌else◌}
 use Rattle.message_view.specs.Message.{Message, member_of, interface_of, path_of}
 use Rattle.message_view.specs.Spelling.{arguments_of}
-use Rattle.match_rule.specs.declared.source.Field.TheVariants.{Interface, Member, Path}
-use Rattle.match_rule.specs.declared.source.Source.{Source}
-use Rattle.match_rule.specs.declared.source.Source.TheVariants.{Header, Arg}
-use Rattle.match_rule.specs.declared.relation.Relation.{Relation}
-use Rattle.match_rule.specs.declared.relation.Relation.TheVariants.{Equal}
-use Rattle.match_rule.specs.declared.key.Key.TheVariants as keys
+use Rattle.match_key.specs.declared.source.Field.TheVariants.{Interface, Member, Path}
+use Rattle.match_key.specs.declared.source.Source.{Source}
+use Rattle.match_key.specs.declared.source.Source.TheVariants.{Header, Arg}
+use Rattle.match_key.specs.declared.relation.Relation.{Relation}
+use Rattle.match_key.specs.declared.relation.Relation.TheVariants.{Equal}
+use Rattle.match_key.specs.declared.key.Key.TheVariants as keys
 use Rattle.match_rule.specs.declared.condition.Condition.{Condition}
 use Rattle.match_rule.specs.declared.condition.Condition.TheVariants.{Kind, Sender, Compares}
 use Rattle.match_rule.specs.Arguments.{text_in}
-use Rattle.match_rule.specs.Key.{key_eq}
+use Rattle.match_key.specs.Key.{key_eq}
 use Rattle.match_rule.specs.Condition.{key_of, value_of}
-use Rattle.match_rule.specs.Equality.{same_key}
+use Rattle.match_key.proofs.KeyNumbers.{same_key}
 use Rattle.match_rule.specs.RuleTree.{RuleTree, or_else}
 use Rattle.match_rule.specs.Holds.{Holds, ConditionHolds, Relates, compared_text, text_at}
 use Rattle.match_rule.specs.FixedTexts.{fixed_texts, texts_of, AreFound, value_in, value_asked, arg0_of, string_in, first_text}

@@ -4,13 +4,13 @@ use Rattle.std.specs.Prelude.{Option, Some, None, unwrap_or, Ok, Err, ◌||◌, 
 use Rattle.std.specs.List.{list_any}
 use Rattle.std.proofs.lemmas.List.{map-append}
 use Rattle.std.proofs.lemmas.List.Folds.{list_any-append}
-use Rattle.match_rule.specs.declared.fault.RuleError.{RuleError}
-use Rattle.match_rule.specs.declared.key.Key.{Key}
-use Rattle.match_rule.specs.declared.key.Key.TheVariants as keys
+use Rattle.match_key.specs.declared.fault.RuleError.{RuleError}
+use Rattle.match_key.specs.declared.key.Key.{Key}
+use Rattle.match_key.specs.declared.key.Key.TheVariants as keys
 use Rattle.match_rule.specs.declared.condition.Condition.{Condition}
 use Rattle.match_rule.specs.declared.term.Term.{Term}
 use Rattle.match_rule.specs.declared.term.Term.TheVariants.{Asks, Eavesdrop}
-use Rattle.match_rule.specs.Key.{is_twice, is_path_twice}
+use Rattle.match_key.specs.Key.{is_twice, is_path_twice}
 use Rattle.match_rule.specs.Condition.{key_of, term_key, has_key, has_path, conditions_in, is_eavesdrop, eavesdrops_in}
 use Rattle.match_rule.specs.Grammar.{rule_with}
 use Rattle.match_rule.specs.Reading.{◌>>=◌, after_blanks, part_at, parts_from, terms_at}

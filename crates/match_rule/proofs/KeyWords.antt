@@ -6,14 +6,15 @@ use Rattle.std.proofs.lemmas.Bool.{eqb-true}
 use Rattle.std.proofs.lemmas.Bool.Decides.{nat_tests}
 use Rattle.std.proofs.lemmas.List.Folds.{list_all-append}
 use Rattle.signature.specs.Name.{is_digit}
-use Rattle.match_rule.specs.declared.fault.RuleError.TheVariants.{UnknownKey}
-use Rattle.match_rule.specs.declared.key.Key.{Key}
-use Rattle.match_rule.specs.declared.relation.Relation.{Relation}
-use Rattle.match_rule.specs.Rows.{row_of}
-use Rattle.match_rule.specs.Key.{key_words, arg_suffixes, key_named, digits_of, after_digits, arg_number, suffixed_key, or_key, arg_key, is_of_arg}
+use Rattle.match_key.specs.declared.fault.RuleError.TheVariants.{UnknownKey}
+use Rattle.match_key.specs.declared.key.Key.{Key}
+use Rattle.match_key.specs.declared.relation.Relation.{Relation}
+use Rattle.match_key.specs.Rows.{row_of}
+use Rattle.match_key.specs.Key.{key_words, arg_suffixes, key_named, digits_of, after_digits, arg_number, suffixed_key, or_key, arg_key, is_of_arg}
 use Rattle.match_rule.specs.Grammar.{is_blank, comma, equals}
 use Rattle.match_rule.specs.Reading.{after_blanks, word_at}
-use Rattle.match_rule.proofs.Rows.{row_found}
+use Rattle.match_key.proofs.Rows.{row_found}
+use Rattle.match_key.proofs.ArgNames.{digits_are}
 
 -- a byte that may stand in the word of a key
 abbrev is_plain : ℕ → Bool
@@ -70,14 +71,6 @@ split_digits (b ∷ bs) = go (is_digit b) (split_digits bs)
     go true e = ap (λ (x : List ℕ). b ∷ x) e
     go false e = refl
 
-pub digits_are : (bytes : List ℕ) → list_all is_digit (digits_of bytes) ≡ true
-digits_are [] = refl
-digits_are (b ∷ bs) = go (is_digit b) refl (digits_are bs)
-  where
-    go : (d : Bool) → is_digit b ≡ d → list_all is_digit (digits_of bs) ≡ true → list_all is_digit (cond d (b ∷ digits_of bs) []) ≡ true
-    go true is e = both_true (is_digit b) (list_all is_digit (digits_of bs)) is e
-    go false is e = refl
-
 all_plain : (bytes : List ℕ) → list_all is_digit bytes ≡ true → list_all is_plain bytes ≡ true
 all_plain [] e = refl
 all_plain (b ∷ bs) e = let h = both (is_digit b) (list_all is_digit bs) e in both_true (is_plain b) (list_all is_plain bs) (digit_plain b h.0) (all_plain bs h.1)
@@ -116,18 +109,3 @@ known_plain word key e = go (row_of key_words word) refl e
     go : (found : Option Key) → row_of key_words word ≡ found → or_key found (cond (is_of_arg word) (arg_key (digits_of (drop 3 word)) (after_digits (drop 3 word))) (Err UnknownKey)) ≡ Ok key → is_plain_word word ≡ true
     go (Some named) is e = row_found (λ (r : List ℕ × Key). is_plain_word r.0) key_words word named refl is
     go None is e = arg_plain word key e
-
--- a word that begins with `arg`
-pub arg_named : (word rest : List ℕ) → Some rest ≡ cond (is_of_arg word) (Some (drop 3 word)) None → key_named word ≡ arg_key (digits_of rest) (after_digits rest)
-arg_named [] rest e = absurd cc
-arg_named (a ∷ []) rest e = absurd cc
-arg_named (a ∷ b ∷ []) rest e = absurd cc
-arg_named (a ∷ b ∷ c ∷ tail) rest e = go (a == 97) (b == 114) (c == 103) refl refl refl e
-  where
-    go : (x y z : Bool) → (a == 97) ≡ x → (b == 114) ≡ y → (c == 103) ≡ z → Some rest ≡ cond (x && y && z) (Some tail) None → key_named (a ∷ b ∷ c ∷ tail) ≡ arg_key (digits_of rest) (after_digits rest)
-    go true true true p q r e =
-        let same : rest ≡ tail = cc in
-        rw (eqb-true a 97 p, eqb-true b 114 q, eqb-true c 103 r, same) refl
-    go true true false p q r e = absurd cc
-    go true false z p q r e = absurd cc
-    go false y z p q r e = absurd cc

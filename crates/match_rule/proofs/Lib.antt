@@ -1,5 +1,4 @@
 pub mod Steps
-pub mod Rows
 pub mod KeyWords
 pub mod PartReads
 pub mod Turns

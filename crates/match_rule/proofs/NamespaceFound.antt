@@ -2,9 +2,9 @@
 use Rattle.std.proofs.Common.{ℕ, Bool, List}
 use Rattle.std.specs.Prelude.{Option, Some, None, IfSome, IsSomeAnd}
 use Rattle.message_view.specs.Message.{Message, path_of}
-use Rattle.match_rule.specs.declared.source.Field.TheVariants.{Path}
-use Rattle.match_rule.specs.declared.source.Source.TheVariants.{Header}
-use Rattle.match_rule.specs.declared.relation.Relation.TheVariants.{PathNamespace}
+use Rattle.match_key.specs.declared.source.Field.TheVariants.{Path}
+use Rattle.match_key.specs.declared.source.Source.TheVariants.{Header}
+use Rattle.match_key.specs.declared.relation.Relation.TheVariants.{PathNamespace}
 use Rattle.match_rule.specs.RuleTree.{RuleTree}
 use Rattle.match_rule.specs.Holds.{Holds}
 use Rattle.match_rule.specs.PathNamespaces.{namespace_asked, HasPathIn, IsElsewhere}

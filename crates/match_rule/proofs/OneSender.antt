@@ -4,12 +4,12 @@ use Rattle.std.specs.Prelude.{Option, Some, None, not, ◌&&◌, ◌||◌, All, 
 use Rattle.std.specs.List.{list_any}
 use Rattle.std.proofs.lemmas.List.{get_or_read}
 use Rattle.std.proofs.lemmas.List.Folds.{list_any-append}
-use Rattle.match_rule.specs.declared.key.Key.TheVariants as keys
+use Rattle.match_key.specs.declared.key.Key.TheVariants as keys
 use Rattle.match_rule.specs.declared.condition.Condition.{Condition}
 use Rattle.match_rule.specs.declared.condition.Condition.TheVariants.{Kind, Sender, Compares}
 use Rattle.match_rule.specs.declared.term.Term.{Term}
 use Rattle.match_rule.specs.declared.term.Term.TheVariants.{Asks, Eavesdrop}
-use Rattle.match_rule.specs.Key.{is_twice}
+use Rattle.match_key.specs.Key.{is_twice}
 use Rattle.match_rule.specs.Condition.{key_of, term_key, has_key, conditions_in}
 use Rattle.match_rule.specs.Grammar.{HaveOwnKeys}
 use Rattle.match_rule.specs.RuleTree.{RuleTree, owned_name_in, first_owned_name, or_else}

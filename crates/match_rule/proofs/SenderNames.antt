@@ -2,7 +2,7 @@
 use Rattle.std.proofs.Common.{◌≡◌, ℕ, Bool, true, false, List, [], ◌∷◌, refl}
 use Rattle.std.specs.Prelude.{Some}
 use Rattle.signature.specs.Name.{is_bus_name}
-use Rattle.match_rule.specs.declared.key.Key.TheVariants as keys
+use Rattle.match_key.specs.declared.key.Key.TheVariants as keys
 use Rattle.match_rule.specs.declared.condition.Condition.{Condition}
 use Rattle.match_rule.specs.declared.condition.Condition.TheVariants.{Kind, Sender, Compares}
 use Rattle.match_rule.specs.declared.term.Term.{Term}

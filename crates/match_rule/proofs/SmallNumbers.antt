@@ -1,21 +1,21 @@
 -- A rule that was read asks for arguments with small numbers.
 use Rattle.std.proofs.Common.{◌≡◌, ℕ, ◌+◌, ◌-◌, ◌*◌, Bool, true, false, cond, List, [], ◌∷◌, drop, length, refl, ap, ◌∙◌}
 use Rattle.std.specs.Prelude.{Option, Some, None, Ok, Err, nat_le, ◌==◌}
-use Rattle.match_rule.specs.declared.fault.RuleError.TheVariants.{UnknownKey, ArgNumber}
-use Rattle.match_rule.specs.declared.relation.Relation.{Relation}
-use Rattle.match_rule.specs.declared.source.Source.TheVariants.{Arg}
-use Rattle.match_rule.specs.declared.key.Key.{Key}
-use Rattle.match_rule.specs.declared.key.Key.TheVariants as keys
+use Rattle.match_key.specs.declared.fault.RuleError.TheVariants.{UnknownKey, ArgNumber}
+use Rattle.match_key.specs.declared.relation.Relation.{Relation}
+use Rattle.match_key.specs.declared.source.Source.TheVariants.{Arg}
+use Rattle.match_key.specs.declared.key.Key.{Key}
+use Rattle.match_key.specs.declared.key.Key.TheVariants as keys
 use Rattle.match_rule.specs.declared.condition.Condition.{Condition}
 use Rattle.match_rule.specs.declared.condition.Condition.TheVariants.{Kind, Sender, Compares}
 use Rattle.match_rule.specs.declared.term.Term.{Term}
 use Rattle.match_rule.specs.declared.term.Term.TheVariants.{Asks, Eavesdrop}
-use Rattle.match_rule.specs.Rows.{row_of}
-use Rattle.match_rule.specs.Key.{key_words, arg_suffixes, key_named, digits_of, after_digits, up_to_max, arg_number, suffixed_key, or_key, arg_key, is_of_arg, max_arg}
+use Rattle.match_key.specs.Rows.{row_of}
+use Rattle.match_key.specs.Key.{key_words, arg_suffixes, key_named, digits_of, after_digits, up_to_max, arg_number, suffixed_key, or_key, arg_key, is_of_arg, max_arg}
 use Rattle.match_rule.specs.Condition.{key_of, conditions_in}
 use Rattle.match_rule.specs.Grammar.{Part, AreParts}
 use Rattle.match_rule.specs.Parts.{is_small_source, has_small_number, have_small_numbers}
-use Rattle.match_rule.proofs.Rows.{row_found}
+use Rattle.match_key.proofs.Rows.{row_found}
 
 -- a key of an argument has a number that a rule may ask for
 abbrev is_small_key : Key → Bool

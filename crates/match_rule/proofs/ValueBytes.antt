@@ -8,13 +8,14 @@ use Rattle.std.proofs.lemmas.List.Elements.{All-cons, All-nil}
 use Rattle.std.proofs.lemmas.Str.{IsUtf8-from_is_utf8}
 use lib.Utf8.{scalar, scalars, next, encode, encodes, scalar_cases}
 use Rattle.message_value.specs.Words.{AreBytes}
-use Rattle.match_rule.specs.declared.kind_name.KindName.{KindName}
-use Rattle.match_rule.specs.declared.kind_name.KindName.TheVariants.{Signal, MethodCall, MethodReturn, Error}
+use Rattle.match_key.specs.declared.kind_name.KindName.{KindName}
+use Rattle.match_key.specs.declared.kind_name.KindName.TheVariants.{Signal, MethodCall, MethodReturn, Error}
 use Rattle.match_rule.specs.declared.condition.Condition.{Condition}
 use Rattle.match_rule.specs.declared.condition.Condition.TheVariants.{Kind, Sender, Compares}
 use Rattle.match_rule.specs.declared.term.Term.{Term}
 use Rattle.match_rule.specs.declared.term.Term.TheVariants.{Asks, Eavesdrop}
-use Rattle.match_rule.specs.Condition.{key_of, kind_word, value_of, asks_if, term_of, conditions_in}
+use Rattle.match_key.specs.Kinds.{kind_word}
+use Rattle.match_rule.specs.Condition.{key_of, value_of, asks_if, term_of, conditions_in}
 use Rattle.match_rule.specs.Grammar.{Part, pieces_value, AreParts}
 use Rattle.match_rule.proofs.PartReads.{said_text}
 

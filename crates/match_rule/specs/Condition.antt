@@ -3,45 +3,21 @@ use Rattle.std.specs.Prelude.{ℕ, Bool, true, false, List, [], ◌∷◌, Optio
 use Rattle.std.specs.Str.{bytes_eq, is_utf8}
 use Rattle.std.specs.List.{list_any}
 use Rattle.signature.specs.Name.{is_interface, is_member, is_path, is_bus_name, is_namespace}
-use Rattle.message_view.specs.declared.kind.Kind as kinds
-use Rattle.message_view.specs.declared.kind.Kind.TheVariants as kinds_of
-use Rattle.match_rule.specs.declared.source.Field.{Field}
-use Rattle.match_rule.specs.declared.source.Field.TheVariants.{Interface, Member, Path, Destination}
-use Rattle.match_rule.specs.declared.source.Source.{Source}
-use Rattle.match_rule.specs.declared.source.Source.TheVariants.{Header, Arg}
-use Rattle.match_rule.specs.declared.relation.Relation.{Relation}
-use Rattle.match_rule.specs.declared.relation.Relation.TheVariants.{NameNamespace}
-use Rattle.match_rule.specs.declared.key.Key.{Key}
-use Rattle.match_rule.specs.declared.key.Key.TheVariants as keys
-use Rattle.match_rule.specs.declared.kind_name.KindName.{KindName}
-use Rattle.match_rule.specs.declared.kind_name.KindName.TheVariants.{Signal, MethodCall, MethodReturn, Error}
+use Rattle.match_key.specs.declared.source.Field.{Field}
+use Rattle.match_key.specs.declared.source.Field.TheVariants.{Interface, Member, Path, Destination}
+use Rattle.match_key.specs.declared.source.Source.{Source}
+use Rattle.match_key.specs.declared.source.Source.TheVariants.{Header, Arg}
+use Rattle.match_key.specs.declared.relation.Relation.{Relation}
+use Rattle.match_key.specs.declared.relation.Relation.TheVariants.{NameNamespace}
+use Rattle.match_key.specs.declared.key.Key.{Key}
+use Rattle.match_key.specs.declared.key.Key.TheVariants as keys
 use Rattle.match_rule.specs.declared.condition.Condition.{Condition}
 use Rattle.match_rule.specs.declared.condition.Condition.TheVariants.{Kind, Sender, Compares}
 use Rattle.match_rule.specs.declared.term.Term.{Term}
 use Rattle.match_rule.specs.declared.term.Term.TheVariants.{Asks, Eavesdrop}
-use Rattle.match_rule.specs.Rows.{row_of}
-use Rattle.match_rule.specs.Key.{key_eq, is_twice, is_path_twice}
-
--- the words for kinds
-abbrev pub kind_word : KindName → List ℕ
-kind_word Signal = codes "signal"
-kind_word MethodCall = codes "method_call"
-kind_word MethodReturn = codes "method_return"
-kind_word Error = codes "error"
-
-abbrev pub kind_words : List (List ℕ × KindName)
-kind_words =
-    (codes "signal", Signal) ∷ (codes "method_call", MethodCall) ∷ (codes "method_return", MethodReturn) ∷ (codes "error", Error) ∷ []
-
-abbrev pub kind_named : List ℕ → Option KindName
-kind_named word = row_of kind_words word
-
--- the kind of message that a word names
-abbrev pub kind_meant : KindName → kinds.Kind
-kind_meant Signal = kinds_of.Signal
-kind_meant MethodCall = kinds_of.MethodCall
-kind_meant MethodReturn = kinds_of.MethodReturn
-kind_meant Error = kinds_of.Error
+use Rattle.match_key.specs.Rows.{row_of}
+use Rattle.match_key.specs.Kinds.{kind_word, kind_named}
+use Rattle.match_key.specs.Key.{key_eq, is_twice, is_path_twice}
 
 -- `true` and `false`
 abbrev pub flag_words : List (List ℕ × Bool)

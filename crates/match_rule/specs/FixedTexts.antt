@@ -3,12 +3,12 @@ use Rattle.std.specs.Prelude.{◌≡◌, ℕ, List, [], ◌∷◌, Option, Some,
 use Rattle.message_view.specs.Message.{Message, path_of, interface_of, member_of}
 use Rattle.message_view.specs.Spelling.{arguments_of}
 use Rattle.match_rule.specs.declared.condition.Condition.{Condition}
-use Rattle.match_rule.specs.declared.source.Field.TheVariants.{Interface, Member, Path}
-use Rattle.match_rule.specs.declared.source.Source.TheVariants.{Header, Arg}
-use Rattle.match_rule.specs.declared.relation.Relation.TheVariants.{Equal}
-use Rattle.match_rule.specs.declared.key.Key.{Key}
-use Rattle.match_rule.specs.declared.key.Key.TheVariants as keys
-use Rattle.match_rule.specs.Key.{key_eq}
+use Rattle.match_key.specs.declared.source.Field.TheVariants.{Interface, Member, Path}
+use Rattle.match_key.specs.declared.source.Source.TheVariants.{Header, Arg}
+use Rattle.match_key.specs.declared.relation.Relation.TheVariants.{Equal}
+use Rattle.match_key.specs.declared.key.Key.{Key}
+use Rattle.match_key.specs.declared.key.Key.TheVariants as keys
+use Rattle.match_key.specs.Key.{key_eq}
 use Rattle.match_rule.specs.Condition.{key_of, value_of}
 use Rattle.match_rule.specs.Arguments.{text_in}
 use Rattle.match_rule.specs.RuleTree.{RuleTree, or_else}

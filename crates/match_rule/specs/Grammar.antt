@@ -3,7 +3,7 @@ use Rattle.std.specs.Prelude.{◌≡◌, ℕ, ◌≤◌, Bool, true, false, List
 use Rattle.std.specs.List.{list_all}
 use Rattle.match_rule.specs.declared.term.Term.{Term}
 use Rattle.match_rule.specs.Bytes.{begins_with}
-use Rattle.match_rule.specs.Key.{key_named}
+use Rattle.match_key.specs.Key.{key_named}
 use Rattle.match_rule.specs.Condition.{term_key, term_with, has_key, has_path, conditions_in, eavesdrops_in}
 use Rattle.match_rule.specs.RuleTree.{RuleTree}
 

@@ -4,13 +4,13 @@ use Rattle.message_view.specs.Message.{Message, path_of, interface_of, member_of
 use Rattle.message_view.specs.Spelling.{arguments_of}
 use Rattle.match_rule.specs.declared.condition.Condition.{Condition}
 use Rattle.match_rule.specs.declared.condition.Condition.TheVariants.{Kind, Sender, Compares}
-use Rattle.match_rule.specs.declared.source.Field.{Field}
-use Rattle.match_rule.specs.declared.source.Field.TheVariants.{Interface, Member, Path, Destination}
-use Rattle.match_rule.specs.declared.source.Source.{Source}
-use Rattle.match_rule.specs.declared.source.Source.TheVariants.{Header, Arg}
-use Rattle.match_rule.specs.declared.relation.Relation.{Relation}
-use Rattle.match_rule.specs.declared.relation.Relation.TheVariants.{Equal, PathNamespace, NameNamespace, NestedPath}
-use Rattle.match_rule.specs.Condition.{kind_meant}
+use Rattle.match_key.specs.declared.source.Field.{Field}
+use Rattle.match_key.specs.declared.source.Field.TheVariants.{Interface, Member, Path, Destination}
+use Rattle.match_key.specs.declared.source.Source.{Source}
+use Rattle.match_key.specs.declared.source.Source.TheVariants.{Header, Arg}
+use Rattle.match_key.specs.declared.relation.Relation.{Relation}
+use Rattle.match_key.specs.declared.relation.Relation.TheVariants.{Equal, PathNamespace, NameNamespace, NestedPath}
+use Rattle.match_key.specs.Kinds.{kind_meant}
 use Rattle.match_rule.specs.Arguments.{text_in}
 use Rattle.match_rule.specs.Bytes.{ends_with}
 use Rattle.match_rule.specs.RuleTree.{RuleTree, is_owned_name, sender_name_of}

@@ -1,7 +1,4 @@
 pub mod Bytes
-pub mod Fault
-pub mod Rows
-pub mod Key
 pub mod Condition
 pub mod RuleTree
 pub mod Grammar

@@ -2,15 +2,15 @@
 use Rattle.std.specs.Prelude.{ℕ, Bool, true, false, not, ◌&&◌, List, [], ◌∷◌, ◌++◌, map, Option, Some, None, unwrap_or, nat_le, Result, Ok}
 use Rattle.std.specs.List.{list_all, list_any}
 use Rattle.signature.specs.Name.{is_bus_name}
-use Rattle.match_rule.specs.declared.fault.RuleError.{RuleError}
+use Rattle.match_key.specs.declared.fault.RuleError.{RuleError}
 use Rattle.match_rule.specs.declared.condition.Condition.{Condition}
 use Rattle.match_rule.specs.declared.condition.Condition.TheVariants.{Sender, Compares}
-use Rattle.match_rule.specs.declared.source.Source.{Source}
-use Rattle.match_rule.specs.declared.source.Source.TheVariants.{Header, Arg}
+use Rattle.match_key.specs.declared.source.Source.{Source}
+use Rattle.match_key.specs.declared.source.Source.TheVariants.{Header, Arg}
 use Rattle.match_rule.specs.declared.term.Term.{Term}
 use Rattle.match_rule.specs.declared.term.Term.TheVariants.{Asks, Eavesdrop}
 use Rattle.match_rule.specs.declared.parts.Parts.{Parts}
-use Rattle.match_rule.specs.Key.{max_arg}
+use Rattle.match_key.specs.Key.{max_arg}
 use Rattle.match_rule.specs.RuleTree.{RuleTree}
 use Rattle.match_rule.specs.Grammar.{rule_with}
 use Rattle.match_rule.specs.Reading.{◌>>=◌, terms_at}

@@ -1,9 +1,9 @@
 -- The path namespace that a rule asks for, by which rules are told apart that fix no text.
 use Rattle.std.specs.Prelude.{ℕ, List, Option, IsSomeAnd}
-use Rattle.match_rule.specs.declared.source.Field.TheVariants.{Path}
-use Rattle.match_rule.specs.declared.source.Source.TheVariants.{Header}
-use Rattle.match_rule.specs.declared.relation.Relation.TheVariants.{PathNamespace}
-use Rattle.match_rule.specs.declared.key.Key.TheVariants.{Compares}
+use Rattle.match_key.specs.declared.source.Field.TheVariants.{Path}
+use Rattle.match_key.specs.declared.source.Source.TheVariants.{Header}
+use Rattle.match_key.specs.declared.relation.Relation.TheVariants.{PathNamespace}
+use Rattle.match_key.specs.declared.key.Key.TheVariants.{Compares}
 use Rattle.match_rule.specs.RuleTree.{RuleTree}
 use Rattle.match_rule.specs.FixedTexts.{value_asked}
 use Rattle.match_rule.specs.Holds.{InPathNamespace}

@@ -1,14 +1,14 @@
 -- Reading a rule's text from left to right, with the first fault that is met.
 use Rattle.std.specs.Prelude.{◌≡◌, ◌≢◌, ℕ, zero, suc, Bool, List, [], ◌∷◌, ◌++◌, length, Option, Some, None, option_map, Result, Ok, Err, nat_lt, ◌==◌, if◌then◌else◌}
-use Rattle.match_rule.specs.declared.fault.RuleError.{RuleError}
-use Rattle.match_rule.specs.declared.fault.RuleError.TheVariants.{TooLong, UnknownKey, KeyTwice, BadValue, Unquoted, PathTwice, NoMemory}
-use Rattle.match_rule.specs.declared.key.Key.{Key}
+use Rattle.match_key.specs.declared.fault.RuleError.{RuleError}
+use Rattle.match_key.specs.declared.fault.RuleError.TheVariants.{TooLong, UnknownKey, KeyTwice, BadValue, Unquoted, PathTwice, NoMemory}
+use Rattle.match_key.specs.declared.key.Key.{Key}
 use Rattle.match_rule.specs.declared.quoting.Quoting.{Quoting}
 use Rattle.match_rule.specs.declared.quoting.Quoting.TheVariants.{Outside, Inside, Escaped}
 use Rattle.match_rule.specs.declared.quoting.Step.{Step}
 use Rattle.match_rule.specs.declared.quoting.Step.TheVariants.{End, Skip, Take}
 use Rattle.match_rule.specs.declared.term.Term.{Term}
-use Rattle.match_rule.specs.Key.{key_named}
+use Rattle.match_key.specs.Key.{key_named}
 use Rattle.match_rule.specs.Condition.{term_with, has_key, has_path}
 use Rattle.match_rule.specs.RuleTree.{RuleTree}
 use Rattle.match_rule.specs.Grammar.{is_blank, apostrophe, backslash, comma, equals, max_len, rule_with}

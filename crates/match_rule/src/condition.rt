@@ -4,11 +4,8 @@ ghost use Rattle.std.specs.Prelude.{◌≡◌};
 ghost use Rattle.match_rule.specs.Condition.{key_of, value_of};
 ghost use Rattle.match_rule.specs.RuleTree.{are_among};
 
-use crate::key::Key;
-use crate::kind_name::KindName;
-use crate::relation::Relation;
-use crate::source::Source;
 use crate::text::Text;
+use match_key::{Key, KindName, Relation, Source};
 
 /// One thing that a rule asks of a message: a kind, a sender, or that the text at a source stands in a relation to a
 /// value (D-Bus Specification, "Match Rules").

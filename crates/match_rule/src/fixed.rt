@@ -4,10 +4,8 @@ ghost use Rattle.std.specs.Prelude.{◌≡◌, option_map};
 ghost use Rattle.match_rule.specs.FixedTexts.{value_in, first_text, member_asked, interface_asked, path_asked, arg0_asked};
 
 use crate::condition::Condition;
-use crate::key::Key;
-use crate::relation::Relation;
 use crate::rule::Rule;
-use crate::source::{Field, Source};
+use match_key::{Field, Key, Relation, Source};
 
 /// The value of the first condition with a key.
 pub(crate) fn first_value(conditions: &[Condition], key: Key) -> Option<&str>

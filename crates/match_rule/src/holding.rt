@@ -11,9 +11,8 @@ ghost use Rattle.match_rule.specs.Holds.{Relates, field_of, is_compared, compare
 
 use crate::condition::Condition;
 use crate::namespace::{are_nested, is_in_namespace, is_in_path_namespace};
-use crate::relation::Relation;
 use crate::sender::is_owned_name;
-use crate::source::{Field, Source};
+use match_key::{Field, Relation, Source};
 use message_view::{Arg, View};
 
 /// An argument that is a text: the code of its type, and its characters.

@@ -5,12 +5,11 @@ ghost use Rattle.match_rule.specs.declared.quoting.Quoting.TheVariants.{Outside}
 ghost use Rattle.match_rule.specs.Reading.{Gives, key_at, part_at, value_from};
 ghost use Rattle.match_rule.specs.Parts.{terms_of, rule_of, tree_at};
 
-use crate::fault::RuleError;
-use crate::key::Key;
 use crate::parts::Parts;
 use crate::quoting::{Quoting, Step};
 use crate::term::{Term, term_with};
 use crate::word::{after_blanks, begins_with_apostrophe, word_at};
+use match_key::{Key, RuleError};
 use std::alloc::Global;
 
 /// A known key, and what follows its `=`.

@@ -2,16 +2,15 @@
 
 ghost use Rattle.std.specs.Prelude.{◌≡◌, OnOk, IfErr, None, []};
 ghost use Rattle.std.specs.List.{list_any};
-ghost use Rattle.match_rule.specs.declared.fault.RuleError.TheVariants.{NoMemory};
-ghost use Rattle.match_rule.specs.Key.{is_twice, is_path_twice};
+ghost use Rattle.match_key.specs.declared.fault.RuleError.TheVariants.{NoMemory};
+ghost use Rattle.match_key.specs.Key.{is_twice, is_path_twice};
 ghost use Rattle.match_rule.specs.Condition.{key_of, has_key, has_path};
 ghost use Rattle.match_rule.specs.Reading.{own_key};
 ghost use Rattle.match_rule.specs.Parts.{terms_of, conditions_with, eavesdrop_with};
 
 use crate::condition::Condition;
-use crate::fault::RuleError;
-use crate::key::Key;
 use crate::term::Term;
+use match_key::{Key, RuleError};
 use std::alloc::Global;
 
 /// The conditions so far, and what a part said of eavesdropping.

@@ -7,9 +7,9 @@ ghost use Rattle.match_rule.specs.Holds.{Holds};
 ghost use Rattle.match_rule.specs.PathNamespaces.{namespace_asked, HasPathIn, IsElsewhere};
 
 use crate::fixed::first_value;
-use crate::key::Key;
 use crate::namespace::is_in_path_namespace;
 use crate::rule::Rule;
+use match_key::Key;
 
 impl Rule {
     /// The path namespace that the rule asks for, if it asks for one.

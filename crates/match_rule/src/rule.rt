@@ -1,11 +1,11 @@
 // Rules.
 
 use crate::condition::{Condition, are_among};
-use crate::fault::RuleError;
 use crate::holding::{all_hold, is_offered};
 use crate::part::parts_at;
 use crate::sender::first_owned_name;
 use crate::weight::weight_of;
+use match_key::RuleError;
 use message_view::View;
 use std::alloc::Global;
 use std::marker::Model;
@@ -38,7 +38,7 @@ impl Rule {
     ghost use Rattle.message_value.specs.Words.{AreBytes};
     ghost use Rattle.message_view.specs.Message.{Message};
     ghost use Rattle.message_view.specs.Valid.{Valid};
-    ghost use Rattle.match_rule.specs.declared.fault.RuleError.TheVariants.{NoMemory};
+    ghost use Rattle.match_key.specs.declared.fault.RuleError.TheVariants.{NoMemory};
     ghost use Rattle.match_rule.specs.RuleTree.{RuleTree, sender_name_of, weight_of};
     ghost use Rattle.match_rule.specs.Parts.{has_one_sender};
     ghost use Rattle.match_rule.specs.Holds.{Holds, Agrees};

@@ -2,17 +2,13 @@
 
 ghost use Rattle.std.specs.Prelude.{◌≡◌};
 ghost use Rattle.std.specs.String.{string_bytes};
-ghost use Rattle.match_rule.specs.declared.fault.RuleError.TheVariants.{BadValue};
+ghost use Rattle.match_key.specs.declared.fault.RuleError.TheVariants.{BadValue};
 ghost use Rattle.match_rule.specs.Condition.{flag_named, is_field_value, is_arg_value, is_value, asks_if, term_of, term_with};
 ghost use Rattle.match_rule.specs.Reading.{Gives, or_fault};
 
 use crate::condition::Condition;
-use crate::fault::RuleError;
-use crate::key::Key;
-use crate::kind_name::KindName;
-use crate::relation::Relation;
-use crate::source::{Field, Source};
 use crate::text::Text;
+use match_key::{Field, Key, KindName, Relation, RuleError, Source};
 use signature::{check_bus_name, check_interface, check_member, check_namespace, check_path};
 
 /// A condition, or whether the rule eavesdrops.

@@ -4,7 +4,7 @@ ghost use Rattle.std.specs.Prelude.{◌≡◌, ◌+◌, ◌≤◌, sum_by};
 ghost use Rattle.match_rule.specs.RuleTree.{slashes, relation_weight, condition_weight};
 
 use crate::condition::Condition;
-use crate::relation::Relation;
+use match_key::Relation;
 
 /// How many `/` a text has.
 fn slashes(text: &str) -> u64

@@ -6,8 +6,8 @@ use Rattle.bpf_code.specs.declared.instruction.Ins.{Ins}
 use Rattle.bpf_code.specs.declared.operation.Test.TheVariants.{Equal}
 use Rattle.bpf_code.specs.Loads.{load_word}
 use Rattle.message_value.specs.Arguments.{Argument}
-use Rattle.match_rule.specs.declared.relation.Relation.{Relation}
-use Rattle.match_rule.specs.declared.relation.Relation.TheVariants as relations
+use Rattle.match_key.specs.declared.relation.Relation.{Relation}
+use Rattle.match_key.specs.declared.relation.Relation.TheVariants as relations
 use Rattle.match_rule.specs.Arguments.{text_in}
 use Rattle.match_rule.specs.Holds.{is_compared, compared_text}
 use Rattle.summary.specs.Shown.{Tells, ShowsArgument}
@@ -15,7 +15,8 @@ use Rattle.rule_compile.specs.Code.{image_word, want, settle}
 use Rattle.rule_compile.specs.RuleCode.{argument_at, has_type, has_text_type, type_code}
 use Rattle.rule_compile.proofs.Pieces.{Any, Tests}
 use Rattle.rule_compile.proofs.Runs.{runs_image_word, runs_want, stops_want, runs_settle, stays_settle}
-use Rattle.rule_compile.proofs.Combined.{Extends, extends_more, extends_then, extends_want, extends_settle, guards, tests_same, tests_then, tests_word}
+use Rattle.rule_compile.proofs.Combined.{Extends, extends_more, extends_want, extends_settle, guards, tests_same, tests_word}
+use Rattle.rule_compile.proofs.InTurn.{InTurn, turn_same, turn_after}
 use Rattle.rule_compile.proofs.TextArguments.{IsText}
 
 -- ---- the type
@@ -65,10 +66,6 @@ compared_is_text : (relation : Relation) (code : ℕ) → is_compared relation c
 compared_is_text relations.NestedPath code e = (compared_text_type code).1 e
 compared_is_text _ code e = inl (eqb-true code 115 e)
 
-extends_type : (relation : Relation) (n : ℕ) → Extends (type_code relation n)
-extends_type relations.NestedPath n = extends_has_text_type n
-extends_type _ n = extends_has_type n 115
-
 tests_type : (relation : Relation) (image : List ℕ) (n w : ℕ) → load_word image (argument_at n) ≡ Some w → Tests image Any (is_compared relation w ≡ true) (type_code relation n)
 tests_type relations.NestedPath image n w is = tests_same image Any _ _ (has_text_type n) (compared_text_type w) (tests_has_text_type image n w is)
 tests_type _ image n w is = tests_word image Any (argument_at n) w Equal 115 is
@@ -91,17 +88,14 @@ not_compared : (relation : Relation) → is_compared relation 0 ≡ true → ⊥
 not_compared relation e = elim (compared_is_text relation 0 e) [ inl is ↦ omega arith | inr is ↦ omega arith ]
 
 -- an argument is there and has a text that the relation compares, of which something holds
-pub tests_argument : (image : List ℕ) (n : ℕ) (relation : Relation) (o : Option Argument) (Q : List ℕ → Type 0) (f : List Ins → List Ins) → ShowsArgument image (argument_at n) o → ((a : Argument) → o ≡ Some a → IsText a.code → (t : List ℕ) × (a.text ≡ Some t)) → Extends f → ((t : List ℕ) → Tells image (argument_at n + 4) t → Tests image Any (Q t) f) → Tests image Any (IsSomeAnd (compared_text relation (text_in o)) Q) (λ rest. type_code relation n (f rest))
-tests_argument image n relation None Q f shows has extends tail =
-    tests_same image Any _ _ (λ rest. type_code relation n (f rest)) (λ both. both.1, λ none. absurd none) (tests_then image Any (is_compared relation 0 ≡ true) ⊥ (type_code relation n) f (tests_type relation image n 0 shows) extends (λ c. absurd (not_compared relation c)))
-tests_argument image n relation (Some a) Q f shows has extends tail =
-    tests_same image Any _ _ (λ rest. type_code relation n (f rest)) (compared_argument relation a Q)
-    (tests_then image Any (is_compared relation a.code ≡ true) (IsSomeAnd a.text Q) (type_code relation n) f (tests_type relation image n a.code shows.0) extends (λ c.
+pub turn_argument : (image : List ℕ) (n : ℕ) (relation : Relation) (o : Option Argument) (Q : List ℕ → Type 0) (f g : List Ins → List Ins) → ShowsArgument image (argument_at n) o → ((a : Argument) → o ≡ Some a → IsText a.code → (t : List ℕ) × (a.text ≡ Some t)) → Extends f → Extends g → ((t : List ℕ) → Tells image (argument_at n + 4) t → InTurn image (Q t) f g) → InTurn image (IsSomeAnd (compared_text relation (text_in o)) Q) (λ rest. type_code relation n (f rest)) g
+turn_argument image n relation None Q f g shows has extends_f extends_g tail =
+    turn_same image _ _ (λ rest. type_code relation n (f rest)) g (λ both. both.1, λ none. absurd none) (turn_after image (is_compared relation 0 ≡ true) ⊥ (type_code relation n) f g (tests_type relation image n 0 shows) extends_f extends_g (λ c. absurd (not_compared relation c)))
+turn_argument image n relation (Some a) Q f g shows has extends_f extends_g tail =
+    turn_same image _ _ (λ rest. type_code relation n (f rest)) g (compared_argument relation a Q)
+    (turn_after image (is_compared relation a.code ≡ true) (IsSomeAnd a.text Q) (type_code relation n) f g (tests_type relation image n a.code shows.0) extends_f extends_g (λ c.
     let t = has a refl (compared_is_text relation a.code c) in
-    tests_same image Any (Q t.0) (IsSomeAnd a.text Q) f (
+    turn_same image (Q t.0) (IsSomeAnd a.text Q) f g (
       λ q. subst (λ (o : Option (List ℕ)). IsSomeAnd o Q) (sym t.1) q,
       λ q. subst (λ (o : Option (List ℕ)). IsSomeAnd o Q) t.1 q,
     ) (tail t.0 (subst (λ (o : Option (List ℕ)). IfSome o (Tells image (argument_at n + 4))) t.1 shows.1))))
-
-pub extends_argument : (relation : Relation) (n : ℕ) (f : List Ins → List Ins) → Extends f → Extends (λ rest. type_code relation n (f rest))
-extends_argument relation n f extends = extends_then (type_code relation n) f (extends_type relation n) extends

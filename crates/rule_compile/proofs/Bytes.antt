@@ -1,15 +1,15 @@
 -- The bytes of a text that lies in an image, and the piece that compares them.
-use Rattle.std.proofs.Common.{◌≡◌, ℕ, suc, ◌+◌, ◌*◌, ◌<◌, ◌≤◌, List, [], ◌∷◌, ◌++◌, length, drop, Some, ◌↔◌, refl, sym, ap, ◌∙◌, arith, subst, slice_index}
-use Rattle.std.proofs.lemmas.Bool.{eqb-true, eq-eqb, le-leb}
-use Rattle.std.proofs.lemmas.List.{length-append, get_or-append-add, get_or_append_left, drop_more}
+use Rattle.std.proofs.Common.{◌≡◌, ℕ, zero, suc, ◌+◌, ◌-◌, ◌*◌, ◌/◌, ◌<◌, ◌≤◌, inl, inr, List, [], ◌∷◌, ◌++◌, length, drop, Some, ◌↔◌, refl, sym, ap, ◌∙◌, arith, subst, slice_index}
+use Rattle.std.proofs.lemmas.Bool.{eqb-true, eq-eqb, le-leb, cases_lt}
+use Rattle.std.proofs.lemmas.List.{length-append, get_or-append-add, get_or_append_left, get_or-drop, drop_more}
 use Rattle.bpf_code.specs.declared.operation.Width.{Width}
 use Rattle.bpf_code.specs.declared.operation.Width.TheVariants.{Word, Half, Byte}
 use Rattle.bpf_code.specs.declared.operation.Test.TheVariants.{Equal}
 use Rattle.bpf_code.specs.Loads.{load_byte, load_half, load_word}
 use Rattle.summary.specs.Shown.{Lies, AreBytes}
-use Rattle.rule_compile.specs.Code.{indexed, want, two, four, same_bytes}
+use Rattle.rule_compile.specs.Code.{indexed, want, two, four, same_word, same_words, same_bytes}
 use Rattle.rule_compile.proofs.Pieces.{Tests}
-use Rattle.rule_compile.proofs.Combined.{Extends, extends_none, extends_more, extends_then, extends_want, tests_none, tests_same, tests_then, tests_indexed}
+use Rattle.rule_compile.proofs.Combined.{Extends, extends_none, extends_more, extends_then, extends_want, tests_none, tests_same, tests_then, tests_both, tests_indexed}
 
 -- ---- where a text lies
 
@@ -90,16 +90,20 @@ abbrev AreFour : List ℕ → ℕ → ℕ → ℕ → ℕ → ℕ → Type 0
 AreFour text at a b c d =
     (slice_index text at ≡ a) × (slice_index text (at + 1) ≡ b) × (slice_index text (at + 2) ≡ c) × (slice_index text (at + 3) ≡ d)
 
-stands_four : (text : List ℕ) (at a b c d : ℕ) (more : List ℕ) → at + 4 ≤ length text → (AreFour text at a b c d × Stands text (at + 4) more) ↔ Stands text at (a ∷ b ∷ c ∷ d ∷ more)
-stands_four text at a b c d more inside =
-    let first = stands_two text at a b (c ∷ d ∷ more) (omega arith) in
-    let second = stands_two text (at + 2) c d more (omega arith) in
-    let e : at + 2 + 2 ≡ at + 4 = omega arith in
-    let f : at + 2 + 1 ≡ at + 3 = omega arith in
-    let there : slice_index text (at + 2 + 1) ≡ slice_index text (at + 3) = ap (λ (p : ℕ). slice_index text p) f in (
-      λ both. first.0 ((both.0.0, both.0.1), second.0 ((both.0.2, there ∙ both.0.3), stands_on text (at + 4) (at + 2 + 2) more (sym e) both.1)),
-      λ stands. let x = first.1 stands in let y = second.1 x.1 in ((x.0.0, x.0.1, y.0.0, sym there ∙ y.0.1), stands_on text (at + 2 + 2) (at + 4) more e y.1),
-    )
+-- the bytes of a text from `at` on are those of a value, in a range of the value's places
+abbrev Agree : List ℕ → ℕ → List ℕ → ℕ → ℕ → Type 0
+Agree text at value from to = (i : ℕ) → from ≤ i → i < to → slice_index text (at + i) ≡ slice_index value i
+
+stands_agree : (text : List ℕ) (at : ℕ) (value : List ℕ) → Stands text at value → Agree text at value 0 (length value)
+stands_agree text at value (rest, is) i low high =
+    sym (get_or-drop at text i 0) ∙ ap (λ (bytes : List ℕ). slice_index bytes i) is ∙ get_or_append_left value rest 0 i high
+
+agree_stands : (text : List ℕ) (at : ℕ) (value : List ℕ) → at + length value ≤ length text → Agree text at value 0 (length value) → Stands text at value
+agree_stands text at [] inside agree = stands_none text at
+agree_stands text at (a ∷ more) inside agree =
+    let e : at + 0 ≡ at = omega arith in
+    let next : Agree text (at + 1) more 0 (length more) = (λ i low high. let f : at + 1 + i ≡ at + suc i = omega arith in ap (slice_index text) f ∙ agree (suc i) (omega arith) (omega (arith, high))) in
+    (stands_more text at a more (omega (arith, inside))).0 (ap (slice_index text) (sym e) ∙ agree 0 (omega arith) (omega arith), agree_stands text (at + 1) more (omega (arith, inside)) next)
 
 -- ---- bytes as numbers
 
@@ -142,6 +146,78 @@ tests_four image place text at a b c d lies are small_b small_c small_d inside =
       λ each. eq-eqb w (four a b c d) (rw (each.0, each.1, each.2, each.3) refl),
     ) (tests_indexed image place Word at w Equal (four a b c d) (loads_word image place text at lies inside))
 
+-- ---- the words of a value
+
+-- a word of a text is that of a value
+abbrev SameWord : List ℕ → ℕ → List ℕ → ℕ → Type 0
+SameWord text at value i =
+    AreFour text (at + i) (slice_index value i) (slice_index value (i + 1)) (slice_index value (i + 2)) (slice_index value (i + 3))
+
+extends_word : (at : ℕ) (value : List ℕ) (i : ℕ) → Extends (same_word at value i)
+extends_word at value i =
+    extends_indexed Word (at + i) (four (slice_index value i) (slice_index value (i + 1)) (slice_index value (i + 2)) (slice_index value (i + 3)))
+
+tests_same_word : (image : List ℕ) (place : ℕ) (text : List ℕ) (at : ℕ) (value : List ℕ) (i : ℕ) → Lies image place text → AreBytes text → AreBytes value → at + i + 4 ≤ length text → Tests image (At place) (SameWord text at value i) (same_word at value i)
+tests_same_word image place text at value i lies are bytes inside =
+    tests_four image place text (at + i) (slice_index value i) (slice_index value (i + 1)) (slice_index value (i + 2)) (slice_index value (i + 3)) lies are (bytes (i + 1)) (bytes (i + 2)) (bytes (i + 3)) inside
+
+word_agrees : (text : List ℕ) (at : ℕ) (value : List ℕ) (i : ℕ) → SameWord text at value i → Agree text at value i (i + 4)
+word_agrees text at value i same k low high = go (k - i) (omega arith)
+  where
+    shown : (d : ℕ) → k ≡ i + d → slice_index text (at + i + d) ≡ slice_index value (i + d) → slice_index text (at + k) ≡ slice_index value k
+    shown d e is =
+        let f : at + k ≡ at + i + d = omega arith in
+        ap (slice_index text) f ∙ is ∙ ap (slice_index value) (sym e)
+
+    go : (d : ℕ) → k ≡ i + d → slice_index text (at + k) ≡ slice_index value k
+    go zero e =
+        let f : at + i + 0 ≡ at + i = omega arith in
+        let g : i ≡ i + 0 = omega arith in
+        shown 0 e (ap (slice_index text) f ∙ same.0 ∙ ap (slice_index value) g)
+    go (suc zero) e = shown 1 e same.1
+    go (suc (suc zero)) e = shown 2 e same.2
+    go (suc (suc (suc zero))) e = shown 3 e same.3
+    go (suc (suc (suc (suc d)))) e = absurd (omega (arith, e, high))
+
+agree_word : (text : List ℕ) (at : ℕ) (value : List ℕ) (i : ℕ) → Agree text at value i (i + 4) → SameWord text at value i
+agree_word text at value i agree = (
+  agree i (omega arith) (omega arith),
+  there 1 (omega arith),
+  there 2 (omega arith),
+  there 3 (omega arith),
+)
+  where
+    there : (d : ℕ) → d < 4 → slice_index text (at + i + d) ≡ slice_index value (i + d)
+    there d small =
+        let e : at + i + d ≡ at + (i + d) = omega arith in
+        ap (slice_index text) e ∙ agree (i + d) (omega arith) (omega arith)
+
+pub extends_words : (at : ℕ) (value : List ℕ) (n : ℕ) → Extends (same_words at value n)
+extends_words at value zero = extends_none
+extends_words at value (suc n) =
+    extends_then (same_words at value n) (same_word at value (4 * n)) (extends_words at value n) (extends_word at value (4 * n))
+
+-- one word more
+agree_more : (text : List ℕ) (at : ℕ) (value : List ℕ) (from middle to : ℕ) → from ≤ middle → middle ≤ to → (Agree text at value from middle × Agree text at value middle to) ↔ Agree text at value from to
+agree_more text at value from middle to low high = (
+  λ both i above below. elim (cases_lt i middle) [
+    | inl less ↦ both.0 i above less
+    | inr more ↦ both.1 i more below
+  ],
+  λ all. (λ i above below. all i above (omega arith), λ i above below. all i (omega arith) below),
+)
+
+tests_same_words : (image : List ℕ) (place : ℕ) (text : List ℕ) (at : ℕ) (value : List ℕ) (n : ℕ) → Lies image place text → AreBytes text → AreBytes value → at + 4 * n ≤ length text → Tests image (At place) (Agree text at value 0 (4 * n)) (same_words at value n)
+tests_same_words image place text at value zero lies are bytes inside =
+    tests_none image (At place) (Agree text at value 0 (4 * zero)) (λ i low high. absurd (omega (arith, high)))
+tests_same_words image place text at value (suc n) lies are bytes inside =
+    let front : Agree text at value 0 (4 * n) × Agree text at value (4 * n) (4 * suc n) ↔ Agree text at value 0 (4 * suc n) = agree_more text at value 0 (4 * n) (4 * suc n) (omega arith) (omega arith) in
+    let e : 4 * n + 4 ≡ 4 * suc n = omega arith in
+    tests_same image (At place) _ _ (same_words at value (suc n)) (
+      λ both. front.0 (both.0, subst (λ (to : ℕ). Agree text at value (4 * n) to) e (word_agrees text at value (4 * n) both.1)),
+      λ all. let parts = front.1 all in (parts.0, agree_word text at value (4 * n) (subst (λ (to : ℕ). Agree text at value (4 * n) to) (sym e) parts.1)),
+    ) (tests_both image (At place) _ _ (same_words at value n) (same_word at value (4 * n)) (tests_same_words image place text at value n lies are bytes (omega (arith, inside))) (tests_same_word image place text at value (4 * n) lies are bytes (omega (arith, inside))))
+
 -- ---- the piece that compares all bytes of a value
 
 pub extends_same_bytes : (at : ℕ) (value : List ℕ) → Extends (same_bytes at value)
@@ -151,7 +227,19 @@ extends_same_bytes at (a ∷ b ∷ []) = extends_indexed Half at (two a b)
 extends_same_bytes at (a ∷ b ∷ c ∷ []) =
     extends_then (λ rest. indexed Half at ∷ want Equal (two a b) rest) (λ rest. indexed Byte (at + 2) ∷ want Equal c rest) (extends_indexed Half at (two a b)) (extends_indexed Byte (at + 2) c)
 extends_same_bytes at (a ∷ b ∷ c ∷ d ∷ more) =
-    extends_then (λ rest. indexed Word at ∷ want Equal (four a b c d) rest) (same_bytes (at + 4) more) (extends_indexed Word at (four a b c d)) (extends_same_bytes (at + 4) more)
+    let value = a ∷ b ∷ c ∷ d ∷ more in
+    extends_then (same_word at value (length more)) (same_words at value ((length more + 3) / 4)) (extends_word at value (length more)) (extends_words at value ((length more + 3) / 4))
+
+-- the last four bytes of a value, and words that have those before
+tests_many : (image : List ℕ) (place : ℕ) (text : List ℕ) (at : ℕ) (value : List ℕ) (last n : ℕ) → Lies image place text → AreBytes text → AreBytes value → last + 4 ≡ length value → last ≤ 4 * n → 4 * n ≤ length value → at + length value ≤ length text → Tests image (At place) (Stands text at value) (λ rest. same_word at value last (same_words at value n rest))
+tests_many image place text at value last n lies are bytes is enough few inside =
+    tests_same image (At place) (SameWord text at value last × Agree text at value 0 (4 * n)) (Stands text at value) (λ rest. same_word at value last (same_words at value n rest)) (
+      λ both. agree_stands text at value inside (λ i low high. elim (cases_lt i (4 * n)) [
+        | inl less ↦ both.1 i low less
+        | inr more ↦ word_agrees text at value last both.0 i (omega arith) (omega arith)
+      ]),
+      λ stands. let all = stands_agree text at value stands in (agree_word text at value last (λ i low high. all i (omega arith) (omega arith)), λ i low high. all i low (omega arith)),
+    ) (tests_both image (At place) (SameWord text at value last) (Agree text at value 0 (4 * n)) (same_word at value last) (same_words at value n) (tests_same_word image place text at value last lies are bytes (omega arith)) (tests_same_words image place text at value n lies are bytes (omega arith)))
 
 -- The bytes of a text that lies where X points to are those of a value, from a place of the text on.
 pub tests_same_bytes : (image : List ℕ) (place : ℕ) (text : List ℕ) (at : ℕ) (value : List ℕ) → Lies image place text → AreBytes text → AreBytes value → at + length value ≤ length text → Tests image (λ x. x ≡ place) ((rest : List ℕ) × (drop at text ≡ value ++ rest)) (same_bytes at value)
@@ -171,4 +259,4 @@ tests_same_bytes image place text at (a ∷ b ∷ c ∷ []) lies are bytes insid
       λ stands. let x = same.1 stands in (x.0, (last.1 x.1).0),
     ) (tests_then image (At place) _ _ (λ rest. indexed Half at ∷ want Equal (two a b) rest) (λ rest. indexed Byte (at + 2) ∷ want Equal c rest) (tests_two image place text at a b lies are (bytes 1) (omega arith)) (extends_indexed Byte (at + 2) c) (λ _. tests_byte image place text (at + 2) c lies (omega arith)))
 tests_same_bytes image place text at (a ∷ b ∷ c ∷ d ∷ more) lies are bytes inside =
-    tests_same image (At place) _ _ (same_bytes at (a ∷ b ∷ c ∷ d ∷ more)) (stands_four text at a b c d more (omega arith)) (tests_then image (At place) _ _ (λ rest. indexed Word at ∷ want Equal (four a b c d) rest) (same_bytes (at + 4) more) (tests_four image place text at a b c d lies are (bytes 1) (bytes 2) (bytes 3) (omega arith)) (extends_same_bytes (at + 4) more) (λ _. tests_same_bytes image place text (at + 4) more lies are (λ i. bytes (suc (suc (suc (suc i))))) (omega arith)))
+    tests_many image place text at (a ∷ b ∷ c ∷ d ∷ more) (length more) ((length more + 3) / 4) lies are bytes (omega arith) (omega arith) (omega arith) inside

@@ -1,12 +1,12 @@
 -- What the code of a condition does: it tests whether the condition holds.
-use Rattle.std.proofs.Common.{◌≡◌, ℕ, zero, suc, ◌+◌, ◌*◌, ◌/◌, ◌%◌, ◌^◌, ◌<◌, Bool, true, false, not, List, [], ◌∷◌, ◌++◌, eqb, Option, Some, None, ◌⊎◌, ◌↔◌, inl, inr, refl, sym, ap, ◌∙◌, arith, subst, slice_get, slice_index, MatchBool, if◌then◌else◌, bytes_eq}
+use Rattle.std.proofs.Common.{◌≡◌, ℕ, zero, suc, ◌+◌, ◌*◌, ◌/◌, ◌%◌, ◌^◌, ◌<◌, Bool, true, false, not, List, [], ◌∷◌, ◌++◌, length, eqb, Option, Some, None, ◌⊎◌, ◌↔◌, inl, inr, refl, sym, ap, ◌∙◌, arith, subst, slice_get, slice_index, MatchBool, if◌then◌else◌, bytes_eq}
 use Rattle.std.specs.Prelude.{IsSomeAnd}
 use Rattle.std.specs.Int.{bit_at}
 use Rattle.std.proofs.lemmas.Bool.{false≢true, eqb-true, eq-eqb, ne_eqb, leb-true}
 use Rattle.std.proofs.lemmas.Nat.{pow_pos}
 use Rattle.std.proofs.lemmas.Nat.Bits.{and_pow, bit_at-lt}
 use Rattle.std.proofs.lemmas.Slice.Eq.{bytes_eq-Decides}
-use Rattle.bpf_code.specs.declared.operation.Test.TheVariants.{Equal, SharesBit}
+use Rattle.bpf_code.specs.declared.operation.Test.TheVariants.{Equal, AtLeast, SharesBit}
 use Rattle.bpf_code.specs.declared.instruction.Ins.{Ins}
 use Rattle.bpf_code.specs.Loads.{load_word}
 use Rattle.bpf_code.specs.Effects.{passes}
@@ -15,31 +15,33 @@ use Rattle.message_view.specs.Header.{kind_byte, kind_of}
 use Rattle.message_view.specs.Message.{Message, sender_of}
 use Rattle.message_view.specs.Spelling.{arguments_of}
 use Rattle.message_view.specs.Valid.{Valid}
-use Rattle.match_rule.specs.declared.kind_name.KindName.{KindName}
-use Rattle.match_rule.specs.declared.kind_name.KindName.TheVariants.{Signal, MethodCall, MethodReturn, Error}
-use Rattle.match_rule.specs.declared.source.Field.{Field}
-use Rattle.match_rule.specs.declared.source.Field.TheVariants.{Interface, Member, Path, Destination}
-use Rattle.match_rule.specs.declared.source.Source.TheVariants.{Header, Arg}
-use Rattle.match_rule.specs.declared.relation.Relation.{Relation}
-use Rattle.match_rule.specs.declared.relation.Relation.TheVariants as relations
+use Rattle.match_key.specs.declared.kind_name.KindName.{KindName}
+use Rattle.match_key.specs.declared.kind_name.KindName.TheVariants.{Signal, MethodCall, MethodReturn, Error}
+use Rattle.match_key.specs.declared.source.Field.{Field}
+use Rattle.match_key.specs.declared.source.Field.TheVariants.{Interface, Member, Path, Destination}
+use Rattle.match_key.specs.declared.source.Source.TheVariants.{Header, Arg}
+use Rattle.match_key.specs.declared.relation.Relation.{Relation}
+use Rattle.match_key.specs.declared.relation.Relation.TheVariants as relations
 use Rattle.match_rule.specs.declared.condition.Condition.{Condition}
 use Rattle.match_rule.specs.declared.condition.Condition.TheVariants.{Kind, Sender, Compares}
-use Rattle.match_rule.specs.Condition.{kind_meant, value_of}
+use Rattle.match_key.specs.Kinds.{kind_meant}
+use Rattle.match_rule.specs.Condition.{value_of}
 use Rattle.match_rule.specs.Holds.{Begins, InPathNamespace, InNamespace, AreNested, Relates, field_of, ConditionHolds}
 use Rattle.match_rule.specs.Parts.{has_small_number}
 use Rattle.match_rule.specs.RuleTree.{is_owned_name}
 use Rattle.summary.specs.declared.edition.Edition.TheVariants.{Two}
 use Rattle.summary.specs.Sets.{has_slot}
 use Rattle.summary.specs.Shown.{AreBytes, Tells, ShowsText, Shows}
-use Rattle.rule_compile.specs.Code.{image_word, want, is_there, is_text, in_namespace}
+use Rattle.rule_compile.specs.Code.{image_word, want, is_there, has_text_len, has_bytes, in_namespace}
 use Rattle.rule_compile.specs.Folders.{is_nested}
-use Rattle.rule_compile.specs.RuleCode.{argument_at, field_at, owns, relation_code, there_code, condition_code}
+use Rattle.rule_compile.specs.RuleCode.{argument_at, field_at, owns, relation_len, relation_bytes, there_code, condition_words, condition_bytes}
 use Rattle.rule_compile.proofs.Pieces.{Any, Tests}
-use Rattle.rule_compile.proofs.Combined.{Extends, extends_none, extends_more, extends_then, extends_want, tests_none, tests_same, tests_then, tests_word}
-use Rattle.rule_compile.proofs.Texts.{extends_is_there, tests_is_there, extends_is_text, tests_is_text, extends_in_namespace, tests_in_namespace}
+use Rattle.rule_compile.proofs.Combined.{Extends, extends_none, tests_none, tests_same, tests_word}
+use Rattle.rule_compile.proofs.InTurn.{InTurn, turn_first, turn_second, turn_then, turn_same, turn_one}
+use Rattle.rule_compile.proofs.Texts.{extends_is_there, tests_is_there, extends_text_len, extends_bytes, turn_is_text, extends_in_namespace, turn_in_namespace}
 use Rattle.rule_compile.proofs.TextArguments.{argument_has_text}
 use Rattle.rule_compile.proofs.NestedPaths.{extends_is_nested, is_nested_tests}
-use Rattle.rule_compile.proofs.Arguments.{tests_argument, extends_argument}
+use Rattle.rule_compile.proofs.Arguments.{turn_argument}
 
 -- ---- the kind
 
@@ -73,15 +75,11 @@ tests_owns image slots slot owned is agrees =
     let shares : passes SharesBit word (2 ^ (slot % 32)) ≡ owned = ap (λ (n : ℕ). not (eqb n 0)) (and_pow word (slot % 32)) ∙ bit_shared (bit_at word (slot % 32)) (2 ^ (slot % 32)) (bit_at-lt word (slot % 32)) (pow_pos (slot % 32)) ∙ sym agrees in
     tests_same image Any _ _ (owns slot) (λ e. sym shares ∙ e, λ e. shares ∙ e) (tests_word image Any (840 + 4 * (slot / 32)) word SharesBit (2 ^ (slot % 32)) is)
 
-extends_owns : (slot : ℕ) → Extends (owns slot)
-extends_owns slot =
-    extends_more (want SharesBit (2 ^ (slot % 32))) (λ _. image_word (840 + 4 * (slot / 32))) (extends_want SharesBit (2 ^ (slot % 32)))
-
-tests_sender : (image : List ℕ) (slots : List ℕ) (slot : ℕ) (name : List ℕ) (sender : Option (List ℕ)) (is_owned owned : Bool) → load_word image (840 + 4 * (slot / 32)) ≡ Some (slice_index slots (slot / 32)) → ShowsText image 64 sender → AreBytes name → (is_owned ≡ true → owned ≡ has_slot slots slot) → Tests image Any (MatchBool is_owned (owned ≡ true) (sender ≡ Some name)) (λ rest. if is_owned then owns slot rest else is_text 64 name rest)
-tests_sender image slots slot name sender true owned word shows bytes agrees =
-    tests_owns image slots slot owned word (agrees refl)
-tests_sender image slots slot name sender false owned word shows bytes agrees =
-    tests_is_text image 64 sender name shows bytes
+turn_sender : (image : List ℕ) (slots : List ℕ) (slot : ℕ) (name : List ℕ) (sender : Option (List ℕ)) (is_owned owned : Bool) → load_word image (840 + 4 * (slot / 32)) ≡ Some (slice_index slots (slot / 32)) → ShowsText image 64 sender → AreBytes name → (is_owned ≡ true → owned ≡ has_slot slots slot) → InTurn image (MatchBool is_owned (owned ≡ true) (sender ≡ Some name)) (λ rest. if is_owned then owns slot rest else has_text_len Equal (length name) 64 rest) (λ rest. if is_owned then rest else has_bytes 64 name rest)
+turn_sender image slots slot name sender true owned word shows bytes agrees =
+    turn_first image (owned ≡ true) (owns slot) (tests_owns image slots slot owned word (agrees refl))
+turn_sender image slots slot name sender false owned word shows bytes agrees =
+    turn_is_text image 64 sender name shows bytes
 
 -- ---- a text that stands in a relation to a value
 
@@ -97,14 +95,15 @@ equal_shown None value = (λ e. absurd cc, λ none. absurd none)
 equal_shown (Some text) value = (λ e. same_text text value e, λ e. ap (λ (x : List ℕ). Some x) e)
 
 -- a text that has to be there, and is tested then
-tests_if_there : (image : List ℕ) (at : ℕ) (shown : Option (List ℕ)) (Q : List ℕ → Type 0) (f : List Ins → List Ins) → ShowsText image at shown → Extends f → ((text : List ℕ) → Tells image at text → Tests image Any (Q text) f) → Tests image Any (IsSomeAnd shown Q) (λ rest. is_there at (f rest))
-tests_if_there image at None Q f shows extends tail =
-    tests_same image Any _ _ (λ rest. is_there at (f rest)) (λ both. both.1, λ none. absurd none) (tests_then image Any (0 < 0) ⊥ (is_there at) f (tests_is_there image Any at 0 shows.0) extends (λ less. absurd (omega arith)))
-tests_if_there image at (Some text) Q f tells extends tail =
-    tests_same image Any _ _ (λ rest. is_there at (f rest)) (λ both. both.1, λ q. (tells.after_start, q)) (tests_then image Any (0 < tells.place) (Q text) (is_there at) f (tests_is_there image Any at tells.place tells.place_word) extends (λ less. tail text tells))
+turn_if_there : (image : List ℕ) (at : ℕ) (shown : Option (List ℕ)) (Q : List ℕ → Type 0) (g : List Ins → List Ins) → ShowsText image at shown → Extends g → ((text : List ℕ) → Tells image at text → Tests image Any (Q text) g) → InTurn image (IsSomeAnd shown Q) (is_there at) g
+turn_if_there image at None Q g shows extends tail =
+    turn_then image (0 < 0) ⊥ (is_there at) g (tests_is_there image Any at 0 shows.0) extends (λ less. absurd (omega arith)) (λ none. absurd none)
+turn_if_there image at (Some text) Q g tells extends tail =
+    turn_then image (0 < tells.place) (Q text) (is_there at) g (tests_is_there image Any at tells.place tells.place_word) extends (λ less. tail text tells) (λ q. tells.after_start)
 
 any_path : (image : List ℕ) (at : ℕ) (path : Option (List ℕ)) → ShowsText image at path → Tests image Any (IsSomeAnd path (λ p. Unit {0})) (is_there at)
-any_path image at path shows = tests_if_there image at path (λ p. Unit {0}) (λ rest. rest) shows extends_none (λ text tells. tests_none image Any (Unit {0}) tt)
+any_path image at path shows =
+    turn_one image _ (is_there at) (λ rest. rest) (turn_if_there image at path (λ p. Unit {0}) (λ rest. rest) shows extends_none (λ text tells. tests_none image Any (Unit {0}) tt))
 
 every_path : (path : Option (List ℕ)) (value : List ℕ) → value ≡ 47 ∷ [] → IsSomeAnd path (λ p. Unit {0}) ↔ IsSomeAnd path (λ p. InPathNamespace p value)
 every_path None value root = (λ none. none, λ none. none)
@@ -116,46 +115,53 @@ below p value is = (
   λ h. elim h [ inl e ↦ inl e | inr b ↦ elim b [ inl s ↦ inr s | inr root ↦ absurd (false≢true (sym is ∙ (bytes_eq-Decides value (47 ∷ [])).1 root)) ] ],
 )
 
-tests_path_namespace : (image : List ℕ) (at : ℕ) (path : Option (List ℕ)) (value : List ℕ) (root : Bool) → bytes_eq value (47 ∷ []) ≡ root → ShowsText image at path → AreBytes value → Tests image Any (IsSomeAnd path (λ p. InPathNamespace p value)) (λ rest. if root then is_there at rest else in_namespace at 47 value rest)
-tests_path_namespace image at path value true is shows bytes =
-    tests_same image Any _ _ (is_there at) (every_path path value ((bytes_eq-Decides value (47 ∷ [])).0 is)) (any_path image at path shows)
-tests_path_namespace image at path value false is shows bytes =
-    tests_same image Any _ _ (in_namespace at 47 value) (
+turn_path_namespace : (image : List ℕ) (at : ℕ) (path : Option (List ℕ)) (value : List ℕ) (root : Bool) → bytes_eq value (47 ∷ []) ≡ root → ShowsText image at path → AreBytes value → InTurn image (IsSomeAnd path (λ p. InPathNamespace p value)) (λ rest. if root then is_there at rest else has_text_len AtLeast (length value) at rest) (λ rest. if root then rest else in_namespace at 47 value rest)
+turn_path_namespace image at path value true is shows bytes =
+    turn_first image _ (is_there at) (tests_same image Any _ _ (is_there at) (every_path path value ((bytes_eq-Decides value (47 ∷ [])).0 is)) (any_path image at path shows))
+turn_path_namespace image at path value false is shows bytes =
+    turn_same image _ _ (has_text_len AtLeast (length value) at) (in_namespace at 47 value) (
       λ p. (some_shown path (λ p. InPathNamespace p value)).0 (p.0, p.1, (below p.0 value is).0 p.2),
       λ h. let p = (some_shown path (λ p. InPathNamespace p value)).1 h in (p.0, p.1, (below p.0 value is).1 p.2),
-    ) (tests_in_namespace image at 47 path value shows bytes)
+    ) (turn_in_namespace image at 47 path value shows bytes)
 
-extends_path_namespace : (at : ℕ) (value : List ℕ) (root : Bool) → Extends (λ rest. if root then is_there at rest else in_namespace at 47 value rest)
-extends_path_namespace at value true = extends_is_there at
-extends_path_namespace at value false = extends_in_namespace at 47 value
+extends_len : (relation : Relation) (at : ℕ) (value : List ℕ) → Extends (relation_len relation at value)
+extends_len relations.Equal at value = extends_text_len Equal (length value) at
+extends_len relations.PathNamespace at value = go (bytes_eq value (47 ∷ []))
+  where
+    go : (root : Bool) → Extends (λ rest. if root then is_there at rest else has_text_len AtLeast (length value) at rest)
+    go true = extends_is_there at
+    go false = extends_text_len AtLeast (length value) at
+extends_len relations.NameNamespace at value = extends_text_len AtLeast (length value) at
+extends_len relations.NestedPath at value = extends_none
 
-extends_relation : (relation : Relation) (at : ℕ) (value : List ℕ) → Extends (relation_code relation at value)
-extends_relation relations.Equal at value = extends_is_text at value
-extends_relation relations.PathNamespace at value = extends_path_namespace at value (bytes_eq value (47 ∷ []))
+extends_relation : (relation : Relation) (at : ℕ) (value : List ℕ) → Extends (relation_bytes relation at value)
+extends_relation relations.Equal at value = extends_bytes at value
+extends_relation relations.PathNamespace at value = go (bytes_eq value (47 ∷ []))
+  where
+    go : (root : Bool) → Extends (λ rest. if root then rest else in_namespace at 47 value rest)
+    go true = extends_none
+    go false = extends_in_namespace at 47 value
 extends_relation relations.NameNamespace at value = extends_in_namespace at 46 value
 extends_relation relations.NestedPath at value = extends_is_nested at value
 
-extends_there : (relation : Relation) (at : ℕ) → Extends (there_code relation at)
-extends_there relations.NestedPath at = extends_is_there at
-extends_there _ at = extends_none
-
 -- the text of a field
-tests_shown : (relation : Relation) (image : List ℕ) (at : ℕ) (shown : Option (List ℕ)) (value : List ℕ) → ShowsText image at shown → AreBytes value → Tests image Any (IsSomeAnd shown (λ text. Relates relation text value)) (λ rest. there_code relation at (relation_code relation at value rest))
-tests_shown relations.Equal image at shown value shows bytes =
-    tests_same image Any _ _ (is_text at value) (equal_shown shown value) (tests_is_text image at shown value shows bytes)
-tests_shown relations.PathNamespace image at shown value shows bytes =
-    tests_path_namespace image at shown value (bytes_eq value (47 ∷ [])) refl shows bytes
-tests_shown relations.NameNamespace image at shown value shows bytes =
-    tests_same image Any _ _ (in_namespace at 46 value) (some_shown shown (λ text. InNamespace text value)) (tests_in_namespace image at 46 shown value shows bytes)
-tests_shown relations.NestedPath image at shown value shows bytes =
-    tests_if_there image at shown (λ text. AreNested text value) (is_nested at value) shows (extends_is_nested at value) (λ text tells. is_nested_tests image at text value tells bytes)
+turn_shown : (relation : Relation) (image : List ℕ) (at : ℕ) (shown : Option (List ℕ)) (value : List ℕ) → ShowsText image at shown → AreBytes value → InTurn image (IsSomeAnd shown (λ text. Relates relation text value)) (λ rest. there_code relation at (relation_len relation at value rest)) (relation_bytes relation at value)
+turn_shown relations.Equal image at shown value shows bytes =
+    turn_same image _ _ (has_text_len Equal (length value) at) (has_bytes at value) (equal_shown shown value) (turn_is_text image at shown value shows bytes)
+turn_shown relations.PathNamespace image at shown value shows bytes =
+    turn_path_namespace image at shown value (bytes_eq value (47 ∷ [])) refl shows bytes
+turn_shown relations.NameNamespace image at shown value shows bytes =
+    turn_same image _ _ (has_text_len AtLeast (length value) at) (in_namespace at 46 value) (some_shown shown (λ text. InNamespace text value)) (turn_in_namespace image at 46 shown value shows bytes)
+turn_shown relations.NestedPath image at shown value shows bytes =
+    turn_if_there image at shown (λ text. AreNested text value) (is_nested at value) shows (extends_is_nested at value) (λ text tells. is_nested_tests image at text value tells bytes)
 
 -- the text of an argument, which is there
-tests_told : (relation : Relation) (image : List ℕ) (at : ℕ) (text value : List ℕ) → Tells image at text → AreBytes value → Tests image Any (Relates relation text value) (relation_code relation at value)
-tests_told relations.Equal image at text value tells bytes = tests_shown relations.Equal image at (Some text) value tells bytes
-tests_told relations.PathNamespace image at text value tells bytes = tests_shown relations.PathNamespace image at (Some text) value tells bytes
-tests_told relations.NameNamespace image at text value tells bytes = tests_shown relations.NameNamespace image at (Some text) value tells bytes
-tests_told relations.NestedPath image at text value tells bytes = is_nested_tests image at text value tells bytes
+turn_told : (relation : Relation) (image : List ℕ) (at : ℕ) (text value : List ℕ) → Tells image at text → AreBytes value → InTurn image (Relates relation text value) (relation_len relation at value) (relation_bytes relation at value)
+turn_told relations.Equal image at text value tells bytes = turn_shown relations.Equal image at (Some text) value tells bytes
+turn_told relations.PathNamespace image at text value tells bytes = turn_shown relations.PathNamespace image at (Some text) value tells bytes
+turn_told relations.NameNamespace image at text value tells bytes = turn_shown relations.NameNamespace image at (Some text) value tells bytes
+turn_told relations.NestedPath image at text value tells bytes =
+    turn_second image (AreNested text value) (is_nested at value) (is_nested_tests image at text value tells bytes)
 
 -- ---- what an image shows of each source
 
@@ -167,30 +173,17 @@ shows_field image m slots Destination shows = shows.destination
 
 -- ---- each condition
 
-pub extends_condition : (slot : ℕ) (c : Condition) → Extends (condition_code slot c)
-extends_condition slot (Kind kind) =
-    extends_more (want Equal (kind_byte (kind_meant kind))) (λ _. image_word 4) (extends_want Equal (kind_byte (kind_meant kind)))
-extends_condition slot (Sender name) = go (is_owned_name name)
-  where
-    go : (is_owned : Bool) → Extends (λ rest. if is_owned then owns slot rest else is_text 64 name rest)
-    go true = extends_owns slot
-    go false = extends_is_text 64 name
-extends_condition slot (Compares (Header field) relation value) =
-    extends_then (there_code relation (field_at field)) (relation_code relation (field_at field) value) (extends_there relation (field_at field)) (extends_relation relation (field_at field) value)
-extends_condition slot (Compares (Arg n) relation value) =
-    extends_argument relation n (relation_code relation (argument_at n + 4) value) (extends_relation relation (argument_at n + 4) value)
-
 -- the owned names have the name of a condition on the sender exactly where the slot is among the slots
 abbrev pub SlotFits : List ℕ → ℕ → (List ℕ → Bool) → Condition → Type 0
 SlotFits slots slot owned (Sender name) = is_owned_name name ≡ true → owned name ≡ has_slot slots slot
 SlotFits slots slot owned _ = Unit {0}
 
-pub tests_condition : (image bytes : List ℕ) (m : Message) (slots : List ℕ) (owned : List ℕ → Bool) (slot : ℕ) (c : Condition) → Valid bytes m → Shows Two image m slots → slot < 1024 → SlotFits slots slot owned c → has_small_number c ≡ true → AreBytes (value_of c) → Tests image Any (ConditionHolds c m owned) (condition_code slot c)
-tests_condition image bytes m slots owned slot (Kind kind) valid shows slot_small fits small are =
-    tests_kind image m.kind kind shows.kind valid.kind
-tests_condition image bytes m slots owned slot (Sender name) valid shows slot_small fits small are =
-    tests_sender image slots slot name (sender_of m) (is_owned_name name) (owned name) (shows.owned slot slot_small) shows.sender are fits
-tests_condition image bytes m slots owned slot (Compares (Header field) relation value) valid shows slot_small fits small are =
-    tests_shown relation image (field_at field) (field_of field m) value (shows_field image m slots field shows) are
-tests_condition image bytes m slots owned slot (Compares (Arg n) relation value) valid shows slot_small fits small are =
-    tests_argument image n relation (slice_get (arguments_of m) n) (λ text. Relates relation text value) (relation_code relation (argument_at n + 4) value) (shows.argument n (let l = leb-true n 63 small in omega arith)) (λ a is text. argument_has_text bytes m n a valid is text) (extends_relation relation (argument_at n + 4) value) (λ text tells. tests_told relation image (argument_at n + 4) text value tells are)
+pub turn_condition : (image bytes : List ℕ) (m : Message) (slots : List ℕ) (owned : List ℕ → Bool) (slot : ℕ) (c : Condition) → Valid bytes m → Shows Two image m slots → slot < 1024 → SlotFits slots slot owned c → has_small_number c ≡ true → AreBytes (value_of c) → InTurn image (ConditionHolds c m owned) (condition_words slot c) (condition_bytes c)
+turn_condition image bytes m slots owned slot (Kind kind) valid shows slot_small fits small are =
+    turn_first image _ (condition_words slot (Kind kind)) (tests_kind image m.kind kind shows.kind valid.kind)
+turn_condition image bytes m slots owned slot (Sender name) valid shows slot_small fits small are =
+    turn_sender image slots slot name (sender_of m) (is_owned_name name) (owned name) (shows.owned slot slot_small) shows.sender are fits
+turn_condition image bytes m slots owned slot (Compares (Header field) relation value) valid shows slot_small fits small are =
+    turn_shown relation image (field_at field) (field_of field m) value (shows_field image m slots field shows) are
+turn_condition image bytes m slots owned slot (Compares (Arg n) relation value) valid shows slot_small fits small are =
+    turn_argument image n relation (slice_get (arguments_of m) n) (λ text. Relates relation text value) (relation_len relation (argument_at n + 4) value) (relation_bytes relation (argument_at n + 4) value) (shows.argument n (let l = leb-true n 63 small in omega arith)) (λ a is text. argument_has_text bytes m n a valid is text) (extends_len relation (argument_at n + 4) value) (extends_relation relation (argument_at n + 4) value) (λ text tells. turn_told relation image (argument_at n + 4) text value tells are)

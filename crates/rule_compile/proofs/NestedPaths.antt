@@ -8,8 +8,8 @@ use Rattle.bpf_code.specs.declared.operation.Test.TheVariants.{Equal, AtLeast}
 use Rattle.match_rule.specs.Bytes.{ends_with}
 use Rattle.match_rule.specs.Holds.{AreNested}
 use Rattle.summary.specs.Shown.{AreBytes, Tells}
-use Rattle.rule_compile.specs.Code.{same_bytes, has_len, index_text}
-use Rattle.rule_compile.specs.Folders.{with_front, parts_of, may_end, along, is_nested}
+use Rattle.rule_compile.specs.Code.{same_bytes, has_len, index_text, may_end}
+use Rattle.rule_compile.specs.Folders.{with_front, parts_of, along, is_nested}
 use Rattle.rule_compile.proofs.Pieces.{Any, Tests}
 use Rattle.rule_compile.proofs.Combined.{Extends, extends_none, extends_then, extends_settle, extends_index_text, tests_none, tests_same, tests_then, tests_both, tests_settle, tests_index_text}
 use Rattle.rule_compile.proofs.Bytes.{Stands, At, extends_same_bytes, tests_same_bytes}

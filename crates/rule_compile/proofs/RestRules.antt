@@ -8,10 +8,10 @@ use Rattle.std.proofs.lemmas.List.Sums.{sum_by-cons}
 use Rattle.std.proofs.lemmas.Slice.Eq.{bytes_eq-Decides}
 use Rattle.message_view.specs.Message.{Message, path_of, interface_of, member_of}
 use Rattle.message_view.specs.Spelling.{arguments_of}
-use Rattle.match_rule.specs.declared.source.Field.TheVariants.{Interface, Member, Path, Destination}
-use Rattle.match_rule.specs.declared.source.Source.{Source}
-use Rattle.match_rule.specs.declared.source.Source.TheVariants.{Header, Arg}
-use Rattle.match_rule.specs.declared.relation.Relation.TheVariants as relations
+use Rattle.match_key.specs.declared.source.Field.TheVariants.{Interface, Member, Path, Destination}
+use Rattle.match_key.specs.declared.source.Source.{Source}
+use Rattle.match_key.specs.declared.source.Source.TheVariants.{Header, Arg}
+use Rattle.match_key.specs.declared.relation.Relation.TheVariants as relations
 use Rattle.match_rule.specs.declared.condition.Condition.{Condition}
 use Rattle.match_rule.specs.declared.condition.Condition.TheVariants.{Kind, Sender, Compares}
 use Rattle.match_rule.specs.Arguments.{text_in}
@@ -26,21 +26,21 @@ use Rattle.rule_compile.specs.declared.rest.Tested.{Tested}
 use Rattle.rule_compile.specs.declared.rest.Tested.TheVariants.{All as AllTested, Left}
 use Rattle.rule_compile.specs.Compiled.{IsSlotOf, IsCompiled, AgreeOn}
 use Rattle.rule_compile.specs.Rest.{IsRest, is_fixed, fixed_source, is_left, is_tested, tested_of}
-use Rattle.rule_compile.specs.RuleCode.{condition_code, rank_of, of_rank}
+use Rattle.rule_compile.specs.RuleCode.{rank_of, of_rank}
 use Rattle.match_rule.proofs.FixedFound.{same_string}
 
 -- ---- the code of the conditions that are tested
 
 -- one more condition in front
-pub of_rank_more : (slot rank : ℕ) (p : Condition → Bool) (c : Condition) (cs : List Condition) (rest : List Ins) → (p c && eqb (rank_of c) rank) ≡ true → of_rank slot rank (filter p (c ∷ cs)) rest ≡ condition_code slot c (of_rank slot rank (filter p cs) rest)
-of_rank_more slot rank p c cs rest e =
+pub of_rank_more : (piece : Condition → List Ins → List Ins) (rank : ℕ) (p : Condition → Bool) (c : Condition) (cs : List Condition) (rest : List Ins) → (p c && eqb (rank_of c) rank) ≡ true → of_rank piece rank (filter p (c ∷ cs)) rest ≡ piece c (of_rank piece rank (filter p cs) rest)
+of_rank_more piece rank p c cs rest e =
     let parts = and_parts (p c) (eqb (rank_of c) rank) e in
     rw (parts.0, parts.1) refl
 
-pub of_rank_less : (slot rank : ℕ) (p : Condition → Bool) (c : Condition) (cs : List Condition) (rest : List Ins) → (p c && eqb (rank_of c) rank) ≡ false → of_rank slot rank (filter p (c ∷ cs)) rest ≡ of_rank slot rank (filter p cs) rest
-of_rank_less slot rank p c cs rest e = go (p c) (eqb (rank_of c) rank) refl e
+pub of_rank_less : (piece : Condition → List Ins → List Ins) (rank : ℕ) (p : Condition → Bool) (c : Condition) (cs : List Condition) (rest : List Ins) → (p c && eqb (rank_of c) rank) ≡ false → of_rank piece rank (filter p (c ∷ cs)) rest ≡ of_rank piece rank (filter p cs) rest
+of_rank_less piece rank p c cs rest e = go (p c) (eqb (rank_of c) rank) refl e
   where
-    go : (b d : Bool) → eqb (rank_of c) rank ≡ d → (b && d) ≡ false → of_rank slot rank (cond b (c ∷ filter p cs) (filter p cs)) rest ≡ of_rank slot rank (filter p cs) rest
+    go : (b d : Bool) → eqb (rank_of c) rank ≡ d → (b && d) ≡ false → of_rank piece rank (cond b (c ∷ filter p cs) (filter p cs)) rest ≡ of_rank piece rank (filter p cs) rest
     go false d is f = refl
     go true false is f = rw is refl
     go true true is f = absurd (true≢false f)

@@ -1,6 +1,6 @@
 -- A rule's program, with an island of its own for each far target, isn't longer than the rule weighs.
-use Rattle.std.proofs.Common.{◌≡◌, ℕ, zero, suc, ◌+◌, ◌-◌, ◌*◌, ◌<◌, ◌≤◌, Bool, true, false, List, [], ◌∷◌, length, refl, ap, arith}
-use Rattle.std.specs.Prelude.{◌/◌, ◌%◌, ◌^◌, ◌&&◌, ◌==◌, if◌then◌else◌, nat_lt, sum_by}
+use Rattle.std.proofs.Common.{◌≡◌, ℕ, zero, suc, ◌+◌, ◌-◌, ◌*◌, ◌≤◌, Bool, true, false, List, [], ◌∷◌, length, refl, ap, arith}
+use Rattle.std.specs.Prelude.{◌/◌, ◌%◌, ◌^◌, ◌&&◌, ◌==◌, if◌then◌else◌, nat_lt, slice_index, sum_by}
 use Rattle.std.specs.Str.{bytes_eq}
 use Rattle.std.proofs.lemmas.Bool.{eqb-true, ne_eqb}
 use Rattle.std.proofs.lemmas.List.Sums.{sum_by-cons}
@@ -13,17 +13,19 @@ use Rattle.bpf_code.specs.Table.{op_of}
 use Rattle.jump_islands.specs.Draft.{DraftTree, instructions_of}
 use Rattle.jump_islands.specs.PlainLength.{is_far, count, span, size_of, sizes_of, plain_length}
 use Rattle.match_rule.specs.Bytes.{ends_with}
-use Rattle.match_rule.specs.declared.source.Source.TheVariants.{Header, Arg}
-use Rattle.match_rule.specs.declared.relation.Relation.{Relation}
-use Rattle.match_rule.specs.declared.relation.Relation.TheVariants as relations
+use Rattle.match_key.specs.declared.source.Source.TheVariants.{Header, Arg}
+use Rattle.match_key.specs.declared.relation.Relation.{Relation}
+use Rattle.match_key.specs.declared.relation.Relation.TheVariants as relations
 use Rattle.match_rule.specs.declared.condition.Condition.{Condition}
 use Rattle.match_rule.specs.declared.condition.Condition.TheVariants.{Kind, Sender, Compares}
 use Rattle.match_rule.specs.RuleTree.{RuleTree, is_owned_name, slashes, relation_weight, condition_weight, weight_of}
 use Rattle.message_view.specs.Header.{kind_byte}
-use Rattle.match_rule.specs.Condition.{kind_meant}
-use Rattle.rule_compile.specs.Code.{image_word, indexed, index_from_a, branch, want, settle, two, four, same_bytes, has_len, is_there, is_there_if, index_text, is_text, in_namespace}
-use Rattle.rule_compile.specs.Folders.{with_front, parts_of, may_end, along, is_nested}
-use Rattle.rule_compile.specs.RuleCode.{argument_at, field_at, has_type, has_text_type, owns, path_namespace, relation_code, there_code, type_code, condition_code, rank_of, of_rank, from_rank, offered, verdicts, rule_code}
+use Rattle.match_key.specs.Kinds.{kind_meant}
+use Rattle.match_rule.specs.Condition.{value_of}
+use Rattle.rule_compile.specs.declared.condition.Part.TheVariants.{Words, Bytes}
+use Rattle.rule_compile.specs.Code.{image_word, indexed, index_from_a, branch, want, settle, two, four, same_word, same_words, same_bytes, has_len, is_there, is_there_if, has_text_len, index_text, has_bytes, may_end, in_namespace}
+use Rattle.rule_compile.specs.Folders.{with_front, parts_of, along, is_nested}
+use Rattle.rule_compile.specs.RuleCode.{argument_at, field_at, words_at, has_type, has_text_type, owns, path_namespace_len, path_namespace, relation_len, relation_bytes, there_code, type_code, part_code, rank_of, ranks, of_rank, rising, falling, offered, verdicts, rule_code}
 
 -- ---- single instructions
 
@@ -82,6 +84,16 @@ settle_total test k exit rest =
 
 -- ---- pieces
 
+word_total : (at : ℕ) (value : List ℕ) (i : ℕ) (rest : List Ins) → total (same_word at value i rest) ≤ 3 + total rest
+word_total at value i rest =
+    let w = four (slice_index value i) (slice_index value (i + 1)) (slice_index value (i + 2)) (slice_index value (i + 3)) in
+    omega (arith, indexed_total Word (at + i) (want Equal w rest), want_total Equal w rest)
+
+words_total : (at : ℕ) (value : List ℕ) (n : ℕ) (rest : List Ins) → total (same_words at value n rest) ≤ 3 * n + total rest
+words_total at value zero rest = omega arith
+words_total at value (suc n) rest =
+    omega (arith, words_total at value n (same_word at value (4 * n) rest), word_total at value (4 * n) rest)
+
 same_total : (at : ℕ) (bytes : List ℕ) (rest : List Ins) → total (same_bytes at bytes rest) ≤ length bytes + 3 + total rest
 same_total at [] rest = omega arith
 same_total at (a ∷ []) rest = omega (arith, indexed_total Byte at (want Equal a rest), want_total Equal a rest)
@@ -90,8 +102,9 @@ same_total at (a ∷ b ∷ c ∷ []) rest =
     let tail = indexed Byte (at + 2) ∷ want Equal c rest in
     omega (arith, indexed_total Half at (want Equal (two a b) tail), want_total Equal (two a b) tail, indexed_total Byte (at + 2) (want Equal c rest), want_total Equal c rest)
 same_total at (a ∷ b ∷ c ∷ d ∷ more) rest =
-    let tail = same_bytes (at + 4) more rest in
-    omega (arith, indexed_total Word at (want Equal (four a b c d) tail), want_total Equal (four a b c d) tail, same_total (at + 4) more rest)
+    let value = a ∷ b ∷ c ∷ d ∷ more in
+    let n = (length more + 3) / 4 in
+    omega (arith, word_total at value (length more) (same_words at value n rest), words_total at value n rest)
 
 len_total : (test : Test) (n at : ℕ) (rest : List Ins) → total (has_len test n at rest) ≤ 3 + total rest
 len_total test n at rest = omega (arith, image_total (at + 4) (want test n rest), want_total test n rest)
@@ -109,28 +122,23 @@ choice_total false n hit miss h m = m
 there_if_total : (empty : Bool) (at : ℕ) (rest : List Ins) → total (is_there_if empty at rest) ≤ 3 + total rest
 there_if_total empty at rest = choice_total empty (3 + total rest) (is_there at rest) rest (there_total at rest) (omega arith)
 
-is_text_total : (at : ℕ) (value : List ℕ) (rest : List Ins) → total (is_text at value rest) ≤ length value + 11 + total rest
-is_text_total at value rest =
-    let same = same_bytes 0 value rest in
-    let tail = index_text at same in
-    let empty = length value == 0 in
-    omega (arith, len_total Equal (length value) at (is_there_if empty at tail), there_if_total empty at tail, text_total at same, same_total 0 value rest)
+text_len_total : (test : Test) (n at : ℕ) (rest : List Ins) → total (has_text_len test n at rest) ≤ 6 + total rest
+text_len_total test n at rest =
+    omega (arith, len_total test n at (is_there_if (n == 0) at rest), there_if_total (n == 0) at rest)
 
-namespace_total : (at separator : ℕ) (value : List ℕ) (rest : List Ins) → total (in_namespace at separator value rest) ≤ length value + 17 + total rest
+bytes_total : (at : ℕ) (value : List ℕ) (rest : List Ins) → total (has_bytes at value rest) ≤ length value + 5 + total rest
+bytes_total at value rest = omega (arith, text_total at (same_bytes 0 value rest), same_total 0 value rest)
+
+may_end_total : (at n : ℕ) (exit rest : List Ins) → total (may_end at n exit rest) ≤ 3 + total rest
+may_end_total at n exit rest = omega (arith, image_total (at + 4) (settle Equal n exit rest), settle_total Equal n exit rest)
+
+namespace_total : (at separator : ℕ) (value : List ℕ) (rest : List Ins) → total (in_namespace at separator value rest) ≤ length value + 11 + total rest
 namespace_total at separator value rest =
     let last = indexed Byte (length value) ∷ want Equal separator rest in
-    let ends = image_word (at + 4) ∷ settle Equal (length value) rest last in
-    let same = same_bytes 0 value ends in
-    let tail = index_text at same in
-    let empty = length value == 0 in
-    let a = len_total AtLeast (length value) at (is_there_if empty at tail) in
-    let b = there_if_total empty at tail in
-    let c = text_total at same in
-    let d = same_total 0 value ends in
-    let e = image_total (at + 4) (settle Equal (length value) rest last) in
-    let f = settle_total Equal (length value) rest last in
-    let g = indexed_total Byte (length value) (want Equal separator rest) in
-    let h = want_total Equal separator rest in
+    let a = bytes_total at value (may_end at (length value) rest last) in
+    let b = may_end_total at (length value) rest last in
+    let c = indexed_total Byte (length value) (want Equal separator rest) in
+    let d = want_total Equal separator rest in
     omega arith
 
 -- ---- paths
@@ -139,9 +147,6 @@ namespace_total at separator value rest =
 abbrev weight_of_parts : List (List ℕ) → ℕ
 weight_of_parts [] = 0
 weight_of_parts (part ∷ parts) = length part + 9 + weight_of_parts parts
-
-may_end_total : (at n : ℕ) (exit rest : List Ins) → total (may_end at n exit rest) ≤ 3 + total rest
-may_end_total at n exit rest = omega (arith, image_total (at + 4) (settle Equal n exit rest), settle_total Equal n exit rest)
 
 part_total : (test : Test) (at place : ℕ) (part : List ℕ) (rest : List Ins) → total (has_len test (place + length part) at (same_bytes place part rest)) ≤ length part + 6 + total rest
 part_total test at place part rest = omega (arith, len_total test (place + length part) at (same_bytes place part rest), same_total place part rest)
@@ -192,13 +197,23 @@ text_type_total n rest =
 owns_total : (slot : ℕ) (rest : List Ins) → total (owns slot rest) ≤ 3 + total rest
 owns_total slot rest = omega (arith, image_total (840 + 4 * (slot / 32)) (want SharesBit (2 ^ (slot % 32)) rest), want_total SharesBit (2 ^ (slot % 32)) rest)
 
-path_total : (at : ℕ) (value : List ℕ) (rest : List Ins) → total (path_namespace at value rest) ≤ length value + 17 + total rest
-path_total at value rest =
+path_len_total : (at : ℕ) (value : List ℕ) (rest : List Ins) → total (path_namespace_len at value rest) ≤ 6 + total rest
+path_len_total at value rest =
     let a = there_total at rest in
-    choice_total (bytes_eq value (47 ∷ [])) (length value + 17 + total rest) (is_there at rest) (in_namespace at 47 value rest) (omega arith) (namespace_total at 47 value rest)
+    choice_total (bytes_eq value (47 ∷ [])) (6 + total rest) (is_there at rest) (has_text_len AtLeast (length value) at rest) (omega arith) (text_len_total AtLeast (length value) at rest)
 
-relation_total : (relation : Relation) (at : ℕ) (value : List ℕ) (rest : List Ins) → total (relation_code relation at value rest) ≤ length value + relation_weight relation value + 17 + total rest
-relation_total relations.Equal at value rest = omega (arith, is_text_total at value rest)
+relation_len_total : (relation : Relation) (at : ℕ) (value : List ℕ) (rest : List Ins) → total (relation_len relation at value rest) ≤ 6 + total rest
+relation_len_total relations.Equal at value rest = text_len_total Equal (length value) at rest
+relation_len_total relations.PathNamespace at value rest = path_len_total at value rest
+relation_len_total relations.NameNamespace at value rest = text_len_total AtLeast (length value) at rest
+relation_len_total relations.NestedPath at value rest = omega arith
+
+path_total : (at : ℕ) (value : List ℕ) (rest : List Ins) → total (path_namespace at value rest) ≤ length value + 11 + total rest
+path_total at value rest =
+    choice_total (bytes_eq value (47 ∷ [])) (length value + 11 + total rest) rest (in_namespace at 47 value rest) (omega arith) (namespace_total at 47 value rest)
+
+relation_total : (relation : Relation) (at : ℕ) (value : List ℕ) (rest : List Ins) → total (relation_bytes relation at value rest) ≤ length value + relation_weight relation value + 11 + total rest
+relation_total relations.Equal at value rest = omega (arith, bytes_total at value rest)
 relation_total relations.PathNamespace at value rest = omega (arith, path_total at value rest)
 relation_total relations.NameNamespace at value rest = omega (arith, namespace_total at 46 value rest)
 relation_total relations.NestedPath at value rest = omega (arith, nested_total at value rest)
@@ -211,94 +226,132 @@ type_code_total : (relation : Relation) (n : ℕ) (rest : List Ins) → total (t
 type_code_total relations.NestedPath n rest = text_type_total n rest
 type_code_total _ n rest = omega (arith, type_total n 115 rest)
 
-condition_total : (slot : ℕ) (c : Condition) (rest : List Ins) → total (condition_code slot c rest) ≤ condition_weight c + total rest
-condition_total slot (Kind kind) rest =
+-- how many of the instructions test words
+abbrev words_weight : Condition → ℕ
+words_weight c = 11
+
+-- how many compare bytes
+abbrev bytes_weight : Condition → ℕ
+bytes_weight (Compares source relation value) = 13 + length value + relation_weight relation value
+bytes_weight c = 13 + length (value_of c)
+
+both_weights : (c : Condition) → words_weight c + bytes_weight c ≤ condition_weight c
+both_weights (Kind kind) = omega arith
+both_weights (Sender name) = omega arith
+both_weights (Compares source relation value) = omega arith
+
+-- a piece of a condition isn't longer than this weight
+abbrev IsWithin : (Condition → ℕ) → (Condition → List Ins → List Ins) → Type 0
+IsWithin weight piece = (c : Condition) (rest : List Ins) → total (piece c rest) ≤ weight c + total rest
+
+words_within : (slot : ℕ) → IsWithin words_weight (part_code Words slot)
+words_within slot (Kind kind) rest =
     let tail = want Equal (kind_byte (kind_meant kind)) rest in omega (arith, image_total 4 tail, want_total Equal (kind_byte (kind_meant kind)) rest)
-condition_total slot (Sender name) rest =
+words_within slot (Sender name) rest =
     let a = owns_total slot rest in
-    let b = is_text_total 64 name rest in
-    choice_total (is_owned_name name) (condition_weight (Sender name) + total rest) (owns slot rest) (is_text 64 name rest) (omega arith) (omega arith)
-condition_total slot (Compares (Header field) relation value) rest =
-    let tail = relation_code relation (field_at field) value rest in
-    omega (arith, there_code_total relation (field_at field) tail, relation_total relation (field_at field) value rest)
-condition_total slot (Compares (Arg n) relation value) rest =
-    let tail = relation_code relation (argument_at n + 4) value rest in
-    omega (arith, type_code_total relation n tail, relation_total relation (argument_at n + 4) value rest)
+    let b = text_len_total Equal (length name) 64 rest in
+    choice_total (is_owned_name name) (11 + total rest) (owns slot rest) (has_text_len Equal (length name) 64 rest) (omega arith) (omega arith)
+words_within slot (Compares (Header field) relation value) rest =
+    let tail = relation_len relation (field_at field) value rest in
+    omega (arith, there_code_total relation (field_at field) tail, relation_len_total relation (field_at field) value rest)
+words_within slot (Compares (Arg n) relation value) rest =
+    let tail = relation_len relation (argument_at n + 4) value rest in
+    omega (arith, type_code_total relation n tail, relation_len_total relation (argument_at n + 4) value rest)
+
+bytes_within : (slot : ℕ) → IsWithin bytes_weight (part_code Bytes slot)
+bytes_within slot (Kind kind) rest = omega arith
+bytes_within slot (Sender name) rest =
+    let b = bytes_total 64 name rest in
+    choice_total (is_owned_name name) (13 + length name + total rest) rest (has_bytes 64 name rest) (omega arith) (omega arith)
+bytes_within slot (Compares source relation value) rest = omega (arith, relation_total relation (words_at source) value rest)
 
 -- ---- rules
 
--- what the conditions of a rank weigh
-abbrev rank_weight : ℕ → List Condition → ℕ
-rank_weight rank [] = 0
-rank_weight rank (c ∷ cs) = (if rank_of c == rank then condition_weight c else 0) + rank_weight rank cs
+module _ (weight : Condition → ℕ) (piece : Condition → List Ins → List Ins) (within : IsWithin weight piece) where
+  -- what the conditions of a rank weigh
+  abbrev rank_weight : ℕ → List Condition → ℕ
+  rank_weight rank [] = 0
+  rank_weight rank (c ∷ cs) = (if rank_of c == rank then weight c else 0) + rank_weight rank cs
 
-rank_total : (slot rank : ℕ) (cs : List Condition) (rest : List Ins) → total (of_rank slot rank cs rest) ≤ rank_weight rank cs + total rest
-rank_total slot rank [] rest = omega arith
-rank_total slot rank (c ∷ cs) rest = go (rank_of c == rank) (rank_total slot rank cs rest)
-  where
-    go : (here : Bool) → total (of_rank slot rank cs rest) ≤ rank_weight rank cs + total rest → total (if here then condition_code slot c (of_rank slot rank cs rest) else of_rank slot rank cs rest) ≤ (if here then condition_weight c else 0) + rank_weight rank cs + total rest
-    go true h = omega (arith, condition_total slot c (of_rank slot rank cs rest))
-    go false h = omega arith
+  rank_total : (rank : ℕ) (cs : List Condition) (rest : List Ins) → total (of_rank piece rank cs rest) ≤ rank_weight rank cs + total rest
+  rank_total rank [] rest = omega arith
+  rank_total rank (c ∷ cs) rest = go (rank_of c == rank) (rank_total rank cs rest)
+    where
+      go : (here : Bool) → total (of_rank piece rank cs rest) ≤ rank_weight rank cs + total rest → total (if here then piece c (of_rank piece rank cs rest) else of_rank piece rank cs rest) ≤ (if here then weight c else 0) + rank_weight rank cs + total rest
+      go true h = omega (arith, within c (of_rank piece rank cs rest))
+      go false h = omega arith
+
+  -- what the conditions of the ranks below n weigh
+  abbrev weight_below : ℕ → List Condition → ℕ
+  weight_below zero cs = 0
+  weight_below (suc n) cs = rank_weight n cs + weight_below n cs
+
+  rising_total : (n : ℕ) (cs : List Condition) (rest : List Ins) → total (rising piece n cs rest) ≤ weight_below n cs + total rest
+  rising_total zero cs rest = omega arith
+  rising_total (suc n) cs rest = omega (arith, rising_total n cs (of_rank piece n cs rest), rank_total n cs rest)
+
+  falling_total : (n : ℕ) (cs : List Condition) (rest : List Ins) → total (falling piece n cs rest) ≤ weight_below n cs + total rest
+  falling_total zero cs rest = omega arith
+  falling_total (suc n) cs rest = omega (arith, rank_total n cs (falling piece n cs rest), falling_total n cs rest)
+
+  -- what one condition weighs in the ranks below n
+  abbrev weight_in : ℕ → Condition → ℕ
+  weight_in zero c = 0
+  weight_in (suc n) c = (if rank_of c == n then weight c else 0) + weight_in n c
+
+  weight_none : (n : ℕ) (c : Condition) → n ≤ rank_of c → weight_in n c ≡ 0
+  weight_none zero c more = refl
+  weight_none (suc n) c more =
+      let lower = weight_none n c (omega arith) in
+      rw (ne_eqb (rank_of c) n (λ e. omega arith)) (omega (arith, lower))
+
+  -- a condition has one rank at most
+  weight_once : (n : ℕ) (c : Condition) → weight_in n c ≤ weight c
+  weight_once zero c = omega arith
+  weight_once (suc n) c = go (rank_of c == n) refl (weight_once n c)
+    where
+      go : (b : Bool) → (rank_of c == n) ≡ b → weight_in n c ≤ weight c → (if b then weight c else 0) + weight_in n c ≤ weight c
+      go true is lower =
+          let same : rank_of c ≡ n = eqb-true (rank_of c) n is in
+          let none = weight_none n c (omega arith) in
+          omega arith
+      go false is lower = omega arith
+
+  below_cons : (n : ℕ) (c : Condition) (cs : List Condition) → weight_below n (c ∷ cs) ≡ weight_in n c + weight_below n cs
+  below_cons zero c cs = refl
+  below_cons (suc n) c cs = let lower = below_cons n c cs in omega arith
+
+  below_nil : (n : ℕ) → weight_below n [] ≡ 0
+  below_nil zero = refl
+  below_nil (suc n) = let lower = below_nil n in omega arith
+
+  below_weight : (n : ℕ) (cs : List Condition) → weight_below n cs ≤ sum_by weight cs
+  below_weight n [] = let none = below_nil n in omega arith
+  below_weight n (c ∷ cs) =
+      let here = weight_once n c in
+      let more = below_cons n c cs in
+      let later = below_weight n cs in
+      let sum = sum_by-cons weight c cs in
+      omega arith
 
 offered_total : (eavesdrops : Bool) → total (offered eavesdrops verdicts) ≤ 5
 offered_total eavesdrops = choice_total eavesdrops 5 verdicts (image_word 56 ∷ want Equal 0 verdicts) (omega (arith, verdicts_total)) (omega (arith, image_total 56 (want Equal 0 verdicts), want_total Equal 0 verdicts, verdicts_total))
 
--- the conditions of the ranks from `rank` on, `n` ranks
-abbrev ranks_from : ℕ → ℕ → List Condition → ℕ
-ranks_from zero rank cs = 0
-ranks_from (suc n) rank cs = rank_weight rank cs + ranks_from n (rank + 1) cs
-
-from_total : (slot n rank : ℕ) (cs : List Condition) (rest : List Ins) → total (from_rank slot n rank cs rest) ≤ ranks_from n rank cs + total rest
-from_total slot zero rank cs rest = omega arith
-from_total slot (suc n) rank cs rest =
-    let tail = from_rank slot n (rank + 1) cs rest in
-    omega (arith, rank_total slot rank cs tail, from_total slot n (rank + 1) cs rest)
-
--- what a condition of rank `own` weighs in the `n` ranks from `rank` on
-abbrev weight_in : ℕ → ℕ → ℕ → ℕ → ℕ
-weight_in zero rank own weight = 0
-weight_in (suc n) rank own weight = (if own == rank then weight else 0) + weight_in n (rank + 1) own weight
-
-weight_past : (n rank own weight : ℕ) → own < rank → weight_in n rank own weight ≡ 0
-weight_past zero rank own weight less = refl
-weight_past (suc n) rank own weight less =
-    let later = weight_past n (rank + 1) own weight (omega arith) in
-    rw (ne_eqb own rank (λ e. omega arith)) (omega (arith, later))
-
--- a condition has one rank at most
-weight_once : (n rank own weight : ℕ) → weight_in n rank own weight ≤ weight
-weight_once zero rank own weight = omega arith
-weight_once (suc n) rank own weight = go (own == rank) refl (weight_once n (rank + 1) own weight)
-  where
-    go : (b : Bool) → (own == rank) ≡ b → weight_in n (rank + 1) own weight ≤ weight → (if b then weight else 0) + weight_in n (rank + 1) own weight ≤ weight
-    go true is later =
-        let same : own ≡ rank = eqb-true own rank is in
-        let none = weight_past n (rank + 1) own weight (omega arith) in
-        omega arith
-    go false is later = omega arith
-
-ranks_cons : (n rank : ℕ) (c : Condition) (cs : List Condition) → ranks_from n rank (c ∷ cs) ≡ weight_in n rank (rank_of c) (condition_weight c) + ranks_from n rank cs
-ranks_cons zero rank c cs = refl
-ranks_cons (suc n) rank c cs = let later = ranks_cons n (rank + 1) c cs in omega arith
-
-ranks_nil : (n rank : ℕ) → ranks_from n rank [] ≡ 0
-ranks_nil zero rank = refl
-ranks_nil (suc n) rank = let later = ranks_nil n (rank + 1) in omega arith
-
-ranks_weight : (n rank : ℕ) (cs : List Condition) → ranks_from n rank cs ≤ sum_by condition_weight cs
-ranks_weight n rank [] = let none = ranks_nil n rank in omega arith
-ranks_weight n rank (c ∷ cs) =
-    let here = weight_once n rank (rank_of c) (condition_weight c) in
-    let more = ranks_cons n rank c cs in
-    let later = ranks_weight n rank cs in
-    let sum = sum_by-cons condition_weight c cs in
-    omega arith
+both_sums : (cs : List Condition) → sum_by words_weight cs + sum_by bytes_weight cs ≤ sum_by condition_weight cs
+both_sums [] = omega arith
+both_sums (c ∷ cs) =
+    omega (arith, both_weights c, both_sums cs, sum_by-cons words_weight c cs, sum_by-cons bytes_weight c cs, sum_by-cons condition_weight c cs)
 
 code_total : (slot : ℕ) (rule : RuleTree) → total (rule_code slot rule) ≤ weight_of rule
 code_total slot rule =
     let cs = rule.conditions in
     let tail = offered rule.eavesdrops verdicts in
-    omega (arith, from_total slot 8 0 cs tail, offered_total rule.eavesdrops, ranks_weight 8 0 cs)
+    let bytes = falling (part_code Bytes slot) ranks cs tail in
+    let a = rising_total words_weight (part_code Words slot) (words_within slot) ranks cs bytes in
+    let b = falling_total bytes_weight (part_code Bytes slot) (bytes_within slot) ranks cs tail in
+    let c = below_weight words_weight (part_code Words slot) (words_within slot) ranks cs in
+    let d = below_weight bytes_weight (part_code Bytes slot) (bytes_within slot) ranks cs in
+    omega (arith, offered_total rule.eavesdrops, both_sums cs)
 
 -- with an island for each far target the program isn't longer than the rule weighs
 pub rule_length : (slot : ℕ) (rule : RuleTree) (draft : DraftTree) → instructions_of draft ≡ rule_code slot rule → plain_length draft ≤ weight_of rule

@@ -5,7 +5,6 @@ use Rattle.std.specs.Option.{IsSomeAnd}
 use Rattle.std.specs.Str.{bytes_eq}
 use Rattle.std.specs.List.{slice_get}
 use Rattle.std.proofs.lemmas.Bool.{and_parts, leb-true}
-use Rattle.std.proofs.lemmas.Option.{slice_get_within}
 use Rattle.bpf_code.specs.declared.instruction.Ins.{Ins}
 use Rattle.bpf_code.specs.declared.operation.Op.{Op}
 use Rattle.bpf_code.specs.declared.operation.Op.TheVariants.{LoadImage, LoadIndexed, IndexFromA, ReturnConstant, Jump, Branch}
@@ -19,20 +18,21 @@ use Rattle.bpf_code.specs.Flow.{At, Reads}
 use Rattle.bpf_code.specs.Program.{IsJumpFine, IsFine, IsReturn}
 use Rattle.jump_islands.specs.WellMade.{AreWellMade}
 use Rattle.message_view.specs.Header.{kind_byte}
-use Rattle.match_rule.specs.declared.source.Field.{Field}
-use Rattle.match_rule.specs.declared.source.Field.TheVariants.{Interface, Member, Path, Destination}
-use Rattle.match_rule.specs.declared.source.Source.TheVariants.{Header, Arg}
-use Rattle.match_rule.specs.declared.relation.Relation.{Relation}
-use Rattle.match_rule.specs.declared.relation.Relation.TheVariants as relations
+use Rattle.match_key.specs.declared.source.Field.{Field}
+use Rattle.match_key.specs.declared.source.Field.TheVariants.{Interface, Member, Path, Destination}
+use Rattle.match_key.specs.declared.source.Source.TheVariants.{Header, Arg}
+use Rattle.match_key.specs.declared.relation.Relation.{Relation}
+use Rattle.match_key.specs.declared.relation.Relation.TheVariants as relations
 use Rattle.match_rule.specs.declared.condition.Condition.{Condition}
 use Rattle.match_rule.specs.declared.condition.Condition.TheVariants.{Kind, Sender, Compares}
 use Rattle.match_rule.specs.Bytes.{ends_with}
-use Rattle.match_rule.specs.Condition.{kind_meant}
+use Rattle.match_key.specs.Kinds.{kind_meant}
 use Rattle.match_rule.specs.Parts.{has_small_number, have_small_numbers}
 use Rattle.match_rule.specs.RuleTree.{RuleTree, is_owned_name}
-use Rattle.rule_compile.specs.Code.{image_word, indexed, index_from_a, returns, branch, want, settle, two, four, same_bytes, has_len, is_there, is_there_if, index_text, is_text, in_namespace}
-use Rattle.rule_compile.specs.Folders.{parts_of, may_end, along, is_nested}
-use Rattle.rule_compile.specs.RuleCode.{argument_at, field_at, has_type, has_text_type, owns, path_namespace, relation_code, there_code, type_code, condition_code, rank_of, of_rank, from_rank, offered, verdicts, rule_code}
+use Rattle.rule_compile.specs.declared.condition.Part.TheVariants.{Words, Bytes}
+use Rattle.rule_compile.specs.Code.{image_word, indexed, index_from_a, returns, branch, want, settle, two, same_word, same_words, same_bytes, has_len, is_there, is_there_if, has_text_len, index_text, has_bytes, may_end, in_namespace}
+use Rattle.rule_compile.specs.Folders.{parts_of, along, is_nested}
+use Rattle.rule_compile.specs.RuleCode.{argument_at, field_at, has_type, has_text_type, owns, path_namespace_len, path_namespace, relation_len, relation_bytes, there_code, type_code, part_code, rank_of, ranks, of_rank, rising, falling, offered, verdicts, rule_code}
 
 -- ---- what an instruction in front keeps
 
@@ -132,6 +132,14 @@ verdicts_sound = return_sound 1 (returns 0 ∷ []) last_sound
 
 -- ---- pieces
 
+word_sound : (at : ℕ) (value : List ℕ) (i : ℕ) (rest : List Ins) → IsSound rest → IsSound (same_word at value i rest)
+word_sound at value i rest s = indexed_sound Word (at + i) _ (want_sound Equal _ rest s)
+
+words_sound : (at : ℕ) (value : List ℕ) (n : ℕ) (rest : List Ins) → IsSound rest → IsSound (same_words at value n rest)
+words_sound at value zero rest s = s
+words_sound at value (suc n) rest s =
+    words_sound at value n (same_word at value (4 * n) rest) (word_sound at value (4 * n) rest s)
+
 same_sound : (at : ℕ) (bytes : List ℕ) (rest : List Ins) → IsSound rest → IsSound (same_bytes at bytes rest)
 same_sound at [] rest s = s
 same_sound at (a ∷ []) rest s = indexed_sound Byte at _ (want_sound Equal a rest s)
@@ -139,7 +147,9 @@ same_sound at (a ∷ b ∷ []) rest s = indexed_sound Half at _ (want_sound Equa
 same_sound at (a ∷ b ∷ c ∷ []) rest s =
     indexed_sound Half at _ (want_sound Equal (two a b) _ (indexed_sound Byte (at + 2) _ (want_sound Equal c rest s)))
 same_sound at (a ∷ b ∷ c ∷ d ∷ more) rest s =
-    indexed_sound Word at _ (want_sound Equal (four a b c d) _ (same_sound (at + 4) more rest s))
+    let value = a ∷ b ∷ c ∷ d ∷ more in
+    let n = (length more + 3) / 4 in
+    word_sound at value (length more) (same_words at value n rest) (words_sound at value n rest s)
 
 len_sound : (test : Test) (n at : ℕ) (rest : List Ins) → at < 1024 → IsSound rest → IsSound (has_len test n at rest)
 len_sound test n at rest small s = image_sound (at + 4) (want test n rest) (omega arith) (want_sound test n rest s)
@@ -154,28 +164,24 @@ choice_sound false hit miss h m = m
 text_sound : (at : ℕ) (rest : List Ins) → at < 1024 → IsSound rest → IsSound (index_text at rest)
 text_sound at rest small s = image_sound at (index_from_a ∷ rest) (omega arith) (index_sound rest s)
 
--- the text's beginning, in front of what is tested next, once its length fits
-begin_sound : (test : Test) (at : ℕ) (value : List ℕ) (rest : List Ins) → at < 1024 → IsSound rest → IsSound (has_len test (length value) at (is_there_if (length value == 0) at (index_text at (same_bytes 0 value rest))))
-begin_sound test at value rest small s =
-    let tail = index_text at (same_bytes 0 value rest) in
-    let t : IsSound tail = text_sound at (same_bytes 0 value rest) small (same_sound 0 value rest s) in
-    len_sound test (length value) at (is_there_if (length value == 0) at tail) small (choice_sound (length value == 0) (is_there at tail) tail (there_sound at tail small t) t)
+text_len_sound : (test : Test) (n at : ℕ) (rest : List Ins) → at < 1024 → IsSound rest → IsSound (has_text_len test n at rest)
+text_len_sound test n at rest small s =
+    len_sound test n at (is_there_if (n == 0) at rest) small (choice_sound (n == 0) (is_there at rest) rest (there_sound at rest small s) s)
 
-is_text_sound : (at : ℕ) (value : List ℕ) (rest : List Ins) → at < 1024 → IsSound rest → IsSound (is_text at value rest)
-is_text_sound at value rest small s = begin_sound Equal at value rest small s
+bytes_sound : (at : ℕ) (value : List ℕ) (rest : List Ins) → at < 1024 → IsSound rest → IsSound (has_bytes at value rest)
+bytes_sound at value rest small s = text_sound at (same_bytes 0 value rest) small (same_sound 0 value rest s)
+
+may_end_sound : (at n : ℕ) (exit rest : List Ins) → at < 1024 → IsSound exit → IsSound rest → IsSound (may_end at n exit rest)
+may_end_sound at n exit rest small b s = image_sound (at + 4) (settle Equal n exit rest) (omega arith) (settle_sound Equal n exit rest b s)
 
 namespace_sound : (at separator : ℕ) (value : List ℕ) (rest : List Ins) → at < 1024 → IsSound rest → IsSound (in_namespace at separator value rest)
 namespace_sound at separator value rest small s =
     let last = indexed Byte (length value) ∷ want Equal separator rest in
     let l : IsSound last = indexed_sound Byte (length value) (want Equal separator rest) (want_sound Equal separator rest s) in
-    begin_sound AtLeast at value (image_word (at + 4) ∷ settle Equal (length value) rest last) small
-    (image_sound (at + 4) (settle Equal (length value) rest last) (omega arith) (settle_sound Equal (length value) rest last s l))
+    bytes_sound at value (may_end at (length value) rest last) small (may_end_sound at (length value) rest last small s l)
 
 part_sound : (test : Test) (at place : ℕ) (part : List ℕ) (rest : List Ins) → at < 1024 → IsSound rest → IsSound (has_len test (place + length part) at (same_bytes place part rest))
 part_sound test at place part rest small s = len_sound test (place + length part) at (same_bytes place part rest) small (same_sound place part rest s)
-
-may_end_sound : (at n : ℕ) (exit rest : List Ins) → at < 1024 → IsSound exit → IsSound rest → IsSound (may_end at n exit rest)
-may_end_sound at n exit rest small b s = image_sound (at + 4) (settle Equal n exit rest) (omega arith) (settle_sound Equal n exit rest b s)
 
 along_sound : (at place : ℕ) (parts : List (List ℕ)) (rest : List Ins) → at < 1024 → IsSound rest → IsSound (along at place parts rest)
 along_sound at place [] rest small s = s
@@ -202,12 +208,22 @@ owns_sound : (slot : ℕ) (rest : List Ins) → slot < 1024 → IsSound rest →
 owns_sound slot rest small s =
     image_sound (840 + 4 * (slot / 32)) (want SharesBit (2 ^ (slot % 32)) rest) (omega arith) (want_sound SharesBit (2 ^ (slot % 32)) rest s)
 
+path_len_sound : (at : ℕ) (value : List ℕ) (rest : List Ins) → at < 1024 → IsSound rest → IsSound (path_namespace_len at value rest)
+path_len_sound at value rest small s =
+    choice_sound (bytes_eq value (47 ∷ [])) (is_there at rest) (has_text_len AtLeast (length value) at rest) (there_sound at rest small s) (text_len_sound AtLeast (length value) at rest small s)
+
+relation_len_sound : (relation : Relation) (at : ℕ) (value : List ℕ) (rest : List Ins) → at < 1024 → IsSound rest → IsSound (relation_len relation at value rest)
+relation_len_sound relations.Equal at value rest small s = text_len_sound Equal (length value) at rest small s
+relation_len_sound relations.PathNamespace at value rest small s = path_len_sound at value rest small s
+relation_len_sound relations.NameNamespace at value rest small s = text_len_sound AtLeast (length value) at rest small s
+relation_len_sound relations.NestedPath at value rest small s = s
+
 path_sound : (at : ℕ) (value : List ℕ) (rest : List Ins) → at < 1024 → IsSound rest → IsSound (path_namespace at value rest)
 path_sound at value rest small s =
-    choice_sound (bytes_eq value (47 ∷ [])) (is_there at rest) (in_namespace at 47 value rest) (there_sound at rest small s) (namespace_sound at 47 value rest small s)
+    choice_sound (bytes_eq value (47 ∷ [])) rest (in_namespace at 47 value rest) s (namespace_sound at 47 value rest small s)
 
-relation_sound : (relation : Relation) (at : ℕ) (value : List ℕ) (rest : List Ins) → at < 1024 → IsSound rest → IsSound (relation_code relation at value rest)
-relation_sound relations.Equal at value rest small s = is_text_sound at value rest small s
+relation_sound : (relation : Relation) (at : ℕ) (value : List ℕ) (rest : List Ins) → at < 1024 → IsSound rest → IsSound (relation_bytes relation at value rest)
+relation_sound relations.Equal at value rest small s = bytes_sound at value rest small s
 relation_sound relations.PathNamespace at value rest small s = path_sound at value rest small s
 relation_sound relations.NameNamespace at value rest small s = namespace_sound at 46 value rest small s
 relation_sound relations.NestedPath at value rest small s = nested_sound at value rest small s
@@ -226,44 +242,55 @@ field_small Member = omega arith
 field_small Path = omega arith
 field_small Destination = omega arith
 
-pub condition_sound : (slot : ℕ) (c : Condition) (rest : List Ins) → slot < 1024 → has_small_number c ≡ true → IsSound rest → IsSound (condition_code slot c rest)
-condition_sound slot (Kind kind) rest small e s = image_sound 4 (want Equal (kind_byte (kind_meant kind)) rest) (omega arith) (want_sound Equal (kind_byte (kind_meant kind)) rest s)
-condition_sound slot (Sender name) rest small e s =
-    choice_sound (is_owned_name name) (owns slot rest) (is_text 64 name rest) (owns_sound slot rest small s) (is_text_sound 64 name rest (omega arith) s)
-condition_sound slot (Compares (Header field) relation value) rest small e s =
-    there_code_sound relation (field_at field) (relation_code relation (field_at field) value rest) (field_small field) (relation_sound relation (field_at field) value rest (field_small field) s)
-condition_sound slot (Compares (Arg n) relation value) rest small e s =
+-- a piece of a condition is sound in front of what is
+abbrev IsSoundPiece : (Condition → List Ins → List Ins) → Type 0
+IsSoundPiece piece = (c : Condition) (rest : List Ins) → has_small_number c ≡ true → IsSound rest → IsSound (piece c rest)
+
+condition_words_sound : (slot : ℕ) → slot < 1024 → IsSoundPiece (part_code Words slot)
+condition_words_sound slot small (Kind kind) rest e s = image_sound 4 (want Equal (kind_byte (kind_meant kind)) rest) (omega arith) (want_sound Equal (kind_byte (kind_meant kind)) rest s)
+condition_words_sound slot small (Sender name) rest e s =
+    choice_sound (is_owned_name name) (owns slot rest) (has_text_len Equal (length name) 64 rest) (owns_sound slot rest small s) (text_len_sound Equal (length name) 64 rest (omega arith) s)
+condition_words_sound slot small (Compares (Header field) relation value) rest e s =
+    there_code_sound relation (field_at field) (relation_len relation (field_at field) value rest) (field_small field) (relation_len_sound relation (field_at field) value rest (field_small field) s)
+condition_words_sound slot small (Compares (Arg n) relation value) rest e s =
     let h : n ≤ 63 = leb-true n 63 e in
-    type_code_sound relation n (relation_code relation (argument_at n + 4) value rest) h (relation_sound relation (argument_at n + 4) value rest (omega arith) s)
+    type_code_sound relation n (relation_len relation (argument_at n + 4) value rest) h (relation_len_sound relation (argument_at n + 4) value rest (omega arith) s)
 
--- ---- the distances of a branch
-
-pub branch_inside : (code : List Ins) (place : ℕ) (test : Test) (k hit miss : ℕ) → IsSound code → slice_get code place ≡ Some (branch test k hit miss) → (place + 1 + hit < length code) × (place + 1 + miss < length code)
-branch_inside code place test k hit miss s at =
-    let inside : place < length code = slice_get_within code place (branch test k hit miss) at in
-    let row = branch_row test in
-    let fine : IsFine (length code) place (Branch test Constant) (branch test k hit miss) = rw (at, row) at (s.fine place inside) in
-    fine.jump
+condition_bytes_sound : (slot : ℕ) → IsSoundPiece (part_code Bytes slot)
+condition_bytes_sound slot (Kind kind) rest e s = s
+condition_bytes_sound slot (Sender name) rest e s =
+    choice_sound (is_owned_name name) rest (has_bytes 64 name rest) s (bytes_sound 64 name rest (omega arith) s)
+condition_bytes_sound slot (Compares (Header field) relation value) rest e s =
+    relation_sound relation (field_at field) value rest (field_small field) s
+condition_bytes_sound slot (Compares (Arg n) relation value) rest e s =
+    let h : n ≤ 63 = leb-true n 63 e in
+    relation_sound relation (argument_at n + 4) value rest (omega arith) s
 
 -- ---- rules
 
-pub rank_sound : (slot rank : ℕ) (cs : List Condition) (rest : List Ins) → slot < 1024 → have_small_numbers cs ≡ true → IsSound rest → IsSound (of_rank slot rank cs rest)
-rank_sound slot rank [] rest small e s = s
-rank_sound slot rank (c ∷ cs) rest small e s =
-    let h = and_parts (has_small_number c) (have_small_numbers cs) e in
-    let t : IsSound (of_rank slot rank cs rest) = rank_sound slot rank cs rest small h.1 s in
-    choice_sound (rank_of c == rank) (condition_code slot c (of_rank slot rank cs rest)) (of_rank slot rank cs rest) (condition_sound slot c (of_rank slot rank cs rest) small h.0 t) t
+module _ (piece : Condition → List Ins → List Ins) (each : IsSoundPiece piece) where
+  rank_sound : (rank : ℕ) (cs : List Condition) (rest : List Ins) → have_small_numbers cs ≡ true → IsSound rest → IsSound (of_rank piece rank cs rest)
+  rank_sound rank [] rest e s = s
+  rank_sound rank (c ∷ cs) rest e s =
+      let h = and_parts (has_small_number c) (have_small_numbers cs) e in
+      let t : IsSound (of_rank piece rank cs rest) = rank_sound rank cs rest h.1 s in
+      choice_sound (rank_of c == rank) (piece c (of_rank piece rank cs rest)) (of_rank piece rank cs rest) (each c (of_rank piece rank cs rest) h.0 t) t
 
-pub from_sound : (slot n rank : ℕ) (cs : List Condition) (rest : List Ins) → slot < 1024 → have_small_numbers cs ≡ true → IsSound rest → IsSound (from_rank slot n rank cs rest)
-from_sound slot zero rank cs rest small e s = s
-from_sound slot (suc n) rank cs rest small e s = rank_sound slot rank cs (from_rank slot n (rank + 1) cs rest) small e (from_sound slot n (rank + 1) cs rest small e s)
+  rising_sound : (n : ℕ) (cs : List Condition) (rest : List Ins) → have_small_numbers cs ≡ true → IsSound rest → IsSound (rising piece n cs rest)
+  rising_sound zero cs rest e s = s
+  rising_sound (suc n) cs rest e s = rising_sound n cs (of_rank piece n cs rest) e (rank_sound n cs rest e s)
+
+  falling_sound : (n : ℕ) (cs : List Condition) (rest : List Ins) → have_small_numbers cs ≡ true → IsSound rest → IsSound (falling piece n cs rest)
+  falling_sound zero cs rest e s = s
+  falling_sound (suc n) cs rest e s = rank_sound n cs (falling piece n cs rest) e (falling_sound n cs rest e s)
 
 pub offered_sound : (eavesdrops : Bool) → IsSound (offered eavesdrops verdicts)
 offered_sound eavesdrops =
     choice_sound eavesdrops verdicts (image_word 56 ∷ want Equal 0 verdicts) verdicts_sound (image_sound 56 (want Equal 0 verdicts) (omega arith) (want_sound Equal 0 verdicts verdicts_sound))
 
 pub rule_sound : (slot : ℕ) (rule : RuleTree) → slot < 1024 → have_small_numbers rule.conditions ≡ true → IsSound (rule_code slot rule)
-rule_sound slot rule small e = from_sound slot 8 0 rule.conditions (offered rule.eavesdrops verdicts) small e (offered_sound rule.eavesdrops)
+rule_sound slot rule small e =
+    rising_sound (part_code Words slot) (condition_words_sound slot small) ranks rule.conditions _ e (falling_sound (part_code Bytes slot) (condition_bytes_sound slot) ranks rule.conditions (offered rule.eavesdrops verdicts) e (offered_sound rule.eavesdrops))
 
 pub rule_well_made : (slot : ℕ) (rule : RuleTree) → slot < 1024 → have_small_numbers rule.conditions ≡ true → AreWellMade (rule_code slot rule)
 rule_well_made slot rule small e =

@@ -1,10 +1,9 @@
 -- The pieces that compare bytes, by how many bytes there are.
-use Rattle.std.proofs.Common.{◌≡◌, ℕ, ◌+◌, ◌≤◌, List, [], ◌∷◌, length, get_or, drop, refl, ap, ◌∙◌, add_assoc, arith, length-drop}
-use Rattle.std.proofs.lemmas.List.{drop-drop}
+use Rattle.std.proofs.Common.{◌≡◌, ℕ, ◌+◌, ◌-◌, ◌/◌, ◌≤◌, List, [], ◌∷◌, length, get_or, refl, ap, ◌∙◌, arith}
 use Rattle.bpf_code.specs.declared.instruction.Ins.{Ins}
-use Rattle.bpf_code.specs.declared.operation.Width.TheVariants.{Word, Half, Byte}
+use Rattle.bpf_code.specs.declared.operation.Width.TheVariants.{Half, Byte}
 use Rattle.bpf_code.specs.declared.operation.Test.TheVariants.{Equal}
-use Rattle.rule_compile.specs.Code.{same_bytes, indexed, want, two, four}
+use Rattle.rule_compile.specs.Code.{indexed, want, two, same_word, same_words, same_bytes}
 
 pub same_none : (at : ℕ) (value : List ℕ) (rest : List Ins) → length value ≡ 0 → same_bytes at value rest ≡ rest
 same_none at [] rest e = refl
@@ -28,15 +27,14 @@ same_three at (a ∷ b ∷ []) rest e = absurd (omega (arith, e))
 same_three at (a ∷ b ∷ c ∷ []) rest e = refl
 same_three at (a ∷ b ∷ c ∷ d ∷ value) rest e = absurd (omega (arith, e))
 
--- the first four of them, and the rest
-same_more : (at : ℕ) (value : List ℕ) (rest : List Ins) → 4 ≤ length value → same_bytes at value rest ≡ indexed Word at ∷ want Equal (four (get_or value 0 0) (get_or value 1 0) (get_or value 2 0) (get_or value 3 0)) (same_bytes (at + 4) (drop 4 value) rest)
-same_more at [] rest e = absurd (omega (arith, e))
-same_more at (a ∷ []) rest e = absurd (omega (arith, e))
-same_more at (a ∷ b ∷ []) rest e = absurd (omega (arith, e))
-same_more at (a ∷ b ∷ c ∷ []) rest e = absurd (omega (arith, e))
-same_more at (a ∷ b ∷ c ∷ d ∷ value) rest e = refl
-
--- four bytes more, in front of those from a place on
-pub same_before : (at start : ℕ) (value : List ℕ) (rest : List Ins) → start + 4 ≤ length value → same_bytes (at + start) (drop start value) rest ≡ indexed Word (at + start) ∷ want Equal (four (get_or (drop start value) 0 0) (get_or (drop start value) 1 0) (get_or (drop start value) 2 0) (get_or (drop start value) 3 0)) (same_bytes (at + (start + 4)) (drop (start + 4) value) rest)
-same_before at start value rest e =
-    same_more (at + start) (drop start value) rest (simp length-drop (omega arith)) ∙ ap (λ (more : List Ins). indexed Word (at + start) ∷ want Equal (four (get_or (drop start value) 0 0) (get_or (drop start value) 1 0) (get_or (drop start value) 2 0) (get_or (drop start value) 3 0)) more) (ap (λ (from : ℕ). same_bytes from (drop 4 (drop start value)) rest) (add_assoc at start 4) ∙ ap (λ (left : List ℕ). same_bytes (at + (start + 4)) left rest) (drop-drop 4 start value))
+-- the last four of them, and the words before those
+pub same_many : (at : ℕ) (value : List ℕ) (rest : List Ins) → 4 ≤ length value → same_bytes at value rest ≡ same_word at value (length value - 4) (same_words at value ((length value - 1) / 4) rest)
+same_many at [] rest e = absurd (omega (arith, e))
+same_many at (a ∷ []) rest e = absurd (omega (arith, e))
+same_many at (a ∷ b ∷ []) rest e = absurd (omega (arith, e))
+same_many at (a ∷ b ∷ c ∷ []) rest e = absurd (omega (arith, e))
+same_many at (a ∷ b ∷ c ∷ d ∷ more) rest e =
+    let value = a ∷ b ∷ c ∷ d ∷ more in
+    let last : length more ≡ length value - 4 = omega arith in
+    let front : length more + 3 ≡ length value - 1 = omega arith in
+    ap (λ (i : ℕ). same_word at value i (same_words at value ((length more + 3) / 4) rest)) last ∙ ap (λ (n : ℕ). same_word at value (length value - 4) (same_words at value (n / 4) rest)) front

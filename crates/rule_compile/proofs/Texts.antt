@@ -10,9 +10,10 @@ use Rattle.bpf_code.specs.Loads.{load_word}
 use Rattle.bpf_code.specs.Effects.{passes}
 use Rattle.match_rule.specs.Holds.{Begins}
 use Rattle.summary.specs.Shown.{AreBytes, Tells, ShowsText}
-use Rattle.rule_compile.specs.Code.{image_word, indexed, want, settle, same_bytes, has_len, is_there, is_there_if, index_text, is_text, in_namespace}
+use Rattle.rule_compile.specs.Code.{image_word, indexed, want, same_bytes, has_len, is_there, is_there_if, has_text_len, index_text, has_bytes, may_end, in_namespace}
 use Rattle.rule_compile.proofs.Pieces.{Any, Tests}
-use Rattle.rule_compile.proofs.Combined.{Extends, extends_more, extends_then, extends_want, extends_settle, extends_index_text, tests_same, tests_then, tests_both, tests_word, tests_settle, tests_index_text}
+use Rattle.rule_compile.proofs.InTurn.{InTurn, turn_then, turn_same}
+use Rattle.rule_compile.proofs.Combined.{Extends, extends_none, extends_more, extends_then, extends_want, extends_settle, extends_index_text, tests_none, tests_same, tests_then, tests_both, tests_word, tests_settle, tests_index_text}
 use Rattle.rule_compile.proofs.Bytes.{Stands, At, extends_indexed, tests_byte, extends_same_bytes, tests_same_bytes}
 
 -- ---- the length, and whether the text is there
@@ -40,47 +41,49 @@ pub tests_is_there : (image : List ℕ) (X : ℕ → Type 0) (at place : ℕ) �
 tests_is_there image X at place is =
     tests_same image X _ _ (is_there at) (ltb-true 0 place, lt-ltb 0 place) (tests_word image X at place Above 0 is)
 
-extends_is_there_if : (empty : Bool) (at : ℕ) (f : List Ins → List Ins) → Extends f → Extends (λ rest. is_there_if empty at (f rest))
-extends_is_there_if true at f extends = extends_then (is_there at) f (extends_is_there at) extends
-extends_is_there_if false at f extends = extends
+extends_is_there_if : (empty : Bool) (at : ℕ) → Extends (is_there_if empty at)
+extends_is_there_if true at = extends_is_there at
+extends_is_there_if false at = extends_none
 
-tests_is_there_if : (image : List ℕ) (X : ℕ → Type 0) (P : Type 0) (empty : Bool) (at place : ℕ) (f : List Ins → List Ins) → load_word image at ≡ Some place → 0 < place → Tests image X P f → Tests image X P (λ rest. is_there_if empty at (f rest))
-tests_is_there_if image X P true at place f is begun t =
-    tests_same image X _ _ (λ rest. is_there at (f rest)) (λ both. both.1, λ p. (begun, p)) (tests_both image X (0 < place) P (is_there at) f (tests_is_there image X at place is) t)
-tests_is_there_if image X P false at place f is begun t = t
+tests_is_there_if : (image : List ℕ) (empty : Bool) (at place : ℕ) → load_word image at ≡ Some place → 0 < place → Tests image Any (0 < place) (is_there_if empty at)
+tests_is_there_if image true at place is begun = tests_is_there image Any at place is
+tests_is_there_if image false at place is begun = tests_none image Any (0 < place) begun
 
-tests_absent : (image : List ℕ) (X : ℕ → Type 0) (P : Type 0) (empty : Bool) (at : ℕ) (f : List Ins → List Ins) → empty ≡ true → load_word image at ≡ Some 0 → Extends f → (P → ⊥) → Tests image X P (λ rest. is_there_if empty at (f rest))
-tests_absent image X P true at f e is extends none =
-    tests_same image X _ _ (λ rest. is_there at (f rest)) (λ both. absurd (let h = both.0 in omega arith), λ p. absurd (none p)) (tests_then image X (0 < 0) P (is_there at) f (tests_is_there image X at 0 is) extends (λ h. absurd (omega arith)))
-tests_absent image X P false at f e is extends none = absurd (false≢true e)
+tests_absent : (image : List ℕ) (empty : Bool) (at : ℕ) → empty ≡ true → load_word image at ≡ Some 0 → Tests image Any ⊥ (is_there_if empty at)
+tests_absent image true at e is =
+    tests_same image Any (0 < 0) ⊥ (is_there at) (λ h. absurd (omega (arith, h)), λ none. absurd none) (tests_is_there image Any at 0 is)
+tests_absent image false at e is = absurd (false≢true e)
 
--- ---- what both pieces begin with
+-- ---- the length of a text that is there
 
--- the length passes, the text is there, and more holds with X at its place
-abbrev about : Test → ℕ → ℕ → (List Ins → List Ins) → List Ins → List Ins
-about test n at f rest = has_len test n at (is_there_if (n == 0) at (index_text at (f rest)))
+pub extends_text_len : (test : Test) (n at : ℕ) → Extends (has_text_len test n at)
+extends_text_len test n at =
+    extends_then (has_len test n at) (is_there_if (n == 0) at) (extends_has_len test n at) (extends_is_there_if (n == 0) at)
 
-extends_inner : (n at : ℕ) (f : List Ins → List Ins) → Extends f → Extends (λ rest. is_there_if (n == 0) at (index_text at (f rest)))
-extends_inner n at f extends =
-    extends_is_there_if (n == 0) at (λ rest. index_text at (f rest)) (extends_index_text f at extends)
+-- an absent text has no length
+absent_text_len : (image : List ℕ) (test : Test) (n at : ℕ) → load_word image at ≡ Some 0 → load_word image (at + 4) ≡ Some 0 → (passes test 0 n ≡ true → n ≡ 0) → Tests image Any ⊥ (has_text_len test n at)
+absent_text_len image test n at place len small =
+    tests_same image Any ((passes test 0 n ≡ true) × ⊥) ⊥ (has_text_len test n at) (λ both. both.1, λ none. absurd none) (tests_then image Any (passes test 0 n ≡ true) ⊥ (has_len test n at) (is_there_if (n == 0) at) (tests_has_len image Any at 0 test n len) (extends_is_there_if (n == 0) at) (λ e. tests_absent image (n == 0) at (eq-eqb n 0 (small e)) place))
 
-extends_about : (test : Test) (n at : ℕ) (f : List Ins → List Ins) → Extends f → Extends (about test n at f)
-extends_about test n at f extends =
-    extends_then (has_len test n at) (λ rest. is_there_if (n == 0) at (index_text at (f rest))) (extends_has_len test n at) (extends_inner n at f extends)
+tests_text_len : (image : List ℕ) (test : Test) (n at : ℕ) (text : List ℕ) → (tells : Tells image at text) → Tests image Any (passes test (length text) n ≡ true) (has_text_len test n at)
+tests_text_len image test n at text tells =
+    tests_same image Any ((passes test (length text) n ≡ true) × (0 < tells.place)) _ (has_text_len test n at) (λ both. both.0, λ e. (e, tells.after_start)) (tests_both image Any (passes test (length text) n ≡ true) (0 < tells.place) (has_len test n at) (is_there_if (n == 0) at) (tests_has_len image Any at (length text) test n tells.len_word) (tests_is_there_if image (n == 0) at tells.place tells.place_word tells.after_start))
+
+-- ---- the length first, and then the bytes
 
 -- of an absent text nothing holds
-tests_about_none : (image : List ℕ) (P : Type 0) (test : Test) (n at : ℕ) (f : List Ins → List Ins) → load_word image at ≡ Some 0 → load_word image (at + 4) ≡ Some 0 → (passes test 0 n ≡ true → n ≡ 0) → Extends f → (P → ⊥) → Tests image Any P (about test n at f)
-tests_about_none image P test n at f place len small extends none =
-    tests_same image Any _ _ (about test n at f) (λ both. both.1, λ p. absurd (none p)) (tests_then image Any (passes test 0 n ≡ true) P (has_len test n at) (λ rest. is_there_if (n == 0) at (index_text at (f rest))) (tests_has_len image Any at 0 test n len) (extends_inner n at f extends) (λ e. tests_absent image Any P (n == 0) at (λ rest. index_text at (f rest)) (eq-eqb n 0 (small e)) place (extends_index_text f at extends) none))
+turn_absent : (image : List ℕ) (P : Type 0) (test : Test) (n at : ℕ) (g : List Ins → List Ins) → load_word image at ≡ Some 0 → load_word image (at + 4) ≡ Some 0 → (passes test 0 n ≡ true → n ≡ 0) → Extends g → (P → ⊥) → InTurn image P (has_text_len test n at) g
+turn_absent image P test n at g place len small extends none =
+    turn_then image ⊥ P (has_text_len test n at) g (absent_text_len image test n at place len small) extends (λ never. absurd never) none
 
-tests_about : (image : List ℕ) (P : Type 0) (test : Test) (n at : ℕ) (text : List ℕ) (f : List Ins → List Ins) → (tells : Tells image at text) → Extends f → (passes test (length text) n ≡ true → Tests image (At tells.place) P f) → Tests image Any ((passes test (length text) n ≡ true) × P) (about test n at f)
-tests_about image P test n at text f tells extends t =
-    tests_then image Any (passes test (length text) n ≡ true) P (has_len test n at) (λ rest. is_there_if (n == 0) at (index_text at (f rest))) (tests_has_len image Any at (length text) test n tells.len_word) (extends_inner n at f extends) (λ e. tests_is_there_if image Any P (n == 0) at tells.place (λ rest. index_text at (f rest)) tells.place_word tells.after_start (tests_index_text image P f at tells.place tells.place_word (t e)))
+turn_text : (image : List ℕ) (P : Type 0) (test : Test) (n at : ℕ) (text : List ℕ) (f : List Ins → List Ins) → (tells : Tells image at text) → Extends f → (passes test (length text) n ≡ true → Tests image (At tells.place) P f) → InTurn image ((passes test (length text) n ≡ true) × P) (has_text_len test n at) (λ rest. index_text at (f rest))
+turn_text image P test n at text f tells extends t =
+    turn_then image (passes test (length text) n ≡ true) _ (has_text_len test n at) (λ rest. index_text at (f rest)) (tests_text_len image test n at text tells) (extends_index_text f at extends) (λ e. tests_same image Any P _ (λ rest. index_text at (f rest)) (λ p. (e, p), λ both. both.1) (tests_index_text image P f at tells.place tells.place_word (t e))) (λ both. both.0)
 
 -- ---- the text is a value
 
-pub extends_is_text : (at : ℕ) (value : List ℕ) → Extends (is_text at value)
-extends_is_text at value = extends_about Equal (length value) at (same_bytes 0 value) (extends_same_bytes 0 value)
+pub extends_bytes : (at : ℕ) (value : List ℕ) → Extends (has_bytes at value)
+extends_bytes at value = extends_index_text (same_bytes 0 value) at (extends_same_bytes 0 value)
 
 -- all of the text
 whole : (text value rest : List ℕ) → text ≡ value ++ rest → length text ≡ length value → text ≡ value
@@ -91,21 +94,20 @@ whole text value rest is e =
 some_same : (a b : List ℕ) → Some a ≡ Some b → a ≡ b
 some_same a b h = cc
 
-pub tests_is_text : (image : List ℕ) (at : ℕ) (shown : Option (List ℕ)) (value : List ℕ) → ShowsText image at shown → AreBytes value → Tests image Any (shown ≡ Some value) (is_text at value)
-tests_is_text image at None value shows bytes =
-    tests_about_none image _ Equal (length value) at (same_bytes 0 value) shows.0 shows.1 (λ e. sym (eqb-true 0 (length value) e)) (extends_same_bytes 0 value) (λ h. cc)
-tests_is_text image at (Some text) value tells bytes =
-    tests_same image Any _ _ (is_text at value) (
+pub turn_is_text : (image : List ℕ) (at : ℕ) (shown : Option (List ℕ)) (value : List ℕ) → ShowsText image at shown → AreBytes value → InTurn image (shown ≡ Some value) (has_text_len Equal (length value) at) (has_bytes at value)
+turn_is_text image at None value shows bytes =
+    turn_absent image _ Equal (length value) at (has_bytes at value) shows.0 shows.1 (λ e. sym (eqb-true 0 (length value) e)) (extends_bytes at value) (λ h. cc)
+turn_is_text image at (Some text) value tells bytes =
+    turn_same image _ _ (has_text_len Equal (length value) at) (has_bytes at value) (
       λ both. ap Some (whole text value both.1.0 both.1.1 (eqb-true (length text) (length value) both.0)),
       λ h. let e = some_same text value h in (eq-eqb (length text) (length value) (ap length e), ([], e ∙ sym (append-nil value))),
-    ) (tests_about image (Stands text 0 value) Equal (length value) at text (same_bytes 0 value) tells (extends_same_bytes 0 value) (λ e. tests_same_bytes image tells.place text 0 value tells.lies tells.bytes bytes (let l = eqb-true (length text) (length value) e in omega arith)))
+    ) (turn_text image (Stands text 0 value) Equal (length value) at text (same_bytes 0 value) tells (extends_same_bytes 0 value) (λ e. tests_same_bytes image tells.place text 0 value tells.lies tells.bytes bytes (let l = eqb-true (length text) (length value) e in omega arith)))
 
 -- ---- the text is in a namespace
 
 -- the value is all of the text, or the separator follows it
 abbrev closed : ℕ → ℕ → ℕ → List Ins → List Ins
-closed at n separator rest =
-    image_word (at + 4) ∷ settle Equal n rest (indexed Byte n ∷ want Equal separator rest)
+closed at n separator rest = may_end at n rest (indexed Byte n ∷ want Equal separator rest)
 
 extends_closed : (at n separator : ℕ) → Extends (closed at n separator)
 extends_closed at n separator =
@@ -117,7 +119,7 @@ extends_named at separator value =
 
 pub extends_in_namespace : (at separator : ℕ) (value : List ℕ) → Extends (in_namespace at separator value)
 extends_in_namespace at separator value =
-    extends_about AtLeast (length value) at (λ rest. same_bytes 0 value (closed at (length value) separator rest)) (extends_named at separator value)
+    extends_index_text (λ rest. same_bytes 0 value (closed at (length value) separator rest)) at (extends_named at separator value)
 
 abbrev Separated : List ℕ → ℕ → ℕ → Type 0
 Separated text n separator = (n < length text) × (slice_index text n ≡ separator)
@@ -168,11 +170,11 @@ named_looked text value separator (inr (rest, is)) =
 abbrev InSpace : Option (List ℕ) → List ℕ → ℕ → Type 0
 InSpace shown value separator = (text : List ℕ) × (shown ≡ Some text) × Named text value separator
 
-pub tests_in_namespace : (image : List ℕ) (at separator : ℕ) (shown : Option (List ℕ)) (value : List ℕ) → ShowsText image at shown → AreBytes value → Tests image Any ((text : List ℕ) × (shown ≡ Some text) × ((text ≡ value) ⊎ Begins text (value ++ separator ∷ []))) (in_namespace at separator value)
-tests_in_namespace image at separator None value shows bytes =
-    tests_about_none image (InSpace None value separator) AtLeast (length value) at (λ rest. same_bytes 0 value (closed at (length value) separator rest)) shows.0 shows.1 (λ e. let l = leb-true (length value) 0 e in omega arith) (extends_named at separator value) (λ p. let e = p.1 in cc)
-tests_in_namespace image at separator (Some text) value tells bytes =
-    tests_same image Any _ _ (in_namespace at separator value) (
+pub turn_in_namespace : (image : List ℕ) (at separator : ℕ) (shown : Option (List ℕ)) (value : List ℕ) → ShowsText image at shown → AreBytes value → InTurn image ((text : List ℕ) × (shown ≡ Some text) × ((text ≡ value) ⊎ Begins text (value ++ separator ∷ []))) (has_text_len AtLeast (length value) at) (in_namespace at separator value)
+turn_in_namespace image at separator None value shows bytes =
+    turn_absent image (InSpace None value separator) AtLeast (length value) at (in_namespace at separator value) shows.0 shows.1 (λ e. let l = leb-true (length value) 0 e in omega arith) (extends_in_namespace at separator value) (λ p. let e = p.1 in cc)
+turn_in_namespace image at separator (Some text) value tells bytes =
+    turn_same image _ _ (has_text_len AtLeast (length value) at) (in_namespace at separator value) (
       λ looked. (text, refl, looked_named text value separator looked),
       λ p. named_looked text value separator (subst (λ (t : List ℕ). Named t value separator) (sym (some_same text p.0 p.1)) p.2),
-    ) (tests_about image (Stands text 0 value × ((eqb (length text) (length value) ≡ true) ⊎ Separated text (length value) separator)) AtLeast (length value) at text (λ rest. same_bytes 0 value (closed at (length value) separator rest)) tells (extends_named at separator value) (λ e. let l = leb-true (length value) (length text) e in tests_then image (At tells.place) _ _ (same_bytes 0 value) (closed at (length value) separator) (tests_same_bytes image tells.place text 0 value tells.lies tells.bytes bytes (omega arith)) (extends_closed at (length value) separator) (λ _. tests_closed image at text (length value) separator tells l)))
+    ) (turn_text image (Stands text 0 value × ((eqb (length text) (length value) ≡ true) ⊎ Separated text (length value) separator)) AtLeast (length value) at text (λ rest. same_bytes 0 value (closed at (length value) separator rest)) tells (extends_named at separator value) (λ e. let l = leb-true (length value) (length text) e in tests_then image (At tells.place) _ _ (same_bytes 0 value) (closed at (length value) separator) (tests_same_bytes image tells.place text 0 value tells.lies tells.bytes bytes (omega arith)) (extends_closed at (length value) separator) (λ _. tests_closed image at text (length value) separator tells l)))

@@ -1,14 +1,14 @@
 -- The pieces of programs that rules are compiled to. A program is written from its last instruction to its
 -- first: each piece stands in front of the rest, so that each jump has its target already. Of any rest the last
 -- instruction is the one that says no match.
-use Rattle.std.specs.Prelude.{ℕ, ◌+◌, ◌-◌, ◌*◌, List, [], ◌∷◌, length, ◌==◌, if◌then◌else◌, Bool}
+use Rattle.std.specs.Prelude.{ℕ, zero, suc, ◌+◌, ◌-◌, ◌*◌, ◌/◌, List, [], ◌∷◌, length, slice_index, ◌==◌, if◌then◌else◌, Bool}
 use Rattle.bpf_code.specs.declared.instruction.Ins.{Ins}
 use Rattle.bpf_code.specs.declared.operation.Op.TheVariants.{LoadImage, LoadIndexed, IndexFromA, ReturnConstant, Branch}
 use Rattle.bpf_code.specs.declared.operation.Width.{Width}
 use Rattle.bpf_code.specs.declared.operation.Width.TheVariants.{Word, Half, Byte}
 use Rattle.bpf_code.specs.declared.operation.Operand.TheVariants.{Constant}
 use Rattle.bpf_code.specs.declared.operation.Test.{Test}
-use Rattle.bpf_code.specs.declared.operation.Test.TheVariants.{Equal, Above, AtLeast}
+use Rattle.bpf_code.specs.declared.operation.Test.TheVariants.{Equal, Above}
 use Rattle.bpf_code.specs.Table.{code_of}
 
 -- ---- instructions
@@ -49,13 +49,25 @@ two a b = a * 256 + b
 abbrev pub four : ℕ → ℕ → ℕ → ℕ → ℕ
 four a b c d = ((a * 256 + b) * 256 + c) * 256 + d
 
--- the bytes from `at` after X on are these: four of them at a time, then what is left
+-- the four bytes from `at` + i after X on are those of a value from its byte i on
+abbrev pub same_word : ℕ → List ℕ → ℕ → List Ins → List Ins
+same_word at value i rest =
+    indexed Word (at + i) ∷ want Equal (four (slice_index value i) (slice_index value (i + 1)) (slice_index value (i + 2)) (slice_index value (i + 3))) rest
+
+-- the first n words of a value
+abbrev pub same_words : ℕ → List ℕ → ℕ → List Ins → List Ins
+same_words at value zero rest = rest
+same_words at value (suc n) rest = same_words at value n (same_word at value (4 * n) rest)
+
+-- The bytes from `at` after X on are these: of four or more the last four first, since many names begin alike, and then
+-- as many words as have the other bytes, the last of which may overlap those four.
 abbrev pub same_bytes : ℕ → List ℕ → List Ins → List Ins
 same_bytes at [] rest = rest
 same_bytes at (a ∷ []) rest = indexed Byte at ∷ want Equal a rest
 same_bytes at (a ∷ b ∷ []) rest = indexed Half at ∷ want Equal (two a b) rest
 same_bytes at (a ∷ b ∷ c ∷ []) rest = indexed Half at ∷ want Equal (two a b) (indexed Byte (at + 2) ∷ want Equal c rest)
-same_bytes at (a ∷ b ∷ c ∷ d ∷ more) rest = indexed Word at ∷ want Equal (four a b c d) (same_bytes (at + 4) more rest)
+same_bytes at (a ∷ b ∷ c ∷ d ∷ more) rest =
+    same_word at (a ∷ b ∷ c ∷ d ∷ more) (length more) (same_words at (a ∷ b ∷ c ∷ d ∷ more) ((length more + 3) / 4) rest)
 
 -- ---- texts, whose place and length the image tells in the two words from a place on
 
@@ -71,16 +83,23 @@ is_there at rest = image_word at ∷ want Above 0 rest
 abbrev pub is_there_if : Bool → ℕ → List Ins → List Ins
 is_there_if empty at rest = if empty then is_there at rest else rest
 
+-- the text is there, and its length passes a comparison
+abbrev pub has_text_len : Test → ℕ → ℕ → List Ins → List Ins
+has_text_len test n at rest = has_len test n at (is_there_if (n == 0) at rest)
+
 -- X becomes the text's place
 abbrev pub index_text : ℕ → List Ins → List Ins
 index_text at rest = image_word at ∷ index_from_a ∷ rest
 
--- the text is this value
-abbrev pub is_text : ℕ → List ℕ → List Ins → List Ins
-is_text at value rest =
-    has_len Equal (length value) at (is_there_if (length value == 0) at (index_text at (same_bytes 0 value rest)))
+-- the text, which isn't shorter, begins with these bytes
+abbrev pub has_bytes : ℕ → List ℕ → List Ins → List Ins
+has_bytes at value rest = index_text at (same_bytes 0 value rest)
 
--- the text is this value, or begins with it and a separator
+-- if the text has `n` bytes, it ends here: jump past the piece
+abbrev pub may_end : ℕ → ℕ → List Ins → List Ins → List Ins
+may_end at n exit rest = image_word (at + 4) ∷ settle Equal n exit rest
+
+-- the text, which isn't shorter, is this value, or begins with it and a separator
 abbrev pub in_namespace : ℕ → ℕ → List ℕ → List Ins → List Ins
 in_namespace at separator value rest =
-    has_len AtLeast (length value) at (is_there_if (length value == 0) at (index_text at (same_bytes 0 value (image_word (at + 4) ∷ settle Equal (length value) rest (indexed Byte (length value) ∷ want Equal separator rest)))))
+    has_bytes at value (may_end at (length value) rest (indexed Byte (length value) ∷ want Equal separator rest))

@@ -3,7 +3,7 @@ use Rattle.std.specs.Prelude.{ℕ, ◌+◌, List, [], ◌∷◌, length, ◌==�
 use Rattle.bpf_code.specs.declared.instruction.Ins.{Ins}
 use Rattle.bpf_code.specs.declared.operation.Test.TheVariants.{Equal, AtLeast}
 use Rattle.match_rule.specs.Bytes.{ends_with}
-use Rattle.rule_compile.specs.Code.{image_word, settle, same_bytes, has_len, index_text}
+use Rattle.rule_compile.specs.Code.{same_bytes, has_len, index_text, may_end}
 
 -- a byte in front of the first part
 abbrev pub with_front : ℕ → List (List ℕ) → List (List ℕ)
@@ -14,10 +14,6 @@ with_front b (part ∷ more) = (b ∷ part) ∷ more
 abbrev pub parts_of : List ℕ → List (List ℕ)
 parts_of [] = []
 parts_of (b ∷ bs) = if b == 47 then (b ∷ []) ∷ parts_of bs else with_front b (parts_of bs)
-
--- if the text has `n` bytes, it ends here: jump past the piece
-abbrev pub may_end : ℕ → ℕ → List Ins → List Ins → List Ins
-may_end at n exit rest = image_word (at + 4) ∷ settle Equal n exit rest
 
 -- The text goes on from a place with these parts of a value: it may end after each `/`, and go on after the value where
 -- that ends with one.

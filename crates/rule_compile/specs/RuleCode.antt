@@ -1,20 +1,22 @@
 -- The programs of rules.
-use Rattle.std.specs.Prelude.{ℕ, ◌+◌, ◌*◌, ◌/◌, ◌%◌, ◌^◌, List, [], ◌∷◌, ◌==◌, if◌then◌else◌, zero, suc, Bool}
+use Rattle.std.specs.Prelude.{ℕ, ◌+◌, ◌*◌, ◌/◌, ◌%◌, ◌^◌, List, [], ◌∷◌, length, ◌==◌, if◌then◌else◌, zero, suc, Bool}
 use Rattle.std.specs.Str.{bytes_eq}
 use Rattle.bpf_code.specs.declared.instruction.Ins.{Ins}
-use Rattle.bpf_code.specs.declared.operation.Test.TheVariants.{Equal, SharesBit}
+use Rattle.bpf_code.specs.declared.operation.Test.TheVariants.{Equal, AtLeast, SharesBit}
 use Rattle.message_view.specs.Header.{kind_byte}
-use Rattle.match_rule.specs.declared.source.Field.{Field}
-use Rattle.match_rule.specs.declared.source.Field.TheVariants.{Interface, Member, Path, Destination}
-use Rattle.match_rule.specs.declared.source.Source.{Source}
-use Rattle.match_rule.specs.declared.source.Source.TheVariants.{Header, Arg}
-use Rattle.match_rule.specs.declared.relation.Relation.{Relation}
-use Rattle.match_rule.specs.declared.relation.Relation.TheVariants as relations
+use Rattle.match_key.specs.declared.source.Field.{Field}
+use Rattle.match_key.specs.declared.source.Field.TheVariants.{Interface, Member, Path, Destination}
+use Rattle.match_key.specs.declared.source.Source.{Source}
+use Rattle.match_key.specs.declared.source.Source.TheVariants.{Header, Arg}
+use Rattle.match_key.specs.declared.relation.Relation.{Relation}
+use Rattle.match_key.specs.declared.relation.Relation.TheVariants as relations
 use Rattle.match_rule.specs.declared.condition.Condition.{Condition}
 use Rattle.match_rule.specs.declared.condition.Condition.TheVariants.{Kind, Sender, Compares}
-use Rattle.match_rule.specs.Condition.{kind_meant}
+use Rattle.match_key.specs.Kinds.{kind_meant}
 use Rattle.match_rule.specs.RuleTree.{RuleTree, is_owned_name}
-use Rattle.rule_compile.specs.Code.{image_word, want, settle, returns, is_there, is_text, in_namespace}
+use Rattle.rule_compile.specs.declared.condition.Part.{Part}
+use Rattle.rule_compile.specs.declared.condition.Part.TheVariants.{Words, Bytes}
+use Rattle.rule_compile.specs.Code.{image_word, want, settle, returns, is_there, has_text_len, has_bytes, in_namespace}
 use Rattle.rule_compile.specs.Folders.{is_nested}
 
 -- the place of the words of argument n
@@ -46,16 +48,28 @@ abbrev pub words_at : Source → ℕ
 words_at (Header field) = field_at field
 words_at (Arg n) = argument_at n + 4
 
--- the text is a path in the namespace of the value
-abbrev pub path_namespace : ℕ → List ℕ → List Ins → List Ins
-path_namespace at value rest = if bytes_eq value (47 ∷ []) then is_there at rest else in_namespace at 47 value rest
+-- the text is a path that isn't shorter than the value; of `/` any path
+abbrev pub path_namespace_len : ℕ → List ℕ → List Ins → List Ins
+path_namespace_len at value rest =
+    if bytes_eq value (47 ∷ []) then is_there at rest else has_text_len AtLeast (length value) at rest
 
--- the text stands in the relation to the value
-abbrev pub relation_code : Relation → ℕ → List ℕ → List Ins → List Ins
-relation_code relations.Equal at value rest = is_text at value rest
-relation_code relations.PathNamespace at value rest = path_namespace at value rest
-relation_code relations.NameNamespace at value rest = in_namespace at 46 value rest
-relation_code relations.NestedPath at value rest = is_nested at value rest
+-- such a path is in the namespace of the value
+abbrev pub path_namespace : ℕ → List ℕ → List Ins → List Ins
+path_namespace at value rest = if bytes_eq value (47 ∷ []) then rest else in_namespace at 47 value rest
+
+-- the text has a length that a text in the relation to the value may have
+abbrev pub relation_len : Relation → ℕ → List ℕ → List Ins → List Ins
+relation_len relations.Equal at value rest = has_text_len Equal (length value) at rest
+relation_len relations.PathNamespace at value rest = path_namespace_len at value rest
+relation_len relations.NameNamespace at value rest = has_text_len AtLeast (length value) at rest
+relation_len relations.NestedPath at value rest = rest
+
+-- a text of such a length stands in the relation to the value
+abbrev pub relation_bytes : Relation → ℕ → List ℕ → List Ins → List Ins
+relation_bytes relations.Equal at value rest = has_bytes at value rest
+relation_bytes relations.PathNamespace at value rest = path_namespace at value rest
+relation_bytes relations.NameNamespace at value rest = in_namespace at 46 value rest
+relation_bytes relations.NestedPath at value rest = is_nested at value rest
 
 -- the text of a field is there, where the relation's piece doesn't test that
 abbrev pub there_code : Relation → ℕ → List Ins → List Ins
@@ -72,13 +86,27 @@ abbrev pub source_code : Source → Relation → List Ins → List Ins
 source_code (Header field) relation rest = there_code relation (field_at field) rest
 source_code (Arg n) relation rest = type_code relation n rest
 
--- the piece of a condition, in a rule whose sender name has a slot
-abbrev pub condition_code : ℕ → Condition → List Ins → List Ins
-condition_code slot (Kind kind) rest = image_word 4 ∷ want Equal (kind_byte (kind_meant kind)) rest
-condition_code slot (Sender name) rest = if is_owned_name name then owns slot rest else is_text 64 name rest
-condition_code slot (Compares source relation value) rest = source_code source relation (relation_code relation (words_at source) value rest)
+-- ---- the two parts of a condition's piece
 
--- ---- the order of conditions: first those that take few instructions and fail most messages
+-- what words of the summary tell: all but the bytes of a text
+abbrev pub condition_words : ℕ → Condition → List Ins → List Ins
+condition_words slot (Kind kind) rest = image_word 4 ∷ want Equal (kind_byte (kind_meant kind)) rest
+condition_words slot (Sender name) rest =
+    if is_owned_name name then owns slot rest else has_text_len Equal (length name) 64 rest
+condition_words slot (Compares source relation value) rest = source_code source relation (relation_len relation (words_at source) value rest)
+
+-- the bytes of a text, where the words passed
+abbrev pub condition_bytes : Condition → List Ins → List Ins
+condition_bytes (Kind kind) rest = rest
+condition_bytes (Sender name) rest = if is_owned_name name then rest else has_bytes 64 name rest
+condition_bytes (Compares source relation value) rest = relation_bytes relation (words_at source) value rest
+
+-- a part of the piece, in a rule whose sender name has a slot
+abbrev pub part_code : Part → ℕ → Condition → List Ins → List Ins
+part_code Words slot c rest = condition_words slot c rest
+part_code Bytes slot c rest = condition_bytes c rest
+
+-- ---- the order of conditions: of words first those that take few instructions and fail most messages
 
 abbrev pub field_rank : Field → ℕ
 field_rank Member = 1
@@ -108,16 +136,21 @@ rank_of (Compares source relation value) = relation_rank relation source
 abbrev pub ranks : ℕ
 ranks = 8
 
--- the conditions of one rank, in the order of the rule
-abbrev pub of_rank : ℕ → ℕ → List Condition → List Ins → List Ins
-of_rank slot rank [] rest = rest
-of_rank slot rank (c ∷ cs) rest =
-    if rank_of c == rank then condition_code slot c (of_rank slot rank cs rest) else of_rank slot rank cs rest
+-- the pieces of the conditions of one rank, in the order of the rule
+abbrev pub of_rank : (Condition → List Ins → List Ins) → ℕ → List Condition → List Ins → List Ins
+of_rank piece rank [] rest = rest
+of_rank piece rank (c ∷ cs) rest =
+    if rank_of c == rank then piece c (of_rank piece rank cs rest) else of_rank piece rank cs rest
 
--- the conditions of the next `n` ranks, from `rank` on
-abbrev pub from_rank : ℕ → ℕ → ℕ → List Condition → List Ins → List Ins
-from_rank slot zero rank cs rest = rest
-from_rank slot (suc n) rank cs rest = of_rank slot rank cs (from_rank slot n (rank + 1) cs rest)
+-- the pieces of the conditions of the first n ranks, from the lowest rank on
+abbrev pub rising : (Condition → List Ins → List Ins) → ℕ → List Condition → List Ins → List Ins
+rising piece zero cs rest = rest
+rising piece (suc n) cs rest = rising piece n cs (of_rank piece n cs rest)
+
+-- from the highest rank on
+abbrev pub falling : (Condition → List Ins → List Ins) → ℕ → List Condition → List Ins → List Ins
+falling piece zero cs rest = rest
+falling piece (suc n) cs rest = of_rank piece n cs (falling piece n cs rest)
 
 -- a message with a destination is offered to a rule that eavesdrops alone
 abbrev pub offered : Bool → List Ins → List Ins
@@ -127,6 +160,9 @@ offered eavesdrops rest = if eavesdrops then rest else image_word 56 ∷ want Eq
 abbrev pub verdicts : List Ins
 verdicts = returns 1 ∷ returns 0 ∷ []
 
--- the program of a rule, before it is lowered: its jumps may go over any number of instructions
+-- The program of a rule, before it is lowered: its jumps may go over any number of instructions. The words of all
+-- conditions are tested before any bytes. These are compared from the highest rank on, since messages whose lengths fit
+-- differ most in those texts.
 abbrev pub rule_code : ℕ → RuleTree → List Ins
-rule_code slot rule = from_rank slot ranks 0 rule.conditions (offered rule.eavesdrops verdicts)
+rule_code slot rule =
+    rising (part_code Words slot) ranks rule.conditions (falling (part_code Bytes slot) ranks rule.conditions (offered rule.eavesdrops verdicts))

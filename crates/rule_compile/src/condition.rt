@@ -1,11 +1,11 @@
 // The conditions of rules.
 ghost use Rattle.std.specs.Prelude.{◌≡◌, ◌<◌, ◌^◌, length, OnOk};
-ghost use Rattle.match_rule.specs.Condition.{kind_meant};
+ghost use Rattle.match_key.specs.Kinds.{kind_meant};
 ghost use Rattle.message_view.specs.Header.{kind_byte};
 ghost use Rattle.bpf_code.specs.declared.operation.Test.TheVariants.{Equal};
 ghost use Rattle.match_rule.specs.RuleTree.{condition_weight};
 ghost use Rattle.rule_compile.specs.Code.{image_word, want};
-ghost use Rattle.rule_compile.specs.RuleCode.{argument_at, field_at, words_at, has_type, has_text_type, owns, path_namespace, relation_code, there_code, type_code, source_code, condition_code};
+ghost use Rattle.rule_compile.specs.RuleCode.{argument_at, field_at, words_at, has_type, has_text_type, owns, path_namespace_len, path_namespace, relation_len, relation_bytes, there_code, type_code, source_code, condition_words, condition_bytes, part_code};
 
 use crate::piece::Code;
 use bpf_code::Test;
@@ -33,6 +33,15 @@ const ARGUMENT_LEN: u16 = 12;
 
 /// The place of the first word of ownership bits.
 const OWNERSHIP: u32 = 840;
+
+/// The parts of the piece of a condition.
+#[derive(Clone, Copy)]
+pub(crate) enum Part {
+    /// What words of the summary tell: all but the bytes of a text.
+    Words,
+    /// The bytes of a text.
+    Bytes,
+}
 
 /// The place of the words of an argument.
 fn argument_at(n: u8) -> u16
@@ -90,37 +99,72 @@ impl Code {
         self.image_word(OWNERSHIP + 4 * u32::from(slot / 32))
     }
 
-    /// The sender is the one of this name, or owns the name of a slot.
-    fn is_sender(&mut self, slot: u16, name: &str) -> Result<(), AllocError>
+    /// The sender owns the name of a slot, or has a name as long as this one.
+    fn sender_words(&mut self, slot: u16, name: &str) -> Result<(), AllocError>
         requires { length name.now < 2 ^ 32 }
-        ensures { OnOk result (self.new ≡ condition_code slot (Condition.Sender name.now) self.old) }
+        ensures { OnOk result (self.new ≡ condition_words slot (Condition.Sender name.now) self.old) }
     {
         if is_owned_name(name) {
             self.owns(slot)
         } else {
-            self.is_text(SENDER, name)
+            self.has_text_len(Test::Equal, name.len() as u32, SENDER)
         }
     }
 
-    /// The text is a path in the namespace of the value.
-    fn path_namespace(&mut self, at: u16, value: &str) -> Result<(), AllocError>
+    /// The sender, whose slot isn't asked for, is the one of this name.
+    fn sender_bytes(&mut self, name: &str) -> Result<(), AllocError>
+        requires { length name.now < 2 ^ 32 }
+        ensures { OnOk result (self.new ≡ condition_bytes (Condition.Sender name.now) self.old) }
+    {
+        if !is_owned_name(name) {
+            self.has_bytes(SENDER, name)?;
+        }
+        Ok(())
+    }
+
+    /// The text is a path that isn't shorter than the value; of `/` any path.
+    fn path_namespace_len(&mut self, at: u16, value: &str) -> Result<(), AllocError>
         requires { length value.now < 2 ^ 32 }
-        ensures { OnOk result (self.new ≡ path_namespace at value.now self.old) }
+        ensures { OnOk result (self.new ≡ path_namespace_len at value.now self.old) }
     {
         if value == "/" {
             self.is_there(at)
         } else {
-            self.in_namespace(at, b'/', value)
+            self.has_text_len(Test::AtLeast, value.len() as u32, at)
         }
     }
 
-    /// The text stands in the relation to the value.
-    fn relates(&mut self, relation: Relation, at: u16, value: &str) -> Result<(), AllocError>
+    /// Such a path is in the namespace of the value.
+    fn path_namespace(&mut self, at: u16, value: &str) -> Result<(), AllocError>
         requires { length value.now < 2 ^ 32 }
-        ensures { OnOk result (self.new ≡ relation_code relation at value.now self.old) }
+        ensures { OnOk result (self.new ≡ path_namespace at value.now self.old) }
+    {
+        if value != "/" {
+            self.in_namespace(at, b'/', value)?;
+        }
+        Ok(())
+    }
+
+    /// The text has a length that a text in the relation to the value may have.
+    fn relation_len(&mut self, relation: Relation, at: u16, value: &str) -> Result<(), AllocError>
+        requires { length value.now < 2 ^ 32 }
+        ensures { OnOk result (self.new ≡ relation_len relation at value.now self.old) }
     {
         match relation {
-            Relation::Equal => self.is_text(at, value),
+            Relation::Equal => self.has_text_len(Test::Equal, value.len() as u32, at),
+            Relation::PathNamespace => self.path_namespace_len(at, value),
+            Relation::NameNamespace => self.has_text_len(Test::AtLeast, value.len() as u32, at),
+            Relation::NestedPath => Ok(()),
+        }
+    }
+
+    /// A text of such a length stands in the relation to the value.
+    fn relates(&mut self, relation: Relation, at: u16, value: &str) -> Result<(), AllocError>
+        requires { length value.now < 2 ^ 32 }
+        ensures { OnOk result (self.new ≡ relation_bytes relation at value.now self.old) }
+    {
+        match relation {
+            Relation::Equal => self.has_bytes(at, value),
             Relation::PathNamespace => self.path_namespace(at, value),
             Relation::NameNamespace => self.in_namespace(at, b'.', value),
             Relation::NestedPath => self.is_nested(at, value),
@@ -159,34 +203,51 @@ impl Code {
         }
     }
 
-    /// The source has a text that stands in the relation to the value.
-    fn compares(
-        &mut self,
-        source: Source,
-        relation: Relation,
-        value: &str,
-    ) -> Result<(), AllocError>
-        requires { length value.now < 2 ^ 32 }
-        ensures { OnOk result (self.new ≡ source_code source relation (relation_code relation (words_at source) value.now self.old)) }
-    {
-        self.relates(relation, words_at(source), value)?;
-        self.has_source(source, relation)
-    }
-
-    /// The piece of a condition, in a rule whose sender name has a slot.
-    pub(crate) fn condition(&mut self, slot: u16, condition: &Condition) -> Result<(), AllocError>
+    /// What words of the summary tell of a condition, in a rule whose sender name has a slot.
+    fn words_of(&mut self, slot: u16, condition: &Condition) -> Result<(), AllocError>
         requires { condition_weight condition.now < 2 ^ 32 }
-        ensures { OnOk result (self.new ≡ condition_code slot condition.now self.old) }
+        ensures { OnOk result (self.new ≡ condition_words slot condition.now self.old) }
     {
         match condition {
             Condition::Kind(kind) => {
                 self.want(Test::Equal, u32::from(kind.kind().byte()))?;
                 self.image_word(KIND)
             }
-            Condition::Sender(name) => self.is_sender(slot, name.as_str()),
+            Condition::Sender(name) => self.sender_words(slot, name.as_str()),
             Condition::Compares(source, relation, value) => {
-                self.compares(*source, *relation, value.as_str())
+                self.relation_len(*relation, words_at(*source), value.as_str())?;
+                self.has_source(*source, *relation)
             }
+        }
+    }
+
+    /// The bytes of the text of a condition, where the words passed.
+    fn bytes_of(&mut self, condition: &Condition) -> Result<(), AllocError>
+        requires { condition_weight condition.now < 2 ^ 32 }
+        ensures { OnOk result (self.new ≡ condition_bytes condition.now self.old) }
+    {
+        match condition {
+            Condition::Kind(_) => Ok(()),
+            Condition::Sender(name) => self.sender_bytes(name.as_str()),
+            Condition::Compares(source, relation, value) => {
+                self.relates(*relation, words_at(*source), value.as_str())
+            }
+        }
+    }
+
+    /// A part of the piece of a condition, in a rule whose sender name has a slot.
+    pub(crate) fn condition(
+        &mut self,
+        part: Part,
+        slot: u16,
+        condition: &Condition,
+    ) -> Result<(), AllocError>
+        requires { condition_weight condition.now < 2 ^ 32 }
+        ensures { OnOk result (self.new ≡ part_code part slot condition.now self.old) }
+    {
+        match part {
+            Part::Words => self.words_of(slot, condition),
+            Part::Bytes => self.bytes_of(condition),
         }
     }
 }

@@ -1,10 +1,11 @@
-// The order of the conditions in a rule's program: first those that take few instructions and fail most messages.
+// The order of the conditions in a rule's program: of words first those that take few instructions and fail most
+// messages, and then bytes, from the highest rank on.
 ghost use Rattle.std.specs.Prelude.{◌≡◌, ◌<◌, ◌^◌, sum_by, filter, OnOk, IfOk};
 ghost use Rattle.match_rule.specs.RuleTree.{condition_weight};
 ghost use Rattle.rule_compile.specs.Rest.{is_tested, tested_of};
-ghost use Rattle.rule_compile.specs.RuleCode.{field_rank, whole_rank, other_rank, relation_rank, rank_of, ranks, of_rank, from_rank, offered, rule_code};
+ghost use Rattle.rule_compile.specs.RuleCode.{field_rank, whole_rank, other_rank, relation_rank, rank_of, ranks, part_code, of_rank, rising, falling, offered, rule_code};
 
-use crate::condition::DESTINATION;
+use crate::condition::{DESTINATION, Part};
 use crate::piece::Code;
 use crate::rest::Tested;
 use bpf_code::Test;
@@ -69,38 +70,55 @@ fn rank_of(condition: &Condition) -> u8
 }
 
 impl Code {
-    /// The conditions of one rank that are tested, in the order of the rule.
+    /// A part of the conditions of one rank that are tested, in the order of the rule.
     fn of_rank(
         &mut self,
+        part: Part,
         slot: u16,
         rank: u8,
         conditions: &[Condition],
         tested: Tested<'_>,
     ) -> Result<(), AllocError>
         requires { sum_by condition_weight conditions.now < 2 ^ 32 }
-        ensures { OnOk result (self.new ≡ of_rank slot rank (filter (is_tested tested.entry) conditions.now) self.old) }
+        ensures { OnOk result (self.new ≡ of_rank (part_code part slot) rank (filter (is_tested tested.entry) conditions.now) self.old) }
     {
         for place in (0..conditions.len()).rev() {
             let condition = &conditions[place];
             if rank_of(condition) == rank && tested.has(condition) {
-                self.condition(slot, condition)?;
+                self.condition(part, slot, condition)?;
             }
         }
         Ok(())
     }
 
-    /// The conditions of all ranks that are tested.
-    fn all_ranks(
+    /// What words tell of the conditions that are tested, from the lowest rank on.
+    fn all_words(
         &mut self,
         slot: u16,
         conditions: &[Condition],
         tested: Tested<'_>,
     ) -> Result<(), AllocError>
         requires { sum_by condition_weight conditions.now < 2 ^ 32 }
-        ensures { OnOk result (self.new ≡ from_rank slot ranks 0 (filter (is_tested tested.entry) conditions.now) self.old) }
+        ensures { OnOk result (self.new ≡ rising (part_code Part.Words slot) ranks (filter (is_tested tested.entry) conditions.now) self.old) }
     {
         for rank in (0..RANKS).rev() {
-            self.of_rank(slot, rank, conditions, tested)?;
+            self.of_rank(Part::Words, slot, rank, conditions, tested)?;
+        }
+        Ok(())
+    }
+
+    /// The bytes of the texts of the conditions that are tested, from the highest rank on.
+    fn all_bytes(
+        &mut self,
+        slot: u16,
+        conditions: &[Condition],
+        tested: Tested<'_>,
+    ) -> Result<(), AllocError>
+        requires { sum_by condition_weight conditions.now < 2 ^ 32 }
+        ensures { OnOk result (self.new ≡ falling (part_code Part.Bytes slot) ranks (filter (is_tested tested.entry) conditions.now) self.old) }
+    {
+        for rank in 0..RANKS {
+            self.of_rank(Part::Bytes, slot, rank, conditions, tested)?;
         }
         Ok(())
     }
@@ -131,6 +149,7 @@ pub(crate) fn rule_code(
 {
     let mut code = Code::verdicts(alloc)?;
     code.offered(eavesdrops)?;
-    code.all_ranks(slot, conditions, tested)?;
+    code.all_bytes(slot, conditions, tested)?;
+    code.all_words(slot, conditions, tested)?;
     Ok(code)
 }

@@ -1,8 +1,6 @@
 // Texts, whose place and length are two words of an image.
-ghost use Rattle.std.specs.Prelude.{◌≡◌, ◌<◌, ◌≤◌, ◌+◌, ◌^◌, ◌∷◌, ◌==◌, length, slice_index, OnOk};
-ghost use Rattle.bpf_code.specs.declared.operation.Test.TheVariants.{Equal};
-ghost use Rattle.bpf_code.specs.declared.operation.Width.TheVariants.{Word};
-ghost use Rattle.rule_compile.specs.Code.{indexed, want, two, four, same_bytes, has_len, is_there, is_there_if, index_text, is_text, in_namespace};
+ghost use Rattle.std.specs.Prelude.{◌≡◌, ◌<◌, ◌≤◌, ◌+◌, ◌*◌, ◌^◌, length, OnOk};
+ghost use Rattle.rule_compile.specs.Code.{two, same_word, same_words, same_bytes, has_len, is_there, has_text_len, index_text, has_bytes, in_namespace};
 
 use crate::piece::Code;
 use bpf_code::{Test, Width};
@@ -42,28 +40,45 @@ impl Code {
         }
     }
 
-    /// The four bytes from `at` after X on are the first ones of the value.
-    fn same_word(&mut self, at: u32, value: &[u8]) -> Result<(), AllocError>
-        requires { 4 ≤ length value.now }
-        ensures { OnOk result (self.new ≡ indexed Word at ∷ want Equal (four (slice_index value.now 0) (slice_index value.now 1) (slice_index value.now 2) (slice_index value.now 3)) self.old) }
+    /// The four bytes from `at` + `from` after X on are those of the value from its byte `from` on.
+    fn same_word(&mut self, at: u32, value: &[u8], from: usize) -> Result<(), AllocError>
+        requires inside { from + 4 ≤ length value.now }
+        requires fits { at + length value.now < 2 ^ 32 }
+        ensures { OnOk result (self.new ≡ same_word at value.now from self.old) }
     {
-        let word = u32::from_be_bytes([value[0], value[1], value[2], value[3]]);
-        self.want(Test::Equal, word)?;
-        self.indexed(Width::Word, at)
+        let bytes = [
+            value[from],
+            value[from + 1],
+            value[from + 2],
+            value[from + 3],
+        ];
+        self.want(Test::Equal, u32::from_be_bytes(bytes))?;
+        self.indexed(Width::Word, at + from as u32)
     }
 
-    /// The bytes from `at` after X on are these.
+    /// So are the first words of the value, `count` of them.
+    fn same_words(&mut self, at: u32, value: &[u8], count: usize) -> Result<(), AllocError>
+        requires inside { 4 * count ≤ length value.now }
+        requires fits { at + length value.now < 2 ^ 32 }
+        ensures { OnOk result (self.new ≡ same_words at value.now count self.old) }
+    {
+        for word in (0..count).rev() {
+            self.same_word(at, value, 4 * word)?;
+        }
+        Ok(())
+    }
+
+    /// The bytes from `at` after X on are these. Many names begin alike, so that the last four are compared first.
+    #[tactic(auto, using(crate::proofs::SameBytes::same_many))]
     pub(crate) fn same_bytes(&mut self, at: u32, value: &[u8]) -> Result<(), AllocError>
         requires { at + length value.now < 2 ^ 32 }
         ensures { OnOk result (self.new ≡ same_bytes at value.now self.old) }
     {
-        let mut start = value.len() - value.len() % 4;
-        self.same_few(at + start as u32, &value[start..])?;
-        while start > 0 {
-            start -= 4;
-            self.same_word(at + start as u32, &value[start..])?;
+        if value.len() < 4 {
+            return self.same_few(at, value);
         }
-        Ok(())
+        self.same_words(at, value, (value.len() - 1) / 4)?;
+        self.same_word(at, value, value.len() - 4)
     }
 
     /// The length passes the test.
@@ -90,29 +105,26 @@ impl Code {
         self.image_word(u32::from(at))
     }
 
-    /// The length passes the test against that of the value, and the text begins with the value. A length of 0 doesn't
-    /// say whether the text is there.
-    fn begins_with(&mut self, test: Test, at: u16, value: &[u8]) -> Result<(), AllocError>
-        requires { length value.now < 2 ^ 32 }
-        ensures { OnOk result (self.new ≡ has_len test (length value.now) at (is_there_if (length value.now == 0) at (index_text at (same_bytes 0 value.now self.old)))) }
+    /// The text is there, and its length passes the test. A length of 0 doesn't say whether it is there.
+    pub(crate) fn has_text_len(&mut self, test: Test, len: u32, at: u16) -> Result<(), AllocError>
+        ensures { OnOk result (self.new ≡ has_text_len test len at self.old) }
     {
-        self.same_bytes(0, value)?;
-        self.index_text(at)?;
-        if value.is_empty() {
+        if len == 0 {
             self.is_there(at)?;
         }
-        self.has_len(test, value.len() as u32, at)
+        self.has_len(test, len, at)
     }
 
-    /// The text is this value.
-    pub(crate) fn is_text(&mut self, at: u16, value: &str) -> Result<(), AllocError>
+    /// The text, which isn't shorter, begins with this value.
+    pub(crate) fn has_bytes(&mut self, at: u16, value: &str) -> Result<(), AllocError>
         requires { length value.now < 2 ^ 32 }
-        ensures { OnOk result (self.new ≡ is_text at value.now self.old) }
+        ensures { OnOk result (self.new ≡ has_bytes at value.now self.old) }
     {
-        self.begins_with(Test::Equal, at, value.as_bytes())
+        self.same_bytes(0, value.as_bytes())?;
+        self.index_text(at)
     }
 
-    /// The text is this value, or begins with it and a separator.
+    /// The text, which isn't shorter, is this value, or begins with it and a separator.
     pub(crate) fn in_namespace(
         &mut self,
         at: u16,
@@ -128,6 +140,6 @@ impl Code {
         self.indexed(Width::Byte, len)?;
         self.settle(Test::Equal, len, exit_len)?;
         self.image_word(u32::from(at) + 4)?;
-        self.begins_with(Test::AtLeast, at, value.as_bytes())
+        self.has_bytes(at, value)
     }
 }

@@ -23,6 +23,7 @@ impl Limits {
         ensures newcomers { result.newcomers ≡ 64 }
         ensures some { 1 ≤ result.workers }
         ensures few { result.workers ≤ 16 }
+        ensures as_asked { 1 ≤ workers → workers ≤ 16 → result.workers ≡ workers }
     {
         Limits {
             newcomers: 64,

@@ -1,5 +1,9 @@
 -- The numbers and names of the errors that end a session.
 use Rattle.std.specs.Prelude.{ℕ, List, codes}
+use Rattle.frames.specs.declared.error.FrameError.{FrameError}
+use Rattle.frames.specs.declared.error.FrameError.TheVariants as frame_errors
+use Rattle.connections.specs.declared.error.AnswerError.{AnswerError}
+use Rattle.connections.specs.declared.error.AnswerError.TheVariants as answer_errors
 use Rattle.sessions.specs.declared.error.SessionError.{SessionError}
 use Rattle.sessions.specs.declared.error.SessionError.TheVariants.{Auth, Message, NoHello, Read, Write, Slow, NoMemory}
 
@@ -20,3 +24,13 @@ name_of Read = codes "Read"
 name_of Write = codes "Write"
 name_of Slow = codes "Slow"
 name_of NoMemory = codes "NoMemory"
+
+-- what ends a session whose bytes aren't kept
+abbrev pub error_of_frame : FrameError → SessionError
+error_of_frame (frame_errors.Message fault) = Message fault
+error_of_frame frame_errors.NoMemory = NoMemory
+
+-- what ends a session whose client isn't answered
+abbrev pub error_of_answer : AnswerError → SessionError
+error_of_answer answer_errors.Slow = Slow
+error_of_answer answer_errors.NoMemory = NoMemory

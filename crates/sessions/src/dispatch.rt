@@ -4,13 +4,9 @@ ghost use Rattle.std.specs.Prelude.{IfOk};
 ghost use Rattle.message_view.specs.Message.{Message};
 ghost use Rattle.message_view.specs.Valid.{Valid};
 
-use crate::connection::Connection;
-use crate::error::SessionError;
-use crate::home::Home;
-use crate::refused::Refused;
-use crate::request::Request;
-use crate::site::Site;
-use bus_messages::{Bytes, Call, ErrorName};
+use bus_messages::{Bytes, Call, ErrorName, UniqueName};
+use bus_methods::perform;
+use connections::{AnswerError, BUS_NAME, Connection, Home, Refused, Request, Site};
 use message_build::{StampError, stamp};
 use message_view::{Kind, View};
 use program_table::Mailbox;
@@ -19,9 +15,6 @@ use router::{Sent, Source};
 use routing::Carrier;
 use std::alloc::Global;
 use std::sync::Wait;
-
-/// The name of the bus itself.
-pub(crate) const BUS_NAME: &str = "org.freedesktop.DBus";
 
 /// Whether a message is a call of the bus itself.
 pub(crate) fn is_for_bus(view: &View<'_>) -> bool {
@@ -32,112 +25,107 @@ pub(crate) fn is_for_bus(view: &View<'_>) -> bool {
         }
 }
 
-impl<J: Naming, M: Mailbox + Carrier> Connection<J, M> {
-    /// Treats a message: a call of the bus is answered, a signal without destination is a broadcast, another message
-    /// with a destination goes there, and all else is dropped.
-    ///
-    /// # Errors
-    ///
-    /// `Slow` where an answer has no room, `NoMemory` where a message can't be passed on or answered for want of
-    /// memory.
-    pub(crate) fn treat<W: Wait, R: Wait + Drop>(
-        &mut self,
-        site: &Site<'_, J, M, W, R>,
-        home: &mut Home<M>,
-        view: &View<'_>,
-    ) -> Result<(), SessionError> {
-        if is_for_bus(view) {
-            return self.call_bus(site, home, view);
-        }
-        match (view.kind(), view.destination()) {
-            (Kind::Other(_), _) => Ok(()),
-            (Kind::Signal, None) => self.send_broadcast(site, home, view),
-            (_, Some(name)) => self.send_to(site, home, view, name),
-            (_, None) => Ok(()),
-        }
+/// Treats a message: a call of the bus is answered, a signal without destination is a broadcast, another message with a
+/// destination goes there, and all else is dropped.
+///
+/// # Errors
+///
+/// `Slow` where an answer has no room, `NoMemory` where a message can't be passed on or answered for want of memory.
+pub(crate) fn treat<J: Naming, M: Mailbox + Carrier, W: Wait, R: Wait + Drop>(
+    connection: &mut Connection<J, M>,
+    site: &Site<'_, J, M, W, R>,
+    home: &mut Home<M>,
+    view: &View<'_>,
+) -> Result<(), AnswerError> {
+    if is_for_bus(view) {
+        return call_bus(connection, site, home, view);
     }
-
-    fn call_bus<W: Wait, R: Wait + Drop>(
-        &mut self,
-        site: &Site<'_, J, M, W, R>,
-        home: &mut Home<M>,
-        view: &View<'_>,
-    ) -> Result<(), SessionError> {
-        let request = Request::of(view);
-        match Call::read(site.alloc, view) {
-            Ok(call) => self.perform(site, home, request, call),
-            Err(error) => self.refuse(site, home, request, Refused::from(error)),
-        }
+    match (view.kind(), view.destination()) {
+        (Kind::Other(_), _) => Ok(()),
+        (Kind::Signal, None) => send_broadcast(connection, site, home, view),
+        (_, Some(name)) => send_to(connection, site, home, view, name),
+        (_, None) => Ok(()),
     }
+}
 
-    fn send_broadcast<W: Wait, R: Wait + Drop>(
-        &mut self,
-        site: &Site<'_, J, M, W, R>,
-        home: &mut Home<M>,
-        view: &View<'_>,
-    ) -> Result<(), SessionError> {
-        match self.stamped(site.alloc, view) {
-            Ok(bytes) => {
-                let stamped = View::of_message(bytes.as_slice());
-                self.broadcast(site, Source::Own, &stamped, &bytes)
-            }
-            Err(why) => self.give_up(site, home, view, why),
-        }
+fn call_bus<J: Naming, M: Mailbox + Carrier, W: Wait, R: Wait + Drop>(
+    connection: &mut Connection<J, M>,
+    site: &Site<'_, J, M, W, R>,
+    home: &mut Home<M>,
+    view: &View<'_>,
+) -> Result<(), AnswerError> {
+    let request = Request::of(view);
+    match Call::read(site.alloc, view) {
+        Ok(call) => perform(connection, site, home, request, call),
+        Err(error) => connection.refuse(site, home, request, Refused::from(error)),
     }
+}
 
-    fn send_to<W: Wait, R: Wait + Drop>(
-        &mut self,
-        site: &Site<'_, J, M, W, R>,
-        home: &mut Home<M>,
-        view: &View<'_>,
-        to: &str,
-    ) -> Result<(), SessionError> {
-        let bytes = match self.stamped(site.alloc, view) {
-            Ok(bytes) => bytes,
-            Err(why) => return self.give_up(site, home, view, why),
-        };
-        match site
-            .bus
-            .unicast(site.rt, site.alloc, &mut self.pass, to, &bytes)
-        {
-            Ok(Sent::Put | Sent::Full) => Ok(()),
-            Ok(Sent::NoOwner) => self.give_up(
-                site,
-                home,
-                view,
-                Refused::Error(ErrorName::ServiceUnknown),
-            ),
-            Err(error) => self.give_up(site, home, view, Refused::from(error)),
+fn send_broadcast<J: Naming, M: Mailbox + Carrier, W: Wait, R: Wait + Drop>(
+    connection: &mut Connection<J, M>,
+    site: &Site<'_, J, M, W, R>,
+    home: &mut Home<M>,
+    view: &View<'_>,
+) -> Result<(), AnswerError> {
+    match stamped(site.alloc, view, &connection.name) {
+        Ok(bytes) => {
+            let stamped = View::of_message(bytes.as_slice());
+            connection.broadcast(site, Source::Own, &stamped, &bytes)
         }
+        Err(why) => give_up(connection, site, home, view, why),
     }
+}
 
-    /// The message as it is passed on, with its sender.
-    fn stamped(&self, alloc: Global, view: &View<'_>) -> Result<Bytes, Refused>
-        ensures { IfOk result (λ bytes. (m : Message) × Valid bytes m) }
+fn send_to<J: Naming, M: Mailbox + Carrier, W: Wait, R: Wait + Drop>(
+    connection: &mut Connection<J, M>,
+    site: &Site<'_, J, M, W, R>,
+    home: &mut Home<M>,
+    view: &View<'_>,
+    to: &str,
+) -> Result<(), AnswerError> {
+    let bytes = match stamped(site.alloc, view, &connection.name) {
+        Ok(bytes) => bytes,
+        Err(why) => return give_up(connection, site, home, view, why),
+    };
+    match site
+        .bus
+        .unicast(site.rt, site.alloc, &mut connection.pass, to, &bytes)
     {
-        match stamp(alloc, view, self.name.as_str()) {
-            Ok(bytes) => Ok(Bytes::from_vec(bytes)?),
-            Err(StampError::TooLarge) => Err(Refused::Error(ErrorName::LimitsExceeded)),
-            Err(StampError::NoMemory) => Err(Refused::Error(ErrorName::NoMemory)),
+        Ok(Sent::Put | Sent::Full) => Ok(()),
+        Ok(Sent::NoOwner) => {
+            let why = Refused::Error(ErrorName::ServiceUnknown);
+            give_up(connection, site, home, view, why)
         }
+        Err(error) => give_up(connection, site, home, view, Refused::from(error)),
     }
+}
 
-    /// A message that isn't passed on: a call whose caller waits is answered with the error. Another message is
-    /// dropped; but none is lost for want of memory without a word: that ends the session.
-    fn give_up<W: Wait, R: Wait + Drop>(
-        &mut self,
-        site: &Site<'_, J, M, W, R>,
-        home: &mut Home<M>,
-        view: &View<'_>,
-        why: Refused,
-    ) -> Result<(), SessionError> {
-        let request = Request::of(view);
-        if view.kind() == Kind::MethodCall && request.wants_answer {
-            return self.refuse(site, home, request, why);
-        }
-        match why {
-            Refused::Ended | Refused::Error(ErrorName::NoMemory) => Err(SessionError::NoMemory),
-            Refused::Error(_) => Ok(()),
-        }
+/// The message as it is passed on, with its sender.
+fn stamped(alloc: Global, view: &View<'_>, sender: &UniqueName) -> Result<Bytes, Refused>
+    ensures { IfOk result (λ bytes. (m : Message) × Valid bytes m) }
+{
+    match stamp(alloc, view, sender.as_str()) {
+        Ok(bytes) => Ok(Bytes::from_vec(bytes)?),
+        Err(StampError::TooLarge) => Err(Refused::Error(ErrorName::LimitsExceeded)),
+        Err(StampError::NoMemory) => Err(Refused::Error(ErrorName::NoMemory)),
+    }
+}
+
+/// A message that isn't passed on: a call whose caller waits is answered with the error. Another message is dropped;
+/// but none is lost for want of memory without a word: that ends the session.
+fn give_up<J: Naming, M: Mailbox + Carrier, W: Wait, R: Wait + Drop>(
+    connection: &mut Connection<J, M>,
+    site: &Site<'_, J, M, W, R>,
+    home: &mut Home<M>,
+    view: &View<'_>,
+    why: Refused,
+) -> Result<(), AnswerError> {
+    let request = Request::of(view);
+    if view.kind() == Kind::MethodCall && request.wants_answer {
+        return connection.refuse(site, home, request, why);
+    }
+    match why {
+        Refused::Ended | Refused::Error(ErrorName::NoMemory) => Err(AnswerError::NoMemory),
+        Refused::Error(_) => Ok(()),
     }
 }

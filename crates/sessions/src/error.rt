@@ -3,6 +3,7 @@
 ghost use Rattle.std.specs.Prelude.{◌≡◌};
 ghost use Rattle.sessions.specs.Errors.{number_of, name_of};
 
+use connections::AnswerError;
 use frames::FrameError;
 use message_view::MsgError;
 use std::error::Error;
@@ -71,10 +72,29 @@ impl fmt::Display for SessionError {
 impl Error for SessionError {}
 
 impl From<FrameError> for SessionError {
+    ghost use Rattle.std.specs.Prelude.{◌≡◌};
+    ghost use Rattle.sessions.specs.Errors.{error_of_frame};
+
+    ghost from_gives = { λ frame error. error ≡ error_of_frame frame };
+
     fn from(error: FrameError) -> SessionError {
         match error {
             FrameError::Message(fault) => SessionError::Message(fault),
             FrameError::NoMemory => SessionError::NoMemory,
+        }
+    }
+}
+
+impl From<AnswerError> for SessionError {
+    ghost use Rattle.std.specs.Prelude.{◌≡◌};
+    ghost use Rattle.sessions.specs.Errors.{error_of_answer};
+
+    ghost from_gives = { λ answer error. error ≡ error_of_answer answer };
+
+    fn from(error: AnswerError) -> SessionError {
+        match error {
+            AnswerError::Slow => SessionError::Slow,
+            AnswerError::NoMemory => SessionError::NoMemory,
         }
     }
 }

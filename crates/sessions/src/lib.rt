@@ -3,25 +3,12 @@
 //! out. Its calls are proved safe and to return; what a session says is shown by tests.
 #![tactic(auto)]
 
-mod announcements;
-mod connection;
 mod dispatch;
 mod ending;
 mod error;
 mod greeting;
-mod home;
-mod identity;
-mod matches;
-mod methods;
-mod names;
-mod owner;
-mod queries;
-mod refused;
-mod request;
-mod serial;
 mod serving;
 mod session;
-mod site;
 mod talk;
 mod writing;
 

@@ -2,15 +2,12 @@
 
 ghost use Rattle.std.specs.Prelude.{◌≡◌, None};
 
-use crate::connection::Connection;
-use crate::ending::Rest;
+use crate::dispatch::treat;
+use crate::ending::{Rest, end};
 use crate::error::SessionError;
 use crate::greeting::greet;
-use crate::home::Home;
-use crate::identity::Identity;
-use crate::request::Request;
-use crate::site::Site;
 use crate::talk::Talk;
+use connections::{Connection, Home, Identity, Request, Site};
 use crossbeam_utils::rule::Protocol;
 use frames::Frames;
 use message_view::MsgError;
@@ -156,7 +153,7 @@ impl<J: Naming, M: Mailbox + Carrier> Session<J, M> {
         };
         let len = view.raw().len();
         match &mut self.connection {
-            Some(connection) => connection.treat(site, &mut self.home, &view)?,
+            Some(connection) => treat(connection, site, &mut self.home, &view)?,
             None => {
                 let mut connection = greet(site, &mut self.home, self.identity, &view)?;
                 let welcomed = connection.welcome(site, &mut self.home, Request::of(&view));
@@ -205,7 +202,7 @@ impl<J: Naming, M: Mailbox + Carrier> Session<J, M> {
     ) -> Option<Rest<J, M>> {
         let Session { connection, .. } = self;
         match connection {
-            Some(connection) => connection.end(&Site { rt, alloc, bus }),
+            Some(connection) => end(connection, &Site { rt, alloc, bus }),
             None => None,
         }
     }

@@ -3,9 +3,9 @@
 ghost use Rattle.std.specs.Prelude.{◌≤◌, length, IfOk};
 
 use crate::error::SessionError;
-use crate::home::Home;
 use auth::Auth;
 use bytes::Bytes;
+use connections::Home;
 use program_table::Mailbox;
 use routing::Carrier;
 use std::alloc::Global;
@@ -65,7 +65,7 @@ fn put_answer<M: Mailbox + Carrier, W: Wait>(
         return Ok(());
     }
     match Bytes::copy_from_slice(alloc, answer) {
-        Ok(bytes) => home.put(rt, bytes),
+        Ok(bytes) => Ok(home.put(rt, bytes)?),
         Err(_) => Err(SessionError::NoMemory),
     }
 }

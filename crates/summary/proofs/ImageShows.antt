@@ -1,24 +1,29 @@
 -- The loads of an image show its message.
-use Rattle.std.proofs.Common.{◌≡◌, ℕ, zero, suc, ◌+◌, ◌*◌, ◌/◌, ◌^◌, ◌<◌, ◌≤◌, List, [], ◌∷◌, ◌++◌, length, get_or, take, Option, Some, None, IfSome, refl, ap, subst, ◌∙◌, append_assoc, arith}
+use Rattle.std.proofs.Common.{◌≡◌, ℕ, zero, suc, ◌+◌, ◌*◌, ◌/◌, ◌^◌, ◌<◌, ◌≤◌, List, [], ◌∷◌, ◌++◌, length, get_or, take, min, Option, Some, None, IfSome, refl, ap, subst, ◌∙◌, append_assoc, arith}
 use Rattle.std.specs.Prelude.{slice_get}
 use Rattle.std.proofs.lemmas.List.{length-append, length-take-le, get_or-take, get_or_append_left}
 use Rattle.bpf_code.specs.Loads.{load_word}
 use Rattle.message_value.specs.Arguments.{Argument}
+use Rattle.message_value.specs.Order.{order_byte}
+use Rattle.message_value.specs.declared.order.Order.{Order}
+use Rattle.message_value.specs.declared.order.Order.TheVariants.{Little, Big}
 use Rattle.message_view.specs.declared.extent.Extent.{Extent}
+use Rattle.message_view.specs.declared.extent.TextField.{TextField}
 use Rattle.message_view.specs.declared.extent.TextField.TheVariants.{Path, Interface, Member, ErrorName, Destination, Sender}
 use Rattle.message_view.specs.Header.{kind_byte}
 use Rattle.message_view.specs.Message.{Message}
 use Rattle.message_view.specs.Places.{extent_of, text_of}
-use Rattle.message_view.specs.Spelling.{arguments_of, message_bytes}
+use Rattle.message_view.specs.Spelling.{header_bytes, body_place, body_bytes, arguments_of, message_bytes}
 use Rattle.message_view.specs.Valid.{Valid}
+use Rattle.message_view.proofs.PartPlaces.{length-laid}
 use Rattle.message_view.proofs.TextStands.{Stands, stands_after, stands_moved, stands_within}
 use Rattle.message_view.proofs.FieldTexts.{Said, texts_said}
 use Rattle.message_view.proofs.ArgumentPlaces.{TextStands, HavePlaces, message_places}
 use Rattle.summary.specs.declared.edition.Edition.{Edition}
 use Rattle.summary.specs.declared.edition.Edition.TheVariants.{One, Two}
-use Rattle.summary.specs.Layout.{size_of}
+use Rattle.summary.specs.Layout.{text_place, summary_len}
 use Rattle.summary.specs.ImageBytes.{extent_words, text_words, argument_words, arguments_words, owned_words, serial_words, head_words, texts_words, summary_words, summary_bytes, image_bytes}
-use Rattle.summary.specs.Shown.{Lies, Tells, ShowsText, ShowsArgument, slots_of, Shows}
+use Rattle.summary.specs.Shown.{Lies, Tells, ShowsText, ShowsArgument, slots_of, ShowsHead, ShowsSerial, Shows}
 use Rattle.summary.proofs.SummaryWords.{Follow, length-words_bytes, all_follow, next_follow, one_follows}
 
 -- ---- a summary and a message
@@ -27,14 +32,14 @@ use Rattle.summary.proofs.SummaryWords.{Follow, length-words_bytes, all_follow, 
 record IsImage (image : List ℕ) (edition : Edition) (message : List ℕ) : Type 0 where
   summary : List ℕ
   parts : image ≡ summary ++ message
-  size : length summary ≡ size_of edition
+  size : length summary ≡ summary_len edition
   fits : length message ≤ 134217728
 
-size_above : (edition : Edition) → 0 < size_of edition
+size_above : (edition : Edition) → 0 < summary_len edition
 size_above One = omega arith
 size_above Two = omega arith
 
-size_below : (edition : Edition) → size_of edition ≤ 976
+size_below : (edition : Edition) → summary_len edition ≤ 976
 size_below One = omega arith
 size_below Two = omega arith
 
@@ -43,24 +48,25 @@ stands_lies : (image text : List ℕ) (place : ℕ) → Stands image 0 place tex
 stands_lies image text place s = (s.front, s.tail, s.parts, omega (arith, s.here))
 
 -- a text of the message stands further back in the image
-image_stands : (image : List ℕ) (edition : Edition) (message text : List ℕ) (place : ℕ) → IsImage image edition message → Stands message 0 place text → Stands image 0 (size_of edition + place) text
+image_stands : (image : List ℕ) (edition : Edition) (message text : List ℕ) (place : ℕ) → IsImage image edition message → Stands message 0 place text → Stands image 0 (summary_len edition + place) text
 image_stands image edition message text place is stands =
-    rw is.parts (stands_after is.summary message text (size_of edition) 0 (size_of edition + place) is.size (stands_moved message text (size_of edition) 0 place stands))
+    rw is.parts (stands_after is.summary message text (summary_len edition) 0 (summary_len edition + place) is.size (stands_moved message text (summary_len edition) 0 place stands))
 
 -- two words tell of a text
 text_told : (image : List ℕ) (edition : Edition) (message text words more : List ℕ) (start i at place len : ℕ) → IsImage image edition message → Follow image start words more → i + 1 < length words → start + 4 * i ≡ at
-    → get_or words i 0 ≡ size_of edition + place → get_or words (i + 1) 0 ≡ len → len ≡ length text → Stands message 0 place text → Tells image at text
+    → get_or words i 0 ≡ summary_len edition + place → get_or words (i + 1) 0 ≡ len → len ≡ length text → Stands message 0 place text → Tells image at text
 text_told image edition message text words more start i at place len is follow inside there place_is len_is same stands =
     let within : place + length text ≤ 0 + length message = stands_within message text 0 place stands in
-    let small : size_of edition + place < 2 ^ 32 = omega (arith, within, is.fits, size_below edition) in
+    let small : summary_len edition + place < 2 ^ 32 = omega (arith, within, is.fits, size_below edition) in
     let short : length text < 2 ^ 32 = omega (arith, within, is.fits) in
     record {
       bytes = stands.made;
-      place = size_of edition + place;
+      place = summary_len edition + place;
       after_start = omega (arith, size_above edition);
-      place_word = one_follows image start i (size_of edition + place) at words more follow (omega arith) place_is small there;
+      place_word = one_follows image start i (summary_len edition + place) at words more follow (omega arith) place_is small there;
       len_word = one_follows image start (i + 1) (length text) (at + 4) words more follow inside (len_is ∙ same) short (omega arith);
-      lies = stands_lies image text (size_of edition + place) (image_stands image edition message text place is stands);
+      end_fits = omega (arith, within, is.fits, size_below edition);
+      lies = stands_lies image text (summary_len edition + place) (image_stands image edition message text place is stands);
     }
 
 -- ---- fields
@@ -72,7 +78,7 @@ text_shown image edition message words more at None None is follow said =
 text_shown image edition message words more at None (Some text) is follow said = absurd said
 text_shown image edition message words more at (Some extent) None is follow said = absurd said
 text_shown image edition message words more at (Some extent) (Some text) is follow said =
-    text_told image edition message text ((size_of edition + extent.place) ∷ extent.len ∷ words) more at 0 at extent.place extent.len is follow (omega arith) (omega arith) refl refl said.0 said.1
+    text_told image edition message text ((summary_len edition + extent.place) ∷ extent.len ∷ words) more at 0 at extent.place extent.len is follow (omega arith) (omega arith) refl refl said.0 said.1
 
 length-extent_words : (edition : Edition) (extent : Option Extent) → length (extent_words edition extent) ≡ 2
 length-extent_words edition None = refl
@@ -85,10 +91,10 @@ length-arguments_words edition zero arguments = refl
 length-arguments_words edition (suc count) [] = omega (arith, length-arguments_words edition count [])
 length-arguments_words edition (suc count) (a ∷ more) = omega (arith, length-arguments_words edition count more)
 
-argument_told : (image : List ℕ) (edition : Edition) (message words more : List ℕ) (start at code place len : ℕ) (text : Option (List ℕ)) → IsImage image edition message → Follow image start (code ∷ (size_of edition + place) ∷ len ∷ words) more → start + 4 ≡ at → TextStands message 0 place len text → IfSome text (Tells image at)
+argument_told : (image : List ℕ) (edition : Edition) (message words more : List ℕ) (start at code place len : ℕ) (text : Option (List ℕ)) → IsImage image edition message → Follow image start (code ∷ (summary_len edition + place) ∷ len ∷ words) more → start + 4 ≡ at → TextStands message 0 place len text → IfSome text (Tells image at)
 argument_told image edition message words more start at code place len None is follow there stands = tt
 argument_told image edition message words more start at code place len (Some text) is follow there stands =
-    text_told image edition message text (code ∷ (size_of edition + place) ∷ len ∷ words) more start 1 at place len is follow (omega arith) (omega arith) refl refl stands.0 stands.1
+    text_told image edition message text (code ∷ (summary_len edition + place) ∷ len ∷ words) more start 1 at place len is follow (omega arith) (omega arith) refl refl stands.0 stands.1
 
 argument_shown : (image : List ℕ) (edition : Edition) (message words more : List ℕ) (count : ℕ) (arguments : List Argument) (n start at : ℕ) → IsImage image edition message → n < count → start + 12 * n ≡ at
     → Follow image start (arguments_words edition count arguments ++ words) more → HavePlaces message 0 arguments → ShowsArgument image at (slice_get arguments n)
@@ -156,16 +162,43 @@ length-texts_words edition m =
     )
 
 -- the words after the arguments
-last_words : (edition : Edition) (m : Message) (slots : List ℕ) → length slots ≡ 32 → 840 + 4 * length (owned_words edition slots ++ serial_words edition m) ≡ size_of edition
+last_words : (edition : Edition) (m : Message) (slots : List ℕ) → length slots ≡ 32 → 840 + 4 * length (owned_words edition slots ++ serial_words edition m) ≡ summary_len edition
 last_words One m slots all = omega (arith, length-append (take 16 slots) (serial_words One m), length-take-le 16 slots (omega arith))
 last_words Two m slots all = omega (arith, length-append slots (serial_words Two m))
 
-length-summary_bytes : (edition : Edition) (m : Message) (slots : List ℕ) → length slots ≡ 32 → length (summary_bytes edition m slots) ≡ size_of edition
+length-summary_bytes : (edition : Edition) (m : Message) (slots : List ℕ) → length slots ≡ 32 → length (summary_bytes edition m slots) ≡ summary_len edition
 length-summary_bytes edition m slots all =
     let texts = texts_words edition m in
     let arguments = arguments_words edition 64 (arguments_of m) in
     let last = owned_words edition slots ++ serial_words edition m in
     omega (arith, length-words_bytes (summary_words edition m slots), length-append (head_words edition m) (texts ++ (arguments ++ last)), length-append texts (arguments ++ last), length-append arguments last, length-texts_words edition m, length-arguments_words edition 64 (arguments_of m), last_words edition m slots all)
+
+-- ---- the head and the serial
+
+order_small : (order : Order) → order_byte order < 2 ^ 32
+order_small Little = omega arith
+order_small Big = omega arith
+
+head_shown : (image : List ℕ) (edition : Edition) (bytes words : List ℕ) (m : Message) → Valid bytes m → IsImage image edition (message_bytes m) → Follow image 0 (head_words edition m ++ words) (message_bytes m) → ShowsHead edition image m
+head_shown image edition bytes words m valid is follow =
+    let all : List ℕ = head_words edition m ++ words in
+    let more : List ℕ = message_bytes m in
+    let whole = length-laid m.order (kind_byte m.kind) m.flags m.serial (header_bytes m) (body_bytes m) in
+    let flags_small : m.flags < 2 ^ 32 = omega (arith, valid.flags) in
+    let body_small : summary_len edition + body_place (length (header_bytes m)) < 2 ^ 32 = omega (arith, whole, is.fits, size_below edition) in
+    let len_small : length (body_bytes m) < 2 ^ 32 = omega (arith, whole, is.fits) in
+    record {
+      order = one_follows image 0 0 (order_byte m.order) 0 all more follow (omega arith) refl (order_small m.order) refl;
+      flags = one_follows image 0 2 m.flags 8 all more follow (omega arith) refl flags_small refl;
+      body = one_follows image 0 3 (summary_len edition + body_place (length (header_bytes m))) 12 all more follow (omega arith) refl body_small refl;
+      body_len = one_follows image 0 4 (length (body_bytes m)) 16 all more follow (omega arith) refl len_small refl;
+      count = one_follows image 0 5 (min (length (arguments_of m)) 64) 20 all more follow (omega arith) refl (omega arith) refl;
+    }
+
+serial_shown : (image : List ℕ) (edition : Edition) (slots more : List ℕ) (m : Message) → length slots ≡ 32 → m.serial < 2 ^ 32 → Follow image 840 (owned_words edition slots ++ serial_words edition m) more → ShowsSerial edition image m
+serial_shown image One slots more m all small follow = tt
+serial_shown image Two slots more m all small follow =
+    one_follows image 968 0 m.serial 968 (serial_words Two m) more (next_follow image 840 32 968 slots (serial_words Two m) more all refl follow) (omega arith) refl small refl
 
 -- ---- images
 
@@ -202,6 +235,7 @@ words_show edition image bytes m slots valid all small is follow =
     let f840 : Follow image 840 last more = next_follow image 72 192 840 (arguments_words edition 64 arguments) last more (length-arguments_words edition 64 arguments) refl f72 in
     let kind_small : kind_byte m.kind < 2 ^ 32 = omega (arith, valid.kind_fits) in
     record {
+      head = head_shown image edition bytes (texts_words edition m ++ rest) m valid is follow;
       kind = one_follows image 0 1 (kind_byte m.kind) 4 (summary_words edition m slots) more follow (omega arith) refl kind_small refl;
       path = text_shown image edition more (from_interface ++ rest) more 24 (extent_of Path m) (text_of Path m) is path.0 (texts_said Path bytes m valid);
       interface = text_shown image edition more (from_member ++ rest) more 32 (extent_of Interface m) (text_of Interface m) is interface.0 (texts_said Interface bytes m valid);
@@ -211,6 +245,7 @@ words_show edition image bytes m slots valid all small is follow =
       sender = text_shown image edition more rest more 64 (extent_of Sender m) (text_of Sender m) is destination.1 (texts_said Sender bytes m valid);
       argument = λ k below. argument_shown image edition more last more 64 arguments k 72 (72 + 12 * k) is below refl f72 (message_places bytes m valid);
       owned = λ slot below. slot_shown image edition slots (serial_words edition m) more slot all (small (slot / 32)) below f840;
+      serial = serial_shown image edition slots more m all valid.serial_fits f840;
     }
 
 -- The image of a valid message shows it.
@@ -220,3 +255,12 @@ image_shows edition bytes m slots valid all small =
     words_show edition (image_bytes edition m slots) bytes m slots valid all small
     (record { summary = summary_bytes edition m slots; parts = refl; size = length-summary_bytes edition m slots all; fits = fits })
     (all_follow (summary_words edition m slots) (message_bytes m))
+
+-- The words at the place of a field's text show it.
+pub shows_text : (edition : Edition) (image : List ℕ) (m : Message) (slots : List ℕ) (field : TextField) → Shows edition image m slots → ShowsText image (text_place field) (text_of field m)
+shows_text edition image m slots Path shows = shows.path
+shows_text edition image m slots Interface shows = shows.interface
+shows_text edition image m slots Member shows = shows.member
+shows_text edition image m slots ErrorName shows = shows.error_name
+shows_text edition image m slots Destination shows = shows.destination
+shows_text edition image m slots Sender shows = shows.sender

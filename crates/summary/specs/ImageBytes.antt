@@ -14,12 +14,12 @@ use Rattle.message_view.specs.Places.{extent_of}
 use Rattle.message_view.specs.Spelling.{header_bytes, body_place, body_bytes, arguments_of, message_bytes}
 use Rattle.summary.specs.declared.edition.Edition.{Edition}
 use Rattle.summary.specs.declared.edition.Edition.TheVariants.{One, Two}
-use Rattle.summary.specs.Layout.{size_of}
+use Rattle.summary.specs.Layout.{summary_len}
 
 -- place and length of a text in an image; both are 0 where it is absent
 abbrev pub extent_words : Edition → Option Extent → List ℕ
 extent_words edition None = 0 ∷ 0 ∷ []
-extent_words edition (Some e) = (size_of edition + e.place) ∷ e.len ∷ []
+extent_words edition (Some e) = (summary_len edition + e.place) ∷ e.len ∷ []
 
 abbrev pub text_words : Edition → Message → TextField → List ℕ
 text_words edition m field = extent_words edition (extent_of field m)
@@ -30,7 +30,7 @@ max_arguments = 64
 
 -- the first byte of an argument's type, its place and its length
 abbrev pub argument_words : Edition → Argument → List ℕ
-argument_words edition a = a.code ∷ (size_of edition + a.place) ∷ a.len ∷ []
+argument_words edition a = a.code ∷ (summary_len edition + a.place) ∷ a.len ∷ []
 
 -- the words of this number of arguments, with zeros for those that aren't there
 abbrev pub arguments_words : Edition → ℕ → List Argument → List ℕ
@@ -52,7 +52,7 @@ serial_words Two m = m.serial ∷ unwrap_or (reply_serial_of m) 0 ∷ []
 abbrev pub head_words : Edition → Message → List ℕ
 head_words edition m =
     order_byte m.order ∷ kind_byte m.kind ∷ m.flags
-    ∷ (size_of edition + body_place (length (header_bytes m))) ∷ length (body_bytes m)
+    ∷ (summary_len edition + body_place (length (header_bytes m))) ∷ length (body_bytes m)
     ∷ min (length (arguments_of m)) max_arguments ∷ []
 
 -- the texts of the fields by rising code

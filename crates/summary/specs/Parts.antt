@@ -5,10 +5,10 @@ use Rattle.message_view.specs.Header.{kind_byte}
 use Rattle.message_view.specs.Message.{Message}
 use Rattle.message_view.specs.Spelling.{header_bytes, body_place, body_bytes}
 use Rattle.summary.specs.declared.edition.Edition.{Edition}
-use Rattle.summary.specs.Layout.{size_of}
+use Rattle.summary.specs.Layout.{summary_len}
 
 -- the head of a message that has `count` arguments
 abbrev pub head_with : Edition → Message → ℕ → List ℕ
 head_with edition m count =
     order_byte m.order ∷ kind_byte m.kind ∷ m.flags
-    ∷ (size_of edition + body_place (length (header_bytes m))) ∷ length (body_bytes m) ∷ count ∷ []
+    ∷ (summary_len edition + body_place (length (header_bytes m))) ∷ length (body_bytes m) ∷ count ∷ []

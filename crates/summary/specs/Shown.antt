@@ -1,12 +1,16 @@
 -- What the loads of an image say of its message.
-use Rattle.std.specs.Prelude.{◌≡◌, ℕ, ◌+◌, ◌*◌, ◌/◌, ◌<◌, List, ◌++◌, length, Option, Some, None, IfSome, slice_get, slice_index}
+use Rattle.std.specs.Prelude.{◌≡◌, ℕ, ◌+◌, ◌/◌, ◌^◌, ◌<◌, List, ◌++◌, length, min, Option, Some, None, IfSome, slice_get, slice_index}
 use Rattle.bpf_code.specs.Loads.{load_word}
 use Rattle.message_value.specs.Arguments.{Argument}
+use Rattle.message_value.specs.Order.{order_byte}
+use Rattle.message_view.specs.declared.extent.TextField.TheVariants.{Path, Interface, Member, ErrorName, Destination, Sender}
 use Rattle.message_view.specs.Header.{kind_byte}
 use Rattle.message_view.specs.Message.{Message, path_of, interface_of, member_of, error_name_of, destination_of, sender_of}
-use Rattle.message_view.specs.Spelling.{arguments_of}
+use Rattle.message_view.specs.Spelling.{header_bytes, body_place, body_bytes, arguments_of}
 use Rattle.summary.specs.declared.edition.Edition.{Edition}
 use Rattle.summary.specs.declared.edition.Edition.TheVariants.{One, Two}
+use Rattle.summary.specs.Layout.{order_place, kind_place, flags_place, body_words_place, count_place, text_place, argument_place, ownership_place, serial_place, summary_len}
+use Rattle.summary.specs.ImageBytes.{max_arguments}
 
 -- the text lies at a place of the image
 abbrev pub Lies : List ℕ → ℕ → List ℕ → Type 0
@@ -23,6 +27,7 @@ pub record Tells (image : List ℕ) (at : ℕ) (text : List ℕ) : Type 0 where
   pub after_start : 0 < place
   pub place_word : load_word image at ≡ Some place
   pub len_word : load_word image (at + 4) ≡ Some (length text)
+  pub end_fits : place + length text < 2 ^ 32
   pub lies : Lies image place text
 
 -- of a text that is absent both are 0
@@ -40,14 +45,29 @@ abbrev pub slots_of : Edition → ℕ
 slots_of One = 512
 slots_of Two = 1024
 
+-- the words of the head, besides the kind
+pub record ShowsHead (edition : Edition) (image : List ℕ) (m : Message) : Type 0 where
+  pub order : load_word image order_place ≡ Some (order_byte m.order)
+  pub flags : load_word image flags_place ≡ Some m.flags
+  pub body : load_word image body_words_place ≡ Some (summary_len edition + body_place (length (header_bytes m)))
+  pub body_len : load_word image (body_words_place + 4) ≡ Some (length (body_bytes m))
+  pub count : load_word image count_place ≡ Some (min (length (arguments_of m)) max_arguments)
+
+-- the serial, of which edition one tells nothing
+abbrev pub ShowsSerial : Edition → List ℕ → Message → Type 0
+ShowsSerial One image m = Unit {0}
+ShowsSerial Two image m = load_word image serial_place ≡ Some m.serial
+
 -- The image shows the message, whose sender owns the names of the slots.
 pub record Shows (edition : Edition) (image : List ℕ) (m : Message) (slots : List ℕ) : Type 0 where
-  pub kind : load_word image 4 ≡ Some (kind_byte m.kind)
-  pub path : ShowsText image 24 (path_of m)
-  pub interface : ShowsText image 32 (interface_of m)
-  pub member : ShowsText image 40 (member_of m)
-  pub error_name : ShowsText image 48 (error_name_of m)
-  pub destination : ShowsText image 56 (destination_of m)
-  pub sender : ShowsText image 64 (sender_of m)
-  pub argument : (n : ℕ) → n < 64 → ShowsArgument image (72 + 12 * n) (slice_get (arguments_of m) n)
-  pub owned : (slot : ℕ) → slot < slots_of edition → load_word image (840 + 4 * (slot / 32)) ≡ Some (slice_index slots (slot / 32))
+  pub head : ShowsHead edition image m
+  pub kind : load_word image kind_place ≡ Some (kind_byte m.kind)
+  pub path : ShowsText image (text_place Path) (path_of m)
+  pub interface : ShowsText image (text_place Interface) (interface_of m)
+  pub member : ShowsText image (text_place Member) (member_of m)
+  pub error_name : ShowsText image (text_place ErrorName) (error_name_of m)
+  pub destination : ShowsText image (text_place Destination) (destination_of m)
+  pub sender : ShowsText image (text_place Sender) (sender_of m)
+  pub argument : (n : ℕ) → n < max_arguments → ShowsArgument image (argument_place n) (slice_get (arguments_of m) n)
+  pub owned : (slot : ℕ) → slot < slots_of edition → load_word image (ownership_place slot) ≡ Some (slice_index slots (slot / 32))
+  pub serial : ShowsSerial edition image m

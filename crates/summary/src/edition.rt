@@ -1,5 +1,5 @@
 ghost use Rattle.std.specs.Prelude.{◌≡◌};
-ghost use Rattle.summary.specs.Layout.{size_of};
+ghost use Rattle.summary.specs.Layout.{summary_len};
 
 /// Which summary a program reads.
 #[derive(Clone, Copy, Debug, PartialEq, Eq)]
@@ -12,8 +12,8 @@ pub enum Edition {
 
 impl Edition {
     /// The number of a summary's bytes.
-    pub(crate) fn size(self) -> usize
-        ensures { result ≡ size_of self }
+    pub fn summary_len(self) -> usize
+        ensures { result ≡ summary_len self }
     {
         match self {
             Edition::One => 904,

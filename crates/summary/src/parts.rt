@@ -7,7 +7,7 @@ ghost use Rattle.message_value.specs.ShownArguments.{shown_arg};
 ghost use Rattle.message_view.specs.Message.{Message};
 ghost use Rattle.message_view.specs.Valid.{Valid};
 ghost use Rattle.summary.specs.ImageBytes.{words_bytes, extent_words, argument_words, arguments_words, texts_words, owned_words, serial_words};
-ghost use Rattle.summary.specs.Layout.{size_of};
+ghost use Rattle.summary.specs.Layout.{summary_len};
 ghost use Rattle.summary.specs.Parts.{head_with};
 
 use crate::edition::Edition;
@@ -33,9 +33,9 @@ fn order_byte(order: Order) -> u8
 /// place.
 #[inline(always)]
 fn place_in_image(edition: Edition, place: u32) -> u32
-    ensures { to_be_bytes w32 result ≡ to_be_bytes w32 (size_of edition + place) }
+    ensures { to_be_bytes w32 result ≡ to_be_bytes w32 (summary_len edition + place) }
 {
-    (edition.size() as u32).wrapping_add(place)
+    (edition.summary_len() as u32).wrapping_add(place)
 }
 
 /// Writes the head: what a message says first, and where its body lies. The number of arguments is 0 until it is known.
@@ -130,7 +130,7 @@ fn put_slots(words: &mut Words, slots: &[u32])
 pub fn put_rest(words: &mut Words, view: &View<'_>, owned: &Slots, edition: Edition)
     requires { length words.old ≤ 840 }
     ensures bytes { (m : Message) → Valid view.now m → words.new ≡ words.old ++ words_bytes (owned_words edition owned.now ++ serial_words edition m) }
-    ensures long { length words.new + 840 ≡ length words.old + size_of edition }
+    ensures long { length words.new + 840 ≡ length words.old + summary_len edition }
 {
     match edition {
         Edition::One => put_slots(words, &owned.words()[..16]),

@@ -5,6 +5,7 @@ ghost use Rattle.summary.specs.Layout.{IsSize};
 ghost use Rattle.summary.specs.ImageBytes.{summary_bytes};
 
 use crate::edition::Edition;
+use crate::layout::COUNT_PLACE;
 use crate::parts::{put_arguments, put_head, put_rest, put_texts};
 use crate::slots::Slots;
 use crate::words::Words;
@@ -37,9 +38,6 @@ impl Summary {
         self.words.bytes()
     }
 }
-
-/// Where the word with the number of arguments stands.
-const COUNT_PLACE: usize = 20;
 
 /// The summary of a message whose sender owns the names of these slots. No memory is taken.
 pub fn summarise(view: &View<'_>, owned: &Slots, edition: Edition) -> Summary

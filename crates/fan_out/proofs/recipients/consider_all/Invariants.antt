@@ -1,4 +1,4 @@
-use Rattle.std.proofs.Common.{◌≡◌, ◌∷◌}
+use Rattle.std.proofs.Common.{◌≡◌, ◌∷◌, length}
 use Rattle.std.specs.Option.{ForSome}
 use Rattle.summary.specs.declared.edition.Edition.TheVariants.{One}
 use Rattle.program_table.specs.Connections.{numbers_of}
@@ -13,5 +13,8 @@ invariant-loop-entry g l = record {
   owned : l.programs.owned.now ≡ l.fn.programs.owned.now;
   one : ForSome l.one (IsImage One l.fn.programs.view.now l.fn.programs.owned.now);
   noted : AreNoted (numbers_of l.state.connections) l.marks.places l.marks.remainders;
-  so_far : AreMarkedSoFar l.state l.piece.part l.piece.of l.fn.programs.view.now l.fn.programs.owned.now (l.first ∷ l.fn.others) l.entry-iterator l.marks.places l.programs.tally.runs;
+  so_far : AreMarkedSoFar l.state l.piece.part l.piece.of l.fn.programs.view.now l.fn.programs.owned.now (l.first ∷ l.initial.others) l.others l.marks.places l.programs.tally.runs;
 }
+
+abbrev pub decreases-loop-entry : goal.decreases-loop-entry
+decreases-loop-entry g l = length l.others

@@ -1,0 +1,13 @@
+//! The methods of the bus itself, those of `org.freedesktop.DBus` and of the standard interfaces (D-Bus Specification,
+//! "Message Bus Messages"): what each call changes, and what it is answered. `perform` is the table of the methods, a
+//! row for each. Sessions, which stand above, use that a call whose caller waits for no answer never ends for want of
+//! room for one.
+#![tactic(auto)]
+
+mod matches;
+mod methods;
+mod names;
+mod owner;
+mod queries;
+
+pub use methods::perform;

@@ -1,0 +1,14 @@
+-- Broadcasts of a connection.
+use Rattle.std.specs.Prelude.{ℕ, List, Result, Ok, Err}
+use Rattle.outbox.specs.Seated.{OutboxId}
+use Rattle.passes.specs.declared.error.BusError.{BusError}
+use Rattle.passes.specs.declared.reading.Source.{Source}
+use Rattle.passes.specs.Passes.{PassState}
+use Rattle.passes.specs.Routes.{HasRouted, IsUnrouted}
+use Rattle.connections.specs.declared.error.AnswerError.{AnswerError}
+
+module _ {M : Type 0} where
+  -- One broadcast more of the pass, which some outboxes may have refused; or nothing was put, for the bus's reason.
+  abbrev pub Broadcasts : {A : Type 0} → (M → OutboxId) → Source → List ℕ → PassState M → Result A AnswerError → PassState M → Type 0
+  Broadcasts outbox_of source bytes v (Ok _) w = (refused : List ℕ) × HasRouted outbox_of source bytes v refused w
+  Broadcasts outbox_of source bytes v (Err _) w = (why : BusError) × IsUnrouted outbox_of why v w

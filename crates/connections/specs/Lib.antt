@@ -1,0 +1,4 @@
+pub mod Answers
+pub mod Broadcasts
+pub mod Refusals
+pub mod Serials

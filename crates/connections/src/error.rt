@@ -1,0 +1,24 @@
+// Why a call isn't answered.
+
+use std::error::Error;
+use std::fmt;
+
+/// Why a call isn't answered, or a change isn't announced. Either ends the connection's session.
+#[derive(Clone, Copy, Debug, PartialEq, Eq)]
+pub enum AnswerError {
+    /// The client's outbox is full or shut.
+    Slow,
+    /// Memory was refused, or the bus has ended.
+    NoMemory,
+}
+
+impl fmt::Display for AnswerError {
+    fn fmt<W: fmt::Write>(&self, f: &mut fmt::Formatter<W>) -> fmt::Result {
+        f.write_str(match self {
+            AnswerError::Slow => "Slow",
+            AnswerError::NoMemory => "NoMemory",
+        })
+    }
+}
+
+impl Error for AnswerError {}

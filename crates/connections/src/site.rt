@@ -1,0 +1,25 @@
+// What a session's calls work with.
+
+use program_table::Mailbox;
+use published::Naming;
+use router::{Bus, Pass};
+use std::alloc::Global;
+use std::sync::Wait;
+
+/// The bus, with the runtime and the allocator of one call.
+#[derive(Drop)]
+pub struct Site<'a, J: Naming, M: Mailbox, W: Wait, R: Wait + Drop> {
+    pub rt: &'a W,
+    pub alloc: Global,
+    pub bus: &'a Bus<J, M, R>,
+}
+
+impl<J: Naming, M: Mailbox, W: Wait, R: Wait + Drop> Site<'_, J, M, W, R> {
+    /// Gives a pass's reader back to the bus. A pass whose connection the bus couldn't close, since the bus has ended,
+    /// is dropped.
+    pub fn give_back(&self, pass: Pass<J, M>) {
+        if pass.is_closed() || pass.connection() == 0 {
+            self.bus.take_back(self.rt, pass);
+        }
+    }
+}

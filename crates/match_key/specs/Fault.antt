@@ -1,0 +1,24 @@
+-- The names and numbers of the faults of rule texts.
+use Rattle.std.specs.Prelude.{ℕ, List, codes}
+use Rattle.match_key.specs.declared.fault.RuleError.{RuleError}
+use Rattle.match_key.specs.declared.fault.RuleError.TheVariants.{TooLong, UnknownKey, KeyTwice, BadValue, Unquoted, PathTwice, ArgNumber, NoMemory}
+
+abbrev pub number_of : RuleError → ℕ
+number_of TooLong = 1
+number_of UnknownKey = 2
+number_of KeyTwice = 3
+number_of BadValue = 4
+number_of Unquoted = 5
+number_of PathTwice = 6
+number_of ArgNumber = 7
+number_of NoMemory = 8
+
+abbrev pub name_of : RuleError → List ℕ
+name_of TooLong = codes "TooLong"
+name_of UnknownKey = codes "UnknownKey"
+name_of KeyTwice = codes "KeyTwice"
+name_of BadValue = codes "BadValue"
+name_of Unquoted = codes "Unquoted"
+name_of PathTwice = codes "PathTwice"
+name_of ArgNumber = codes "ArgNumber"
+name_of NoMemory = codes "NoMemory"

@@ -1,0 +1,4 @@
+pub mod Rows
+pub mod Fault
+pub mod Key
+pub mod Kinds

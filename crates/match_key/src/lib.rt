@@ -1,0 +1,17 @@
+//! The keys of D-Bus match rules: what a part of a rule's text asks about, the words that name it, and why a text is no
+//! rule. The layer above uses that `Key::named` is the table of words, and that no rule may have two keys that
+//! `Key::is_twice` or `Key::is_path_twice` tells.
+#![tactic(auto)]
+
+mod arg_key;
+mod fault;
+mod key;
+mod kind_name;
+mod relation;
+mod source;
+
+pub use fault::RuleError;
+pub use key::Key;
+pub use kind_name::KindName;
+pub use relation::Relation;
+pub use source::{Field, Source};

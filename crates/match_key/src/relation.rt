@@ -1,0 +1,41 @@
+// How conditions compare.
+
+ghost use Rattle.std.specs.Prelude.{◌≡◌};
+ghost use Rattle.match_key.specs.Key.{relation_number, once_relation};
+
+/// How a text stands to the value of a condition (D-Bus Specification, "Match Rules").
+#[derive(Clone, Copy, Debug)]
+pub enum Relation {
+    /// The text is the value.
+    Equal,
+    /// The text is a path in the namespace of the value, as `path_namespace` asks.
+    PathNamespace,
+    /// The text is a name in the namespace of the value, as `arg0namespace` asks.
+    NameNamespace,
+    /// One of the text and the value is a path that the other lies in, as `argNpath` asks.
+    NestedPath,
+}
+
+impl Relation {
+    /// A number that no other relation has.
+    pub(crate) fn number(self) -> u8
+        ensures { result ≡ relation_number self }
+    {
+        match self {
+            Relation::Equal => 0,
+            Relation::PathNamespace => 1,
+            Relation::NameNamespace => 2,
+            Relation::NestedPath => 3,
+        }
+    }
+
+    /// The relation that stands for all those of which a rule may have only one: `argN` and `argNpath` share one.
+    pub(crate) fn once(self) -> Relation
+        ensures { result ≡ once_relation self }
+    {
+        match self {
+            Relation::NestedPath => Relation::Equal,
+            relation => relation,
+        }
+    }
+}

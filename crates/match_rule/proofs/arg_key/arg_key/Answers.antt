@@ -1,5 +1,0 @@
-use Rattle.match_rule.proofs.KeyWords.{digits_are}
-use Rattle.match_rule.proofs.arg_key.arg_key.Goals as goal
-
-pub arg_number-requires : goal.arg_number-requires
-arg_number-requires c = rw c.split_digits.ensures.digits (digits_are c.args.rest.now)
