@@ -1,4 +1,4 @@
--- Names that clients ask about, and who owns them (D-Bus Specification, "Message Bus Names").
+-- Inner: names that clients ask about, and who owns them (D-Bus Specification, "Message Bus Names").
 use Rattle.std.specs.Prelude.{◌≡◌, ◌≢◌, ◌⊎◌, ◌<◌, ◌^◌, ℕ, true, false, List, Option, Some, None, Result, Ok, Err, if◌then◌else◌}
 use Rattle.signature.specs.Name.{is_bus_name}
 use Rattle.owners.specs.Queues.{owner_of}
