@@ -1,7 +1,7 @@
 // What `serve` is refused for.
 
 ghost use Rattle.std.specs.Prelude.{◌≡◌};
-ghost use Rattle.dbusfan_serve.specs.Status.{status_of};
+ghost use Rattle.dbusfan_serve.specs.Faults.{status_of};
 
 use dbusfan_tool::{Output, Writer};
 use std::io;
