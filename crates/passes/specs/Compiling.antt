@@ -12,6 +12,8 @@ use Rattle.passes.specs.declared.error.BusError.{BusError}
 use Rattle.passes.specs.declared.error.BusError.TheVariants as errors
 use Rattle.passes.specs.Errors.{error_of}
 use Rattle.passes.specs.Readings.{compiled_in}
+use Rattle.rule_compile.specs.declared.error.CompileError.{CompileError}
+use Rattle.rule_compile.specs.declared.error.CompileError.TheVariants as compile_errors
 
 module _ {M : Type 0} where
   -- the state refuses the rule, whatever its program is
@@ -29,3 +31,8 @@ module _ {M : Type 0} where
   abbrev pub Compiles : State M → ℕ → RuleTree → Result CompiledRule BusError → Type 0
   Compiles s connection rule (Ok compiled) = (compiled ≡ compiled_in s rule compiled.program) × IsFit compiled
   Compiles s connection rule (Err error) = IsKeptOut s connection rule error ⊎ (IsHeavy s connection rule error ⊎ (error ≡ errors.NoMemory))
+
+-- the error of a rule that isn't compiled
+abbrev pub compile_error : CompileError → BusError
+compile_error compile_errors.TooLong = errors.TooLong
+compile_error compile_errors.NoMemory = errors.NoMemory
