@@ -17,10 +17,6 @@ is_unique (b ∷ rest) = b == 58
 abbrev pub is_well_known : List ℕ → Bool
 is_well_known name = is_bus_name name && not (is_unique name)
 
--- a well-known name that connections may own
-abbrev pub is_claimable : List ℕ → Bool
-is_claimable name = is_well_known name && not (bytes_eq name bus_name)
-
 -- what a text is as a name that a connection asks for
 abbrev pub name_in : List ℕ → Result (List ℕ) ClaimError
 name_in text = if bytes_eq text bus_name then Err Reserved else if is_well_known text then Ok text else Err BadName
