@@ -1,7 +1,7 @@
 // Claims on names and entries, tied by the slots of names.
 
 ghost use Rattle.std.specs.Prelude.{◌≡◌};
-ghost use Rattle.program_table.specs.Refusals.{claim_refusal};
+ghost use Rattle.program_table.specs.SlotSearch.{claim_refusal};
 
 use crate::command::Reply;
 use crate::refusal::Refusal;
