@@ -2,8 +2,10 @@ pub mod Grammar
 pub mod Lexis
 pub mod Mnemonics
 pub mod Operands
+pub mod OperandReading
 pub mod Printing
 pub mod Rows
+pub mod LineReading
 pub mod Source
 pub mod Used
 pub mod Views

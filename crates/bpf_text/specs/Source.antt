@@ -9,25 +9,13 @@ use Rattle.bpf_code.specs.declared.error.CodeError.TheVariants as errors
 use Rattle.bpf_code.specs.Table.{code_of}
 use Rattle.bpf_code.specs.declared.operation.Op.{Op}
 use Rattle.bpf_text.specs.Grammar.{Word, Sign, IsToken, Front, AreTokens, tokens_of}
-use Rattle.bpf_text.specs.Lexis.{◌>>=◌, word_at, sign_at, is_over, begins_blank}
+use Rattle.bpf_text.specs.Lexis.{◌>>=◌, is_over, begins_blank}
 use Rattle.bpf_text.specs.Mnemonics.{mnemonic_of}
 use Rattle.bpf_text.specs.declared.mnemonic.Mnemonic.{Mnemonic}
 use Rattle.bpf_text.specs.Operands.{Operands, One, Both}
 use Rattle.bpf_text.specs.Rows.{Row, Jumps, Stays, Goes, Parts, is_absent, row_of}
 
 -- ---- lines
-
--- a label and its colon
-unfoldable pub label_at : List ℕ → Option (List ℕ × List ℕ)
-label_at bytes = do
-  word ← word_at bytes
-  rest ← sign_at 58 word.1
-  Some (word.0, rest)
-
--- these labels are read from bytes one after another, and the rest follows
-abbrev pub Begins : List ℕ → List (List ℕ) → List ℕ → Type 0
-Begins bytes [] rest = bytes ≡ rest
-Begins bytes (label ∷ labels) rest = (tail : List ℕ) × (label_at bytes ≡ Some (label, tail)) × Begins tail labels rest
 
 -- a line: its labels, and the instruction, if it has one
 pub record Line : Type 0 where
@@ -117,28 +105,11 @@ noted_from earlier place [] = []
 noted_from earlier place (line ∷ lines) =
     record { again = repeats earlier place line.labels; row = line.row } ∷ noted_from (earlier ++ labels_at place line.labels) (place + count_row line.row) lines
 
--- Bytes begin with labels and go on with the rest. The labels stand at a place and are added after the earlier ones;
--- again tells whether one of them was defined before.
-pub record TakesLabels (bytes rest : List ℕ) (place : ℕ) (old new : List Label) (again : Bool) : Type 0 where
-  pub names : List (List ℕ)
-  pub begins : Begins bytes names rest
-  pub last : label_at rest ≡ None
-  pub labels : new ≡ old ++ labels_at place names
-  pub repeated : again ≡ repeats old place names
-
 -- what lines so far come to
 pub record Sketch : Type 0 where
   pub labels : List Label
   pub lines : List Noted
   pub count : ℕ
-
--- one more line
-abbrev pub with_line : Sketch → Line → Sketch
-with_line old line = record {
-  labels = old.labels ++ labels_at old.count line.labels;
-  lines = old.lines ++ record { again = repeats old.labels old.count line.labels; row = line.row } ∷ [];
-  count = old.count + count_row line.row;
-}
 
 -- what all lines come to
 abbrev pub sketch_of : List Line → Sketch

@@ -1,4 +1,4 @@
--- Operands without where their names lie in memory.
+-- Inner: operands without where their names lie in memory.
 use Rattle.std.specs.Prelude.{map}
 use Rattle.bpf_text.specs.declared.operands.Operands.{Operands as Lent}
 use Rattle.bpf_text.specs.declared.operands.Operands.TheVariants as lent
