@@ -1,5 +1,5 @@
 -- What finishing answers.
-use Rattle.std.specs.Prelude.{◌≡◌, ◌⊎◌, ◌<◌, ◌^◌, ℕ, true, List, length, Some, Result, Ok, Err}
+use Rattle.std.specs.Prelude.{◌≡◌, ◌⊎◌, ◌<◌, ◌^◌, ℕ, true, List, length, Some, Result, Ok, Err, Vec}
 use Rattle.signature.specs.DataType.{SigText}
 use Rattle.message_value.specs.Fits.{max_array_len, max_levels, MembersFit}
 use Rattle.message_view.specs.Header.{kind_byte, kind_of, has_required}
@@ -47,3 +47,8 @@ Finishes a (Ok bytes) = AreAsked a bytes
 Finishes a (Err Invalid) = AsksNone a
 Finishes a (Err TooLarge) = AsksTooMuch a
 Finishes a (Err NoMemory) = (bytes : List ℕ) × AreAsked a bytes
+
+-- the bytes of a result
+abbrev pub listed : {A : Type 0} → Result (Vec ℕ A) BuildError → Result (List ℕ) BuildError
+listed (Ok v) = Ok v.items
+listed (Err e) = Err e

@@ -2,5 +2,10 @@ pub mod Asked
 pub mod Building
 pub mod ErrorName
 pub mod Stamped
-pub mod StampWords
+pub mod StampedFields
 pub mod Words
+pub mod Growing
+pub mod MessageBytes
+pub mod Headers
+pub mod HeaderFields
+pub mod Adding
