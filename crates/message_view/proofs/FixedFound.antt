@@ -9,7 +9,7 @@ use Rattle.message_value.specs.Order.{order_of, word_of}
 use Rattle.message_view.specs.Header.{kind_of}
 use Rattle.message_value.specs.Spelling.{padding}
 use Rattle.message_view.specs.Fixed.{order_in, word_at, body_len, serial_in, fields_len, whole_len}
-use Rattle.message_view.specs.Words as words
+use Rattle.message_view.specs.HeaderAnswers as words
 use Rattle.message_value.proofs.OkSteps.{some_is}
 use Rattle.message_view.proofs.FixedPart.{framing_again}
 use Rattle.message_view.proofs.FixedPart as proved

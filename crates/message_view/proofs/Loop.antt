@@ -10,7 +10,7 @@ use Rattle.message_view.specs.Slots.{no_slots, no_extents, slots_of, AreExtents}
 use Rattle.message_value.specs.Reading.{At, ◌>>=◌}
 use Rattle.message_value.specs.Words.{AreBytes, Gives}
 use Rattle.message_view.specs.Reading.{field_at, fields_from}
-use Rattle.message_view.specs.Words.{shown, lying, IsFront}
+use Rattle.message_view.specs.FieldAnswers.{shown, lying, IsFront}
 use Rattle.message_value.proofs.OkSteps.{ok_is}
 use Rattle.message_view.proofs.FieldTurns.{field_shorter}
 use Rattle.message_view.proofs.KeptExtents.{front_none}
