@@ -1,7 +1,7 @@
 -- What holds of a rule that was read.
 use Rattle.std.proofs.Common.{◌≡◌, ℕ, ◌≤◌, true, List, [], length, sym, ap, ◌∙◌, subst}
 use Rattle.std.specs.Prelude.{Ok, All}
-use Rattle.message_value.specs.Words.{AreBytes}
+use Rattle.message_value.specs.Bytes.{AreBytes}
 use Rattle.match_rule.specs.Condition.{value_of}
 use Rattle.match_rule.specs.RuleTree.{RuleTree, weight_of}
 use Rattle.match_rule.specs.Grammar.{rule_with}

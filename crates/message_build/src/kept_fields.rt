@@ -1,7 +1,7 @@
 // The header fields of a message that are copied.
 
 ghost use Rattle.std.specs.Prelude.{◌≡◌, ◌+◌, ◌-◌, ◌<◌, ◌≤◌, ◌++◌, ℕ, List, length, take, drop, filter, IfOk, IfSome, MatchOption};
-ghost use Rattle.message_value.specs.Words.{Reads};
+ghost use Rattle.message_value.specs.Answers.{Reads};
 ghost use Rattle.message_view.specs.Message.{Field};
 ghost use Rattle.message_view.specs.Spelling.{fields_bytes};
 ghost use Rattle.message_view.specs.Valid.{AreFields};

@@ -8,7 +8,8 @@ use Rattle.signature.specs.DataType.{basic}
 use Rattle.message_value.specs.declared.order.Order.{Order}
 use Rattle.message_value.specs.declared.fault.MsgError.{MsgError}
 use Rattle.message_value.specs.Reading.{At}
-use Rattle.message_value.specs.Words.{AreBytes, Checks}
+use Rattle.message_value.specs.Answers.{Checks}
+use Rattle.message_value.specs.Bytes.{AreBytes}
 use Rattle.message_view.specs.declared.content.Content.{Content}
 use Rattle.message_view.specs.declared.fields.Fields.{Fields}
 use Rattle.message_view.specs.declared.extent.Extent.{Extent}

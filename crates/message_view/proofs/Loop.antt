@@ -8,7 +8,8 @@ use Rattle.message_view.specs.declared.fields.Fields.{Fields}
 use Rattle.message_view.specs.Message.{Field}
 use Rattle.message_view.specs.Slots.{no_slots, no_extents, slots_of, AreExtents}
 use Rattle.message_value.specs.Reading.{At, ◌>>=◌}
-use Rattle.message_value.specs.Words.{AreBytes, Gives}
+use Rattle.message_value.specs.Steps.{Gives}
+use Rattle.message_value.specs.Bytes.{AreBytes}
 use Rattle.message_view.specs.Reading.{field_at, fields_from}
 use Rattle.message_view.specs.FieldAnswers.{shown, lying, IsFront}
 use Rattle.message_value.proofs.OkSteps.{ok_is}

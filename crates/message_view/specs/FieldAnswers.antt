@@ -4,7 +4,8 @@ use Rattle.message_value.specs.declared.fault.MsgError.{MsgError}
 use Rattle.message_value.specs.declared.text.TextType.TheVariants as texts
 use Rattle.message_value.specs.Value.{Value, number, text}
 use Rattle.message_value.specs.Reading.{At}
-use Rattle.message_value.specs.Words.{text_code, AreBytes}
+use Rattle.message_value.specs.TextTypes.{text_code}
+use Rattle.message_value.specs.Bytes.{AreBytes}
 use Rattle.message_view.specs.declared.content.Content.{Content}
 use Rattle.message_view.specs.declared.content.Content.TheVariants.{Text, Number}
 use Rattle.message_view.specs.declared.fields.Fields.{Fields}

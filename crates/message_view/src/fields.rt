@@ -4,7 +4,9 @@ ghost use Rattle.std.specs.Prelude.{◌≡◌, ℕ, ◌+◌, ◌<◌, ◌≤◌,
 ghost use Rattle.signature.specs.DataType.{DataType, TypeText, SigText, basic};
 ghost use Rattle.signature.specs.Alignment.{alignment_of};
 ghost use Rattle.message_value.specs.Reading.{At, inside, text_value_at, value_at};
-ghost use Rattle.message_value.specs.Words.{Reads, Checks, Gives, text_code};
+ghost use Rattle.message_value.specs.Steps.{Gives};
+ghost use Rattle.message_value.specs.Answers.{Reads, Checks};
+ghost use Rattle.message_value.specs.TextTypes.{text_code};
 ghost use Rattle.message_view.specs.Message.{Field, text_in, number_in, signature_in};
 ghost use Rattle.message_view.specs.Header.{type_code, has_required};
 ghost use Rattle.message_view.specs.Slots.{code_byte, slot_of, slots_of, no_slots, no_extents, AreExtents};

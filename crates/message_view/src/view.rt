@@ -2,7 +2,7 @@
 
 ghost use Rattle.std.specs.Prelude.{◌≡◌, ℕ, List, length, Some, Ok};
 ghost use Rattle.signature.specs.DataType.{DataTypes, SigText};
-ghost use Rattle.message_value.specs.Words.{AreBytes};
+ghost use Rattle.message_value.specs.Bytes.{AreBytes};
 ghost use Rattle.message_view.specs.Message.{Message, Field};
 ghost use Rattle.message_view.specs.Valid.{Valid};
 ghost use Rattle.message_view.specs.Fixed.{whole_len};
