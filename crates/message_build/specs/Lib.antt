@@ -3,7 +3,6 @@ pub mod Building
 pub mod ErrorName
 pub mod Stamped
 pub mod StampedFields
-pub mod Words
 pub mod Growing
 pub mod MessageBytes
 pub mod Headers
