@@ -1,4 +1,5 @@
--- Tokens of the assembler's text: words, numbers and single characters, with blanks between them.
+-- Tokens of the assembler's text: words, numbers and single characters, with blanks between them (own, in the manner
+-- of Linux's `bpf_asm`).
 use Rattle.std.specs.Prelude.{ℕ, ◌^◌, Bool, true, false, ◌&&◌, ◌||◌, not, List, length, drop, Option, Some, None, if◌then◌else◌, ◌==◌, nat_lt, option_and_then, slice_index}
 use Rattle.std.specs.Int.{is_in_range}
 use Rattle.std.specs.Char.{digit_value}

@@ -1,4 +1,4 @@
--- The operands of an instruction, which stand after its mnemonic.
+-- The operands of an instruction, which stand after its mnemonic (own, in the manner of Linux's `bpf_asm`).
 use Rattle.std.specs.Prelude.{ℕ, List}
 
 -- the targets of a conditional jump, of which the last may be left out

@@ -1,4 +1,5 @@
--- Which instruction a mnemonic with its operands names: the table of instructions, read from its texts.
+-- Which instruction a mnemonic with its operands names: the table of instructions, read from its texts (own, in the
+-- manner of Linux's `bpf_asm`).
 use Rattle.std.specs.Prelude.{ℕ, Bool, true, false, List, Option, Some, None, if◌then◌else◌, codes}
 use Rattle.std.specs.Str.{bytes_eq}
 use Rattle.bpf_code.specs.declared.operation.Op.{Op}

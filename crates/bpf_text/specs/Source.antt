@@ -1,4 +1,4 @@
--- What an assembler text means: its lines, and the program that they name.
+-- What an assembler text means: its lines, and the program that they name (own, in the manner of Linux's `bpf_asm`).
 use Rattle.std.specs.Prelude.{◌≡◌, ℕ, ◌+◌, ◌-◌, ◌^◌, Bool, false, ◌&&◌, ◌||◌, List, [], ◌∷◌, ◌++◌, length, map, Option, Some, None, Result, Ok, Err, if◌then◌else◌, ◌==◌, nat_lt, true}
 use Rattle.std.specs.Option.{option_map}
 use Rattle.std.specs.List.{list_any, find, slice_split}
