@@ -1,4 +1,4 @@
--- The statuses that a server ends with.
+-- The statuses that a server ends with (own).
 use Rattle.std.specs.Prelude.{ℕ, [], ◌∷◌, Contains}
 
 -- done, or one of the faults
