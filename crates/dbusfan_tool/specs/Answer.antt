@@ -1,4 +1,4 @@
--- What a command has to say, and how it is said.
+-- What a command has to say, and how it is said (own).
 use Rattle.std.specs.Prelude.{◌≡◌, ℕ, Bool, true, false, List, [], ◌++◌, codes, decimal, Result, Ok, Err, if◌then◌else◌, ◌==◌}
 use Rattle.bpf_code.specs.declared.instruction.Ins.{Ins}
 use Rattle.bpf_machine.specs.declared.machine.Outcome.{Outcome}

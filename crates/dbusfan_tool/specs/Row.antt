@@ -1,4 +1,4 @@
--- The rows of the command line, and the words that spell them. A word is its bytes.
+-- The rows of the command line, and the words that spell them (own). A word is its bytes.
 use Rattle.std.specs.Prelude.{◌≡◌, ℕ, nat_lt, ◌==◌, ◌&&◌, Bool, true, false, List, [], ◌∷◌, length, map, slice_index, codes, Option, Some, None, unwrap_or}
 use Rattle.std.specs.Borrow.{Bor}
 use Rattle.std.specs.Str.{bytes_eq}
