@@ -1,4 +1,4 @@
--- Those to whom a message goes and at whose outboxes its sender has no seat yet.
+-- Those to whom a message goes and at whose outboxes its sender has no seat yet (own).
 use Rattle.std.specs.Prelude.{◌≡◌, ◌⊎◌, ℕ, true, List, Some, map}
 use Rattle.outbox.specs.Seated.{OutboxId}
 use Rattle.program_table.specs.Connections.{mailbox_of}
