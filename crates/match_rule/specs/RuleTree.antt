@@ -1,4 +1,4 @@
--- Rules, apart from their texts.
+-- Rules, apart from their texts (D-Bus Specification, "Match Rules"; the weight is our own).
 use Rattle.std.specs.Prelude.{◌≡◌, ℕ, ◌+◌, ◌*◌, Bool, not, List, [], ◌∷◌, Option, Some, None, length, Contains, sum_by, codes, ◌==◌, ◌&&◌, if◌then◌else◌}
 use Rattle.std.specs.List.{list_all, list_any}
 use Rattle.std.specs.Bool.{beq}
