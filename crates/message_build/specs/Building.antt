@@ -1,4 +1,4 @@
--- What finishing answers.
+-- What finishing answers (own).
 use Rattle.std.specs.Prelude.{◌≡◌, ◌⊎◌, ◌<◌, ◌^◌, ℕ, true, List, length, Some, Result, Ok, Err, Vec}
 use Rattle.signature.specs.DataType.{SigText}
 use Rattle.message_value.specs.Fits.{max_array_len, max_levels, MembersFit}

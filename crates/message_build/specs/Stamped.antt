@@ -1,4 +1,4 @@
--- Messages stamped with their sender.
+-- Messages stamped with their sender (D-Bus Specification, "Header Fields": SENDER).
 use Rattle.std.specs.Prelude.{ℕ, Bool, not, ◌&&◌, ◌==◌, List, [], ◌∷◌, ◌++◌, filter, is_some, Result, Ok, Err, Vec}
 use Rattle.signature.specs.DataType.{basic}
 use Rattle.message_value.specs.Value.{text}
