@@ -1,4 +1,4 @@
--- The arguments that the code lends, as those of the definitions.
+-- The arguments that the code lends, as those of the definitions (own).
 use Rattle.std.specs.Prelude.{option_map}
 use Rattle.message_value.specs.declared.arg.Arg.{Arg}
 use Rattle.message_value.specs.Arguments.{Argument}
