@@ -1,4 +1,4 @@
--- Whether a pass may ask for something.
+-- Whether a pass may ask for something (own).
 use Rattle.std.specs.Prelude.{◌≡◌, ◌≢◌, false}
 use mathlib.Core.List.{IsPrefix}
 use Rattle.program_table.specs.Connections.{commands_of}

@@ -1,4 +1,4 @@
--- The errors of a bus.
+-- The errors of a bus (own).
 use Rattle.std.specs.Prelude.{ℕ}
 use Rattle.program_table.specs.declared.refusal.Refusal.{Refusal}
 use Rattle.program_table.specs.declared.refusal.Refusal.TheVariants as refusals

@@ -1,4 +1,4 @@
--- What a pass has seen and done.
+-- What a pass has seen and done (own).
 use Rattle.std.specs.Prelude.{◌≡◌, ◌≢◌, ℕ, ◌≤◌, ◌<◌, Bool, false, List, [], length, Option, Some, None}
 use Rattle.program_table.specs.declared.command.Command.{Command}
 use Rattle.program_table.specs.History.{own_commands}
