@@ -1,4 +1,4 @@
--- Tests that may refuse a command.
+-- Tests that may refuse a command (own).
 use Rattle.std.specs.Prelude.{Bool, true, false, Result, Ok, Err}
 use Rattle.program_table.specs.declared.refusal.Refusal.{Refusal}
 

@@ -1,4 +1,4 @@
--- The slot for which a rule is compiled, before its program is there.
+-- The slot for which a rule is compiled, before its program is there (own).
 use Rattle.std.specs.Prelude.{◌≡◌, ℕ, true, List, Option, Result, Ok, Err}
 use Rattle.bpf_code.specs.declared.instruction.Ins.{Ins}
 use Rattle.match_rule.specs.RuleTree.{RuleTree, sender_name_of}
