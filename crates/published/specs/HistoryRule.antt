@@ -1,4 +1,4 @@
--- The rule of the history, and what its steps tell.
+-- The rule of the history, and what its steps tell (own).
 use Rattle.std.specs.Prelude.{◌≡◌, true, List, [], ◌∷◌, length}
 use Rattle.logbook.specs.Pages.{Cell}
 use Rattle.program_table.specs.declared.command.Command.{Command}

@@ -1,4 +1,4 @@
--- The rule over the published history and what each seat has seen of it.
+-- The rule over the published history and what each seat has seen of it (own).
 use Rattle.std.specs.Prelude.{ℕ, ◌≡◌, List}
 use mathlib.Core.List.{IsPrefix}
 use mathlib.Core.Option.{some}
