@@ -1,4 +1,5 @@
--- Where the words of a summary stand, in bytes from the start of the image; each has four bytes, the highest first.
+-- Where the words of a summary stand, in bytes from the start of the image; each has four bytes, the highest first
+-- (own).
 use Rattle.std.specs.Prelude.{◌≡◌, ℕ, ◌+◌, ◌*◌, ◌/◌, ◌⊎◌}
 use Rattle.message_view.specs.declared.extent.TextField.{TextField}
 use Rattle.message_view.specs.declared.extent.TextField.TheVariants.{Path, Interface, Member, ErrorName, Destination, Sender}

@@ -1,4 +1,4 @@
--- What the loads of an image say of its message.
+-- What the loads of an image say of its message (own).
 use Rattle.std.specs.Prelude.{◌≡◌, ℕ, ◌+◌, ◌/◌, ◌^◌, ◌<◌, List, ◌++◌, length, min, Option, Some, None, IfSome, slice_get, slice_index}
 use Rattle.bpf_code.specs.Loads.{load_word}
 use Rattle.message_value.specs.Arguments.{Argument}
