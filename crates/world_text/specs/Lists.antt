@@ -1,4 +1,4 @@
--- Lists of events.
+-- Lists of events (own).
 use Rattle.std.specs.Prelude.{◌≡◌, ℕ, ◌+◌, ◌==◌, List, [], ◌∷◌, ◌++◌, length}
 use Rattle.std.specs.List.{slice_split, flat_map}
 use Rattle.world_text.specs.declared.error.ListError.{ListError}
