@@ -8,16 +8,16 @@ use Rattle.program_table.specs.State.{State}
 use Rattle.routing.specs.SenderView.{RecipientView, StopView}
 use Rattle.lookups.specs.Newcomers.{IsOutboxOf}
 
--- Inner: none of these connections has this unique name
+-- none of these connections has this unique name
 abbrev pub NoneIsNamed : List ℕ → List ℕ → Type 0
 NoneIsNamed name numbers = (n : ℕ) → is_in n numbers ≡ true → name ≡ unique_name n → ⊥
 
 module _ {M : Type 0} where
-  -- Inner: some entry is this connection's
+  -- some entry is this connection's
   abbrev pub HasEntry : State M → ℕ → Type 0
   HasEntry s n = (e : Entry) × Contains s.registrations.entries e × (e.connection ≡ n)
 
-  -- Inner: the connection has a seat already, or its newcomer was added
+  -- the connection has a seat already, or its newcomer was added
   abbrev pub Adds : (M → OutboxId) → State M → ℕ → List StopView → List RecipientView → List RecipientView → Type 0
   Adds outbox_of s n stops old new =
       (HasStop n stops × (new ≡ old)) ⊎ ((r : RecipientView) × (r.number ≡ n) × IsOutboxOf outbox_of s n r.outbox × (new ≡ old ++ r ∷ []))

@@ -26,7 +26,7 @@ module _ {M : Type 0} where
   abbrev pub new_pass : List (Command M) → PassState M
   new_pass seen = record { seen = seen; connection = 0; is_closed = false; took = 0; count = 0; stops = [] }
 
-  -- Inner: as many commands of its connection as it took were seen, its connect among them
+  -- as many commands of its connection as it took were seen, its connect among them
   pub record HasTaken (v : PassState M) : Type 0 where
     pub none : v.connection ≡ 0 → v.took ≡ 0
     pub some : v.connection ≢ 0 → 0 < v.took

@@ -9,14 +9,14 @@ use Rattle.passes.specs.Calls.{IsStopped, IsShutOut}
 use Rattle.passes.specs.Admission.{IsAdmitted}
 
 module _ {M : Type 0} where
-  -- Inner: it has then seen what is published
+  -- it has then seen what is published
   pub record IsReady (v : PassState M) (before : Publication M) : Type 0 where
     pub legal : IsHistory before.history
     pub taken : HasTaken v
     pub seen : v.seen ≡ before.history
     pub admitted : IsAdmitted v before
 
-  -- Inner: a pass is admitted, or Closed
+  -- a pass is admitted, or Closed
   abbrev pub Admits : PassState M → Publication M → Result (Unit {0}) BusError → PassState M → Type 0
   Admits v before (Ok _) w = IsAdmitted v before × (w ≡ record v { seen = before.history }) × IsReady w before × HasTaken v
   Admits v before (Err error) w = (error ≡ errors.Closed) × IsStopped v before w before × IsShutOut v before before

@@ -12,7 +12,7 @@ module _ {M : Type 0} where
   abbrev pub sending : PassState M → SenderView
   sending v = record { origin = v.connection; count = v.count; stops = v.stops }
 
--- Inner: the count of the last broadcast, 0 before the first
+-- the count of the last broadcast, 0 before the first
 abbrev pub count_in : Option SenderView → ℕ
 count_in None = 0
 count_in (Some s) = s.count
@@ -21,7 +21,7 @@ abbrev pub stops_in : Option SenderView → List StopView
 stops_in None = []
 stops_in (Some s) = s.stops
 
--- Inner: the sender is the connection's
+-- the sender is the connection's
 abbrev pub SendsFor : ℕ → Option SenderView → Type 0
 SendsFor connection None = Unit {0}
 SendsFor connection (Some s) = (s.origin ≡ connection) × (connection ≢ 0)

@@ -13,7 +13,7 @@ use Rattle.owners.specs.declared.error.ClaimError.{ClaimError}
 use Rattle.owners.specs.declared.error.ClaimError.TheVariants as errors
 use Rattle.program_table.specs.declared.refusal.Refusal.TheVariants.{NamesFull, QueueFull}
 
--- Inner: as the code looks for it
+-- as the code looks for it
 abbrev pub slot_for : Option (List ℕ) → List (Option (List ℕ)) → Result (Option ℕ) Refusal
 slot_for None slots = Ok None
 slot_for (Some name) slots = do
