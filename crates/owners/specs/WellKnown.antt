@@ -1,13 +1,9 @@
 -- Names that a connection may ask for (D-Bus Specification, "Valid Names", "Bus names").
-use Rattle.std.specs.Prelude.{ℕ, Bool, false, not, List, [], ◌∷◌, Result, Ok, Err, codes, ◌==◌, ◌&&◌, if◌then◌else◌}
+use Rattle.std.specs.Prelude.{ℕ, Bool, false, not, List, [], ◌∷◌, Result, Ok, Err, ◌==◌, ◌&&◌, if◌then◌else◌}
 use Rattle.std.specs.Str.{bytes_eq}
-use Rattle.signature.specs.Name.{is_bus_name}
+use Rattle.signature.specs.Name.{is_bus_name, bus_name}
 use Rattle.owners.specs.declared.error.ClaimError.{ClaimError}
 use Rattle.owners.specs.declared.error.ClaimError.TheVariants.{BadName, Reserved}
-
--- `org.freedesktop.DBus`, the name of the bus itself ("Message Bus Messages")
-abbrev pub bus_name : List ℕ
-bus_name = codes "org.freedesktop.DBus"
 
 -- a name that begins with a colon is a unique connection name
 abbrev pub is_unique : List ℕ → Bool

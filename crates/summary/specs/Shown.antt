@@ -11,14 +11,11 @@ use Rattle.summary.specs.declared.edition.Edition.{Edition}
 use Rattle.summary.specs.declared.edition.Edition.TheVariants.{One, Two}
 use Rattle.summary.specs.Layout.{order_place, kind_place, flags_place, body_words_place, count_place, text_place, argument_place, ownership_place, serial_place, summary_len}
 use Rattle.summary.specs.ImageBytes.{max_arguments}
+use Rattle.message_value.specs.Bytes.{AreBytes}
 
 -- the text lies at a place of the image
 abbrev pub Lies : List ℕ → ℕ → List ℕ → Type 0
 Lies image place text = (front : List ℕ) × (tail : List ℕ) × (image ≡ front ++ (text ++ tail)) × (length front ≡ place)
-
--- each is a byte
-abbrev pub AreBytes : List ℕ → Type 0
-AreBytes bytes = (i : ℕ) → slice_index bytes i < 256
 
 -- two words from a place on tell the place and the length of a text that is there
 pub record Tells (image : List ℕ) (at : ℕ) (text : List ℕ) : Type 0 where
