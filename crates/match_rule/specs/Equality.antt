@@ -1,4 +1,5 @@
--- Equal conditions are one, and equal rules are the same set.
+-- Inner: proofs that the tests of equality are equivalences. They stand here since `impl Eq` cites them, which takes
+-- nothing from proofs/.
 use Rattle.std.specs.Prelude.{◌≡◌, ◌<◌, ℕ, ◌-◌, Bool, true, false, List, Contains, slice_index_or, unwrap_or, ◌==◌, ◌&&◌, if◌then◌else◌}
 use Rattle.std.specs.List.{list_any}
 use Rattle.std.specs.Bool.{beq, Decides, one_answer}
