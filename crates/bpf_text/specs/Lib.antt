@@ -7,6 +7,7 @@ pub mod Printing
 pub mod Rows
 pub mod LineReading
 pub mod Source
+pub mod Sketches
 pub mod Used
 pub mod Views
 pub mod LabelPlaces

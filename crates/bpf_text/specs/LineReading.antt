@@ -6,7 +6,8 @@ use Rattle.bpf_text.specs.Lexis.{◌>>=◌, word_at, is_over, begins_blank, sign
 use Rattle.bpf_text.specs.Mnemonics.{mnemonic_of}
 use Rattle.bpf_text.specs.OperandReading.{operands_of}
 use Rattle.bpf_text.specs.Rows.{Row, row_of, is_absent}
-use Rattle.bpf_text.specs.Source.{Line, Label, count_row, labels_at, repeats, Sketch}
+use Rattle.bpf_text.specs.Source.{Line, Label, count_row, labels_at, repeats}
+use Rattle.bpf_text.specs.Sketches.{Sketch}
 
 -- a number with one more digit, if that is one of the base and it fits 32 bits
 abbrev pub with_digit_of : ℕ → ℕ → ℕ → Option ℕ

@@ -95,26 +95,6 @@ abbrev pub repeats : List Label → ℕ → List (List ℕ) → Bool
 repeats earlier place [] = false
 repeats earlier place (name ∷ names) = has_name earlier name || repeats (earlier ++ record { name = name; place = place } ∷ []) place names
 
--- what a line has beside its labels: whether one of them is defined a second time, and its instruction
-pub record Noted : Type 0 where
-  pub again : Bool
-  pub row : Option Row
-
-abbrev pub noted_from : List Label → ℕ → List Line → List Noted
-noted_from earlier place [] = []
-noted_from earlier place (line ∷ lines) =
-    record { again = repeats earlier place line.labels; row = line.row } ∷ noted_from (earlier ++ labels_at place line.labels) (place + count_row line.row) lines
-
--- what lines so far come to
-pub record Sketch : Type 0 where
-  pub labels : List Label
-  pub lines : List Noted
-  pub count : ℕ
-
--- what all lines come to
-abbrev pub sketch_of : List Line → Sketch
-sketch_of lines = record { labels = labels_from 0 lines; lines = noted_from [] 0 lines; count = count_of lines }
-
 -- ---- the program
 
 -- the place that a label names, by its first definition
@@ -159,20 +139,18 @@ abbrev pub with_row : List Label → ℕ → ℕ → ℕ → Option Row → Resu
 with_row labels count place line None later = later
 with_row labels count place line (Some row) later = with_ins (resolve labels count place line row) later
 
--- The program of lines, or the fault of the first line that has one: a label that is defined a second
--- time, a jump's label that names no instruction ahead, a distance that is too far.
-abbrev pub program_from : List Label → ℕ → ℕ → ℕ → List Noted → Result (List Ins) CodeError
-program_from labels count place line [] = Ok []
-program_from labels count place line (noted ∷ more) =
-    if noted.again then Err (errors.Label line)
-    else with_row labels count place line noted.row (program_from labels count (place + count_row noted.row) (line + 1) more)
-
-abbrev pub program_in : Sketch → Result (List Ins) CodeError
-program_in sketch = program_from sketch.labels sketch.count 0 1 sketch.lines
+-- The program of lines, the first of which has this number, or the fault of the first line that has one: a label that is
+-- defined a second time, a jump's label that names no instruction ahead, a distance that is too far. `labels` are those of
+-- all lines, `earlier` those of the lines before; `place` is that of the next instruction, of which all lines have `count`.
+abbrev pub program_from : List Label → ℕ → List Label → ℕ → ℕ → List Line → Result (List Ins) CodeError
+program_from labels count earlier place number [] = Ok []
+program_from labels count earlier place number (line ∷ more) =
+    if repeats earlier place line.labels then Err (errors.Label number)
+    else with_row labels count place number line.row (program_from labels count (earlier ++ labels_at place line.labels) (place + count_row line.row) (number + 1) more)
 
 -- the program of all lines of a text
 abbrev pub program_of : List Line → Result (List Ins) CodeError
-program_of lines = program_in (sketch_of lines)
+program_of lines = program_from (labels_from 0 lines) (count_of lines) [] 0 1 lines
 
 -- the text has the form of lines, and names this program
 abbrev pub SourceText : List ℕ → List Ins → Type 0
