@@ -1,5 +1,5 @@
 -- Inner: lines, read from left to right.
-use Rattle.std.specs.Prelude.{ℕ, ◌||◌, List, Option, Some, None, if◌then◌else◌, ◌≡◌, ◌+◌, Bool, [], ◌∷◌, ◌++◌, ◌*◌, ◌^◌, ◌&&◌, nat_lt}
+use Rattle.std.specs.Prelude.{◌≡◌, ℕ, ◌||◌, ◌+◌, ◌*◌, ◌^◌, ◌&&◌, List, Option, Some, None, if◌then◌else◌, Bool, [], ◌∷◌, ◌++◌, nat_lt}
 use Rattle.std.specs.Option.{option_map}
 use Rattle.std.specs.Char.{digit_value}
 use Rattle.bpf_text.specs.Lexis.{◌>>=◌, word_at, is_over, begins_blank, sign_at}

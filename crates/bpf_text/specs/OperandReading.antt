@@ -1,5 +1,5 @@
 -- Inner: the operands of an instruction, read from left to right.
-use Rattle.std.specs.Prelude.{ℕ, Bool, true, List, Option, Some, None, if◌then◌else◌, ◌==◌, codes}
+use Rattle.std.specs.Prelude.{ℕ, ◌==◌, Bool, true, List, Option, Some, None, if◌then◌else◌, codes}
 use Rattle.std.specs.Str.{bytes_eq}
 use Rattle.bpf_text.specs.Lexis.{◌>>=◌, word_at, number_at, sign_at, is_over}
 use Rattle.bpf_text.specs.Operands.{Targets, One, Both, Operands, Absent, Number, Length, Place, Indexed, Scratch, Header, Name, NumberTo, NameTo}

@@ -1,16 +1,16 @@
 -- The messages that the bus makes (D-Bus Specification, "Message Bus Messages").
 use Rattle.std.specs.Prelude.{ℕ, List, codes, Option, Some, Result, Ok, Err}
+use Rattle.signature.specs.Name.{bus_name}
 use Rattle.message_view.specs.declared.kind.Kind.{Kind}
 use Rattle.message_view.specs.declared.kind.Kind.TheVariants.{MethodReturn, Error, Signal}
-use Rattle.message_build.specs.Asked.{Asked, nothing_asked}
-use Rattle.message_build.specs.Building.{AreAsked, AsksNone, AsksTooMuch}
 use Rattle.message_build.specs.declared.error.BuildError.{BuildError}
 use Rattle.message_build.specs.declared.error.BuildError.TheVariants.{Invalid, TooLarge, NoMemory}
+use Rattle.message_build.specs.Asked.{Asked, nothing_asked}
+use Rattle.message_build.specs.Building.{AreAsked, AsksNone, AsksTooMuch}
 use Rattle.bus_messages.specs.declared.body.Body.{Body}
 use Rattle.bus_messages.specs.declared.error_name.ErrorName.{ErrorName}
 use Rattle.bus_messages.specs.Bodies.{with_text, with_texts, with_body}
 use Rattle.bus_messages.specs.ErrorNames.{full_name, word_of}
-use Rattle.signature.specs.Name.{bus_name}
 
 abbrev pub bus_path : List ℕ
 bus_path = codes "/org/freedesktop/DBus"

@@ -3,12 +3,12 @@ use Rattle.std.specs.Prelude.{ℕ, List, [], ◌∷◌, string_bytes, if◌then�
 use Rattle.dbusfan_tool.specs.declared.gathered.Names.{Names}
 use Rattle.dbusfan_tool.specs.declared.gathered.Names.TheVariants.{Nothing, One, Two}
 use Rattle.dbusfan_tool.specs.declared.gathered.Gathered.{Gathered}
-use Rattle.dbusfan_tool.specs.RowReading.{Gathering}
 use Rattle.dbusfan_tool.specs.declared.command_line.Row.{Row}
 use Rattle.dbusfan_tool.specs.declared.command_line.Row.TheVariants.{Match, Asm, Check, Run, Compile}
-use Rattle.dbusfan_tool.specs.Row.{Asked, to_match, to_asm, to_check, to_compile, to_run}
 use Rattle.dbusfan_tool.specs.declared.answer.Answer.{Answer}
 use Rattle.dbusfan_tool.specs.declared.answer.Answer.TheVariants.{Verdict, Text, Ran, Fault as Fails}
+use Rattle.dbusfan_tool.specs.RowReading.{Gathering}
+use Rattle.dbusfan_tool.specs.Row.{Asked, to_match, to_asm, to_check, to_compile, to_run}
 use Rattle.dbusfan_tool.specs.Answer.{Said, failing, said_of_match, saying}
 
 abbrev pub names_of : Names → List (List ℕ)

@@ -1,11 +1,11 @@
 -- Inner: the search for a name's owner and for newcomers, one after the other.
-use Rattle.std.specs.Prelude.{◌≡◌, ℕ, true, List, ◌⊎◌, [], ◌∷◌, ◌++◌, Contains}
-use Rattle.routing.specs.Stops.{is_in, HasStop}
-use Rattle.unique_name.specs.UniqueNames.{unique_name}
-use Rattle.outbox.specs.Seated.{OutboxId}
+use Rattle.std.specs.Prelude.{◌≡◌, ℕ, ◌⊎◌, true, List, [], ◌∷◌, ◌++◌, Contains}
 use Rattle.entry_table.specs.declared.entry.Entry.{Entry}
 use Rattle.program_table.specs.State.{State}
+use Rattle.outbox.specs.Seated.{OutboxId}
+use Rattle.routing.specs.Stops.{is_in, HasStop}
 use Rattle.routing.specs.SenderView.{RecipientView, StopView}
+use Rattle.unique_name.specs.UniqueNames.{unique_name}
 use Rattle.lookups.specs.Newcomers.{IsOutboxOf}
 
 -- none of these connections has this unique name

@@ -2,9 +2,9 @@
 use Rattle.std.specs.Prelude.{◌≡◌, ℕ, List, [], ◌∷◌, ◌++◌, length, Result, Ok, Err, if◌then◌else◌}
 use Rattle.std.specs.Borrow.{Bor}
 use Rattle.signature.specs.DataType.{DataType, spelling}
+use Rattle.message_value.specs.declared.order.Order.TheVariants.{Little}
 use Rattle.message_value.specs.Value.{Value, Values, text, no_values, one_value}
 use Rattle.message_value.specs.Spelling.{value_bytes}
-use Rattle.message_value.specs.declared.order.Order.TheVariants.{Little}
 use Rattle.message_build.specs.declared.error.BuildError.{BuildError}
 use Rattle.message_build.specs.declared.error.BuildError.TheVariants.{NoMemory}
 use Rattle.message_build.specs.declared.given.Given.TheVariants.{Arguments, Raw, Spoiled}

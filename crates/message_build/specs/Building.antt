@@ -6,9 +6,9 @@ use Rattle.message_view.specs.Header.{kind_byte, kind_of, has_required}
 use Rattle.message_view.specs.Message.{Message, signature_in}
 use Rattle.message_view.specs.Spelling.{fixed_len, body_place, header_bytes, body_bytes, message_bytes}
 use Rattle.message_view.specs.Valid.{AreFields, Valid, max_message_len}
-use Rattle.message_build.specs.Asked.{Asked, Asks}
 use Rattle.message_build.specs.declared.error.BuildError.{BuildError}
 use Rattle.message_build.specs.declared.error.BuildError.TheVariants.{Invalid, TooLarge, NoMemory}
+use Rattle.message_build.specs.Asked.{Asked, Asks}
 
 -- The message's spelling is above the limits: its array of fields, or all of it, is too long.
 abbrev pub IsTooLarge : Message → Type 0

@@ -1,5 +1,5 @@
 -- Inner: lists of bytes that grow, and are cut back where memory runs out.
-use Rattle.std.specs.Prelude.{◌≡◌, ◌+◌, ◌<◌, ℕ, List, ◌++◌, length, take, Option, Some, None, Result, Ok, Err}
+use Rattle.std.specs.Prelude.{◌≡◌, ℕ, ◌+◌, ◌<◌, List, ◌++◌, length, take, Option, Some, None, Result, Ok, Err}
 use Rattle.message_value.specs.Fits.{max_array_len}
 
 -- What a call appended: all of it, or the bytes that were there are still in front.

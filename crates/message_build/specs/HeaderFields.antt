@@ -1,16 +1,16 @@
 -- Inner: the fields that a builder writes, and what they may hold.
-use Rattle.std.specs.Prelude.{◌≡◌, ◌+◌, ◌<◌, ◌≤◌, ◌^◌, ℕ, Bool, true, not, ◌&&◌, List, [], ◌∷◌, length, Option, Some, None, is_some, ◌==◌, nat_lt}
+use Rattle.std.specs.Prelude.{◌≡◌, ℕ, ◌+◌, ◌<◌, ◌≤◌, ◌^◌, ◌&&◌, ◌==◌, Bool, true, not, List, [], ◌∷◌, length, Option, Some, None, is_some, nat_lt}
 use Rattle.std.specs.Borrow.{Bor}
 use Rattle.std.specs.List.{list_all}
 use Rattle.std.specs.Str.{bytes_eq}
 use Rattle.signature.specs.DataType.{basic}
 use Rattle.signature.specs.Name.{is_path, is_interface, is_member, is_bus_name}
 use Rattle.signature.specs.Trees.{types_of}
+use Rattle.message_value.specs.declared.order.Order.TheVariants.{Little}
 use Rattle.message_value.specs.Value.{number, text}
 use Rattle.message_value.specs.Fits.{max_array_len}
 use Rattle.message_view.specs.Message.{Field}
 use Rattle.message_view.specs.Spelling.{fixed_len, field_bytes}
-use Rattle.message_value.specs.declared.order.Order.TheVariants.{Little}
 use Rattle.message_view.specs.Header.{local_path, local_interface}
 use Rattle.message_build.specs.declared.field.HeaderField.{HeaderField}
 use Rattle.message_build.specs.declared.field.HeaderField.TheVariants.{Path, Interface, Member, ErrorName, ReplySerial, Destination, Sender, Signature}

@@ -1,5 +1,5 @@
 -- Inner: the header that a builder keeps.
-use Rattle.std.specs.Prelude.{◌<◌, ◌^◌, ℕ, Bool, true, not, ◌&&◌, List, ◌++◌, None, is_some, ◌==◌, nat_lt}
+use Rattle.std.specs.Prelude.{ℕ, ◌<◌, ◌^◌, ◌&&◌, ◌==◌, Bool, true, not, List, ◌++◌, None, is_some, nat_lt}
 use Rattle.message_view.specs.declared.kind.Kind.{Kind}
 use Rattle.message_view.specs.declared.kind.Kind.TheVariants as kinds
 use Rattle.message_view.specs.Message.{Field}

@@ -1,14 +1,14 @@
 -- Inner: the bytes of a body and of a message, as a builder writes them.
-use Rattle.std.specs.Prelude.{◌≡◌, ◌<◌, ◌^◌, ℕ, List, [], ◌∷◌, ◌++◌, length}
+use Rattle.std.specs.Prelude.{◌≡◌, ℕ, ◌<◌, ◌^◌, List, [], ◌∷◌, ◌++◌, length}
 use Rattle.signature.specs.DataType.{DataTypes, SigText}
 use Rattle.message_value.specs.declared.order.Order.{Order}
+use Rattle.message_value.specs.declared.order.Order.TheVariants.{Little}
 use Rattle.message_value.specs.Order.{order_byte, word_bytes}
 use Rattle.message_value.specs.Value.{Values}
 use Rattle.message_value.specs.Spelling.{padding, zeros, members_bytes}
 use Rattle.message_value.specs.Fits.{max_levels, MembersFit}
 use Rattle.message_view.specs.Message.{Field}
 use Rattle.message_view.specs.Spelling.{fixed_len, fields_bytes}
-use Rattle.message_value.specs.declared.order.Order.TheVariants.{Little}
 use Rattle.message_view.specs.Header.{kind_byte}
 use Rattle.message_build.specs.declared.header.Header.{Header}
 

@@ -5,9 +5,9 @@ use Rattle.message_value.specs.Value.{text}
 use Rattle.message_view.specs.Header.{code_of}
 use Rattle.message_view.specs.Message.{Field, Message}
 use Rattle.message_view.specs.Valid.{Valid}
-use Rattle.message_build.specs.Building.{IsTooLarge}
 use Rattle.message_build.specs.declared.stamping.StampError.{StampError}
 use Rattle.message_build.specs.declared.stamping.StampError.TheVariants.{TooLarge, NoMemory}
+use Rattle.message_build.specs.Building.{IsTooLarge}
 
 -- the field SENDER
 abbrev pub sender_field : List ℕ → Field

@@ -5,11 +5,11 @@ use Rattle.signature.specs.DataType.{DataType, DataTypes, no_types, one_more, sl
 use Rattle.signature.specs.Trees.{type_of}
 use Rattle.message_value.specs.declared.order.Order.{Order}
 use Rattle.message_value.specs.declared.fault.MsgError.{MsgError}
+use Rattle.message_value.specs.declared.arg.Arg.{Arg}
 use Rattle.message_value.specs.Value.{Values, Value}
 use Rattle.message_value.specs.Fits.{max_levels}
 use Rattle.message_value.specs.Reading.{At, value_at, members_at}
 use Rattle.message_value.specs.Arguments.{Argument, arguments_from, argument_of}
-use Rattle.message_value.specs.declared.arg.Arg.{Arg}
 use Rattle.message_value.specs.ShownArguments.{shown_arg}
 
 -- the types whose texts these are

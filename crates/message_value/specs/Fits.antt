@@ -4,10 +4,10 @@ use Rattle.std.specs.List.{list_any}
 use Rattle.std.specs.Str.{is_utf8}
 use Rattle.signature.specs.DataType.{DataType, DataTypes, basic, variant, array, dict, struct, no_types, one_more, spelling, TypeText, SigText}
 use Rattle.signature.specs.Alignment.{alignment_of}
+use Rattle.signature.specs.Name.{is_path}
 use Rattle.message_value.specs.declared.order.Order.{Order}
 use Rattle.message_value.specs.Value.{Value, Values, Entries, number, text, elements, entries, members, of_type, no_values, one_value, no_entries, one_entry}
 use Rattle.message_value.specs.Spelling.{aligned, number_len, signature_bytes, elements_place, entry_alignment, elements_bytes, entries_bytes, value_bytes, entry_bytes}
-use Rattle.signature.specs.Name.{is_path}
 
 -- s o g
 abbrev pub is_text_code : ℕ → Bool

@@ -1,5 +1,5 @@
 -- Inner: the forms of the values of basic types.
-use Rattle.std.specs.Prelude.{◌≡◌, ℕ, Bool, true, false, List, ◌==◌, ◌&&◌, nat_le, if◌then◌else◌, Option, Some, None, Result}
+use Rattle.std.specs.Prelude.{◌≡◌, ℕ, ◌==◌, ◌&&◌, Bool, true, false, List, nat_le, if◌then◌else◌, Option, Some, None, Result}
 use Rattle.signature.specs.DataType.{DataType, basic}
 use Rattle.signature.specs.BasicType.{basic_alignment}
 use Rattle.message_value.specs.declared.order.Order.{Order}

@@ -1,5 +1,5 @@
 -- Which bytes a reader takes for a text of a type, as a test (own; what these texts are is in Fits.antt).
-use Rattle.std.specs.Prelude.{ℕ, Bool, false, not, ◌&&◌, List, is_some, ◌==◌, if◌then◌else◌}
+use Rattle.std.specs.Prelude.{ℕ, ◌&&◌, ◌==◌, Bool, false, not, List, is_some, if◌then◌else◌}
 use Rattle.std.specs.List.{list_any}
 use Rattle.std.specs.Str.{is_utf8}
 use Rattle.signature.specs.Trees.{types_of}

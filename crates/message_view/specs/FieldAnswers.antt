@@ -2,6 +2,7 @@
 use Rattle.std.specs.Prelude.{◌≡◌, ℕ, ◌+◌, ◌-◌, List, [], ◌∷◌, ◌++◌, length, map, option_map, Option, Some, None, Result, Ok, Err}
 use Rattle.message_value.specs.declared.fault.MsgError.{MsgError}
 use Rattle.message_value.specs.declared.text.TextType.TheVariants as texts
+use Rattle.message_value.specs.declared.order.Order.{Order}
 use Rattle.message_value.specs.Value.{Value, number, text}
 use Rattle.message_value.specs.Reading.{At}
 use Rattle.message_value.specs.TextTypes.{text_code}
@@ -13,11 +14,10 @@ use Rattle.message_view.specs.declared.field.FieldCode.{FieldCode}
 use Rattle.message_view.specs.declared.field.FieldCode.TheVariants.{Path, Interface, Member, ErrorName, ReplySerial, Destination, Sender, Signature, UnixFds}
 use Rattle.message_view.specs.declared.field.FieldType.{FieldType}
 use Rattle.message_view.specs.declared.field.FieldType.TheVariants as types
+use Rattle.message_view.specs.declared.extent.Extent.{Extent}
 use Rattle.message_view.specs.Message.{Field}
 use Rattle.message_view.specs.Spelling.{fields_bytes}
-use Rattle.message_value.specs.declared.order.Order.{Order}
 use Rattle.message_view.specs.Slots.{Slots, Extents, AreExtents, slots_of}
-use Rattle.message_view.specs.declared.extent.Extent.{Extent}
 
 -- a field's content as the value that it is
 abbrev pub value_of : Content → Value

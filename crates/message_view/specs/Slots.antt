@@ -1,14 +1,14 @@
 -- Inner: the known fields in the order of their codes.
 use Rattle.std.specs.Prelude.{◌≡◌, ℕ, List, [], ◌∷◌, map, slice_index_or, Option, None}
 use Rattle.message_value.specs.declared.order.Order.{Order}
+use Rattle.message_value.specs.Value.{Value}
 use Rattle.message_view.specs.declared.kind.Kind.{Kind}
 use Rattle.message_view.specs.declared.field.FieldCode.{FieldCode}
 use Rattle.message_view.specs.declared.field.FieldCode.TheVariants.{Path, Interface, Member, ErrorName, ReplySerial, Destination, Sender, Signature, UnixFds}
-use Rattle.message_value.specs.Value.{Value}
-use Rattle.message_view.specs.Message.{Field, field_with, text_in, number_in, Message}
 use Rattle.message_view.specs.declared.extent.Extent.{Extent}
 use Rattle.message_view.specs.declared.extent.TextField.{TextField}
 use Rattle.message_view.specs.declared.extent.TextField.TheVariants as names
+use Rattle.message_view.specs.Message.{Field, field_with, text_in, number_in, Message}
 use Rattle.message_view.specs.Places.{text_field_code, extent_from, extent_of}
 
 abbrev pub code_byte : FieldCode → ℕ

@@ -1,8 +1,8 @@
 -- Inner: what is kept of a well-known name.
-use Rattle.std.specs.Prelude.{ℕ, Bool, not, List, ◌&&◌}
+use Rattle.std.specs.Prelude.{ℕ, ◌&&◌, Bool, not, List}
 use Rattle.std.specs.Str.{bytes_eq}
-use Rattle.owners.specs.WellKnown.{is_well_known}
 use Rattle.signature.specs.Name.{bus_name}
+use Rattle.owners.specs.WellKnown.{is_well_known}
 
 -- a well-known name that connections may own
 abbrev pub is_claimable : List ℕ → Bool

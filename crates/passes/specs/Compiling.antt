@@ -1,7 +1,9 @@
 -- Inner: a rule with its program, for the slot that a state gives.
 use Rattle.std.specs.Prelude.{◌≡◌, ◌⊎◌, ◌<◌, ℕ, true, List, Result, Ok, Err}
-use Rattle.bpf_code.specs.declared.instruction.Ins.{Ins}
 use Rattle.match_rule.specs.RuleTree.{RuleTree, weight_of}
+use Rattle.bpf_code.specs.declared.instruction.Ins.{Ins}
+use Rattle.rule_compile.specs.declared.error.CompileError.{CompileError}
+use Rattle.rule_compile.specs.declared.error.CompileError.TheVariants as compile_errors
 use Rattle.entry_table.specs.CompiledRule.{CompiledRule, IsFit}
 use Rattle.program_table.specs.declared.command.Reply.TheVariants.{Refused}
 use Rattle.program_table.specs.declared.refusal.Refusal.{Refusal}
@@ -12,8 +14,6 @@ use Rattle.passes.specs.declared.error.BusError.{BusError}
 use Rattle.passes.specs.declared.error.BusError.TheVariants as errors
 use Rattle.passes.specs.Errors.{error_of}
 use Rattle.passes.specs.Readings.{compiled_in}
-use Rattle.rule_compile.specs.declared.error.CompileError.{CompileError}
-use Rattle.rule_compile.specs.declared.error.CompileError.TheVariants as compile_errors
 
 module _ {M : Type 0} where
   -- the state refuses the rule, whatever its program is

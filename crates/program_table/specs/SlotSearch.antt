@@ -1,17 +1,17 @@
 -- Inner: the search for the slot of a rule, and the refusal of a claim.
 use Rattle.std.specs.Prelude.{ℕ, List, Option, Some, None, is_none, Result, Ok, Err, nat_le, if◌then◌else◌}
 use Rattle.match_rule.specs.RuleTree.{RuleTree, sender_name_of}
+use Rattle.owners.specs.declared.error.ClaimError.{ClaimError}
+use Rattle.owners.specs.declared.error.ClaimError.TheVariants as errors
 use Rattle.program_table.specs.declared.refusal.Refusal.{Refusal}
 use Rattle.program_table.specs.declared.refusal.Refusal.TheVariants as refusals
+use Rattle.program_table.specs.declared.refusal.Refusal.TheVariants.{NamesFull, QueueFull}
 use Rattle.program_table.specs.SlotNames.{slot_next}
 use Rattle.program_table.specs.Registrations.{Registrations}
 use Rattle.program_table.specs.Refusals.{◌>>=◌, refuse_if}
 use Rattle.program_table.specs.Answers.{has_room}
 use Rattle.program_table.specs.State.{State}
 use Rattle.program_table.specs.Does.{connected, max_commands}
-use Rattle.owners.specs.declared.error.ClaimError.{ClaimError}
-use Rattle.owners.specs.declared.error.ClaimError.TheVariants as errors
-use Rattle.program_table.specs.declared.refusal.Refusal.TheVariants.{NamesFull, QueueFull}
 
 -- as the code looks for it
 abbrev pub slot_for : Option (List ℕ) → List (Option (List ℕ)) → Result (Option ℕ) Refusal

@@ -1,5 +1,5 @@
 -- Inner: the steps of the history, and what the writer's log holds.
-use Rattle.std.specs.Prelude.{ℕ, ◌≡◌, ◌==◌, ◌<◌, true, List, [], ◌∷◌, ◌++◌, length, MatchBool, fold, Option, Some, None}
+use Rattle.std.specs.Prelude.{◌≡◌, ℕ, ◌==◌, ◌<◌, true, List, [], ◌∷◌, ◌++◌, length, MatchBool, fold, Option, Some, None}
 use mathlib.Core.List.{IsPrefix}
 use Rattle.logbook.specs.Pages.{Step, View, Book, Named}
 use Rattle.program_table.specs.declared.command.Command.{Command}

@@ -1,5 +1,6 @@
 -- Inner: what one event does to what is kept.
 use Rattle.std.specs.Prelude.{◌≡◌, ℕ, ◌+◌, List, Option, Some, None, Err, IsSomeAnd, ◌-◌, ◌==◌, ◌&&◌, not, nat_le, Bool, true, false, replicate, slice_set, slice_index_or, if◌then◌else◌}
+use Rattle.arrayvec.specs.ArrayVec.{ArrayVec}
 use Rattle.message_view.specs.Message.{Message}
 use Rattle.message_view.specs.Valid.{Valid}
 use Rattle.message_view.specs.Reading.{message_at}
@@ -12,7 +13,6 @@ use Rattle.world.specs.declared.answer.Answer.{Answer}
 use Rattle.world.specs.declared.answer.Answer.TheVariants.{Reply, Fault, Ignored, Recipients}
 use Rattle.world.specs.OpenJobs.{OpenJob, job_of}
 use Rattle.world.specs.WorldState.{WorldState}
-use Rattle.arrayvec.specs.ArrayVec.{ArrayVec}
 use Rattle.world.specs.Jobs.{parts, in_part}
 
 abbrev pub opened : List ℕ → OpenJob
