@@ -233,9 +233,13 @@ impl Tail {
             SourceIns::Plain(ins) => self.put(ins),
             SourceIns::Branch(test, operand, k, hit, miss) => {
                 let yes = self.place_after(hit);
-                self.add_branch(test, operand, k, yes, self.place_after(miss))
+                let no = self.place_after(miss);
+                self.add_branch(test, operand, k, yes, no)
             }
-            SourceIns::Jump(over) => self.add_jump(self.place_after(over)),
+            SourceIns::Jump(over) => {
+                let to = self.place_after(over);
+                self.add_jump(to)
+            }
         }
     }
 

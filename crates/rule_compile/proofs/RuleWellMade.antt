@@ -16,7 +16,8 @@ use Rattle.bpf_code.specs.declared.operation.Test.TheVariants.{Equal, Above, AtL
 use Rattle.bpf_code.specs.Table.{op_of, code_of}
 use Rattle.bpf_code.specs.Flow.{At, Reads}
 use Rattle.bpf_code.specs.Program.{IsJumpFine, IsFine, IsReturn}
-use Rattle.jump_islands.specs.WellMade.{AreWellMade}
+use Rattle.jump_islands.specs.Source.{AreWellMade}
+use Rattle.message_view.specs.declared.extent.TextField.TheVariants as texts
 use Rattle.message_view.specs.Header.{kind_byte}
 use Rattle.match_key.specs.declared.source.Field.{Field}
 use Rattle.match_key.specs.declared.source.Field.TheVariants.{Interface, Member, Path, Destination}
@@ -29,10 +30,11 @@ use Rattle.match_rule.specs.Bytes.{ends_with}
 use Rattle.match_key.specs.Kinds.{kind_meant}
 use Rattle.match_rule.specs.Parts.{has_small_number, have_small_numbers}
 use Rattle.match_rule.specs.RuleTree.{RuleTree, is_owned_name}
+use Rattle.summary.specs.Layout.{kind_place, text_place, argument_place, ownership_place}
 use Rattle.rule_compile.specs.declared.condition.Part.TheVariants.{Words, Bytes}
 use Rattle.rule_compile.specs.Code.{image_word, indexed, index_from_a, returns, branch, want, settle, two, same_word, same_words, same_bytes, has_len, is_there, is_there_if, has_text_len, index_text, has_bytes, may_end, in_namespace}
 use Rattle.rule_compile.specs.Folders.{parts_of, along, is_nested}
-use Rattle.rule_compile.specs.RuleCode.{argument_at, field_at, has_type, has_text_type, owns, path_namespace_len, path_namespace, relation_len, relation_bytes, there_code, type_code, part_code, rank_of, ranks, of_rank, rising, falling, offered, verdicts, rule_code}
+use Rattle.rule_compile.specs.RuleCode.{field_at, has_type, has_text_type, owns, path_namespace_len, path_namespace, relation_len, relation_bytes, there_code, type_code, part_code, rank_of, ranks, of_rank, rising, falling, offered, verdicts, rule_code}
 
 -- ---- what an instruction in front keeps
 
@@ -198,15 +200,15 @@ nested_sound at value rest small s =
 -- ---- conditions
 
 type_sound : (n code : ℕ) (rest : List Ins) → n ≤ 63 → IsSound rest → IsSound (has_type n code rest)
-type_sound n code rest small s = image_sound (argument_at n) (want Equal code rest) (omega arith) (want_sound Equal code rest s)
+type_sound n code rest small s = image_sound (argument_place n) (want Equal code rest) (omega arith) (want_sound Equal code rest s)
 
 text_type_sound : (n : ℕ) (rest : List Ins) → n ≤ 63 → IsSound rest → IsSound (has_text_type n rest)
 text_type_sound n rest small s =
-    image_sound (argument_at n) (settle Equal 115 rest (want Equal 111 rest)) (omega arith) (settle_sound Equal 115 rest (want Equal 111 rest) s (want_sound Equal 111 rest s))
+    image_sound (argument_place n) (settle Equal 115 rest (want Equal 111 rest)) (omega arith) (settle_sound Equal 115 rest (want Equal 111 rest) s (want_sound Equal 111 rest s))
 
 owns_sound : (slot : ℕ) (rest : List Ins) → slot < 1024 → IsSound rest → IsSound (owns slot rest)
 owns_sound slot rest small s =
-    image_sound (840 + 4 * (slot / 32)) (want SharesBit (2 ^ (slot % 32)) rest) (omega arith) (want_sound SharesBit (2 ^ (slot % 32)) rest s)
+    image_sound (ownership_place slot) (want SharesBit (2 ^ (slot % 32)) rest) (omega arith) (want_sound SharesBit (2 ^ (slot % 32)) rest s)
 
 path_len_sound : (at : ℕ) (value : List ℕ) (rest : List Ins) → at < 1024 → IsSound rest → IsSound (path_namespace_len at value rest)
 path_len_sound at value rest small s =
@@ -247,24 +249,24 @@ abbrev IsSoundPiece : (Condition → List Ins → List Ins) → Type 0
 IsSoundPiece piece = (c : Condition) (rest : List Ins) → has_small_number c ≡ true → IsSound rest → IsSound (piece c rest)
 
 condition_words_sound : (slot : ℕ) → slot < 1024 → IsSoundPiece (part_code Words slot)
-condition_words_sound slot small (Kind kind) rest e s = image_sound 4 (want Equal (kind_byte (kind_meant kind)) rest) (omega arith) (want_sound Equal (kind_byte (kind_meant kind)) rest s)
+condition_words_sound slot small (Kind kind) rest e s = image_sound kind_place (want Equal (kind_byte (kind_meant kind)) rest) (omega arith) (want_sound Equal (kind_byte (kind_meant kind)) rest s)
 condition_words_sound slot small (Sender name) rest e s =
-    choice_sound (is_owned_name name) (owns slot rest) (has_text_len Equal (length name) 64 rest) (owns_sound slot rest small s) (text_len_sound Equal (length name) 64 rest (omega arith) s)
+    choice_sound (is_owned_name name) (owns slot rest) (has_text_len Equal (length name) (text_place texts.Sender) rest) (owns_sound slot rest small s) (text_len_sound Equal (length name) (text_place texts.Sender) rest (omega arith) s)
 condition_words_sound slot small (Compares (Header field) relation value) rest e s =
     there_code_sound relation (field_at field) (relation_len relation (field_at field) value rest) (field_small field) (relation_len_sound relation (field_at field) value rest (field_small field) s)
 condition_words_sound slot small (Compares (Arg n) relation value) rest e s =
     let h : n ≤ 63 = leb-true n 63 e in
-    type_code_sound relation n (relation_len relation (argument_at n + 4) value rest) h (relation_len_sound relation (argument_at n + 4) value rest (omega arith) s)
+    type_code_sound relation n (relation_len relation (argument_place n + 4) value rest) h (relation_len_sound relation (argument_place n + 4) value rest (omega arith) s)
 
 condition_bytes_sound : (slot : ℕ) → IsSoundPiece (part_code Bytes slot)
 condition_bytes_sound slot (Kind kind) rest e s = s
 condition_bytes_sound slot (Sender name) rest e s =
-    choice_sound (is_owned_name name) rest (has_bytes 64 name rest) s (bytes_sound 64 name rest (omega arith) s)
+    choice_sound (is_owned_name name) rest (has_bytes (text_place texts.Sender) name rest) s (bytes_sound (text_place texts.Sender) name rest (omega arith) s)
 condition_bytes_sound slot (Compares (Header field) relation value) rest e s =
     relation_sound relation (field_at field) value rest (field_small field) s
 condition_bytes_sound slot (Compares (Arg n) relation value) rest e s =
     let h : n ≤ 63 = leb-true n 63 e in
-    relation_sound relation (argument_at n + 4) value rest (omega arith) s
+    relation_sound relation (argument_place n + 4) value rest (omega arith) s
 
 -- ---- rules
 
@@ -286,7 +288,7 @@ module _ (piece : Condition → List Ins → List Ins) (each : IsSoundPiece piec
 
 pub offered_sound : (eavesdrops : Bool) → IsSound (offered eavesdrops verdicts)
 offered_sound eavesdrops =
-    choice_sound eavesdrops verdicts (image_word 56 ∷ want Equal 0 verdicts) verdicts_sound (image_sound 56 (want Equal 0 verdicts) (omega arith) (want_sound Equal 0 verdicts verdicts_sound))
+    choice_sound eavesdrops verdicts (image_word (text_place texts.Destination) ∷ want Equal 0 verdicts) verdicts_sound (image_sound (text_place texts.Destination) (want Equal 0 verdicts) (omega arith) (want_sound Equal 0 verdicts verdicts_sound))
 
 pub rule_sound : (slot : ℕ) (rule : RuleTree) → slot < 1024 → have_small_numbers rule.conditions ≡ true → IsSound (rule_code slot rule)
 rule_sound slot rule small e =

@@ -4,6 +4,4 @@ pub mod RuleCode
 pub mod Compiled
 pub mod Rest
 pub mod Headline
-pub mod Items
-pub mod Drafting
 pub mod Numbers

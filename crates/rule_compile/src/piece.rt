@@ -1,61 +1,29 @@
 // Programs under way, and their shortest pieces.
-ghost use Rattle.std.specs.Prelude.{◌≡◌, ◌<◌, ◌+◌, ◌-◌, ◌∷◌, length, reverse, IfOk, OnOk, IsTrue, Some};
+ghost use Rattle.std.specs.Prelude.{◌≡◌, ◌<◌, ◌-◌, ◌∷◌, length, IfOk, OnOk, IsTrue, Some};
 ghost use Rattle.bpf_code.specs.Table.{code_of};
-ghost use Rattle.jump_islands.specs.Draft.{is_plain_op};
+ghost use Rattle.jump_islands.specs.Source.{is_plain_op};
 ghost use Rattle.rule_compile.specs.Code.{image_word, indexed, index_from_a, branch, want};
 ghost use Rattle.rule_compile.specs.RuleCode.{verdicts};
-ghost use Rattle.rule_compile.specs.Items.{IsInside, AreInside, ins_of, instructions};
 
-use bpf_code::{Ins, Op, Test, Width};
+use bpf_code::{Ins, Op, Operand, Test, Width};
+use jump_islands::SourceProgram;
 use std::alloc::{AllocError, Global};
 use std::marker::Model;
 
-/// An instruction of a program under way, whose jumps may go over any number of instructions.
-#[derive(Clone, Copy)]
-pub(crate) enum Item {
-    /// An instruction that is no jump.
-    Plain(Ins),
-    /// A comparison of A with `k`, and how many instructions it goes over where the comparison holds and where it
-    /// doesn't.
-    Branch {
-        test: Test,
-        k: u32,
-        hit: usize,
-        miss: usize,
-    },
-}
-
 /// A program under way, which is written from its last instruction to its first: each piece stands in front of the
-/// rest, so that each jump has its target already. The last instruction says no match.
+/// rest. The last instruction says no match.
 #[derive(Drop)]
 pub(crate) struct Code {
-    /// The last item is the program's first.
-    items: Vec<Item>,
+    source: SourceProgram,
 }
 
 impl Model for Code {
-    ghost use Rattle.std.specs.Prelude.{List, reverse};
+    ghost use Rattle.std.specs.Prelude.{List};
     ghost use Rattle.bpf_code.specs.declared.instruction.Ins.{Ins};
-    ghost use Rattle.rule_compile.specs.Items.{instructions, IsProgram};
 
     ghost Value = { List Ins };
 
-    ghost view = { λ c. instructions (reverse c.items.items) };
-
-    ghost invariant = { λ c. IsProgram (reverse c.items.items) };
-}
-
-/// The instruction that gives a verdict.
-fn returns(verdict: u32) -> Item
-    ensures inside { IsInside 0 result }
-    ensures value { ins_of result ≡ record { code = code_of Op.ReturnConstant; jt = 0; jf = 0; k = verdict } }
-{
-    Item::Plain(Ins {
-        code: Op::ReturnConstant.code(),
-        jt: 0,
-        jf: 0,
-        k: verdict,
-    })
+    ghost view = { λ c. c.source };
 }
 
 impl Code {
@@ -63,35 +31,26 @@ impl Code {
     pub(crate) fn verdicts(alloc: Global) -> Result<Code, AllocError>
         ensures { IfOk result (λ code. code ≡ verdicts) }
     {
-        let mut items = Vec::new(alloc);
-        items.push(returns(0))?;
-        items.push(returns(1))?;
-        Ok(Code { items })
+        let mut code = Code {
+            source: SourceProgram::new(alloc),
+        };
+        code.plain(Op::ReturnConstant, 0)?;
+        code.plain(Op::ReturnConstant, 1)?;
+        Ok(code)
+    }
+
+    /// The program.
+    pub(crate) fn finish(self) -> SourceProgram
+        ensures { result ≡ self }
+    {
+        self.source
     }
 
     /// How many instructions there are.
     pub(crate) fn len(&self) -> usize
-        ensures value { result ≡ length self.now }
-        ensures some { 0 < result }
+        ensures { result ≡ length self.now }
     {
-        self.items.len()
-    }
-
-    /// The items, from the program's last one to its first.
-    pub(crate) fn items(&self) -> &[Item]
-        ensures value { instructions (reverse result.now) ≡ self.now }
-        ensures inside { AreInside (reverse result.now) }
-    {
-        self.items.as_slice()
-    }
-
-    /// Puts an instruction in front.
-    fn put(&mut self, item: Item) -> Result<(), AllocError>
-        requires { IsInside (length self.old) item }
-        ensures { OnOk result (self.new ≡ ins_of item ∷ self.old) }
-    {
-        self.items.push(item)?;
-        Ok(())
+        self.source.len()
     }
 
     /// Puts an instruction in front that is no jump.
@@ -99,12 +58,20 @@ impl Code {
         requires { IsTrue (is_plain_op (Some op)) }
         ensures { OnOk result (self.new ≡ record { code = code_of op; jt = 0; jf = 0; k = k } ∷ self.old) }
     {
-        self.put(Item::Plain(Ins {
+        self.source.put_plain(Ins {
             code: op.code(),
             jt: 0,
             jf: 0,
             k,
-        }))
+        })
+    }
+
+    /// Puts a comparison of A with `k` in front, and how many instructions it goes over where it holds and where it
+    /// doesn't.
+    fn branch(&mut self, test: Test, k: u32, hit: usize, miss: usize) -> Result<(), AllocError>
+        ensures { OnOk result (self.new ≡ branch test k hit miss ∷ self.old) }
+    {
+        self.source.put_branch(test, Operand::Constant, k, hit, miss)
     }
 
     /// A becomes the word of the image at a place.
@@ -132,26 +99,15 @@ impl Code {
     pub(crate) fn want(&mut self, test: Test, k: u32) -> Result<(), AllocError>
         ensures { OnOk result (self.new ≡ want test k self.old) }
     {
-        let miss = self.len() - 1;
-        self.put(Item::Branch {
-            test,
-            k,
-            hit: 0,
-            miss,
-        })
+        let miss = self.len().saturating_sub(1);
+        self.branch(test, k, 0, miss)
     }
 
     /// If the test holds, jump to the last `exit_len` instructions.
     pub(crate) fn settle(&mut self, test: Test, k: u32, exit_len: usize) -> Result<(), AllocError>
-        requires { 0 < exit_len }
         ensures { OnOk result (self.new ≡ branch test k (length self.old - exit_len) 0 ∷ self.old) }
     {
         let hit = self.len().saturating_sub(exit_len);
-        self.put(Item::Branch {
-            test,
-            k,
-            hit,
-            miss: 0,
-        })
+        self.branch(test, k, hit, 0)
     }
 }
