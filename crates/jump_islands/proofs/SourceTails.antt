@@ -1,9 +1,9 @@
 -- The instructions of a source program, from the last one on.
-use Rattle.std.proofs.Common.{◌≡◌, ℕ, suc, ◌+◌, ◌-◌, ◌<◌, ◌≤◌, Bool, true, List, [], ◌∷◌, ◌++◌, length, get_or, take, drop, map, reverse, refl, sym, ap, ◌∙◌, arith, subst, add-one, append_assoc}
+use Rattle.std.proofs.Common.{◌≡◌, ℕ, suc, ◌+◌, ◌-◌, ◌<◌, ◌≤◌, true, List, [], ◌∷◌, ◌++◌, length, get_or, take, drop, map, reverse, refl, sym, ap, ◌∙◌, arith, subst, add-one}
 use Rattle.std.proofs.lemmas.List.{length-append, map-append, reverse-append, take-append-drop}
 use Rattle.std.proofs.lemmas.List.Sums.{sum_by-take-le, sum_by-cons}
 use Rattle.std.proofs.Math.ListN.{length-reverse}
-use Rattle.std.proofs.Math.Seq.{take-suc, take-length, drop-cons}
+use Rattle.std.proofs.Math.Seq.{take-suc, take-length}
 use Rattle.std.specs.List.{slice_get, sum_by}
 use Rattle.bpf_code.specs.declared.instruction.Ins.{Ins}
 use Rattle.bpf_code.specs.declared.operation.Op.TheVariants.{Branch as BranchOp}
@@ -16,11 +16,11 @@ use Rattle.jump_islands.specs.declared.error.LowerError.{LowerError}
 use Rattle.jump_islands.specs.declared.error.LowerError.TheVariants.{TooMany, NoMemory}
 use Rattle.jump_islands.specs.declared.source_ins.SourceIns.{SourceIns}
 use Rattle.jump_islands.specs.declared.source_ins.SourceIns.TheVariants.{Plain, Branch, Jump}
-use Rattle.jump_islands.specs.Lowering.{IsTarget, IsTargetRefusal, max_len}
+use Rattle.jump_islands.specs.Lowering.{IsTarget, IsTargetRefusal}
 use Rattle.jump_islands.specs.PlainLength.{size_of, sizes_of, plain_length}
 use Rattle.jump_islands.specs.Source.{jump_over, branch_over, AreWellMade}
 use Rattle.jump_islands.specs.SourceItems.{as_ins, source_of, is_plain_source, are_plain_sources}
-use Rattle.jump_islands.specs.Tails.{TailTree, len, height, reach, no_tail, place_after, jump_to, with_ins, with_place, with_islands, with_branch, with_source, IsPlace, ArePlaces}
+use Rattle.jump_islands.specs.Tails.{TailTree, len, height, reach, no_tail, jump_to, with_ins, with_place, with_islands, with_branch, with_source, IsPlace, ArePlaces}
 use Rattle.jump_islands.proofs.ListPlaces.{slice_get-seam, all_at}
 use Rattle.jump_islands.proofs.TailFacts.{IsTail, reached_below}
 use Rattle.jump_islands.proofs.TailSteps.{tail_start}

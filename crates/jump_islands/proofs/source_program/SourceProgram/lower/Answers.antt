@@ -1,4 +1,4 @@
-use Rattle.std.proofs.Common.{◌<◌, length, Err, ap, arith}
+use Rattle.std.proofs.Common.{◌+◌, Err, ap, arith}
 use Rattle.std.proofs.lemmas.Result.{err_from_is_err_and}
 use Rattle.jump_islands.proofs.SourceTails.{done_tail, done_places, lowered, refused}
 use Rattle.jump_islands.proofs.source_program.SourceProgram.lower.Goals as goal
