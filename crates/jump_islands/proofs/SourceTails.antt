@@ -1,10 +1,10 @@
 -- The instructions of a source program, from the last one on.
-use Rattle.std.proofs.Common.{◌≡◌, ℕ, suc, ◌+◌, ◌-◌, ◌<◌, ◌≤◌, true, List, [], ◌∷◌, ◌++◌, length, get_or, take, drop, map, reverse, refl, sym, ap, ◌∙◌, arith, subst, add-one}
+use Rattle.std.proofs.Common.{◌≡◌, ℕ, ◌+◌, ◌-◌, ◌<◌, ◌≤◌, true, List, [], ◌∷◌, ◌++◌, length, get_or, take, drop, map, reverse, refl, sym, ap, ◌∙◌, arith, subst, add-one}
 use Rattle.std.proofs.lemmas.List.{length-append, map-append, reverse-append, take-append-drop}
 use Rattle.std.proofs.lemmas.List.Sums.{sum_by-take-le, sum_by-cons}
 use Rattle.std.proofs.Math.ListN.{length-reverse}
 use Rattle.std.proofs.Math.Seq.{take-suc, take-length}
-use Rattle.std.specs.List.{slice_get, sum_by}
+use Rattle.std.specs.List.{slice_get}
 use Rattle.bpf_code.specs.declared.instruction.Ins.{Ins}
 use Rattle.bpf_code.specs.declared.operation.Op.TheVariants.{Branch as BranchOp}
 use Rattle.bpf_code.specs.declared.operation.Test.{Test}
