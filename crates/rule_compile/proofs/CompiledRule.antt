@@ -37,6 +37,6 @@ compiled rule slot code program lowered decides = λ bytes m slots owned v n val
     subst Holding (sym one.0) r.3
 
 -- a program that is refused weighs too much
-pub refused : (rule : RuleTree) (code : List Ins) (error : LowerError) → IsTargetRefusal code error → plain_length code ≤ weight_of rule → IsRefusal rule (error_of error)
-refused rule code TooMany many short = omega arith
-refused rule code NoMemory many short = tt
+pub refused : (rule left : RuleTree) (code : List Ins) (error : LowerError) → IsTargetRefusal code error → plain_length code ≤ weight_of left → weight_of left ≤ weight_of rule → IsRefusal rule (error_of error)
+refused rule left code TooMany many short lighter = omega arith
+refused rule left code NoMemory many short lighter = tt

@@ -80,7 +80,11 @@ impl Code {
         if is_owned_name(name) {
             self.owns(slot)
         } else {
-            self.has_text_len(Test::Equal, name.len() as u32, text_place(TextField::Sender))
+            self.has_text_len(
+                Test::Equal,
+                name.len() as u32,
+                text_place(TextField::Sender),
+            )
         }
     }
 

@@ -71,7 +71,8 @@ impl Code {
     fn branch(&mut self, test: Test, k: u32, hit: usize, miss: usize) -> Result<(), AllocError>
         ensures { OnOk result (self.new ≡ branch test k hit miss ∷ self.old) }
     {
-        self.source.put_branch(test, Operand::Constant, k, hit, miss)
+        self.source
+            .put_branch(test, Operand::Constant, k, hit, miss)
     }
 
     /// A becomes the word of the image at a place.
