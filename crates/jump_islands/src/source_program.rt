@@ -1,4 +1,4 @@
-ghost use Rattle.std.specs.Prelude.{◌≡◌, ◌∷◌, [], true, length, IfOk, IfErr, OnOk, IsTrue};
+ghost use Rattle.std.specs.Prelude.{◌≡◌, ◌∷◌, [], true, length, IfOk, IfErr, OnErr, OnOk, IsTrue};
 ghost use Rattle.bpf_code.specs.Table.{op_of};
 ghost use Rattle.jump_islands.specs.Lowering.{IsTarget, IsTargetRefusal};
 ghost use Rattle.jump_islands.specs.Source.{is_plain_op, branch_over, jump_over};
@@ -51,7 +51,8 @@ impl SourceProgram {
     /// Puts an instruction in front.
     fn put(&mut self, ins: SourceIns) -> Result<(), AllocError>
         requires { IsTrue (is_plain_source ins) }
-        ensures { OnOk result (self.new ≡ as_ins ins ∷ self.old) }
+        ensures put { OnOk result (self.new ≡ as_ins ins ∷ self.old) }
+        ensures unchanged { OnErr result (self.new ≡ self.old) }
     {
         self.instructions.push(ins)?;
         Ok(())
@@ -60,7 +61,8 @@ impl SourceProgram {
     /// Puts an instruction in front that is no jump.
     pub fn put_plain(&mut self, ins: Ins) -> Result<(), AllocError>
         requires { IsTrue (is_plain_op (op_of ins.code)) }
-        ensures { OnOk result (self.new ≡ ins ∷ self.old) }
+        ensures put { OnOk result (self.new ≡ ins ∷ self.old) }
+        ensures unchanged { OnErr result (self.new ≡ self.old) }
     {
         self.put(SourceIns::Plain(ins))
     }
@@ -75,14 +77,16 @@ impl SourceProgram {
         hit: usize,
         miss: usize,
     ) -> Result<(), AllocError>
-        ensures { OnOk result (self.new ≡ branch_over test operand k hit miss ∷ self.old) }
+        ensures put { OnOk result (self.new ≡ branch_over test operand k hit miss ∷ self.old) }
+        ensures unchanged { OnErr result (self.new ≡ self.old) }
     {
         self.put(SourceIns::Branch(test, operand, k, hit, miss))
     }
 
     /// Puts a jump over `over` instructions in front.
     pub fn put_jump(&mut self, over: usize) -> Result<(), AllocError>
-        ensures { OnOk result (self.new ≡ jump_over over ∷ self.old) }
+        ensures put { OnOk result (self.new ≡ jump_over over ∷ self.old) }
+        ensures unchanged { OnErr result (self.new ≡ self.old) }
     {
         self.put(SourceIns::Jump(over))
     }
