@@ -10,6 +10,7 @@ mod fixed;
 mod frame;
 mod kind;
 mod texts;
+mod valid_fields;
 mod view;
 
 pub use extent::{Extent, TextField};

@@ -1,0 +1,148 @@
+-- What the reading of a field says of each of its steps, where it gives a field.
+use Rattle.std.proofs.Common.{◌≡◌, ℕ, ◌+◌, Bool, true, false, cond, List, [], ◌∷◌, ◌++◌, length, Option, Some, None, Result, Ok, Err, refl, sym, ap, subst, ◌∙◌, arith}
+use Rattle.signature.specs.BasicType.{basic_alignment}
+use Rattle.signature.specs.DataType.{DataType, basic}
+use Rattle.message_value.specs.declared.order.Order.{Order}
+use Rattle.message_value.specs.declared.fault.MsgError.{MsgError}
+use Rattle.message_value.specs.declared.fault.MsgError.TheVariants as faults
+use Rattle.message_value.specs.declared.text.TextType.{TextType}
+use Rattle.message_value.specs.Order.{number_of, word_of}
+use Rattle.message_value.specs.Value.{Value, number}
+use Rattle.message_value.specs.Spelling.{padding, width_of}
+use Rattle.message_value.specs.Reading.{◌>>=◌, At, item_at, aligned_at, byte_at, word_at, signature_at, text_value_at, counted, number_value_at, value_at}
+use Rattle.message_value.specs.Words.{IsRead, IsGone, Reaches, text_code, basic_at}
+use Rattle.message_value.proofs.OkSteps.{bind_ok, ok_is}
+use Rattle.message_value.proofs.ReadItems.{at, Takes, item_again}
+use Rattle.message_value.proofs.ReadTexts.{signature_takes}
+use Rattle.message_value.proofs.SkipTexts.{after}
+use Rattle.message_value.proofs.SkipValues.{basic_gone, basic_text, basic_number, basic_same}
+use Rattle.message_view.specs.declared.field.FieldCode.{FieldCode}
+use Rattle.message_view.specs.declared.field.FieldType.{FieldType}
+use Rattle.message_view.specs.Header.{code_of, type_code}
+use Rattle.message_view.specs.Message.{Field}
+use Rattle.message_view.specs.Reading.{content_fault, or_fault, is_basic_of, type_fault, known_fault, content_at, code_fault, code_at, field_at}
+use Rattle.message_view.specs.Words.{type_of, type_code_of}
+use Rattle.message_view.proofs.ReadFields.{or_fault_ok, basic_is, basic_again, field_of}
+use Rattle.message_view.proofs.FieldContents.{type_code-type_of, content_is}
+
+-- ---- its code
+
+pub code_gone : (front : List Field) (a : At) → IsRead (code_at front a) → IsGone (aligned_at 8 a)
+unfolding code_at
+code_gone front a h =
+    let s = bind_ok (aligned_at 8 a) (λ start. byte_at start >>= λ code. or_fault (code_fault front code.0) code) h.0 h.1 in
+    (s.0, s.1)
+
+pub code_byte_read : (front : List Field) (a start : At) → aligned_at 8 a ≡ Ok start → IsRead (code_at front a) → IsRead (byte_at start)
+unfolding code_at
+code_byte_read front a start is h =
+    let e = after (aligned_at 8 a) (λ start. byte_at start >>= λ code. or_fault (code_fault front code.0) code) start h.0 h.1 is in
+    let b = bind_ok (byte_at start) (λ code. or_fault (code_fault front code.0) code) h.0 e in
+    (b.0, b.1)
+
+pub code_is : (front : List Field) (a start middle : At) (byte : ℕ) → aligned_at 8 a ≡ Ok start → byte_at start ≡ Ok (byte, middle) → IsRead (code_at front a) → code_at front a ≡ Ok (byte, middle)
+unfolding code_at
+code_is front a start middle byte is got h =
+    let e = after (aligned_at 8 a) (λ start. byte_at start >>= λ code. or_fault (code_fault front code.0) code) start h.0 h.1 is in
+    let f = after (byte_at start) (λ code. or_fault (code_fault front code.0) code) (byte, middle) h.0 e got in
+    let g = or_fault_ok (code_fault front byte) (byte, middle) h.0 f in
+    h.1 ∙ ap (λ (x : ℕ × At). Ok x) (sym g.1)
+
+pub field_coded : (order : Order) (front : List Field) (a : At) → IsRead (field_at order front a) → IsRead (code_at front a)
+unfolding field_at
+field_coded order front a h =
+    let c = bind_ok (code_at front a) (λ code. content_at order (code_of code.0) code.1 >>= λ content. Ok (field_of code.0 content.0.0 content.0.1, content.1)) h.0 h.1 in
+    (c.0, c.1)
+
+pub field_held : (order : Order) (front : List Field) (a middle : At) (byte : ℕ) (known : Option FieldCode) → known ≡ code_of byte → code_at front a ≡ Ok (byte, middle) → IsRead (field_at order front a) → IsRead (content_at order known middle)
+unfolding field_at
+field_held order front a middle byte known named is h =
+    let e = after (code_at front a) (λ code. content_at order (code_of code.0) code.1 >>= λ content. Ok (field_of code.0 content.0.0 content.0.1, content.1)) (byte, middle) h.0 h.1 is in
+    let v = bind_ok (content_at order (code_of byte) middle) (λ content. Ok (field_of byte content.0.0 content.0.1, content.1)) h.0 e in
+    (v.0, ap (λ (o : Option FieldCode). content_at order o middle) named ∙ v.1)
+
+-- ---- its variant
+
+-- a variant of a field that is known has the field's type
+pub record HoldsType (order : Order) (code : FieldCode) (a : At) : Type 0 where
+  pub start : At
+  pub typed : signature_at a ≡ Ok (basic (type_code code), start)
+  pub valued : IsRead (value_at 63 order (basic (type_code code)) start)
+
+pub content_typed : (order : Order) (code : FieldCode) (a : At) → IsRead (content_at order (Some code) a) → HoldsType order code a
+unfolding content_at
+content_typed order code a h =
+    let s = bind_ok (signature_at a) (λ type. or_fault (type_fault (Some code) type.0) type.1 >>= λ start. value_at 63 order type.0 start >>= λ value. or_fault (known_fault (Some code) value.0) ((type.0, value.0), value.1)) h.0 h.1 in
+    let type = s.0.0 in
+    let t = bind_ok (or_fault (type_fault (Some code) type) s.0.1) (λ start. value_at 63 order type start >>= λ value. or_fault (known_fault (Some code) value.0) ((type, value.0), value.1)) h.0 s.2 in
+    let g = or_fault_ok (type_fault (Some code) type) s.0.1 t.0 t.1 in
+    let v = bind_ok (value_at 63 order type t.0) (λ value. or_fault (known_fault (Some code) value.0) ((type, value.0), value.1)) h.0 t.2 in
+    let same : type ≡ basic (type_code code) = basic_is (type_code code) type (passed (is_basic_of (type_code code) type) g.0) in
+    record {
+      start = s.0.1;
+      typed = s.1 ∙ ap (λ (x : DataType). Ok (x, s.0.1)) same;
+      valued = (v.0, ap (λ (x : DataType). value_at 63 order x s.0.1) (sym same) ∙ ap (value_at 63 order type) g.1 ∙ v.1);
+    }
+  where
+    passed : (b : Bool) → cond b None (Some faults.FieldType) ≡ None → b ≡ true
+    passed true e = refl
+    passed false e = absurd cc
+
+-- the signature of a basic type has three bytes
+pub basic_item : (code : ℕ) (a start : At) → signature_at a ≡ Ok (basic code, start) → item_at 3 a ≡ Ok (1 ∷ code ∷ 0 ∷ [], start)
+basic_item code a start e =
+    let word : List ℕ = 1 ∷ code ∷ 0 ∷ [] in
+    let t : Takes a word start = (signature_takes a (basic code, start) e).0 in
+    let begins : a ≡ at a.place (word ++ start.rest) a.outside = ap (λ (x : List ℕ). at a.place x a.outside) t.parts in
+    let ends : at (a.place + 3) start.rest a.outside ≡ start = cc (t.place, t.outside) in
+    ap (item_at 3) begins ∙ item_again 3 a.place a.outside word start.rest refl ∙ ap (λ (x : At). Ok (word, x)) ends
+
+pub item_reaches : (code : ℕ) (a start tail : At) (item : List ℕ) → signature_at a ≡ Ok (basic code, start) → item_at 3 a ≡ Ok (item, tail) → Reaches tail (signature_at a)
+item_reaches code a start tail item e is = λ found typed.
+    let same : (basic code, start) ≡ found = ok_is (basic code, start) found (sym e ∙ typed) in
+    let items : (item, tail) ≡ (1 ∷ code ∷ 0 ∷ [], start) = ok_is (item, tail) (1 ∷ code ∷ 0 ∷ [], start) (sym is ∙ basic_item code a start e) in
+    ap (λ (x : List ℕ × At). x.1) items ∙ ap (λ (x : DataType × At). x.1) same
+
+pub content_valid : (order : Order) (code : FieldCode) (field_type : FieldType) (a start tail : At) (value : Value) → field_type ≡ type_of code → signature_at a ≡ Ok (basic (type_code code), start)
+    → value_at 63 order (basic (type_code_of field_type)) start ≡ Ok (value, tail) → IsRead (content_at order (Some code) a) → content_at order (Some code) a ≡ Ok ((basic (type_code code), value), tail)
+content_valid order code field_type a start tail value row typed valued h =
+    let is : type_code_of field_type ≡ type_code code = ap type_code_of row ∙ type_code-type_of code in
+    let own : is_basic_of (type_code_of field_type) (basic (type_code code)) ≡ true = ap (λ (k : ℕ). is_basic_of k (basic (type_code code))) is ∙ basic_again (type_code code) in
+    let read = content_is order code field_type a start (basic (type_code code)) (Ok (value, tail)) row typed own valued in
+    let made : (DataType × Value) × At = ((basic (type_code code), value), tail) in
+    let g = or_fault_ok (content_fault code value) made h.0 (sym read ∙ h.1) in
+    h.1 ∙ ap (λ (x : (DataType × Value) × At). Ok x) (sym g.1)
+
+-- its value, by the type of its row
+pub row_read : (order : Order) (code : FieldCode) (field_type : FieldType) (start : At) → field_type ≡ type_of code → IsRead (value_at 63 order (basic (type_code code)) start) → IsRead (value_at 63 order (basic (type_code_of field_type)) start)
+row_read order code field_type start row h =
+    (h.0, ap (λ (k : ℕ). value_at 63 order (basic k) start) (ap type_code_of row ∙ type_code-type_of code) ∙ h.1)
+
+-- ---- its value
+
+pub value_gone : (order : Order) (code : ℕ) (a : At) → IsRead (value_at 63 order (basic code) a) → IsGone (aligned_at (basic_alignment code) a)
+value_gone order code a h = basic_gone order code a (h.0, sym (basic_same 63 order (basic code) code a refl) ∙ h.1)
+
+pub value_text : (order : Order) (type : TextType) (a start : At) (h : IsRead (value_at 63 order (basic (text_code type)) a)) → aligned_at (basic_alignment (text_code type)) a ≡ Ok start → text_value_at order (text_code type) start ≡ Ok h.0
+value_text order type a start h gone = basic_text order (text_code type) type a start h.0 gone refl (sym (basic_same 63 order (basic (text_code type)) (text_code type) a refl) ∙ h.1)
+
+pub value_number : (order : Order) (a start : At) (h : IsRead (value_at 63 order (basic 117) a)) → aligned_at 4 a ≡ Ok start → number_value_at order 117 start ≡ Ok h.0
+value_number order a start h gone = basic_number order 117 a start h.0 gone refl (sym (basic_same 63 order (basic 117) 117 a refl) ∙ h.1)
+
+-- what is read of a value is what is read of it after its padding
+pub value_as : (whole part : Result (Value × At) MsgError) (h : IsRead whole) (found : Value × At) → part ≡ Ok h.0 → part ≡ Ok found → whole ≡ Ok found
+value_as whole part h found is got = h.1 ∙ sym is ∙ got
+
+pub number_word : (order : Order) (a : At) → IsRead (number_value_at order 117 a) → IsRead (word_at order a)
+unfolding number_value_at, word_at
+number_word order a h =
+    let s = bind_ok (item_at 4 a) (λ bytes. counted 117 (number_of order (width_of 117) bytes.0) bytes.1) h.0 h.1 in
+    ((word_of order s.0.0, s.0.1), rw s.1 refl)
+
+pub word_number : (order : Order) (a tail : At) (n : ℕ) → word_at order a ≡ Ok (n, tail) → number_value_at order 117 a ≡ Ok (number n, tail)
+unfolding number_value_at, word_at
+word_number order a tail n e =
+    let s = bind_ok (item_at 4 a) (λ bytes. Ok (word_of order bytes.0, bytes.1)) (n, tail) e in
+    let made : ℕ × At = (word_of order s.0.0, s.0.1) in
+    let same : made ≡ (n, tail) = ok_is made (n, tail) s.2 in
+    rw s.1 (ap (λ (x : ℕ × At). Ok (number x.0, x.1)) same)
