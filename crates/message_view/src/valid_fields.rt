@@ -162,3 +162,18 @@ impl<'a> Fields<'a> {
         fields
     }
 }
+
+/// Goes over the next field of a header's array, and gives its code. The field is known to be valid, so that only its
+/// code and its length are looked at.
+pub fn skip_field(cursor: &mut Cursor<'_>, order: Order) -> u8
+    requires { IsRead (field_at order [] cursor.old) }
+    ensures { (field : Field) (tail : At) → field_at order [] cursor.old ≡ Ok (field, tail) → (result ≡ field.code) × (cursor.new ≡ tail) }
+{
+    let byte = valid_code(cursor);
+    let Some(code) = FieldCode::of(byte) else {
+        skip_valid_content(cursor, order);
+        return byte;
+    };
+    let _content = code.valid_content(cursor, order);
+    byte
+}
