@@ -1,5 +1,7 @@
 -- What the reading of a field says of each of its steps, where it gives a field.
 use Rattle.std.proofs.Common.{◌≡◌, ℕ, ◌+◌, Bool, true, false, cond, List, [], ◌∷◌, ◌++◌, length, Option, Some, None, Result, Ok, Err, refl, sym, ap, subst, ◌∙◌, arith}
+use Rattle.std.specs.Prelude.{◌==◌}
+use Rattle.std.specs.List.{list_all}
 use Rattle.signature.specs.BasicType.{basic_alignment}
 use Rattle.signature.specs.DataType.{DataType, basic}
 use Rattle.message_value.specs.declared.order.Order.{Order}
@@ -9,12 +11,13 @@ use Rattle.message_value.specs.declared.text.TextType.{TextType}
 use Rattle.message_value.specs.Order.{number_of, word_of}
 use Rattle.message_value.specs.Value.{Value, number}
 use Rattle.message_value.specs.Spelling.{padding, width_of}
+use Rattle.message_value.specs.Fits.{is_text_code}
 use Rattle.message_value.specs.Reading.{◌>>=◌, At, item_at, aligned_at, byte_at, word_at, signature_at, text_value_at, counted, number_value_at, value_at}
 use Rattle.message_value.specs.Words.{IsRead, IsGone, Reaches, text_code, basic_at}
 use Rattle.message_value.proofs.OkSteps.{bind_ok, ok_is}
 use Rattle.message_value.proofs.ReadItems.{at, Takes, item_again}
 use Rattle.message_value.proofs.ReadTexts.{signature_takes}
-use Rattle.message_value.proofs.SkipTexts.{after}
+use Rattle.message_value.proofs.SkipTexts.{after, padding_gone}
 use Rattle.message_value.proofs.SkipValues.{basic_gone, basic_text, basic_number, basic_same}
 use Rattle.message_view.specs.declared.field.FieldCode.{FieldCode}
 use Rattle.message_view.specs.declared.field.FieldType.{FieldType}
@@ -24,6 +27,21 @@ use Rattle.message_view.specs.Reading.{content_fault, or_fault, is_basic_of, typ
 use Rattle.message_view.specs.Words.{type_of, type_code_of}
 use Rattle.message_view.proofs.ReadFields.{or_fault_ok, basic_is, basic_again, field_of}
 use Rattle.message_view.proofs.FieldContents.{type_code-type_of, content_is}
+
+-- what is read has no fault
+pub never : {A : Type 0} (read : Result A MsgError) (found : A) (fault : MsgError) → read ≡ Ok found → read ≡ Err fault → ⊥
+never read found fault is failed = cc
+
+-- ---- padding
+
+pub padding_item : (alignment len : ℕ) (a : At) → len ≡ padding alignment a.place → IsGone (aligned_at alignment a) → IsRead (item_at len a)
+unfolding aligned_at
+padding_item alignment len a is h =
+    let s = bind_ok (item_at (padding alignment a.place) a) (λ skipped. cond (list_all (λ byte. byte == 0) skipped.0) (Ok skipped.1) (Err faults.Padding)) h.0 h.1 in
+    (s.0, ap (λ (k : ℕ). item_at k a) is ∙ s.1)
+
+pub padding_is : (alignment len : ℕ) (a tail : At) (item : List ℕ) → len ≡ padding alignment a.place → IsGone (aligned_at alignment a) → item_at len a ≡ Ok (item, tail) → aligned_at alignment a ≡ Ok tail
+padding_is alignment len a tail item is h e = padding_gone alignment a h.0 (item, tail) h.1 (ap (λ (k : ℕ). item_at k a) (sym is) ∙ e)
 
 -- ---- its code
 
@@ -94,7 +112,7 @@ basic_item code a start e =
     let word : List ℕ = 1 ∷ code ∷ 0 ∷ [] in
     let t : Takes a word start = (signature_takes a (basic code, start) e).0 in
     let begins : a ≡ at a.place (word ++ start.rest) a.outside = ap (λ (x : List ℕ). at a.place x a.outside) t.parts in
-    let ends : at (a.place + 3) start.rest a.outside ≡ start = cc (t.place, t.outside) in
+    let ends : at (a.place + 3) start.rest a.outside ≡ start = ap (λ (k : ℕ). at k start.rest a.outside) (sym t.place) ∙ ap (λ (o : MsgError). at start.place start.rest o) (sym t.outside) in
     ap (item_at 3) begins ∙ item_again 3 a.place a.outside word start.rest refl ∙ ap (λ (x : At). Ok (word, x)) ends
 
 pub item_reaches : (code : ℕ) (a start tail : At) (item : List ℕ) → signature_at a ≡ Ok (basic code, start) → item_at 3 a ≡ Ok (item, tail) → Reaches tail (signature_at a)
@@ -123,11 +141,13 @@ row_read order code field_type start row h =
 pub value_gone : (order : Order) (code : ℕ) (a : At) → IsRead (value_at 63 order (basic code) a) → IsGone (aligned_at (basic_alignment code) a)
 value_gone order code a h = basic_gone order code a (h.0, sym (basic_same 63 order (basic code) code a refl) ∙ h.1)
 
-pub value_text : (order : Order) (type : TextType) (a start : At) (h : IsRead (value_at 63 order (basic (text_code type)) a)) → aligned_at (basic_alignment (text_code type)) a ≡ Ok start → text_value_at order (text_code type) start ≡ Ok h.0
-value_text order type a start h gone = basic_text order (text_code type) type a start h.0 gone refl (sym (basic_same 63 order (basic (text_code type)) (text_code type) a refl) ∙ h.1)
+pub value_text : (order : Order) (code : ℕ) (type : TextType) (a start : At) (h : IsRead (value_at 63 order (basic code) a)) → code ≡ text_code type → aligned_at (basic_alignment code) a ≡ Ok start → text_value_at order (text_code type) start ≡ Ok h.0
+value_text order code type a start h same gone = basic_text order code type a start h.0 gone same (sym (basic_same 63 order (basic code) code a refl) ∙ h.1)
 
-pub value_number : (order : Order) (a start : At) (h : IsRead (value_at 63 order (basic 117) a)) → aligned_at 4 a ≡ Ok start → number_value_at order 117 start ≡ Ok h.0
-value_number order a start h gone = basic_number order 117 a start h.0 gone refl (sym (basic_same 63 order (basic 117) 117 a refl) ∙ h.1)
+pub value_number : (order : Order) (code : ℕ) (a start : At) (h : IsRead (value_at 63 order (basic code) a)) → code ≡ 117 → aligned_at (basic_alignment code) a ≡ Ok start → number_value_at order 117 start ≡ Ok h.0
+value_number order code a start h same gone =
+    let read = basic_number order code a start h.0 gone (ap is_text_code same) (sym (basic_same 63 order (basic code) code a refl) ∙ h.1) in
+    ap (λ (k : ℕ). number_value_at order k start) (sym same) ∙ read
 
 -- what is read of a value is what is read of it after its padding
 pub value_as : (whole part : Result (Value × At) MsgError) (h : IsRead whole) (found : Value × At) → part ≡ Ok h.0 → part ≡ Ok found → whole ≡ Ok found
@@ -146,3 +166,15 @@ word_number order a tail n e =
     let made : ℕ × At = (word_of order s.0.0, s.0.1) in
     let same : made ≡ (n, tail) = ok_is made (n, tail) s.2 in
     rw s.1 (ap (λ (x : ℕ × At). Ok (number x.0, x.1)) same)
+
+-- ---- the field
+
+pub field_ends : (order : Order) (front : List Field) (a middle end : At) (byte : ℕ) (known : Option FieldCode) (content : DataType × Value) (field : Field) (tail : At) → known ≡ code_of byte → code_at front a ≡ Ok (byte, middle)
+    → content_at order known middle ≡ Ok (content, end) → field_at order front a ≡ Ok (field, tail) → (byte ≡ field.code) × (end ≡ tail)
+unfolding field_at
+field_ends order front a middle end byte known content field tail named coded held e =
+    let f = after (code_at front a) (λ code. content_at order (code_of code.0) code.1 >>= λ content. Ok (field_of code.0 content.0.0 content.0.1, content.1)) (byte, middle) (field, tail) e coded in
+    let g = after (content_at order (code_of byte) middle) (λ content. Ok (field_of byte content.0.0 content.0.1, content.1)) (content, end) (field, tail) f (ap (λ (o : Option FieldCode). content_at order o middle) (sym named) ∙ held) in
+    let made : Field × At = (field_of byte content.0 content.1, end) in
+    let same : made ≡ (field, tail) = ok_is made (field, tail) g in
+    (ap (λ (x : Field × At). x.0.code) same, ap (λ (x : Field × At). x.1) same)
