@@ -1,5 +1,5 @@
 -- Tests of equality: of two parts that make the whole again, and of lists as sets.
-use Rattle.std.specs.Prelude.{◌≡◌, ◌<◌, ℕ, Bool, true, false, List, Contains, slice_index_or, ◌&&◌}
+use Rattle.std.specs.Prelude.{◌≡◌, Bool, true, false, List, Contains, slice_index_or, ◌&&◌}
 use Rattle.std.specs.List.{list_all, list_any}
 use Rattle.std.specs.Bool.{beq, Decides}
 use Rattle.std.proofs.Common.{refl, sym, ap, ◌∙◌, subst}

@@ -1,6 +1,6 @@
 -- Inner: that the tests of equality are equivalences. It stands here since `impl Eq` cites it, which takes nothing from
 -- proofs/.
-use Rattle.std.specs.Prelude.{◌≡◌, Bool, List, unwrap_or}
+use Rattle.std.specs.Prelude.{◌≡◌, List, unwrap_or}
 use Rattle.std.specs.Bool.{Decides, one_answer}
 use Rattle.std.specs.Cmp.{IsPartialEquivalence, IsEquivalence, decided, equiv, partial_equiv_from_equiv}
 use Rattle.std.proofs.Common.{ℕ, refl, sym, ◌∙◌}
