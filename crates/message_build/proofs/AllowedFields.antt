@@ -18,7 +18,6 @@ use Rattle.message_build.specs.declared.field.HeaderField.{HeaderField}
 use Rattle.message_build.specs.declared.field.HeaderField.TheVariants.{Path, Interface, Member, ErrorName, ReplySerial, Destination, Sender, Signature}
 use Rattle.message_build.specs.HeaderFields.{field_of, fields_of, is_allowed, may_be, Holds, HoldEach}
 use Rattle.message_build.proofs.PlainNames.{interface_string, member_string, bus_name_string}
-use Rattle.message_value.proofs.TextsOfTypes.{text_fits, text_passes}
 
 -- ---- lengths
 
@@ -59,32 +58,32 @@ field_is : (place : ℕ) (f : HeaderField) → Holds f → is_allowed f ≡ true
 field_is place (Path t) holds e =
     let long = and_parts (is_path t.now && not (bytes_eq t.now local_path)) (ltb (length t.now) (2 ^ 32)) e in
     let parts = and_parts (is_path t.now) (not (bytes_eq t.now local_path)) long.0 in
-    record { code_above = lit< tt; code_fits = lit< tt; typed = one_path; shaped = (text_fits 111 t.now parts.0, ltb-true (length t.now) (2 ^ 32) long.1); allowed = (refl, (refl, not_true (bytes_eq t.now local_path) parts.1)) }
+    record { code_above = lit< tt; code_fits = lit< tt; typed = one_path; shaped = (parts.0, ltb-true (length t.now) (2 ^ 32) long.1); allowed = (refl, (refl, not_true (bytes_eq t.now local_path) parts.1)) }
 field_is place (Interface t) holds e =
     let parts = and_parts (is_interface t.now) (not (bytes_eq t.now local_interface)) e in
     let string = interface_string t.now parts.0 in
-    record { code_above = lit< tt; code_fits = lit< tt; typed = one_string; shaped = (text_fits 115 t.now string.plain, omega (arith, string.short)); allowed = (refl, (parts.0, not_true (bytes_eq t.now local_interface) parts.1)) }
+    record { code_above = lit< tt; code_fits = lit< tt; typed = one_string; shaped = (string.plain, omega (arith, string.short)); allowed = (refl, (parts.0, not_true (bytes_eq t.now local_interface) parts.1)) }
 field_is place (Member t) holds e =
     let string = member_string t.now e in
-    record { code_above = lit< tt; code_fits = lit< tt; typed = one_string; shaped = (text_fits 115 t.now string.plain, omega (arith, string.short)); allowed = (refl, (e, refl)) }
+    record { code_above = lit< tt; code_fits = lit< tt; typed = one_string; shaped = (string.plain, omega (arith, string.short)); allowed = (refl, (e, refl)) }
 field_is place (ErrorName t) holds e =
     let string = interface_string t.now e in
-    record { code_above = lit< tt; code_fits = lit< tt; typed = one_string; shaped = (text_fits 115 t.now string.plain, omega (arith, string.short)); allowed = (refl, (e, refl)) }
+    record { code_above = lit< tt; code_fits = lit< tt; typed = one_string; shaped = (string.plain, omega (arith, string.short)); allowed = (refl, (e, refl)) }
 field_is place (ReplySerial n) holds e =
     record { code_above = lit< tt; code_fits = lit< tt; typed = one_number; shaped = (refl, holds); allowed = (refl, e) }
 field_is place (Destination t) holds e =
     let string = bus_name_string t.now e in
-    record { code_above = lit< tt; code_fits = lit< tt; typed = one_string; shaped = (text_fits 115 t.now string.plain, omega (arith, string.short)); allowed = (refl, (e, refl)) }
+    record { code_above = lit< tt; code_fits = lit< tt; typed = one_string; shaped = (string.plain, omega (arith, string.short)); allowed = (refl, (e, refl)) }
 field_is place (Sender t) holds e =
     let string = bus_name_string t.now e in
-    record { code_above = lit< tt; code_fits = lit< tt; typed = one_string; shaped = (text_fits 115 t.now string.plain, omega (arith, string.short)); allowed = (refl, (e, refl)) }
+    record { code_above = lit< tt; code_fits = lit< tt; typed = one_string; shaped = (string.plain, omega (arith, string.short)); allowed = (refl, (e, refl)) }
 field_is place (Signature t) holds e =
-    record { code_above = lit< tt; code_fits = lit< tt; typed = one_signature; shaped = (text_fits 103 t.now e, signature_short t.now e); allowed = (refl, (refl, refl)) }
+    record { code_above = lit< tt; code_fits = lit< tt; typed = one_signature; shaped = (e, signature_short t.now e); allowed = (refl, (refl, refl)) }
 
 field_was : (place : ℕ) (f : HeaderField) → IsField Little place (field_of f) → is_allowed f ≡ true
 field_was place (Path t) is =
     both_true (is_path t.now && not (bytes_eq t.now local_path)) (ltb (length t.now) (2 ^ 32))
-    (both_true (is_path t.now) (not (bytes_eq t.now local_path)) (text_passes 111 t.now is.shaped.0) (not_false (bytes_eq t.now local_path) is.allowed.1.1))
+    (both_true (is_path t.now) (not (bytes_eq t.now local_path)) is.shaped.0 (not_false (bytes_eq t.now local_path) is.allowed.1.1))
     (lt-ltb (length t.now) (2 ^ 32) is.shaped.1)
 field_was place (Interface t) is = both_true (is_interface t.now) (not (bytes_eq t.now local_interface)) is.allowed.1.0 (not_false (bytes_eq t.now local_interface) is.allowed.1.1)
 field_was place (Member t) is = is.allowed.1.0
@@ -92,7 +91,7 @@ field_was place (ErrorName t) is = is.allowed.1.0
 field_was place (ReplySerial n) is = is.allowed.1
 field_was place (Destination t) is = is.allowed.1.0
 field_was place (Sender t) is = is.allowed.1.0
-field_was place (Signature t) is = text_passes 103 t.now is.shaped.0
+field_was place (Signature t) is = is.shaped.0
 
 -- ---- all of them
 

@@ -17,7 +17,6 @@ use Rattle.message_build.specs.StampedFields.{is_kept_code}
 use Rattle.message_build.proofs.AllowedFields.{one_string}
 use Rattle.message_build.proofs.PlainNames.{bus_name_string}
 use Rattle.message_build.proofs.MovedFields.{field_moved}
-use Rattle.message_value.proofs.TextsOfTypes.{text_fits}
 
 -- ---- the list
 
@@ -51,7 +50,7 @@ known_once code fields others same =
 pub sender_is : (order : Order) (place : ℕ) (sender : List ℕ) → is_bus_name sender ≡ true → IsField order place (sender_field sender)
 sender_is order place sender e =
     let string = bus_name_string sender e in
-    record { code_above = lit< tt; code_fits = lit< tt; typed = one_string; shaped = (text_fits 115 sender string.plain, omega (arith, string.short)); allowed = (refl, (e, refl)) }
+    record { code_above = lit< tt; code_fits = lit< tt; typed = one_string; shaped = (string.plain, omega (arith, string.short)); allowed = (refl, (e, refl)) }
 
 pub stamped_are : (order : Order) (p q : ℕ) (fields : List Field) (sender : List ℕ) → is_bus_name sender ≡ true → AreFields order p fields → AreFields order q (stamped_list fields sender)
 stamped_are order p q [] sender e are = (sender_is order q sender e, refl, tt)

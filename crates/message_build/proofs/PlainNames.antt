@@ -8,7 +8,7 @@ use Rattle.std.proofs.lemmas.Bool.Decides.{nat_tests}
 use Rattle.std.proofs.lemmas.Str.{IsUtf8-from_ascii, is_utf8-from_IsUtf8}
 use Rattle.signature.specs.Name.{may_begin, may_follow, interface_form, well_known_form, unique_form, is_element, are_elements, is_interface, is_member, is_bus_name, is_dotted}
 use Rattle.signature.proofs.Elements.{rest_are, rest_are-cons}
-use Rattle.message_value.specs.TextForms.{is_text_of}
+use Rattle.message_value.specs.Fits.{is_text_of}
 
 -- no byte is zero, and each is ASCII
 abbrev Plain : List ℕ → Type 0

@@ -1,7 +1,6 @@
 pub mod OkSteps
 pub mod WordBytes
 pub mod ReadItems
-pub mod TextsOfTypes
 pub mod ReadTexts
 pub mod ReadArrays
 pub mod EachTurns

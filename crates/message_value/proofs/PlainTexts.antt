@@ -13,7 +13,7 @@ use Rattle.std.proofs.lemmas.Str.{IsUtf8-from_is_utf8, is_utf8-from_IsUtf8, IsUt
 use Rattle.memchr.specs.Find.{IsFirstByte, is_byte}
 use Rattle.signature.specs.Name.{is_path}
 use Rattle.signature.proofs.Ascii.{path_ascii}
-use Rattle.message_value.specs.TextForms.{is_text_of}
+use Rattle.message_value.specs.Fits.{is_text_of}
 use Rattle.message_value.specs.Forms.{is_plain}
 
 -- a search for a zero tells whether there is one

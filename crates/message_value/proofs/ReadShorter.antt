@@ -13,8 +13,7 @@ use Rattle.message_value.specs.declared.fault.MsgError.TheVariants as faults
 use Rattle.message_value.specs.Order.{number_of, word_of}
 use Rattle.message_value.specs.Value.{Value, number, text, elements, entries, members, of_type, one_value, values_of, entries_of}
 use Rattle.message_value.specs.Spelling.{padding, number_len, width_of, entry_alignment}
-use Rattle.message_value.specs.Fits.{is_text_code, max_array_len}
-use Rattle.message_value.specs.TextForms.{is_text_of}
+use Rattle.message_value.specs.Fits.{is_text_code, is_text_of, max_array_len}
 use Rattle.message_value.specs.Reading.{At, ◌>>=◌, item_at, aligned_at, byte_at, word_at, text_fault, ended, text_at, long_text_at, short_text_at, text_value_at, typed, signature_at, counted, number_value_at, inside, within_limit, extent_at, each_at, Reader, members_at, entry_at, variant_at, array_at, dict_at, struct_at, bare_at, value_by, value_at}
 
 -- an Ok leaves fewer bytes than before, by this number at least

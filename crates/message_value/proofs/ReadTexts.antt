@@ -15,13 +15,11 @@ use Rattle.message_value.specs.declared.fault.MsgError.TheVariants as faults
 use Rattle.message_value.specs.Value.{Value, number, text, elements, entries, members, of_type}
 use Rattle.message_value.specs.Order.{word_bytes, number_bytes, number_of}
 use Rattle.message_value.specs.Spelling.{width_of, number_len, text_bytes, signature_bytes, bare_bytes}
-use Rattle.message_value.specs.Fits.{is_text_code, limit_of, IsOneType, BareFits}
-use Rattle.message_value.specs.TextForms.{is_text_of}
+use Rattle.message_value.specs.Fits.{is_text_code, is_text_of, limit_of, IsOneType, BareFits}
 use Rattle.message_value.specs.Reading.{◌>>=◌, At, item_at, byte_at, word_at, text_fault, ended, text_at, long_text_at, short_text_at, text_value_at, typed, signature_at, counted, number_value_at}
 use Rattle.message_value.proofs.OkSteps.{bind_ok, not_refused, guard_ok, passed_ok, ok_is}
 use Rattle.message_value.proofs.WordBytes.{IsBytes, length-word_bytes, length-number_bytes, number_of-number_bytes, number_bytes-number_of, number_of-lt}
 use Rattle.message_value.proofs.ReadItems.{at, Takes, Takes-then, Takes-as, item_takes, item_again, byte_takes, byte_again, word_takes, word_again}
-use Rattle.message_value.proofs.TextsOfTypes.{text_fits, text_passes}
 
 -- ---- a text with its zero byte
 
@@ -119,7 +117,7 @@ text_value_takes order levels code a found fits e =
     let b = bind_ok (cond (eqb code 103) (short_text_at a) (long_text_at order code a)) (λ found. Ok (text found.0, found.1)) found e in
     let t = some_text_takes order code a b.0 fits b.1 in
     let made : Value × At = (text b.0.0, b.0.1) in
-    subst (λ (f : Value × At). Takes a (bare_bytes order a.place (basic code) f.0) f.1 × BareFits order levels a.place (basic code) f.0) {x = made} (ok_is made found b.2) (t.0, (text_fits code b.0.0 t.1, t.2))
+    subst (λ (f : Value × At). Takes a (bare_bytes order a.place (basic code) f.0) f.1 × BareFits order levels a.place (basic code) f.0) {x = made} (ok_is made found b.2) (t.0, (t.1, t.2))
 
 text_value_again : (order : Order) (code place : ℕ) (outside : MsgError) (bytes rest : List ℕ) → is_text_of code bytes ≡ true → length bytes < 2 ^ 32 → text_value_at order code (at place (text_bytes order code bytes ++ rest) outside) ≡ Ok (text bytes, at (place + length (text_bytes order code bytes)) rest outside)
 unfolding text_value_at
@@ -192,7 +190,7 @@ basic_takes order levels code a found fits e = go (is_text_code code) refl e
 
 pub basic_again : (order : Order) (levels code place : ℕ) (outside : MsgError) (value : Value) (rest : List ℕ) → BareFits order levels place (basic code) value → basic_at order code (at place (bare_bytes order place (basic code) value ++ rest) outside) ≡ Ok (value, at (place + length (bare_bytes order place (basic code) value)) rest outside)
 basic_again order levels code place outside (number bits) rest has = rw has.0 (number_value_again order code place outside bits rest has.1)
-basic_again order levels code place outside (text bytes) rest has = let is : is_text_of code bytes ≡ true = text_passes code bytes has.0 in rw (text_code_of code bytes is) (text_value_again order code place outside bytes rest is has.1)
+basic_again order levels code place outside (text bytes) rest has = rw (text_code_of code bytes has.0) (text_value_again order code place outside bytes rest has.0 has.1)
 basic_again order levels code place outside (elements vs) rest has = absurd has
 basic_again order levels code place outside (entries es) rest has = absurd has
 basic_again order levels code place outside (members vs) rest has = absurd has

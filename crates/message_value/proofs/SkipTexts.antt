@@ -13,7 +13,7 @@ use Rattle.message_value.specs.declared.order.Order.{Order}
 use Rattle.message_value.specs.declared.fault.MsgError.{MsgError}
 use Rattle.message_value.specs.declared.fault.MsgError.TheVariants as faults
 use Rattle.message_value.specs.Spelling.{padding}
-use Rattle.message_value.specs.TextForms.{is_text_of}
+use Rattle.message_value.specs.Fits.{is_text_of}
 use Rattle.message_value.specs.Reading.{At, ◌>>=◌, item_at, aligned_at, byte_at, word_at, text_fault, ended, text_at, long_text_at, short_text_at}
 use Rattle.message_value.proofs.OkSteps.{bind_ok, ok_is, not_refused, passed_ok}
 use Rattle.message_value.proofs.ReadShorter.{item_fits, byte_fits, word_fits}

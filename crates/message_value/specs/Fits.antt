@@ -1,10 +1,11 @@
 -- Values that have a type (D-Bus Specification, "Marshaling", "Valid Signatures").
-use Rattle.std.specs.Prelude.{◌≡◌, ℕ, suc, ◌+◌, ◌*◌, ◌^◌, ◌<◌, ◌≤◌, ◌||◌, Bool, true, false, List, length, ◌==◌, if◌then◌else◌, ◌⊎◌}
+use Rattle.std.specs.Prelude.{◌≡◌, ℕ, suc, ◌+◌, ◌*◌, ◌^◌, ◌<◌, ◌≤◌, ◌||◌, Bool, true, false, not, ◌&&◌, List, length, is_some, ◌==◌, if◌then◌else◌}
 use Rattle.std.specs.List.{list_any}
 use Rattle.std.specs.Str.{is_utf8}
-use Rattle.signature.specs.DataType.{DataType, DataTypes, basic, variant, array, dict, struct, no_types, one_more, spelling, TypeText, SigText}
-use Rattle.signature.specs.Alignment.{alignment_of}
+use Rattle.signature.specs.DataType.{DataType, DataTypes, basic, variant, array, dict, struct, no_types, one_more, spelling, TypeText}
+use Rattle.signature.specs.Trees.{types_of}
 use Rattle.signature.specs.Name.{is_path}
+use Rattle.signature.specs.Alignment.{alignment_of}
 use Rattle.message_value.specs.declared.order.Order.{Order}
 use Rattle.message_value.specs.Value.{Value, Values, Entries, number, text, elements, entries, members, of_type, no_values, one_value, no_entries, one_entry}
 use Rattle.message_value.specs.Spelling.{aligned, number_len, signature_bytes, elements_place, entry_alignment, elements_bytes, entries_bytes, value_bytes, entry_bytes}
@@ -13,11 +14,13 @@ use Rattle.message_value.specs.Spelling.{aligned, number_len, signature_bytes, e
 abbrev pub is_text_code : ℕ → Bool
 is_text_code code = code == 115 || code == 111 || code == 103
 
--- `s`: UTF-8 without a zero; `o`: an object path; `g`: some types that the text spells
-abbrev pub IsTextOf : ℕ → List ℕ → Type 0
-IsTextOf code bytes =
-    ((code ≡ 115) × (is_utf8 bytes ≡ true) × (list_any (λ byte. byte == 0) bytes ≡ false))
-    ⊎ (((code ≡ 111) × (is_path bytes ≡ true)) ⊎ ((code ≡ 103) × ((types : DataTypes) × SigText types bytes)))
+-- `s`: UTF-8 without a zero; `o`: an object path; `g`: a signature
+abbrev pub is_text_of : ℕ → List ℕ → Bool
+is_text_of code bytes =
+    if code == 115 then is_utf8 bytes && not (list_any (λ byte. byte == 0) bytes)
+    else if code == 111 then is_path bytes
+    else if code == 103 then is_some (types_of bytes)
+    else false
 
 -- what a number is below: a boolean is 0 or 1
 abbrev pub limit_of : ℕ → ℕ
@@ -39,7 +42,7 @@ IsOneType type = TypeText type (spelling type) × (length (spelling type) ≤ 25
 abbrev mutual
   pub BareFits : Order → ℕ → ℕ → DataType → Value → Type 0
   BareFits order levels place (basic code) (number bits) = (is_text_code code ≡ false) × (bits < limit_of code)
-  BareFits order levels place (basic code) (text bytes) = IsTextOf code bytes × (length bytes < 2 ^ 32)
+  BareFits order levels place (basic code) (text bytes) = (is_text_of code bytes ≡ true) × (length bytes < 2 ^ 32)
   BareFits order (suc levels) place variant (of_type type value) =
       IsOneType type × BareFits order levels (aligned (alignment_of type) (place + length (signature_bytes type))) type value
   BareFits order (suc levels) place (array t) (elements vs) =

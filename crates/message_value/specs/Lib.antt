@@ -3,7 +3,6 @@ pub mod Value
 pub mod Spelling
 pub mod Spelled
 pub mod Fits
-pub mod TextForms
 pub mod FaultName
 pub mod Reading
 pub mod Steps

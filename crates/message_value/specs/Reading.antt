@@ -11,8 +11,7 @@ use Rattle.message_value.specs.declared.fault.MsgError.TheVariants as faults
 use Rattle.message_value.specs.Order.{number_of, word_of}
 use Rattle.message_value.specs.Value.{Value, Values, number, text, elements, entries, members, of_type, no_values, one_value, values_of, entries_of}
 use Rattle.message_value.specs.Spelling.{padding, number_len, width_of, entry_alignment}
-use Rattle.message_value.specs.Fits.{is_text_code, max_array_len}
-use Rattle.message_value.specs.TextForms.{is_text_of}
+use Rattle.message_value.specs.Fits.{is_text_code, is_text_of, max_array_len}
 
 infixl 10 ◌>>=◌
 abbrev pub ◌>>=◌ : {A B : Type 0} → Result A MsgError → (A → Result B MsgError) → Result B MsgError

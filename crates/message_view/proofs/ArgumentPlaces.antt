@@ -24,7 +24,6 @@ use Rattle.message_view.specs.Spelling.{body_place, header_bytes, body_bytes, ar
 use Rattle.message_view.specs.Valid.{Valid}
 use Rattle.message_view.proofs.TextBytes.{text_bytes}
 use Rattle.message_view.proofs.TextStands.{Stands, stands_here, stands_before, stands_after, stands_slice}
-use Rattle.message_value.proofs.TextsOfTypes.{text_passes}
 
 -- ---- one argument
 
@@ -111,7 +110,7 @@ whole_has : (bytes : List ℕ) (start code : ℕ) → code < 256 → HasPlace by
 whole_has bytes start code small = record { code = small; within = omega arith; stands = tt }
 
 bare_has : (order : Order) (start : ℕ) (type : DataType) (value : Value) → Fits 0 0 type → BareFits order max_levels start type value → HasPlace (bare_bytes order start type value) start (argument_of order start type value)
-bare_has order start (basic code) (text_value text) typed fits = text_has (eqb code 103) order code start text (code_below (basic code) typed) (text_bytes code text (text_passes code text fits.0))
+bare_has order start (basic code) (text_value text) typed fits = text_has (eqb code 103) order code start text (code_below (basic code) typed) (text_bytes code text fits.0)
 bare_has order start type value typed fits = whole_has (bare_bytes order start type value) start (get_or (spelling type) 0 0) (code_below type typed)
 
 -- after its padding

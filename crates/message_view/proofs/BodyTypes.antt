@@ -14,7 +14,6 @@ use Rattle.message_view.specs.Message.{Field, field_with, text_in, or_empty, sig
 use Rattle.message_view.specs.Spelling.{field_value_place, field_bytes}
 use Rattle.message_view.specs.Valid.{IsAllowed, IsField, AreFields}
 use Rattle.message_view.specs.Reading.{or_no_types, types_in}
-use Rattle.message_value.proofs.TextsOfTypes.{text_passes}
 
 -- a value of type `g` is a signature
 abbrev IsSignature : Option Value → Type 0
@@ -23,7 +22,7 @@ IsSignature _ = Unit {0}
 
 signature_value : (order : Order) (place : ℕ) (value : Value) → ValueFits order 63 place (basic 103) value → IsSignature (Some value)
 signature_value order place (number bits) fits = tt
-signature_value order place (text bytes) fits = text_passes 103 bytes fits.0
+signature_value order place (text bytes) fits = fits.0
 signature_value order place (elements vs) fits = tt
 signature_value order place (entries es) fits = tt
 signature_value order place (members vs) fits = tt

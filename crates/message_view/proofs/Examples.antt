@@ -11,7 +11,7 @@ use Rattle.message_value.specs.declared.order.Order.TheVariants.{Little, Big}
 use Rattle.message_value.specs.declared.fault.MsgError.{MsgError}
 use Rattle.message_value.specs.declared.fault.MsgError.TheVariants as faults
 use Rattle.message_value.specs.Value.{text, no_values, one_value}
-use Rattle.message_value.specs.TextForms.{is_text_of}
+use Rattle.message_value.specs.Fits.{is_text_of}
 use Rattle.message_value.specs.Reading.{At, inside, value_by, signature_at, text_value_at, long_text_at, short_text_at, text_at, number_value_at, word_at, byte_at, aligned_at, item_at}
 use Rattle.message_view.specs.declared.kind.Kind.TheVariants.{Signal}
 use Rattle.message_view.specs.Message.{Field, Message}
@@ -22,7 +22,6 @@ use Rattle.message_view.specs.Reading.{fields_from, content_at, code_at, field_a
 use Rattle.message_view.proofs.ReadFields.{field_again}
 use Rattle.message_view.proofs.FieldArrays.{nothing_front, fields_again}
 use Rattle.message_view.proofs.OneMessage.{valid_reads}
-use Rattle.message_value.proofs.TextsOfTypes.{text_fits}
 
 dotted : is_utf8 (97 ∷ 46 ∷ 98 ∷ []) ≡ true
 dotted = is_utf8-from_IsUtf8 _ (IsUtf8-from_ascii _ (IsAscii-cons 97 (46 ∷ 98 ∷ []) (omega arith) (IsAscii-cons 46 (98 ∷ []) (omega arith) (IsAscii-cons 98 [] (omega arith) IsAscii-nil))))
@@ -45,19 +44,19 @@ abbrev three : List Field
 three = path_field ∷ interface_field ∷ member_field ∷ []
 
 path_is : (order : Order) → IsField order 16 path_field
-path_is order = record { code_above = omega arith; code_fits = omega arith; typed = tree_spelled (basic 111) (111 ∷ []) refl; shaped = (text_fits 111 _ refl, omega arith); allowed = (refl, (refl, refl)) }
+path_is order = record { code_above = omega arith; code_fits = omega arith; typed = tree_spelled (basic 111) (111 ∷ []) refl; shaped = (refl, omega arith); allowed = (refl, (refl, refl)) }
 
 interface_text : is_text_of 115 (97 ∷ 46 ∷ 98 ∷ []) ≡ true
 interface_text = rw dotted refl
 
 interface_is : (order : Order) → IsField order 27 interface_field
-interface_is order = record { code_above = omega arith; code_fits = omega arith; typed = tree_spelled (basic 115) (115 ∷ []) refl; shaped = (text_fits 115 _ interface_text, omega arith); allowed = (refl, (refl, refl)) }
+interface_is order = record { code_above = omega arith; code_fits = omega arith; typed = tree_spelled (basic 115) (115 ∷ []) refl; shaped = (interface_text, omega arith); allowed = (refl, (refl, refl)) }
 
 member_text : is_text_of 115 (99 ∷ []) ≡ true
 member_text = rw short refl
 
 member_is : (order : Order) → IsField order 44 member_field
-member_is order = record { code_above = omega arith; code_fits = omega arith; typed = tree_spelled (basic 115) (115 ∷ []) refl; shaped = (text_fits 115 _ member_text, omega arith); allowed = (refl, (refl, refl)) }
+member_is order = record { code_above = omega arith; code_fits = omega arith; typed = tree_spelled (basic 115) (115 ∷ []) refl; shaped = (member_text, omega arith); allowed = (refl, (refl, refl)) }
 
 abbrev signal : Order → Message
 signal order = record { order = order; kind = Signal; flags = 0; serial = 1; fields = three; types = no_types; arguments = no_values }
@@ -213,7 +212,7 @@ abbrev unknown_field : Field
 unknown_field = record { code = 10; type = basic 115; value = text (99 ∷ []) }
 
 unknown_is : IsField Little 44 unknown_field
-unknown_is = record { code_above = omega arith; code_fits = omega arith; typed = tree_spelled (basic 115) (115 ∷ []) refl; shaped = (text_fits 115 _ member_text, omega arith); allowed = tt }
+unknown_is = record { code_above = omega arith; code_fits = omega arith; typed = tree_spelled (basic 115) (115 ∷ []) refl; shaped = (member_text, omega arith); allowed = tt }
 
 fields_unknown : fields_from 42 Little [] (inside 16 (set three_bytes 32 10)) ≡ Ok (two ++ unknown_field ∷ [])
 fields_unknown = fields_again 42 Little [] (two ++ unknown_field ∷ []) 16 faults.ArrayLength (path_is Little, refl, (interface_is Little, refl, (unknown_is, tt, tt))) (nothing_front (two ++ unknown_field ∷ [])) (omega arith)
@@ -264,7 +263,7 @@ hi_text : is_text_of 115 (104 ∷ 105 ∷ []) ≡ true
 hi_text = rw hi refl
 
 signature_is : IsField Little 58 (record { code = 8; type = basic 103; value = text (115 ∷ []) })
-signature_is = record { code_above = omega arith; code_fits = omega arith; typed = tree_spelled (basic 103) (103 ∷ []) refl; shaped = (text_fits 103 (115 ∷ []) refl, omega arith); allowed = (refl, (refl, refl)) }
+signature_is = record { code_above = omega arith; code_fits = omega arith; typed = tree_spelled (basic 103) (103 ∷ []) refl; shaped = (refl, omega arith); allowed = (refl, (refl, refl)) }
 
 greeting_valid : Valid greeting_bytes greeting
 greeting_valid = record {
@@ -276,7 +275,7 @@ greeting_valid = record {
   fields = (path_is Little, refl, (interface_is Little, refl, (member_is Little, refl, (signature_is, refl, tt))));
   required = refl;
   types = trees_spelled (one_more (basic 115) no_types) (115 ∷ []) refl;
-  arguments = ((text_fits 115 _ hi_text, omega arith), tt);
+  arguments = ((hi_text, omega arith), tt);
   fields_fit = omega arith;
   fits = omega arith;
   spelled = refl;

@@ -22,7 +22,6 @@ use Rattle.message_view.specs.Valid.{Valid, IsAllowed, AreFields, levels_in_fiel
 use Rattle.message_value.specs.Bytes.{AreBytes}
 use Rattle.message_view.proofs.TextBytes.{text_bytes}
 use Rattle.message_view.proofs.TextStands.{Stands, stands_here, stands_before, stands_after, stands_within, stands_slice}
-use Rattle.message_value.proofs.TextsOfTypes.{text_passes}
 
 -- ---- a text among bytes
 
@@ -91,7 +90,7 @@ field_stands known order place code type text are is =
 fitting_bytes : (order : Order) (place code : ℕ) (type : DataType) (text : List ℕ) → type ≡ basic code → BareFits order levels_in_field place type (text_value text) → AreBytes text
 fitting_bytes order place code type text is fits =
     let has : BareFits order levels_in_field place (basic code) (text_value text) = subst (λ (t : DataType). BareFits order levels_in_field place t (text_value text)) is fits in
-    text_bytes code text (text_passes code text has.0)
+    text_bytes code text has.0
 
 field_said : (known : TextField) (order : Order) (place at code : ℕ) (type : DataType) (value : Value) → type ≡ basic (text_type known) → BareFits order levels_in_field at type value
     → Said (field_bytes order place (record { code = code; type = type; value = value })) place (text_extent place (record { code = code; type = type; value = value })) (text_in (Some value))

@@ -10,7 +10,7 @@ use Rattle.signature.specs.DataType.{DataTypes}
 use Rattle.signature.specs.Name.{is_path}
 use Rattle.signature.specs.Trees.{types_of}
 use Rattle.signature.proofs.Ascii.{path_ascii}
-use Rattle.message_value.specs.TextForms.{is_text_of}
+use Rattle.message_value.specs.Fits.{is_text_of}
 use Rattle.message_value.proofs.SignatureTexts.{signature_utf8}
 use Rattle.message_value.specs.Bytes.{AreBytes}
 
