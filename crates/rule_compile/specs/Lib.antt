@@ -1,4 +1,5 @@
 pub mod Code
+pub mod Sound
 pub mod Folders
 pub mod RuleCode
 pub mod Compiled

@@ -57,7 +57,8 @@ impl Code {
         part: &[u8],
         exit_len: usize,
     ) -> Result<(), AllocError>
-        requires { place + length part.now < 2 ^ 32 }
+        requires exit_len { 0 < exit_len }
+        requires fits { place + length part.now < 2 ^ 32 }
         ensures { OnOk result (self.new ≡ has_len AtLeast (place + length part.now) at (same_bytes place part.now (image_word (at + 4) ∷ branch Equal (place + length part.now) (length self.old - exit_len) 0 ∷ self.old))) }
     {
         let end = (place + part.len()) as u32;

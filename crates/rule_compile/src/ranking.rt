@@ -2,6 +2,7 @@
 // messages, and then bytes, from the highest rank on.
 ghost use Rattle.std.specs.Prelude.{◌≡◌, ◌<◌, ◌^◌, sum_by, filter, OnOk, IfOk};
 ghost use Rattle.match_rule.specs.RuleTree.{condition_weight};
+ghost use Rattle.jump_islands.specs.Source.{AreWellMade};
 ghost use Rattle.rule_compile.specs.Rest.{is_tested, tested_of};
 ghost use Rattle.rule_compile.specs.RuleCode.{field_rank, whole_rank, other_rank, relation_rank, rank_of, ranks, part_code, of_rank, rising, falling, offered, rule_code};
 
@@ -148,7 +149,8 @@ pub(crate) fn rule_code(
     tested: Tested<'_>,
 ) -> Result<SourceProgram, AllocError>
     requires { sum_by condition_weight conditions.now < 2 ^ 32 }
-    ensures { IfOk result (λ code. code ≡ rule_code slot (tested_of tested.entry (record { conditions = conditions.now; eavesdrops = eavesdrops }))) }
+    ensures value { IfOk result (λ code. code ≡ rule_code slot (tested_of tested.entry (record { conditions = conditions.now; eavesdrops = eavesdrops }))) }
+    ensures made { IfOk result AreWellMade }
 {
     let mut code = Code::verdicts(alloc)?;
     code.offered(eavesdrops)?;

@@ -5,7 +5,6 @@ use Rattle.bpf_code.specs.declared.instruction.Ins.{Ins}
 use Rattle.match_rule.specs.declared.condition.Condition.{Condition}
 use Rattle.match_rule.specs.RuleTree.{RuleTree}
 use Rattle.jump_islands.specs.Lowering.{IsTarget, IsTargetRefusal}
-use Rattle.jump_islands.specs.Source.{AreWellMade}
 use Rattle.rule_compile.specs.declared.rest.Tested.{Tested}
 use Rattle.rule_compile.specs.Compiled.{IsCompiled, IsSlotOf}
 use Rattle.rule_compile.specs.Rest.{tested_of}
@@ -13,8 +12,7 @@ use Rattle.rule_compile.specs.RuleCode.{rule_code}
 use Rattle.summary.specs.declared.edition.Edition.TheVariants.{Two}
 use Rattle.summary.proofs.ImageShows.{image_shows}
 use Rattle.rule_compile.proofs.RuleLength.{rule_length}
-use Rattle.rule_compile.proofs.RuleWellMade.{rule_well_made}
-use Rattle.rule_compile.proofs.RuleRuns.{rule_runs, slot_small}
+use Rattle.rule_compile.proofs.RuleRuns.{rule_runs}
 use Rattle.rule_compile.proofs.CompiledRule.{Decides, compiled, refused}
 use Rattle.rule_compile.proofs.RestRules.{one_sender, small_numbers, same_bytes, no_heavier, same_slot}
 use Rattle.rule_compile.proofs.compiling.compile_tested.Goals as goal
@@ -30,20 +28,15 @@ returns-in_err-program-clause-refused c =
     let tested : Tested = c.args.tested in
     let number : ℕ = unwrap_or c.args.slot 0 in
     let left : RuleTree = tested_of tested rule in
-    let same : c.in_ok-code.code ≡ rule_code number left = code_is _ number tested rule _ _ _ c.in_ok-code.ensures c.unwrap_or-slot.ensures c.conditions.ensures.value c.eavesdrops.ensures in
+    let same : c.in_ok-code.code ≡ rule_code number left = code_is _ number tested rule _ _ _ c.in_ok-code.ensures.value c.unwrap_or-slot.ensures c.conditions.ensures.value c.eavesdrops.ensures in
     let Refused : List Ins → Type 0 = λ source. IsTargetRefusal source c.in_err-program.field-0.0 in
     let p = err_from_is_err_and c.from_residual-in_err-program.result c.from_residual-in_err-program.ensures.1 in
     rw (p.1, p.2) (refused rule left (rule_code number left) c.in_err-program.field-0.0 (subst Refused same c.in_err-program.ensures.refused) (rule_length number left) (no_heavier tested rule))
 
 pub accepted-requires : goal.accepted-requires
 accepted-requires c =
-    let rule : RuleTree = c.args.rule.now in
-    let tested : Tested = c.args.tested in
-    let number : ℕ = unwrap_or c.args.slot 0 in
-    let left : RuleTree = tested_of tested rule in
-    let same : c.in_ok-code.code ≡ rule_code number left = code_is _ number tested rule _ _ _ c.in_ok-code.ensures c.unwrap_or-slot.ensures c.conditions.ensures.value c.eavesdrops.ensures in
     let target : IsTarget c.in_ok-code.code c.in_ok-program.program.items = c.in_ok-program.ensures.lowered in
-    target.accepted (subst AreWellMade (sym same) (rule_well_made number left (slot_small c.args.slot c.requires.small) (small_numbers tested rule c.conditions.ensures.numbers)))
+    target.accepted c.in_ok-code.ensures.made
 
 pub returns-clause-compiled : goal.returns-clause-compiled
 returns-clause-compiled c =
@@ -52,7 +45,7 @@ returns-clause-compiled c =
     let slot = c.args.slot in
     let left : RuleTree = tested_of tested rule in
     let code : List Ins = rule_code (unwrap_or slot 0) left in
-    let same : c.in_ok-code.code ≡ code = code_is _ (unwrap_or slot 0) tested rule _ _ _ c.in_ok-code.ensures c.unwrap_or-slot.ensures c.conditions.ensures.value c.eavesdrops.ensures in
+    let same : c.in_ok-code.code ≡ code = code_is _ (unwrap_or slot 0) tested rule _ _ _ c.in_ok-code.ensures.value c.unwrap_or-slot.ensures c.conditions.ensures.value c.eavesdrops.ensures in
     let fits : IsSlotOf slot left = same_slot tested rule slot c.requires in
     let decides : Decides left slot code = (λ bytes m slots owned valid set agree. rule_runs bytes m slots owned left slot valid (image_shows Two bytes m slots valid set.size set.bits) fits agree (one_sender tested rule c.conditions.ensures.one_sender) (small_numbers tested rule c.conditions.ensures.numbers) (same_bytes tested rule c.conditions.ensures.bytes)) in
     let Compiled : List Ins → Type 0 = IsCompiled left slot in

@@ -22,7 +22,7 @@ loop-start-preserved c =
     let end = c.loop-start.start in
     let part = take (end - start) (drop start value) in
     let more = c.loop-start.self in (
-      c.in_ok-inner_part.ensures ∙ ap (λ (exit_len : ℕ). has_len AtLeast (start + length part) at (same_bytes start part (image_word (at + 4) ∷ branch Equal (start + length part) (length more - exit_len) 0 ∷ more))) c.len-exit_len.ensures ∙ ap (inner at start part old) c.loop-start.invariant.0 ∙ sym (along_before at start end value old from.before c.loop-start.invariant.1 from.one (c.loop-start.invariant.2 (omega arith))),
+      c.in_ok-inner_part.ensures ∙ ap (λ (exit_len : ℕ). has_len AtLeast (start + length part) at (same_bytes start part (image_word (at + 4) ∷ branch Equal (start + length part) (length more - exit_len) 0 ∷ more))) c.len-exit_len.ensures.value ∙ ap (inner at start part old) c.loop-start.invariant.0 ∙ sym (along_before at start end value old from.before c.loop-start.invariant.1 from.one (c.loop-start.invariant.2 (omega arith))),
       omega arith,
       from.slash,
     )
