@@ -1,7 +1,7 @@
 // What `serve` is refused for.
 
 ghost use Rattle.std.specs.Prelude.{◌≡◌};
-ghost use Rattle.dbusfan_serve.specs.Status.{status_of};
+ghost use Rattle.dbusfan_serve.specs.Status.{status_of, IsStatus};
 
 use dbusfan_tool::{Output, Writer};
 use std::io;
@@ -23,7 +23,8 @@ pub(crate) enum Fault {
 impl Fault {
     /// The status that the program ends with.
     fn status(self) -> u8
-        ensures { result ≡ status_of self }
+        ensures value { result ≡ status_of self }
+        ensures row { IsStatus result }
     {
         match self {
             Fault::Usage => 3,
@@ -44,7 +45,8 @@ impl Fault {
 
     /// Writes the fault's line to standard error, and answers the status.
     pub(crate) fn tell<E: Writer>(self, err: &mut Output<E>) -> u8
-        ensures { result ≡ status_of self }
+        ensures value { result ≡ status_of self }
+        ensures row { IsStatus result }
     {
         err.put(self.line());
         self.status()

@@ -86,13 +86,16 @@ impl<J: Naming> Connection<J> {
         self.member.has_room(rt);
     }
 
-    /// Reads into the block and treats what came, as far as it goes in one turn.
+    /// Reads into the block and treats what came, as far as it goes in one turn. A read that doesn't fill the block took
+    /// all that was there, and the poll tells of what comes later, so it is the last one; but it doesn't show whether the
+    /// client's bytes have ended, so where they may have, the end is read too.
     pub(crate) fn read<W: Wait, R: Wait + Drop>(
         &mut self,
         rt: &W,
         alloc: Global,
         hub: &Hub<J, R>,
         block: &mut [u8],
+        has_ended: bool,
     ) -> Turn {
         for _ in 0..READS {
             match self.link.receive(block) {
@@ -100,6 +103,9 @@ impl<J: Naming> Connection<J> {
                 Ok(count) => {
                     if self.treat(rt, alloc, hub, &block[..count]).is_err() {
                         return Turn::Ends;
+                    }
+                    if count < block.len() && !has_ended {
+                        return Turn::Waits;
                     }
                 }
                 Err(error) => match error.kind() {

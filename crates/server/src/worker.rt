@@ -116,7 +116,8 @@ impl<'a, J: Naming, R: Wait + Drop> Worker<'a, J, R> {
             if event.token() == BELL {
                 self.take_in(rt);
             } else {
-                self.turn(rt, event.token().0, event.is_writable());
+                let has_ended = event.is_read_closed() || event.is_error();
+                self.turn(rt, event.token().0, event.is_writable(), has_ended);
             }
         }
     }
@@ -164,15 +165,17 @@ impl<'a, J: Naming, R: Wait + Drop> Worker<'a, J, R> {
         Ok(())
     }
 
-    /// Gives a connection its turn: it writes and reads as far as it goes.
-    fn turn<W: Wait>(&mut self, rt: &W, key: usize, has_room: bool) {
+    /// Gives a connection its turn: it writes and reads as far as it goes, to the end where its client's bytes may have
+    /// ended.
+    fn turn<W: Wait>(&mut self, rt: &W, key: usize, has_room: bool, has_ended: bool) {
         let Some(connection) = self.connections.get_mut(key) else {
             return;
         };
         if has_room {
             connection.has_room(rt);
         }
-        let turn = connection.read(rt, self.alloc, self.hub, self.block.as_mut_slice());
+        let block = self.block.as_mut_slice();
+        let turn = connection.read(rt, self.alloc, self.hub, block, has_ended);
         if !connection.is_in && connection.is_connected() {
             connection.is_in = true;
             self.newcomers = self.newcomers.saturating_sub(1);
@@ -191,7 +194,7 @@ impl<'a, J: Naming, R: Wait + Drop> Worker<'a, J, R> {
     /// Gives another turn to those that had more to read.
     fn go_on<W: Wait>(&mut self, rt: &W) {
         for key in mem::replace(&mut self.again, Vec::new(self.alloc)) {
-            self.turn(rt, key, false);
+            self.turn(rt, key, false, true);
         }
     }
 

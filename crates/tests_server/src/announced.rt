@@ -1,8 +1,7 @@
-// A writer that hands its line to another thread, so that clients learn where a server listens.
+// A writer that hands its line to another thread, so that a test learns where a server listens.
 
 ghost use Rattle.std.specs.Prelude.{⊤};
 
-use bus_client::{Address, read_addresses};
 use dbusfan_tool::Writer;
 use std::alloc::Global;
 use std::io;
@@ -10,25 +9,33 @@ use std::sync::{Condvar, Mutex, Wait};
 
 /// The text that was written so far.
 #[derive(Drop)]
-pub(crate) struct Announced {
+pub struct Announced {
     text: Mutex<Vec<u8>>,
     grown: Condvar,
 }
 
 impl Announced {
-    pub(crate) fn new(alloc: Global) -> Announced {
+    pub fn new(alloc: Global) -> Announced {
         Announced {
             text: Mutex::new(Vec::new(alloc)),
             grown: Condvar::new(),
         }
     }
 
-    /// Waits for a whole line, and gives the addresses after its first word; none where it isn't of that form.
-    pub(crate) fn addresses<R: Wait>(&self, rt: &R, alloc: Global) -> Vec<Address> {
-        let line = self
+    /// Waits for a whole line.
+    pub fn wait<R: Wait>(&self, rt: &R) {
+        let _line = self
             .grown
             .wait_while(rt, self.text.lock(rt), |text| text.last() != Some(&b'\n'));
-        addresses_in(alloc, line.as_slice()).unwrap_or(Vec::new(alloc))
+    }
+
+    /// The number after the last `=` of the line.
+    pub fn port<R: Wait>(&self, rt: &R) -> Option<u16> {
+        self.wait(rt);
+        let text = self.text.lock(rt);
+        let line = str::from_utf8(text.as_slice()).ok()?;
+        let (_, port) = line.trim_end().rsplit_once('=')?;
+        port.parse::<u16>().ok()
     }
 
     fn add<R: Wait>(&self, rt: &R, bytes: &[u8]) -> io::Result<()> {
@@ -38,17 +45,11 @@ impl Announced {
     }
 }
 
-fn addresses_in(alloc: Global, line: &[u8]) -> Option<Vec<Address>> {
-    let text = str::from_utf8(line).ok()?;
-    let (_, address) = text.trim_end().split_once(' ')?;
-    read_addresses(alloc, address).ok()
-}
-
 /// The writing end. A writer is passed no handle, so it holds one.
 #[derive(Drop)]
-pub(crate) struct Announcer<'a, R: Wait> {
-    pub(crate) rt: &'a R,
-    pub(crate) to: &'a Announced,
+pub struct Announcer<'a, R: Wait> {
+    pub rt: &'a R,
+    pub to: &'a Announced,
 }
 
 impl<'a, R: Wait> Writer for Announcer<'a, R> {
