@@ -1,6 +1,6 @@
 // Broadcasts of a pass.
 
-ghost use Rattle.std.specs.Prelude.{◌≡◌, ◌⊎◌, IfOk, IfErr, OnOk, MatchResult, map, option_map};
+ghost use Rattle.std.specs.Prelude.{◌≡◌, ◌⊎◌, [], IfErr, OnOk, MatchResult, map, option_map};
 ghost use Rattle.routing.specs.Stops.{RisesFrom, number_of, AllHave};
 ghost use Rattle.passes.specs.Sending.{kept_stops, AreReachable, KeepsThose, UnroutedThose, RoutedThose};
 ghost use Rattle.passes.specs.Routes.{HasRouted, IsUnrouted};

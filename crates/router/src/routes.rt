@@ -1,6 +1,6 @@
 // Broadcasts through the bus.
 
-ghost use Rattle.std.specs.Prelude.{MatchResult};
+ghost use Rattle.std.specs.Prelude.{◌≡◌, [], MatchResult};
 ghost use Rattle.passes.specs.Routes.{HasRouted, IsUnrouted};
 
 use crate::bus::Bus;
