@@ -1,8 +1,9 @@
 -- The search for a field that isn't copied.
 use Rattle.std.proofs.Common.{◌≡◌, ℕ, ◌+◌, ◌<◌, Bool, true, false, cond, List, [], ◌∷◌, ◌++◌, length, take, filter, Option, Some, None, Result, Ok, Err, refl, sym, ap, subst, ◌∙◌, arith}
-use Rattle.std.specs.Prelude.{◌==◌, ◌&&◌, IfOk}
+use Rattle.std.specs.Prelude.{◌==◌, ◌&&◌, is_ok, IfOk}
 use Rattle.std.specs.List.{list_all}
 use Rattle.std.proofs.lemmas.Bool.{eq-eqb, eqb-true}
+use Rattle.std.proofs.lemmas.List.{append-nil}
 use Rattle.std.proofs.Math.Seq.{take-append_seam}
 use Rattle.message_value.specs.declared.order.Order.{Order}
 use Rattle.message_value.specs.declared.fault.MsgError.{MsgError}
@@ -18,7 +19,6 @@ use Rattle.message_view.specs.Valid.{IsOnce, AreFields}
 use Rattle.message_view.proofs.ReadFields.{field_again}
 use Rattle.message_view.proofs.FieldTurns.{field_shorter}
 use Rattle.message_build.specs.Stamped.{is_kept}
-use Rattle.message_build.specs.Words.{Appends}
 use Rattle.message_build.proofs.MovedFields.{fields_moved}
 
 -- the fields that are left, all of which are copied where those of the whole array are
@@ -78,26 +78,26 @@ at_end order a whole left none = go left.fields left.are left.rest left.same
         let place = a.place + length (field_bytes order a.place f) in
         let tail : At = at place (fields_bytes order place fs) a.outside in
         let fewer = field_shorter order [] a (f, tail) (read_first order a f fs are rest) in
-        let zero : length a.rest ≡ 0 = eqb-true _ _ none in
-        absurd (omega (arith, fewer, zero))
+        let nothing : length a.rest ≡ 0 = eqb-true _ _ none in
+        absurd (omega (arith, fewer, nothing))
 
 -- ---- an array that is copied whole
 
 all_kept : (fields : List Field) → true ≡ list_all is_kept fields → filter is_kept fields ≡ fields
 all_kept [] e = refl
-all_kept (f ∷ fs) e = go (is_kept f) refl e
+all_kept (f ∷ fs) e = go (λ h. all_kept fs h) (is_kept f) e
   where
-    go : (b : Bool) → is_kept f ≡ b → true ≡ (b && list_all is_kept fs) → cond b (f ∷ filter is_kept fs) (filter is_kept fs) ≡ f ∷ fs
-    go true same e = ap (λ (x : List Field). f ∷ x) (all_kept fs e)
-    go false same e = absurd cc
+    go : (true ≡ list_all is_kept fs → filter is_kept fs ≡ fs) → (b : Bool) → true ≡ (b && list_all is_kept fs) → cond b (f ∷ filter is_kept fs) (filter is_kept fs) ≡ f ∷ fs
+    go others true e = ap (λ (x : List Field). f ∷ x) (others e)
+    go others false e = absurd cc
 
 pub copied : {X E : Type 0} (r : Result X E) (order : Order) (old new array : List ℕ) (fields : List Field) → length old ≡ 16 → array ≡ fields_bytes order 0 fields → true ≡ list_all is_kept fields
-    → Appends r old new array → IfOk r (λ _. new ≡ old ++ fields_bytes order (length old) (filter is_kept fields))
+    → new ≡ cond (is_ok r) (old ++ array) old → IfOk r (λ _. new ≡ old ++ fields_bytes order (length old) (filter is_kept fields))
 copied (Ok x) order old new array fields sixteen is all has =
     let alike : Alike 0 (length old) = record { is = omega (arith, sixteen) } in
     has ∙ ap (λ (l : List ℕ). old ++ l) (is ∙ fields_moved order 0 (length old) alike fields ∙ ap (fields_bytes order (length old)) (sym (all_kept fields all)))
 copied (Err e) order old new array fields sixteen is all has = tt
 
-pub front_stays : {X E : Type 0} (r : Result X E) (old new added : List ℕ) → Appends r old new added → take (length old) new ≡ old
+pub front_stays : {X E : Type 0} (r : Result X E) (old new added : List ℕ) → new ≡ cond (is_ok r) (old ++ added) old → take (length old) new ≡ old
 front_stays (Ok x) old new added has = ap (take (length old)) has ∙ take-append_seam old added
-front_stays (Err e) old new added has = has
+front_stays (Err e) old new added has = ap (take (length old)) (has ∙ sym (append-nil old)) ∙ take-append_seam old []

@@ -12,7 +12,6 @@ ghost use Rattle.message_build.specs.Words.{Appends};
 
 use crate::appending::align;
 use message_value::{Cursor, MsgError, Order, check_value};
-use message_view::skip_field as skip_valid_field;
 use std::alloc::AllocError;
 
 /// How many levels of values are left inside the variant of a field.
@@ -115,7 +114,7 @@ fn are_all_kept(order: Order, array: &[u8]) -> bool
 {
     let mut cursor = Cursor::new(0, array, MsgError::ArrayLength);
     while !cursor.is_empty() {
-        let code = skip_valid_field(&mut cursor, order);
+        let code = message_view::skip_field(&mut cursor, order);
         if !is_kept(code) {
             return false;
         }
