@@ -154,13 +154,13 @@ pub value_as : (whole part : Result (Value × At) MsgError) (h : IsRead whole) (
 value_as whole part h found is got = h.1 ∙ sym is ∙ got
 
 pub number_word : (order : Order) (a : At) → IsRead (number_value_at order 117 a) → IsRead (word_at order a)
-unfolding number_value_at, word_at
+unfolding number_value_at word_at
 number_word order a h =
     let s = bind_ok (item_at 4 a) (λ bytes. counted 117 (number_of order (width_of 117) bytes.0) bytes.1) h.0 h.1 in
     ((word_of order s.0.0, s.0.1), rw s.1 refl)
 
 pub word_number : (order : Order) (a tail : At) (n : ℕ) → word_at order a ≡ Ok (n, tail) → number_value_at order 117 a ≡ Ok (number n, tail)
-unfolding number_value_at, word_at
+unfolding number_value_at word_at
 word_number order a tail n e =
     let s = bind_ok (item_at 4 a) (λ bytes. Ok (word_of order bytes.0, bytes.1)) (n, tail) e in
     let made : ℕ × At = (word_of order s.0.0, s.0.1) in

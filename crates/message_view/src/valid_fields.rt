@@ -3,7 +3,7 @@
 ghost use Rattle.std.specs.Prelude.{◌≡◌, ℕ, ◌+◌, ◌<◌, ◌≤◌, List, [], length, Some, None, Ok};
 ghost use Rattle.signature.specs.DataType.{basic};
 ghost use Rattle.message_value.specs.Reading.{At, inside, aligned_at, byte_at, word_at, signature_at, text_value_at, value_at};
-ghost use Rattle.message_value.specs.Words.{Gives, IsRead, IsGone, Reaches, text_code};
+ghost use Rattle.message_value.specs.Words.{IsRead, IsGone, Reaches, text_code};
 ghost use Rattle.message_view.specs.Header.{type_code};
 ghost use Rattle.message_view.specs.Message.{Field};
 ghost use Rattle.message_view.specs.Reading.{content_at, code_at, field_at, fields_from};

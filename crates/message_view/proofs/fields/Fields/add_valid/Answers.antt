@@ -1,7 +1,7 @@
 use Rattle.std.proofs.Common.{Some, None, Ok}
 use Rattle.message_view.proofs.ValidFields.{field_coded, field_held}
 use Rattle.message_view.proofs.KeptExtents.{front_next, front_passed}
-use Rattle.message_view.proofs.valid_fields.Fields.add_valid.Goals as goal
+use Rattle.message_view.proofs.fields.Fields.add_valid.Goals as goal
 
 pub valid_code-byte-requires : goal.valid_code-byte-requires
 valid_code-byte-requires c = (c.requires.0, field_coded c.args.order c.requires.0 c.args.cursor.now c.requires.1)

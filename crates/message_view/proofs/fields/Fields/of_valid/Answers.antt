@@ -1,6 +1,6 @@
 use Rattle.std.proofs.Common.{sym, arith}
 use Rattle.message_view.proofs.Loop.{at_start, goes_on, next_read, extents_end, shows_end}
-use Rattle.message_view.proofs.valid_fields.Fields.of_valid.Goals as goal
+use Rattle.message_view.proofs.fields.Fields.of_valid.Goals as goal
 
 pub loop-cursor-init : goal.loop-cursor-init
 loop-cursor-init c = rw c.new-cursor.ensures (at_start c.args.order _ _ c.new-fields.ensures.shows c.new-fields.ensures.lie (λ i. omega (arith, c.type_inv.bytes i)))

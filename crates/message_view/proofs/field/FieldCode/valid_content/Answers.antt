@@ -5,7 +5,7 @@ use Rattle.message_value.specs.Words.{IsRead}
 use Rattle.message_view.specs.Header.{type_code}
 use Rattle.message_view.specs.Words.{type_code_of}
 use Rattle.message_view.proofs.ValidFields.{content_typed, content_valid, row_read}
-use Rattle.message_view.proofs.valid_fields.FieldCode.valid_content.Goals as goal
+use Rattle.message_view.proofs.field.FieldCode.valid_content.Goals as goal
 
 pub skip_basic_signature-requires : goal.skip_basic_signature-requires
 skip_basic_signature-requires c =

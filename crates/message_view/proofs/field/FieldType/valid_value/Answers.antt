@@ -3,7 +3,7 @@ use Rattle.signature.specs.BasicType.{basic_alignment}
 use Rattle.message_value.specs.Reading.{aligned_at}
 use Rattle.message_view.specs.Words.{type_code_of}
 use Rattle.message_view.proofs.ValidFields.{value_gone, value_text, value_number, value_as, number_word, word_number}
-use Rattle.message_view.proofs.valid_fields.FieldType.valid_value.Goals as goal
+use Rattle.message_view.proofs.field.FieldType.valid_value.Goals as goal
 
 pub skip_padding-requires-clause-read : goal.skip_padding-requires-clause-read
 skip_padding-requires-clause-read c =
