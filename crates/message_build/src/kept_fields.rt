@@ -124,7 +124,11 @@ fn are_all_kept(order: Order, array: &[u8]) -> bool
 
 /// Appends the fields of the array of a valid message that are copied, in their order. In most messages they are all, so
 /// that the array is copied as it is.
-pub(crate) fn push_kept_of(bytes: &mut Vec<u8>, order: Order, array: &[u8]) -> Result<(), AllocError>
+pub(crate) fn push_kept_of(
+    bytes: &mut Vec<u8>,
+    order: Order,
+    array: &[u8],
+) -> Result<(), AllocError>
     requires short { length array.now ≤ 67108864 }
     requires valid { (fields : List Field) × AreFields order 0 fields × (array.now ≡ fields_bytes order 0 fields) }
     requires begun { length bytes.old.items ≡ 16 }
