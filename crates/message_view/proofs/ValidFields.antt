@@ -153,11 +153,15 @@ value_number order code a start h same gone =
 pub value_as : (whole part : Result (Value × At) MsgError) (h : IsRead whole) (found : Value × At) → part ≡ Ok h.0 → part ≡ Ok found → whole ≡ Ok found
 value_as whole part h found is got = h.1 ∙ sym is ∙ got
 
+word_there : (order : Order) (a : At) (item : List ℕ × At) → item_at 4 a ≡ Ok item → word_at order a ≡ Ok (word_of order item.0, item.1)
+unfolding word_at
+word_there order a item is = rw is refl
+
 pub number_word : (order : Order) (a : At) → IsRead (number_value_at order 117 a) → IsRead (word_at order a)
-unfolding number_value_at word_at
+unfolding number_value_at
 number_word order a h =
     let s = bind_ok (item_at 4 a) (λ bytes. counted 117 (number_of order (width_of 117) bytes.0) bytes.1) h.0 h.1 in
-    ((word_of order s.0.0, s.0.1), rw s.1 refl)
+    ((word_of order s.0.0, s.0.1), word_there order a s.0 s.1)
 
 pub word_number : (order : Order) (a tail : At) (n : ℕ) → word_at order a ≡ Ok (n, tail) → number_value_at order 117 a ≡ Ok (number n, tail)
 unfolding number_value_at word_at
