@@ -15,12 +15,12 @@ returns-in_default c = λ field tail is.
     let coded = c.valid_code-byte.ensures [] (field_coded c.args.order [] c.args.cursor.now c.requires) in
     field_ends c.args.order [] c.args.cursor.now _ _ _ None _ field tail c.in_default.ensures coded c.skip_valid_content.ensures.1 is
 
-pub valid_content-_content-requires : goal.valid_content-_content-requires
-valid_content-_content-requires c =
+pub valid_content-content-requires : goal.valid_content-content-requires
+valid_content-content-requires c =
     let coded = c.valid_code-byte.ensures [] (field_coded c.args.order [] c.args.cursor.now c.requires) in
     field_held c.args.order [] c.args.cursor.now _ _ (Some c.in-Some.code) c.in-Some.ensures coded c.requires
 
 pub returns : goal.returns
 returns c = λ field tail is.
     let coded = c.valid_code-byte.ensures [] (field_coded c.args.order [] c.args.cursor.now c.requires) in
-    field_ends c.args.order [] c.args.cursor.now _ _ _ (Some c.in-Some.code) _ field tail c.in-Some.ensures coded c.valid_content-_content.ensures.read is
+    field_ends c.args.order [] c.args.cursor.now _ _ _ (Some c.in-Some.code) _ field tail c.in-Some.ensures coded c.valid_content-content.ensures.read is
