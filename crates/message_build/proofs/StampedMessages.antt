@@ -199,17 +199,27 @@ message_too_large raw m sender order h body head r is long =
     let sum : length head + length body ≡ length (message_bytes (stamped m sender)) = sym (length-append head body) ∙ ap (λ (l : List ℕ). length l) (stamped_spelled raw m sender order h body head r is) in
     inr (subst (λ (n : ℕ). max_message_len < n) sum long)
 
--- The header of a message's fields: they lie in an array, and are counted from its beginning.
+-- A message's fields lie in its array, and are counted from its beginning.
+pub record AreThere (order : Order) (m : Message) (array : List ℕ) : Type 0 where
+  pub are : AreFields order 0 m.fields
+  pub is : array ≡ fields_bytes order 0 m.fields
+
+pub fields_there : (raw : List ℕ) (m : Message) (order : Order) (array bytes : List ℕ) → Valid raw m → order ≡ m.order → bytes ≡ raw → (Valid bytes m → order ≡ m.order → array ≡ header_bytes m) → AreThere order m array
+fields_there raw m order array bytes v order_is same found =
+    let lies : array ≡ header_bytes m = found (subst (λ (l : List ℕ). Valid l m) (sym same) v) order_is in
+    record {
+      are = subst (λ (o : Order). AreFields o 0 m.fields) (sym order_is) (are_moved m.order 16 0 m.fields v.fields);
+      is = lies ∙ fields_moved m.order 16 0 (record { is = refl }) m.fields ∙ ap (λ (o : Order). fields_bytes o 0 m.fields) (sym order_is);
+    }
+
+-- The header of a message's fields.
 pub headed : (raw : List ℕ) (m : Message) (sender : List ℕ) (order : Order) (h : Header) (body array bytes : List ℕ) (answer : Result (List ℕ) StampError) → IsRead raw m sender order h body
     → bytes ≡ raw → (Valid bytes m → order ≡ m.order → array ≡ header_bytes m)
     → ((fields : List Field) → AreFields order 0 fields → array ≡ fields_bytes order 0 fields → HeadsStamped answer order h (length body) (stamped_fields order fields sender))
     → HeadsStamped answer order h (length body) (stamped_fields order m.fields sender)
 headed raw m sender order h body array bytes answer r same found heads =
-    let v = r.valid in
-    let lies : array ≡ header_bytes m = found (subst (λ (l : List ℕ). Valid l m) (sym same) v) r.order_is in
-    let are : AreFields order 0 m.fields = subst (λ (o : Order). AreFields o 0 m.fields) (sym r.order_is) (are_moved m.order 16 0 m.fields v.fields) in
-    let is : array ≡ fields_bytes order 0 m.fields = lies ∙ fields_moved m.order 16 0 (record { is = refl }) m.fields ∙ ap (λ (o : Order). fields_bytes o 0 m.fields) (sym r.order_is) in
-    heads m.fields are is
+    let there = fields_there raw m order array bytes r.valid r.order_is same found in
+    heads m.fields there.are there.is
 
 -- why there is no header
 pub refused : (e : StampError) (raw : List ℕ) (m : Message) (sender : List ℕ) (order : Order) (h : Header) (body : List ℕ) → IsRead raw m sender order h body → HeadsStamped (Err e) order h (length body) (stamped_fields order m.fields sender) → Stamps m sender (Err e)

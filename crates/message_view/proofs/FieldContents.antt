@@ -13,7 +13,7 @@ use Rattle.message_view.specs.Reading.{content_fault, or_fault, is_basic_of, con
 use Rattle.message_view.specs.Words.{type_of, type_code_of}
 use Rattle.message_view.proofs.ReadFields.{basic_is, basic_again}
 
-type_code-type_of : (code : FieldCode) → type_code_of (type_of code) ≡ type_code code
+pub type_code-type_of : (code : FieldCode) → type_code_of (type_of code) ≡ type_code code
 type_code-type_of Path = refl
 type_code-type_of Interface = refl
 type_code-type_of Member = refl

@@ -1,5 +1,5 @@
 -- What a view keeps is its message's.
-use Rattle.std.proofs.Common.{◌≡◌, ℕ, ◌+◌, ◌-◌, ◌<◌, ◌≤◌, List, length, map, get_or, Option, Some, None, Result, Ok, Err, false, ltb, refl, sym, ap, subst, ◌∙◌, arith}
+use Rattle.std.proofs.Common.{◌≡◌, ℕ, ◌+◌, ◌-◌, ◌<◌, ◌≤◌, List, length, map, get_or, Option, Some, None, Result, Ok, Err, true, false, ltb, refl, sym, ap, subst, ◌∙◌, arith}
 use Rattle.std.specs.Prelude.{slice_index_or, IfOk, IsOk}
 use Rattle.std.proofs.Math.ListN.{get_or-map}
 use Rattle.std.proofs.lemmas.Bool.{lt-ltb, le-ltb}
@@ -18,8 +18,9 @@ use Rattle.signature.specs.DataType.{DataTypes, SigText}
 use Rattle.message_value.proofs.OkSteps.{ok_is, some_is}
 use Rattle.message_value.specs.Arguments.{Argument, arguments_from}
 use Rattle.message_view.specs.Spelling.{body_place, header_bytes, body_bytes, arguments_of}
+use Rattle.message_view.specs.Header.{has_required}
 use Rattle.message_view.specs.Fixed.{fields_len, whole_len, framing}
-use Rattle.message_view.specs.Reading.{in_body, body_at, message_of, framed_message, message_at}
+use Rattle.message_view.specs.Reading.{fields_of, header_padding, header_fault, in_body, body_at, message_of, framed_message, message_at}
 use Rattle.message_view.specs.Slots.{Slots, Extents, text_fields, extent_in, extents_in, AreExtents, Kept, kept_of, slots_of}
 use Rattle.message_view.specs.Places.{extent_of}
 use Rattle.message_view.specs.declared.kind.Kind.{Kind}
@@ -92,11 +93,18 @@ known_framing bytes m valid = framing_again bytes (valid_fixed bytes m valid)
 pub known_whole : (bytes : List ℕ) (m : Message) → Valid bytes m → length bytes ≡ whole_len bytes
 known_whole bytes m valid = (message_whole bytes m (valid_reads bytes m valid)).whole
 
--- nothing after the fixed part has a fault
-pub known_sound : (bytes : List ℕ) (m : Message) (fault : MsgError) → Valid bytes m → framed_message bytes ≡ Err fault → ⊥
-known_sound bytes m fault valid failed =
-    let whole = known_whole bytes m valid in
-    fault_invalid bytes fault m (whole_framed bytes (length bytes) (known_framing bytes m valid) whole (omega arith) (omega arith) ∙ failed) valid
+-- its fields are read, and nothing between them and the body has a fault
+pub record KnownHeader (fixed : Fixed) (bytes : List ℕ) : Type 0 where
+  pub front : List Field
+  pub read : fields_of bytes ≡ Ok front
+  pub passes : header_fault fixed.kind (header_padding bytes) front ≡ None
+
+pub known_header : (fixed : Fixed) (bytes : List ℕ) (m : Message) → Valid bytes m → IsFixed fixed bytes → KnownHeader fixed bytes
+known_header fixed bytes m valid is =
+    let parts = (message_whole bytes m (valid_reads bytes m valid)).parts in
+    let kind : parts.kind ≡ fixed.kind = some_is parts.kind fixed.kind (sym parts.is_kind ∙ is.kind) in
+    let required : has_required fixed.kind parts.front ≡ true = ap (λ (k : Kind). has_required k parts.front) (sym kind) ∙ parts.required in
+    record { front = parts.front; read = parts.fields; passes = rw (required, parts.padded) refl }
 
 -- the message is that of the fixed part and of the fields that were found
 pub known_first : (fixed : Fixed) (sections : Sections) (bytes : List ℕ) (m : Message) → Valid bytes m → IsFixed fixed bytes → HasHeader sections fixed.kind bytes

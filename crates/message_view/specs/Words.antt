@@ -105,6 +105,10 @@ abbrev pub KeepsNext : {X : Type 0} → Result X MsgError → Order → ℕ → 
 KeepsNext (Ok x) order start front fields tail read = (field : Field) × (read ≡ Ok (field, tail)) × IsFront order start (front ++ field ∷ []) fields tail
 KeepsNext (Err fault) order start front fields tail read = read ≡ Err fault
 
+-- what the next field of a valid array is, and what is then kept
+abbrev pub KeepsField : Order → ℕ → List Field → Fields → At → Result (Field × At) MsgError → Type 0
+KeepsField order start front fields tail read = (field : Field) × (read ≡ Ok (field, tail)) × IsFront order start (front ++ field ∷ []) fields tail
+
 -- what a test of some bytes answers, whose value isn't kept
 abbrev pub Passes : {X Y : Type 0} → Result X MsgError → Result Y MsgError → Type 0
 Passes {Y = Y} (Ok x) read = (y : Y) × (read ≡ Ok y)

@@ -60,7 +60,7 @@ impl FieldType {
     }
 
     /// What the place of a value of it is a multiple of, in bytes.
-    fn alignment(self) -> usize
+    pub(crate) fn alignment(self) -> usize
         ensures { result ≡ alignment_of (basic (type_code_of self)) }
     {
         match self {
@@ -112,7 +112,7 @@ impl FieldCode {
 
 /// Goes over the variant of a field of which nothing is known.
 #[tactic(auto, unfolding(crate::specs::Reading::content_at))]
-fn skip_content(cursor: &mut Cursor<'_>, order: Order) -> Result<(), MsgError>
+pub(crate) fn skip_content(cursor: &mut Cursor<'_>, order: Order) -> Result<(), MsgError>
     ensures { Checks result cursor.new (content_at order None cursor.old) }
 {
     let value_type = cursor.signature()?;
@@ -120,7 +120,7 @@ fn skip_content(cursor: &mut Cursor<'_>, order: Order) -> Result<(), MsgError>
 }
 
 impl<'a> Fields<'a> {
-    fn new() -> Self
+    pub(crate) fn new() -> Self
         ensures shows { shown result ≡ no_slots }
         ensures lie { lying result ≡ no_extents }
     {
@@ -135,7 +135,7 @@ impl<'a> Fields<'a> {
         self.slots[code.slot()]
     }
 
-    fn put(&mut self, code: FieldCode, content: Content<'a>)
+    pub(crate) fn put(&mut self, code: FieldCode, content: Content<'a>)
         ensures shows { shown self.new ≡ slice_set (shown self.old) (slot_of code) (Some (value_of content.entry)) }
         ensures lie { lying self.new ≡ slice_set (lying self.old) (slot_of code) (lies_in (Some content.entry)) }
     {

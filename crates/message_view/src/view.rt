@@ -8,7 +8,7 @@ ghost use Rattle.message_view.specs.Valid.{Valid};
 ghost use Rattle.message_view.specs.Fixed.{whole_len};
 ghost use Rattle.message_view.specs.Reading.{framed_message, header_fault, arguments_at};
 ghost use Rattle.message_view.specs.Slots.{slots_of};
-ghost use Rattle.message_view.specs.Words.{ReadsFixed, ReadsHeader, ReadsFramed, Passes, shown};
+ghost use Rattle.message_view.specs.Words.{HasHeader, ReadsFixed, ReadsHeader, ReadsFramed, Passes, shown};
 
 use crate::extent::{Extent, TextField};
 use crate::field::FieldCode;
@@ -79,6 +79,27 @@ fn split_sections<'a>(fixed: &Fixed, bytes: &'a [u8]) -> Result<Sections<'a>, Ms
         signature,
         body,
     })
+}
+
+/// The fields and the body of a valid message whose fixed part was read. What was checked isn't looked at again.
+#[inline(always)]
+fn valid_sections<'a>(fixed: &Fixed, bytes: &'a [u8]) -> Sections<'a>
+    requires fixed { ReadsFixed (Ok (Some fixed.now)) bytes.now }
+    requires whole { length bytes.now ≡ whole_len bytes.now }
+    requires valid { (m : Message) × Valid bytes.now m }
+    ensures { HasHeader result fixed.now.kind bytes.entry.now }
+{
+    let fields_len = fixed.fields_len as usize;
+    let (_, after_fixed) = bytes.split_at(FIXED_LEN);
+    let (array, after_fields) = after_fixed.split_at(fields_len);
+    let (_, body) = after_fields.split_at(padding(8, fields_len));
+    let fields = Fields::of_valid(fixed.order, FIXED_LEN, array);
+    let signature = fields.signature();
+    Sections {
+        fields,
+        signature,
+        body,
+    }
 }
 
 /// The fields and the body of a message whose fixed part was read, and whose length is the one that it says.
@@ -192,8 +213,8 @@ impl<'a> View<'a> {
         View::read_exactly(bytes)
     }
 
-    /// The view of bytes that are known to be one message, as those that were built or stamped here. Its header is read
-    /// again, and its body isn't: it takes the time of the header alone, whatever the body's length.
+    /// The view of bytes that are known to be one message, as those that were built or stamped here. It finds the header's
+    /// fields by their lengths, and looks neither at their texts again nor at the body.
     pub fn of_message(bytes: &'a [u8]) -> View<'a>
         requires { (m : Message) × Valid bytes.now m }
         ensures { result ≡ bytes.entry.now }
@@ -201,9 +222,7 @@ impl<'a> View<'a> {
         let Ok(Some(fixed)) = Fixed::read(bytes) else {
             unreachable!()
         };
-        let Ok(sections) = split_sections(&fixed, bytes) else {
-            unreachable!()
-        };
+        let sections = valid_sections(&fixed, bytes);
         View::of_sections(bytes, &fixed, sections)
     }
 

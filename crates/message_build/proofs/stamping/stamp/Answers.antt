@@ -2,8 +2,14 @@ use Rattle.std.proofs.Common.{◌+◌, ◌<◌, ◌≤◌, length, Ok, Err, arit
 use Rattle.std.proofs.lemmas.Result.{err_from_is_err_and}
 use Rattle.message_view.specs.Valid.{max_message_len}
 use Rattle.message_build.specs.Stamped.{stamped}
-use Rattle.message_build.proofs.StampedMessages.{is_read, headed, refused, stamped_valid, message_too_large}
+use Rattle.message_build.proofs.StampedMessages.{is_read, fields_there, headed, refused, stamped_valid, message_too_large}
 use Rattle.message_build.proofs.stamping.stamp.Goals as goal
+
+pub stamped_header-requires-clause-valid : goal.stamped_header-requires-clause-valid
+stamped_header-requires-clause-valid c =
+    let spells = c.raw.ensures.spells in
+    let there = fields_there c.args.view.now spells.0 c.order-order.result c.array_of-array.result.now c.raw.result.now spells.1 (c.order-order.ensures spells.0 spells.1) c.raw.ensures.value (c.array_of-array.ensures.array spells.0) in
+    (spells.0.fields, there.are, there.is)
 
 pub returns-in_err-bytes : goal.returns-in_err-bytes
 returns-in_err-bytes c =

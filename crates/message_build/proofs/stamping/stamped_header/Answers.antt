@@ -6,7 +6,7 @@ use Rattle.message_build.proofs.stamping.stamped_header.Goals as goal
 
 pub returns-then-fields_len-gt-MAX_ARRAY_LEN-clause-heads : goal.returns-then-fields_len-gt-MAX_ARRAY_LEN-clause-heads
 returns-then-fields_len-gt-MAX_ARRAY_LEN-clause-heads c = λ fields are is.
-    let w : Headed c.args.order c.args.header.now c.args.body_len fields c.args.sender.now c.args.bytes.items c.push_fixed.new.bytes.items c.push_kept.new.bytes.items c.push_sender.new.bytes.items = record { none = c.requires.empty; fixed = c.in_ok-push_fixed.ensures; kept = c.in_ok-push_kept.ensures.kept fields are is; named = c.in_ok-push_sender.ensures } in
+    let w : Headed c.args.order c.args.header.now c.args.body_len fields c.args.sender.now c.args.bytes.items c.push_fixed.new.bytes.items c.push_kept_of.new.bytes.items c.push_sender.new.bytes.items = record { none = c.requires.empty; fixed = c.in_ok-push_fixed.ensures; kept = c.in_ok-push_kept_of.ensures.kept fields are is; named = c.in_ok-push_sender.ensures } in
     let len = fields_len_is _ _ _ _ _ _ _ _ _ w in
     let all : length c.push_sender.new.bytes.items - 16 ≡ length (stamped_fields c.args.order fields c.args.sender.now) = len in
     let said = c.len-fields_len.ensures in
@@ -14,7 +14,7 @@ returns-then-fields_len-gt-MAX_ARRAY_LEN-clause-heads c = λ fields are is.
 
 pub returns-clause-heads : goal.returns-clause-heads
 returns-clause-heads c = λ fields are is.
-    let w : Headed c.args.order c.args.header.now c.args.body_len fields c.args.sender.now c.args.bytes.items c.push_fixed.new.bytes.items c.push_kept.new.bytes.items c.push_sender.new.bytes.items = record { none = c.requires.empty; fixed = c.in_ok-push_fixed.ensures; kept = c.in_ok-push_kept.ensures.kept fields are is; named = c.in_ok-push_sender.ensures } in
+    let w : Headed c.args.order c.args.header.now c.args.body_len fields c.args.sender.now c.args.bytes.items c.push_fixed.new.bytes.items c.push_kept_of.new.bytes.items c.push_sender.new.bytes.items = record { none = c.requires.empty; fixed = c.in_ok-push_fixed.ensures; kept = c.in_ok-push_kept_of.ensures.kept fields are is; named = c.in_ok-push_sender.ensures } in
     let len = fields_len_is _ _ _ _ _ _ _ _ _ w in
     let all : length c.push_sender.new.bytes.items - 16 ≡ length (stamped_fields c.args.order fields c.args.sender.now) = len in
     let said : c.len-fields_len.result ≡ length c.push_sender.new.bytes.items = omega (arith, c.len-fields_len.ensures) in
