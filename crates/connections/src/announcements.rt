@@ -6,6 +6,7 @@ ghost use Rattle.connections.specs.Broadcasts.{Broadcasts};
 use crate::connection::Connection;
 use crate::error::AnswerError;
 use crate::site::Site;
+use arrayvec::ArrayVec;
 use bus_messages::{BuildError, Bytes, UniqueName, name_acquired, name_lost, name_owner_changed};
 use message_view::View;
 use owners::Change;
@@ -161,11 +162,18 @@ impl<J: Naming, M: Mailbox + Carrier> Connection<J, M> {
         ensures routed { Broadcasts M.outbox_of source view.now self.old.pass result self.new.pass }
         ensures name { self.new.name ≡ self.old.name }
     {
-        match site
-            .bus
-            .route(site.rt, site.alloc, &mut self.pass, source, view, bytes)
-        {
-            Ok(_) => Ok(()),
+        let mut refused = ArrayVec::new();
+        let routed = site.bus.route_into(
+            site.rt,
+            site.alloc,
+            &mut self.pass,
+            source,
+            view,
+            bytes,
+            &mut refused,
+        );
+        match routed {
+            Ok(()) => Ok(()),
             Err(_) => Err(AnswerError::NoMemory),
         }
     }

@@ -246,7 +246,9 @@ fn gated<R: Wait + Abort>(
 ) -> Result<usize, Fail> {
     let bytes = Bytes::from_static(b"signal");
     if sender.has(3) {
-        return Ok(sender.route_gated(rt, alloc, &[3], &bytes, calls)?.len());
+        let mut refused = ArrayVec::new();
+        sender.route_gated(rt, alloc, &[3], &bytes, calls, &mut refused)?;
+        return Ok(refused.len());
     }
     panic!(rt; "no seat");
 }
