@@ -1,5 +1,5 @@
 -- A rule's program, with an island of its own for each far target, isn't longer than the rule weighs.
-use Rattle.std.proofs.Common.{◌≡◌, ℕ, zero, suc, ◌+◌, ◌-◌, ◌*◌, ◌≤◌, Bool, true, false, List, [], ◌∷◌, length, refl, ap, arith}
+use Rattle.std.proofs.Common.{◌≡◌, ℕ, zero, suc, ◌+◌, ◌-◌, ◌*◌, ◌≤◌, Bool, true, false, List, [], ◌∷◌, length, refl, arith}
 use Rattle.std.specs.Prelude.{◌/◌, ◌%◌, ◌^◌, ◌&&◌, ◌==◌, if◌then◌else◌, nat_lt, slice_index, sum_by}
 use Rattle.std.specs.Str.{bytes_eq}
 use Rattle.std.proofs.lemmas.Bool.{eqb-true, ne_eqb}
@@ -10,7 +10,6 @@ use Rattle.bpf_code.specs.declared.operation.Width.TheVariants.{Word, Half, Byte
 use Rattle.bpf_code.specs.declared.operation.Test.{Test}
 use Rattle.bpf_code.specs.declared.operation.Test.TheVariants.{Equal, Above, AtLeast, SharesBit}
 use Rattle.bpf_code.specs.Table.{op_of}
-use Rattle.jump_islands.specs.Draft.{DraftTree, instructions_of}
 use Rattle.jump_islands.specs.PlainLength.{is_far, count, span, size_of, sizes_of, plain_length}
 use Rattle.match_rule.specs.Bytes.{ends_with}
 use Rattle.match_key.specs.declared.source.Source.TheVariants.{Header, Arg}
@@ -19,19 +18,21 @@ use Rattle.match_key.specs.declared.relation.Relation.TheVariants as relations
 use Rattle.match_rule.specs.declared.condition.Condition.{Condition}
 use Rattle.match_rule.specs.declared.condition.Condition.TheVariants.{Kind, Sender, Compares}
 use Rattle.match_rule.specs.RuleTree.{RuleTree, is_owned_name, slashes, relation_weight, condition_weight, weight_of}
+use Rattle.message_view.specs.declared.extent.TextField.TheVariants as texts
 use Rattle.message_view.specs.Header.{kind_byte}
 use Rattle.match_key.specs.Kinds.{kind_meant}
 use Rattle.match_rule.specs.Condition.{value_of}
+use Rattle.summary.specs.Layout.{kind_place, text_place, argument_place, ownership_place}
 use Rattle.rule_compile.specs.declared.condition.Part.TheVariants.{Words, Bytes}
 use Rattle.rule_compile.specs.Code.{image_word, indexed, index_from_a, branch, want, settle, two, four, same_word, same_words, same_bytes, has_len, is_there, is_there_if, has_text_len, index_text, has_bytes, may_end, in_namespace}
 use Rattle.rule_compile.specs.Folders.{with_front, parts_of, along, is_nested}
-use Rattle.rule_compile.specs.RuleCode.{argument_at, field_at, words_at, has_type, has_text_type, owns, path_namespace_len, path_namespace, relation_len, relation_bytes, there_code, type_code, part_code, rank_of, ranks, of_rank, rising, falling, offered, verdicts, rule_code}
+use Rattle.rule_compile.specs.RuleCode.{field_at, words_at, has_type, has_text_type, owns, path_namespace_len, path_namespace, relation_len, relation_bytes, there_code, type_code, part_code, rank_of, ranks, of_rank, rising, falling, offered, verdicts, rule_code}
 
 -- ---- single instructions
 
--- the sizes of a program's instructions, added up
+-- the length, which no tactic computes
 total : List Ins → ℕ
-total code = sum_by (λ size. size) (sizes_of code)
+total code = plain_length code
 
 count_small : (far : Bool) → count far ≤ 1
 count_small true = omega arith
@@ -187,15 +188,15 @@ nested_total at value rest =
 -- ---- conditions
 
 type_total : (n code : ℕ) (rest : List Ins) → total (has_type n code rest) ≤ 3 + total rest
-type_total n code rest = omega (arith, image_total (argument_at n) (want Equal code rest), want_total Equal code rest)
+type_total n code rest = omega (arith, image_total (argument_place n) (want Equal code rest), want_total Equal code rest)
 
 text_type_total : (n : ℕ) (rest : List Ins) → total (has_text_type n rest) ≤ 5 + total rest
 text_type_total n rest =
     let tail = want Equal 111 rest in
-    omega (arith, image_total (argument_at n) (settle Equal 115 rest tail), settle_total Equal 115 rest tail, want_total Equal 111 rest)
+    omega (arith, image_total (argument_place n) (settle Equal 115 rest tail), settle_total Equal 115 rest tail, want_total Equal 111 rest)
 
 owns_total : (slot : ℕ) (rest : List Ins) → total (owns slot rest) ≤ 3 + total rest
-owns_total slot rest = omega (arith, image_total (840 + 4 * (slot / 32)) (want SharesBit (2 ^ (slot % 32)) rest), want_total SharesBit (2 ^ (slot % 32)) rest)
+owns_total slot rest = omega (arith, image_total (ownership_place slot) (want SharesBit (2 ^ (slot % 32)) rest), want_total SharesBit (2 ^ (slot % 32)) rest)
 
 path_len_total : (at : ℕ) (value : List ℕ) (rest : List Ins) → total (path_namespace_len at value rest) ≤ 6 + total rest
 path_len_total at value rest =
@@ -246,23 +247,23 @@ IsWithin weight piece = (c : Condition) (rest : List Ins) → total (piece c res
 
 words_within : (slot : ℕ) → IsWithin words_weight (part_code Words slot)
 words_within slot (Kind kind) rest =
-    let tail = want Equal (kind_byte (kind_meant kind)) rest in omega (arith, image_total 4 tail, want_total Equal (kind_byte (kind_meant kind)) rest)
+    let tail = want Equal (kind_byte (kind_meant kind)) rest in omega (arith, image_total kind_place tail, want_total Equal (kind_byte (kind_meant kind)) rest)
 words_within slot (Sender name) rest =
     let a = owns_total slot rest in
-    let b = text_len_total Equal (length name) 64 rest in
-    choice_total (is_owned_name name) (11 + total rest) (owns slot rest) (has_text_len Equal (length name) 64 rest) (omega arith) (omega arith)
+    let b = text_len_total Equal (length name) (text_place texts.Sender) rest in
+    choice_total (is_owned_name name) (11 + total rest) (owns slot rest) (has_text_len Equal (length name) (text_place texts.Sender) rest) (omega arith) (omega arith)
 words_within slot (Compares (Header field) relation value) rest =
     let tail = relation_len relation (field_at field) value rest in
     omega (arith, there_code_total relation (field_at field) tail, relation_len_total relation (field_at field) value rest)
 words_within slot (Compares (Arg n) relation value) rest =
-    let tail = relation_len relation (argument_at n + 4) value rest in
-    omega (arith, type_code_total relation n tail, relation_len_total relation (argument_at n + 4) value rest)
+    let tail = relation_len relation (argument_place n + 4) value rest in
+    omega (arith, type_code_total relation n tail, relation_len_total relation (argument_place n + 4) value rest)
 
 bytes_within : (slot : ℕ) → IsWithin bytes_weight (part_code Bytes slot)
 bytes_within slot (Kind kind) rest = omega arith
 bytes_within slot (Sender name) rest =
-    let b = bytes_total 64 name rest in
-    choice_total (is_owned_name name) (13 + length name + total rest) rest (has_bytes 64 name rest) (omega arith) (omega arith)
+    let b = bytes_total (text_place texts.Sender) name rest in
+    choice_total (is_owned_name name) (13 + length name + total rest) rest (has_bytes (text_place texts.Sender) name rest) (omega arith) (omega arith)
 bytes_within slot (Compares source relation value) rest = omega (arith, relation_total relation (words_at source) value rest)
 
 -- ---- rules
@@ -335,7 +336,7 @@ module _ (weight : Condition → ℕ) (piece : Condition → List Ins → List I
       omega arith
 
 offered_total : (eavesdrops : Bool) → total (offered eavesdrops verdicts) ≤ 5
-offered_total eavesdrops = choice_total eavesdrops 5 verdicts (image_word 56 ∷ want Equal 0 verdicts) (omega (arith, verdicts_total)) (omega (arith, image_total 56 (want Equal 0 verdicts), want_total Equal 0 verdicts, verdicts_total))
+offered_total eavesdrops = choice_total eavesdrops 5 verdicts (image_word (text_place texts.Destination) ∷ want Equal 0 verdicts) (omega (arith, verdicts_total)) (omega (arith, image_total (text_place texts.Destination) (want Equal 0 verdicts), want_total Equal 0 verdicts, verdicts_total))
 
 both_sums : (cs : List Condition) → sum_by words_weight cs + sum_by bytes_weight cs ≤ sum_by condition_weight cs
 both_sums [] = omega arith
@@ -354,9 +355,6 @@ code_total slot rule =
     omega (arith, offered_total rule.eavesdrops, both_sums cs)
 
 -- with an island for each far target the program isn't longer than the rule weighs
-pub rule_length : (slot : ℕ) (rule : RuleTree) (draft : DraftTree) → instructions_of draft ≡ rule_code slot rule → plain_length draft ≤ weight_of rule
+pub rule_length : (slot : ℕ) (rule : RuleTree) → plain_length (rule_code slot rule) ≤ weight_of rule
 unfolding total
-rule_length slot rule draft is =
-    let e : plain_length draft ≡ total (rule_code slot rule) = ap total is in
-    let h : total (rule_code slot rule) ≤ weight_of rule = code_total slot rule in
-    rw e h
+rule_length slot rule = code_total slot rule

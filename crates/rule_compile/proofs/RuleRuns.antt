@@ -7,6 +7,7 @@ use Rattle.std.specs.Prelude.{unwrap_or}
 use Rattle.bpf_code.specs.declared.instruction.Ins.{Ins}
 use Rattle.bpf_code.specs.declared.operation.Test.TheVariants.{Equal}
 use Rattle.bpf_code.specs.Steps.{Ends}
+use Rattle.message_view.specs.declared.extent.TextField.TheVariants as texts
 use Rattle.message_view.specs.Message.{Message, destination_of}
 use Rattle.message_view.specs.Valid.{Valid}
 use Rattle.match_key.specs.declared.source.Field.{Field}
@@ -24,6 +25,7 @@ use Rattle.summary.specs.declared.edition.Edition.TheVariants.{Two}
 use Rattle.summary.specs.ImageBytes.{image_bytes}
 use Rattle.summary.specs.Sets.{has_slot}
 use Rattle.summary.specs.Shown.{AreBytes, ShowsText, Shows}
+use Rattle.summary.specs.Layout.{text_place}
 use Rattle.rule_compile.specs.declared.condition.Part.TheVariants.{Words, Bytes}
 use Rattle.rule_compile.specs.Code.{returns}
 use Rattle.rule_compile.specs.Compiled.{IsSlotOf, AgreeOn}
@@ -112,16 +114,16 @@ tests_conditions image slot P cs each =
 
 -- ---- a message with a destination
 
-tests_offered : (image : List ℕ) (destination : Option (List ℕ)) (eavesdrops : Bool) → ShowsText image 56 destination → Tests image Any ((destination ≡ None) ⊎ (eavesdrops ≡ true)) (offered eavesdrops)
+tests_offered : (image : List ℕ) (destination : Option (List ℕ)) (eavesdrops : Bool) → ShowsText image (text_place texts.Destination) destination → Tests image Any ((destination ≡ None) ⊎ (eavesdrops ≡ true)) (offered eavesdrops)
 tests_offered image destination true shows =
     tests_none image Any ((destination ≡ None) ⊎ (true ≡ true)) (inr refl)
 tests_offered image None false shows =
-    tests_same image Any _ _ (offered false) (λ _. inl refl, λ _. refl) (tests_word image Any 56 0 Equal 0 shows.0)
+    tests_same image Any _ _ (offered false) (λ _. inl refl, λ _. refl) (tests_word image Any (text_place texts.Destination) 0 Equal 0 shows.0)
 tests_offered image (Some text) false tells =
     tests_same image Any _ _ (offered false) (
       λ e. absurd (let z = eqb-true tells.place 0 e in let start = tells.after_start in omega arith),
       λ p. elim p [ inl e ↦ absurd cc | inr e ↦ absurd (false≢true e) ],
-    ) (tests_word image Any 56 tells.place Equal 0 tells.place_word)
+    ) (tests_word image Any (text_place texts.Destination) tells.place Equal 0 tells.place_word)
 
 -- ---- the slot of the sender's name
 

@@ -3,34 +3,40 @@
 -- instruction is the one that says no match.
 use Rattle.std.specs.Prelude.{ℕ, zero, suc, ◌+◌, ◌-◌, ◌*◌, ◌/◌, List, [], ◌∷◌, length, slice_index, ◌==◌, if◌then◌else◌, Bool}
 use Rattle.bpf_code.specs.declared.instruction.Ins.{Ins}
-use Rattle.bpf_code.specs.declared.operation.Op.TheVariants.{LoadImage, LoadIndexed, IndexFromA, ReturnConstant, Branch}
+use Rattle.bpf_code.specs.declared.operation.Op.{Op}
+use Rattle.bpf_code.specs.declared.operation.Op.TheVariants.{LoadImage, LoadIndexed, IndexFromA, ReturnConstant}
 use Rattle.bpf_code.specs.declared.operation.Width.{Width}
 use Rattle.bpf_code.specs.declared.operation.Width.TheVariants.{Word, Half, Byte}
 use Rattle.bpf_code.specs.declared.operation.Operand.TheVariants.{Constant}
 use Rattle.bpf_code.specs.declared.operation.Test.{Test}
 use Rattle.bpf_code.specs.declared.operation.Test.TheVariants.{Equal, Above}
 use Rattle.bpf_code.specs.Table.{code_of}
+use Rattle.jump_islands.specs.Source.{branch_over}
 
 -- ---- instructions
 
+-- an instruction that is no jump
+abbrev pub plain : Op → ℕ → Ins
+plain op k = record { code = code_of op; jt = 0; jf = 0; k = k }
+
 -- A becomes the word of the image at a place
 abbrev pub image_word : ℕ → Ins
-image_word at = record { code = code_of (LoadImage Word); jt = 0; jf = 0; k = at }
+image_word at = plain (LoadImage Word) at
 
 -- A becomes what stands k bytes after X
 abbrev pub indexed : Width → ℕ → Ins
-indexed width k = record { code = code_of (LoadIndexed width); jt = 0; jf = 0; k = k }
+indexed width k = plain (LoadIndexed width) k
 
 -- X becomes A
 abbrev pub index_from_a : Ins
-index_from_a = record { code = code_of IndexFromA; jt = 0; jf = 0; k = 0 }
+index_from_a = plain IndexFromA 0
 
 abbrev pub returns : ℕ → Ins
-returns verdict = record { code = code_of ReturnConstant; jt = 0; jf = 0; k = verdict }
+returns verdict = plain ReturnConstant verdict
 
 -- a comparison of A with a number, and how many instructions it goes over where it holds and where it doesn't
 abbrev pub branch : Test → ℕ → ℕ → ℕ → Ins
-branch test k hit miss = record { code = code_of (Branch test Constant); jt = hit; jf = miss; k = k }
+branch test k hit miss = branch_over test Constant k hit miss
 
 -- ---- pieces
 

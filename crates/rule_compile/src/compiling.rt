@@ -4,13 +4,11 @@ ghost use Rattle.bpf_code.specs.Program.{WellFormed};
 ghost use Rattle.rule_compile.specs.Compiled.{IsSlotOf, IsCompiled, IsRefusal};
 ghost use Rattle.rule_compile.specs.Rest.{IsRest, tested_of};
 
-use crate::drafting::draft_of;
 use crate::error::CompileError;
 use crate::ranking::rule_code;
 use crate::rest::Tested;
 use bpf_code::Ins;
 use bpf_verify::{Verified, verify};
-use jump_islands::lower;
 use match_rule::Rule;
 use std::alloc::Global;
 
@@ -38,8 +36,7 @@ fn compile_tested(
 {
     let slot = slot.unwrap_or(0);
     let code = rule_code(alloc, slot, rule.conditions(), rule.eavesdrops(), tested)?;
-    let draft = draft_of(alloc, &code)?;
-    let program = lower(alloc, &draft)?;
+    let program = code.lower(alloc)?;
     Ok(accepted(program))
 }
 

@@ -1,4 +1,4 @@
--- A lowered draft runs as the draft does.
+-- A lowered program runs as its source does.
 use Rattle.std.proofs.Common.{◌≡◌, ℕ, zero, suc, ◌+◌, ◌-◌, ◌<◌, ◌≤◌, Bool, true, false, List, [], ◌∷◌, length, reverse, Option, Some, None, ◌⊎◌, inl, inr, refl, sym, ◌∙◌, arith, subst}
 use Rattle.std.proofs.lemmas.Option.{slice_get_past, slice_get_cases}
 use Rattle.std.proofs.Math.ListN.{length-reverse}
@@ -13,27 +13,27 @@ use Rattle.bpf_code.specs.Table.{op_of}
 use Rattle.bpf_code.specs.Loads.{load}
 use Rattle.bpf_code.specs.Effects.{Effect, SetA, SetX, SetWord, Skip, Finish, or_finish, computed, index_operand, passes, branch, effect_of}
 use Rattle.bpf_code.specs.Steps.{State, Next, Goes, Stops, after, step_of, Arrives, EndsFrom}
-use Rattle.jump_islands.specs.Draft.{is_plain_op}
-use Rattle.jump_islands.specs.Tails.{TailTree, len, height, jump_over}
+use Rattle.jump_islands.specs.Source.{is_plain_op, jump_over}
+use Rattle.jump_islands.specs.Tails.{TailTree, len, height}
 use Rattle.jump_islands.proofs.ListPlaces.{slice_get-reverse}
 use Rattle.jump_islands.proofs.TailFacts.{Reached, PlainPut, JumpPut, IsPut, AreLowered}
 
 -- ---- places
 
 -- what the runs of a tail need
-pub record Lowers (draft : List Ins) (t : TailTree) : Type 0 where
+pub record Lowers (source : List Ins) (t : TailTree) : Type 0 where
   pub last : height t 0 ≡ 0
-  pub lowered : AreLowered t draft
-  pub top : height t (length draft) ≡ len t
+  pub lowered : AreLowered t source
+  pub top : height t (length source) ≡ len t
 
--- a place of a draft of n lines, and its place in the program
+-- a place of a source of n instructions, and its place in the program
 abbrev pub Tied : ℕ → TailTree → ℕ → ℕ → Type 0
 Tied n t p q = q + height t (n - p) ≡ len t
 
 abbrev pub program_of : TailTree → List Ins
 program_of t = reverse t.program
 
-pub put_at : (t : TailTree) (draft : List Ins) (p : ℕ) (ins : Ins) → AreLowered t draft → slice_get draft p ≡ Some ins → (i : ℕ) × (p + i + 1 ≡ length draft) × IsPut t (op_of ins.code) ins i
+pub put_at : (t : TailTree) (source : List Ins) (p : ℕ) (ins : Ins) → AreLowered t source → slice_get source p ≡ Some ins → (i : ℕ) × (p + i + 1 ≡ length source) × IsPut t (op_of ins.code) ins i
 put_at t [] p ins h at = cc
 put_at t (x ∷ more) zero ins h at =
     let e : x ≡ ins = cc in
@@ -61,16 +61,16 @@ tied_next n t p q i e above tied =
     let b : n - (p + 1) ≡ i = omega arith in
     rw b (omega arith)
 
-pub tied_start : (draft : List Ins) (t : TailTree) → Lowers draft t → Tied (length draft) t 0 0
-tied_start draft t low =
-    let e : length draft - 0 ≡ length draft = omega arith in
+pub tied_start : (source : List Ins) (t : TailTree) → Lowers source t → Tied (length source) t 0 0
+tied_start source t low =
+    let e : length source - 0 ≡ length source = omega arith in
     let top = low.top in
     rw e (omega arith)
 
--- a place past the draft's end is one past the program's end
-pub tied_past : (draft : List Ins) (t : TailTree) (p q : ℕ) → Lowers draft t → length draft ≤ p → Tied (length draft) t p q → slice_get (program_of t) q ≡ None
-tied_past draft t p q low past tied =
-    let e : length draft - p ≡ 0 = omega arith in
+-- a place past the source's end is one past the program's end
+pub tied_past : (source : List Ins) (t : TailTree) (p q : ℕ) → Lowers source t → length source ≤ p → Tied (length source) t p q → slice_get (program_of t) q ≡ None
+tied_past source t p q low past tied =
+    let e : length source - p ≡ 0 = omega arith in
     let g : q + height t 0 ≡ len t = rw e at tied in
     let l = low.last in
     slice_get_past (program_of t) q (omega (arith, length-reverse t.program))
@@ -135,7 +135,7 @@ plain_effect ReturnA ins image a x word h = tt
 plain_effect IndexFromA ins image a x word h = tt
 plain_effect LoadFromX ins image a x word h = tt
 
--- ---- one step of the draft, in the program
+-- ---- one step of the source, in the program
 
 -- the configuration at another place
 abbrev pub moved : State → ℕ → State
@@ -201,39 +201,39 @@ led_op n t image s q i ins op effect e put tied row does =
     let here = tied_above n t s.place q i (height t i) e p.above tied in
     plain_led n t image s q ins op effect (tied_next n t s.place q i e p.above tied) (slice_get-reverse t.program (height t i) q ins p.is here) row does (subst PlainEffect does (plain_effect op ins image s.a s.x (s.words ins.k) refl))
 
-led : (draft : List Ins) (t : TailTree) (image : List ℕ) (s : State) (q : ℕ) (next : Next) → Lowers draft t → Tied (length draft) t s.place q → step_of draft image s ≡ Some next → Led (length draft) t image (moved s q) next
-led draft t image s q next low tied is =
-    let a = and_then_out _ (slice_get draft s.place) next is in
+led : (source : List Ins) (t : TailTree) (image : List ℕ) (s : State) (q : ℕ) (next : Next) → Lowers source t → Tied (length source) t s.place q → step_of source image s ≡ Some next → Led (length source) t image (moved s q) next
+led source t image s q next low tied is =
+    let a = and_then_out _ (slice_get source s.place) next is in
     let b = and_then_out _ (op_of a.0.code) next a.2 in
     let c = map_out _ (effect_of b.0 a.0 image s.a s.x (s.words a.0.k)) next b.2 in
-    let put = put_at t draft s.place a.0 low.lowered a.1 in
-    subst (Led (length draft) t image (moved s q)) c.2 (led_op (length draft) t image s q put.0 a.0 b.0 c.0 put.1 (subst (λ (o : Option Op). IsPut t o a.0 put.0) b.1 put.2) tied b.1 c.1)
+    let put = put_at t source s.place a.0 low.lowered a.1 in
+    subst (Led (length source) t image (moved s q)) c.2 (led_op (length source) t image s q put.0 a.0 b.0 c.0 put.1 (subst (λ (o : Option Op). IsPut t o a.0 put.0) b.1 put.2) tied b.1 c.1)
 
--- where the draft makes no step, the program makes none
-none_op : (draft : List Ins) (t : TailTree) (image : List ℕ) (s : State) (q i : ℕ) (ins : Ins) (o : Option Op) → s.place + i + 1 ≡ length draft → slice_get draft s.place ≡ Some ins → op_of ins.code ≡ o → IsPut t o ins i → Tied (length draft) t s.place q → step_of draft image s ≡ None → step_of (program_of t) image (moved s q) ≡ None
-none_op draft t image s q i ins None e at row put tied is =
+-- where the source makes no step, the program makes none
+none_op : (source : List Ins) (t : TailTree) (image : List ℕ) (s : State) (q i : ℕ) (ins : Ins) (o : Option Op) → s.place + i + 1 ≡ length source → slice_get source s.place ≡ Some ins → op_of ins.code ≡ o → IsPut t o ins i → Tied (length source) t s.place q → step_of source image s ≡ None → step_of (program_of t) image (moved s q) ≡ None
+none_op source t image s q i ins None e at row put tied is =
     let p : PlainPut t ins i = put in
-    let here = tied_above (length draft) t s.place q i (height t i) e p.above tied in
+    let here = tied_above (length source) t s.place q i (height t i) e p.above tied in
     let there = slice_get-reverse t.program (height t i) q ins p.is here in
     rw (there, row) refl
-none_op draft t image s q i ins (Some Jump) e at row put tied is =
-    let h = steps_by draft image s ins Jump (Skip ins.k) at row refl in cc
-none_op draft t image s q i ins (Some (Branch test Constant)) e at row put tied is =
-    let h = steps_by draft image s ins (Branch test Constant) (branch (passes test s.a ins.k) ins) at row refl in cc
-none_op draft t image s q i ins (Some (Branch test Index)) e at row put tied is =
-    let h = steps_by draft image s ins (Branch test Index) (branch (passes test s.a s.x) ins) at row refl in cc
-none_op draft t image s q i ins (Some op) e at row put tied is =
+none_op source t image s q i ins (Some Jump) e at row put tied is =
+    let h = steps_by source image s ins Jump (Skip ins.k) at row refl in cc
+none_op source t image s q i ins (Some (Branch test Constant)) e at row put tied is =
+    let h = steps_by source image s ins (Branch test Constant) (branch (passes test s.a ins.k) ins) at row refl in cc
+none_op source t image s q i ins (Some (Branch test Index)) e at row put tied is =
+    let h = steps_by source image s ins (Branch test Index) (branch (passes test s.a s.x) ins) at row refl in cc
+none_op source t image s q i ins (Some op) e at row put tied is =
     let p : PlainPut t ins i = put in
-    let here = tied_above (length draft) t s.place q i (height t i) e p.above tied in
+    let here = tied_above (length source) t s.place q i (height t i) e p.above tied in
     let there = slice_get-reverse t.program (height t i) q ins p.is here in
-    step_row (program_of t) image (moved s q) ins op there row ∙ map_none (after s ins.k) (after (moved s q) ins.k) (effect_of op ins image s.a s.x (s.words ins.k)) (sym (step_row draft image s ins op at row) ∙ is)
+    step_row (program_of t) image (moved s q) ins op there row ∙ map_none (after s ins.k) (after (moved s q) ins.k) (effect_of op ins image s.a s.x (s.words ins.k)) (sym (step_row source image s ins op at row) ∙ is)
 
-none_led : (draft : List Ins) (t : TailTree) (image : List ℕ) (s : State) (q : ℕ) → Lowers draft t → Tied (length draft) t s.place q → step_of draft image s ≡ None → step_of (program_of t) image (moved s q) ≡ None
-none_led draft t image s q low tied is = elim ((slice_get_cases draft s.place).1) [
+none_led : (source : List Ins) (t : TailTree) (image : List ℕ) (s : State) (q : ℕ) → Lowers source t → Tied (length source) t s.place q → step_of source image s ≡ None → step_of (program_of t) image (moved s q) ≡ None
+none_led source t image s q low tied is = elim ((slice_get_cases source s.place).1) [
   | inl (ins, inside, at, same) ↦ (
-      let put = put_at t draft s.place ins low.lowered at in
-      none_op draft t image s q put.0 ins (op_of ins.code) put.1 at refl put.2 tied is)
-  | inr (past, none) ↦ rw (tied_past draft t s.place q low past tied) refl
+      let put = put_at t source s.place ins low.lowered at in
+      none_op source t image s q put.0 ins (op_of ins.code) put.1 at refl put.2 tied is)
+  | inr (past, none) ↦ rw (tied_past source t s.place q low past tied) refl
 ]
 
 -- ---- runs
@@ -242,25 +242,25 @@ gets_ends : (program : List Ins) (image : List ℕ) (v m : ℕ) (s u : State) �
 gets_ends program image v m s u (inl step) h = (suc m, rw step h)
 gets_ends program image v m s u (inr (r, step, on)) h = (suc (suc m), rw step (rw on h))
 
-ends_next : (draft : List Ins) (t : TailTree) (image : List ℕ) (v n : ℕ) (s : State) (next : Next) → Led (length draft) t image s next → Arrives next v n (EndsFrom draft image v n) → ((u : State) (q : ℕ) → Tied (length draft) t u.place q → EndsFrom draft image v n u → (m : ℕ) × EndsFrom (program_of t) image v m (moved u q)) → (m : ℕ) × EndsFrom (program_of t) image v m s
-ends_next draft t image v n s (Stops w) led h later = (suc zero, rw led (refl, h.1))
-ends_next draft t image v n s (Goes u) (q, tied, gets) h later =
+ends_next : (source : List Ins) (t : TailTree) (image : List ℕ) (v n : ℕ) (s : State) (next : Next) → Led (length source) t image s next → Arrives next v n (EndsFrom source image v n) → ((u : State) (q : ℕ) → Tied (length source) t u.place q → EndsFrom source image v n u → (m : ℕ) × EndsFrom (program_of t) image v m (moved u q)) → (m : ℕ) × EndsFrom (program_of t) image v m s
+ends_next source t image v n s (Stops w) led h later = (suc zero, rw led (refl, h.1))
+ends_next source t image v n s (Goes u) (q, tied, gets) h later =
     let r = later u q tied h in
     gets_ends (program_of t) image v r.0 s (moved u q) gets r.1
 
-pub ends_on : (draft : List Ins) (t : TailTree) (image : List ℕ) (v n : ℕ) (s : State) (q : ℕ) → Lowers draft t → Tied (length draft) t s.place q → EndsFrom draft image v n s → (m : ℕ) × EndsFrom (program_of t) image v m (moved s q)
-ends_on draft t image v zero s q low tied h = absurd h
-ends_on draft t image v (suc n) s q low tied h =
-    some_out _ (step_of draft image s) (λ next. Arrives next v n (EndsFrom draft image v n)) h (λ next is arrives. ends_next draft t image v n (moved s q) next (led draft t image s q next low tied is) arrives (λ u r tied_u g. ends_on draft t image v n u r low tied_u g))
+pub ends_on : (source : List Ins) (t : TailTree) (image : List ℕ) (v n : ℕ) (s : State) (q : ℕ) → Lowers source t → Tied (length source) t s.place q → EndsFrom source image v n s → (m : ℕ) × EndsFrom (program_of t) image v m (moved s q)
+ends_on source t image v zero s q low tied h = absurd h
+ends_on source t image v (suc n) s q low tied h =
+    some_out _ (step_of source image s) (λ next. Arrives next v n (EndsFrom source image v n)) h (λ next is arrives. ends_next source t image v n (moved s q) next (led source t image s q next low tied is) arrives (λ u r tied_u g. ends_on source t image v n u r low tied_u g))
 
-only_next : (draft : List Ins) (t : TailTree) (image : List ℕ) (v m : ℕ) (s c : State) (next : Next) → step_of draft image s ≡ Some next → Led (length draft) t image c next → EndsFrom (program_of t) image v m c → ((u : State) (q k : ℕ) → k < m → Tied (length draft) t u.place q → EndsFrom (program_of t) image v k (moved u q) → (n : ℕ) × EndsFrom draft image v n u) → (n : ℕ) × EndsFrom draft image v n s
-only_next draft t image v zero s c next is led h later = absurd h
-only_next draft t image v (suc m) s c (Stops w) is led h later =
+only_next : (source : List Ins) (t : TailTree) (image : List ℕ) (v m : ℕ) (s c : State) (next : Next) → step_of source image s ≡ Some next → Led (length source) t image c next → EndsFrom (program_of t) image v m c → ((u : State) (q k : ℕ) → k < m → Tied (length source) t u.place q → EndsFrom (program_of t) image v k (moved u q) → (n : ℕ) × EndsFrom source image v n u) → (n : ℕ) × EndsFrom source image v n s
+only_next source t image v zero s c next is led h later = absurd h
+only_next source t image v (suc m) s c (Stops w) is led h later =
     let g = rw led at h in (suc zero, rw is (refl, g.1))
-only_next draft t image v (suc m) s c (Goes u) is (q, tied, inl step) h later =
+only_next source t image v (suc m) s c (Goes u) is (q, tied, inl step) h later =
     let r = later u q m (omega arith) tied (rw step at h) in (suc r.0, rw is r.1)
-only_next draft t image v (suc zero) s c (Goes u) is (q, tied, inr (r, step, on)) h later = absurd (rw step at h)
-only_next draft t image v (suc (suc m)) s c (Goes u) is (q, tied, inr (r, step, on)) h later =
+only_next source t image v (suc zero) s c (Goes u) is (q, tied, inr (r, step, on)) h later = absurd (rw step at h)
+only_next source t image v (suc (suc m)) s c (Goes u) is (q, tied, inr (r, step, on)) h later =
     let g : EndsFrom (program_of t) image v (suc m) (moved u r) = rw step at h in
     let f = later u q m (omega arith) tied (rw on at g) in (suc f.0, rw is f.1)
 
@@ -268,14 +268,14 @@ none_ends : (program : List Ins) (image : List ℕ) (v m : ℕ) (c : State) → 
 none_ends program image v zero c is h = h
 none_ends program image v (suc m) c is h = rw is at h
 
-only_step : (draft : List Ins) (t : TailTree) (image : List ℕ) (v m : ℕ) (s : State) (q : ℕ) (o : Option Next) → Lowers draft t → Tied (length draft) t s.place q → step_of draft image s ≡ o → EndsFrom (program_of t) image v m (moved s q) → ((u : State) (q k : ℕ) → k < m → Tied (length draft) t u.place q → EndsFrom (program_of t) image v k (moved u q) → (n : ℕ) × EndsFrom draft image v n u) → (n : ℕ) × EndsFrom draft image v n s
-only_step draft t image v m s q None low tied is h later =
-    absurd (none_ends (program_of t) image v m (moved s q) (none_led draft t image s q low tied is) h)
-only_step draft t image v m s q (Some next) low tied is h later =
-    only_next draft t image v m s (moved s q) next is (led draft t image s q next low tied is) h later
+only_step : (source : List Ins) (t : TailTree) (image : List ℕ) (v m : ℕ) (s : State) (q : ℕ) (o : Option Next) → Lowers source t → Tied (length source) t s.place q → step_of source image s ≡ o → EndsFrom (program_of t) image v m (moved s q) → ((u : State) (q k : ℕ) → k < m → Tied (length source) t u.place q → EndsFrom (program_of t) image v k (moved u q) → (n : ℕ) × EndsFrom source image v n u) → (n : ℕ) × EndsFrom source image v n s
+only_step source t image v m s q None low tied is h later =
+    absurd (none_ends (program_of t) image v m (moved s q) (none_led source t image s q low tied is) h)
+only_step source t image v m s q (Some next) low tied is h later =
+    only_next source t image v m s (moved s q) next is (led source t image s q next low tied is) h later
 
-pub only_on : (fuel : ℕ) (draft : List Ins) (t : TailTree) (image : List ℕ) (v m : ℕ) (s : State) (q : ℕ) → m ≤ fuel → Lowers draft t → Tied (length draft) t s.place q → EndsFrom (program_of t) image v m (moved s q) → (n : ℕ) × EndsFrom draft image v n s
-only_on zero draft t image v zero s q few low tied h = absurd h
-only_on zero draft t image v (suc m) s q few low tied h = absurd (omega arith)
-only_on (suc fuel) draft t image v m s q few low tied h =
-    only_step draft t image v m s q (step_of draft image s) low tied refl h (λ u r k less tied_u g. only_on fuel draft t image v k u r (omega arith) low tied_u g)
+pub only_on : (fuel : ℕ) (source : List Ins) (t : TailTree) (image : List ℕ) (v m : ℕ) (s : State) (q : ℕ) → m ≤ fuel → Lowers source t → Tied (length source) t s.place q → EndsFrom (program_of t) image v m (moved s q) → (n : ℕ) × EndsFrom source image v n s
+only_on zero source t image v zero s q few low tied h = absurd h
+only_on zero source t image v (suc m) s q few low tied h = absurd (omega arith)
+only_on (suc fuel) source t image v m s q few low tied h =
+    only_step source t image v m s q (step_of source image s) low tied refl h (λ u r k less tied_u g. only_on fuel source t image v k u r (omega arith) low tied_u g)
