@@ -2,8 +2,8 @@
 use Rattle.std.proofs.Common.{◌≡◌, ℕ, ◌+◌, ◌-◌, ◌≤◌, Bool, true, false, cond, suc, List, [], ◌∷◌, ◌++◌, drop, length, refl, ap, ◌∙◌, arith, get_or, length-append}
 use Rattle.std.specs.Prelude.{◌==◌, ◌&&◌}
 use Rattle.std.proofs.lemmas.Bool.{eqb-true}
-use Rattle.auth.specs.Lines.{cr, lf, Pieces, with_byte, pieces_of, whole_piece}
-use Rattle.auth.specs.LineStates.{ends_in_cr, ended_piece}
+use Rattle.auth.specs.Lines.{cr, lf, Pieces, with_byte, pieces_of}
+use Rattle.auth.specs.LineStates.{whole_piece, ends_in_cr, ended_piece}
 
 both : (a b : Bool) → (a && b) ≡ true → (a ≡ true) × (b ≡ true)
 both true b e = (refl, e)

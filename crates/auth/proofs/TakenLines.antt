@@ -8,10 +8,10 @@ use Rattle.auth.specs.declared.stage.Stage.{Stage}
 use Rattle.auth.specs.declared.stage.Stage.TheVariants.{Failed}
 use Rattle.auth.specs.declared.stage.Reply.{Reply}
 use Rattle.auth.specs.declared.stage.Reply.TheVariants.{Rejected}
-use Rattle.auth.specs.Lines.{max_line_len, pieces_of, whole_piece, len_through, through_line}
+use Rattle.auth.specs.Lines.{max_line_len, pieces_of, len_through, through_line}
+use Rattle.auth.specs.LineStates.{whole_piece, ended_piece}
 use Rattle.auth.specs.Commands.{command_of}
 use Rattle.auth.specs.Stages.{max_rejections, is_over, row_of, reply_bytes}
-use Rattle.auth.specs.LineStates.{ended_piece}
 use Rattle.auth.specs.Talk.{Standing, Outcome, at_stage, no_answer, refusal, row_answer, hear, wait, after, by_pieces, talk_in, by_lines}
 use Rattle.auth.proofs.LineEnds.{continued, pieces_of-append, first_len}
 use Rattle.auth.proofs.Talks.{over_stays, with_line, lines_in_cuts}

@@ -8,7 +8,8 @@ use Rattle.auth.specs.declared.stage.Stage.{Stage}
 use Rattle.auth.specs.declared.stage.Stage.TheVariants.{Opening, Start, Data, Ready, Begun, Failed}
 use Rattle.auth.specs.declared.stage.Reply.{Reply}
 use Rattle.auth.specs.declared.stage.Reply.TheVariants.{Nothing, Rejected}
-use Rattle.auth.specs.Lines.{max_line_len, Pieces, pieces_of, whole_piece}
+use Rattle.auth.specs.Lines.{max_line_len, Pieces, pieces_of}
+use Rattle.auth.specs.LineStates.{whole_piece}
 use Rattle.auth.specs.Commands.{command_of}
 use Rattle.auth.specs.Stages.{max_rejections, is_over, start_row, data_row, ready_row, row_of, reply_bytes}
 use Rattle.auth.specs.Talk.{Standing, Outcome, at_stage, no_answer, refusal, row_answer, hear, wait, after, by_pieces, talk_in, by_lines, start_of, talk}

@@ -5,8 +5,10 @@ use Rattle.std.specs.Option.{option_map}
 use Rattle.bpf_text.specs.declared.row.Row.{Row as LentRow}
 use Rattle.bpf_text.specs.Views.{row_view}
 use Rattle.std.proofs.lemmas.List.{map-append, append-nil}
-use Rattle.bpf_text.specs.Source.{Begins, label_at, Label, labels_at, has_name, repeats, count_row, IsLine, Line, Noted, Sketch, TakesLabels, with_line}
-use Rattle.bpf_text.specs.Rows.{Row, statement_of}
+use Rattle.bpf_text.specs.Source.{Label, labels_at, has_name, repeats, count_row, IsLine, Line}
+use Rattle.bpf_text.specs.Sketches.{Noted, Sketch}
+use Rattle.bpf_text.specs.LineReading.{Begins, label_at, TakesLabels, with_line, statement_of}
+use Rattle.bpf_text.specs.Rows.{Row}
 use Rattle.bpf_text.proofs.Statements.{labels_sound, labels_complete, statement_sound, statement_complete, statement_no_label}
 
 pub begins_more : (bytes tail rest name : List ℕ) (names : List (List ℕ)) → Begins bytes names tail → label_at tail ≡ Some (name, rest) → Begins bytes (names ++ name ∷ []) rest

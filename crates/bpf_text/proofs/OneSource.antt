@@ -3,8 +3,9 @@ use Rattle.std.proofs.Common.{◌≡◌, ℕ, List, [], ◌∷◌, ◌++◌, Opt
 use Rattle.bpf_code.specs.declared.instruction.Ins.{Ins}
 use Rattle.bpf_code.specs.declared.error.CodeError.{CodeError}
 use Rattle.bpf_code.specs.declared.error.CodeError.TheVariants as errors
-use Rattle.bpf_text.specs.Rows.{Row, statement_of}
-use Rattle.bpf_text.specs.Source.{label_at, Begins, IsLine, Line, AreLines, lines_of, program_of, SourceText, IsTextFault}
+use Rattle.bpf_text.specs.Rows.{Row}
+use Rattle.bpf_text.specs.LineReading.{statement_of, label_at, Begins}
+use Rattle.bpf_text.specs.Source.{IsLine, Line, AreLines, lines_of, program_of, SourceText, IsTextFault}
 use Rattle.bpf_text.proofs.Statements.{labels_complete, statement_complete, statement_no_label}
 
 some_one : {T : Type 0} (o : Option T) (x y : T) → o ≡ Some x → o ≡ Some y → x ≡ y

@@ -5,10 +5,12 @@ use Rattle.std.proofs.lemmas.Option.{option_and_then_some, cond_some}
 use Rattle.bpf_text.specs.declared.mnemonic.Mnemonic.{Mnemonic}
 use Rattle.bpf_text.specs.Lexis.{word_at, number_at, sign_at, is_over, begins_blank}
 use Rattle.bpf_text.specs.Mnemonics.{mnemonic_of}
-use Rattle.bpf_text.specs.Operands.{Operands, operands_at, operands_of}
+use Rattle.bpf_text.specs.Operands.{Operands}
+use Rattle.bpf_text.specs.OperandReading.{operands_at, operands_of}
 use Rattle.bpf_text.specs.Grammar.{Word, Sign, Front}
-use Rattle.bpf_text.specs.Rows.{Row, is_absent, row_of, row_after, statement_by, statement_of}
-use Rattle.bpf_text.specs.Source.{label_at, Begins, HasLabels, Spells, IsStatement}
+use Rattle.bpf_text.specs.Rows.{Row, is_absent, row_of}
+use Rattle.bpf_text.specs.LineReading.{row_after, statement_by, statement_of, label_at, Begins}
+use Rattle.bpf_text.specs.Source.{HasLabels, Spells, IsStatement}
 use Rattle.bpf_text.proofs.Fronts.{none_unless, sign_no_sign, sign_not_over, word_not_over, word_no_sign, number_no_sign}
 use Rattle.bpf_text.proofs.Grammars.{operands_sound, operands_complete}
 

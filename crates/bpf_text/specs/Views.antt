@@ -1,4 +1,4 @@
--- Operands without where their names lie in memory.
+-- Inner: operands without where their names lie in memory.
 use Rattle.std.specs.Prelude.{map}
 use Rattle.bpf_text.specs.declared.operands.Operands.{Operands as Lent}
 use Rattle.bpf_text.specs.declared.operands.Operands.TheVariants as lent
@@ -9,7 +9,7 @@ use Rattle.bpf_text.specs.declared.row.Jumps.TheVariants as lent_jumps
 use Rattle.bpf_text.specs.declared.row.Row.{Row as LentRow}
 use Rattle.bpf_text.specs.declared.draft.Noted.{Noted as LentNoted}
 use Rattle.std.specs.Option.{option_map}
-use Rattle.bpf_text.specs.Source.{Noted, Sketch}
+use Rattle.bpf_text.specs.Sketches.{Noted, Sketch}
 use Rattle.bpf_text.specs.declared.draft.Draft.{Draft as LentDraft}
 use Rattle.bpf_text.specs.Rows.{Row, Jumps, Stays, Goes, Parts}
 use Rattle.bpf_text.specs.Operands.{Operands, Absent, Number, Length, Place, Indexed, Scratch, Header, Name, NumberTo, NameTo, Targets, One, Both}

@@ -1,6 +1,6 @@
 ghost use Rattle.std.specs.Prelude.{◌≡◌};
 ghost use Rattle.std.specs.Option.{option_map};
-ghost use Rattle.bpf_text.specs.Operands.{targets_at, constant_at, indexed_at, place_at, bracketed_at, header_at, named_at, operands_at, operands_of};
+ghost use Rattle.bpf_text.specs.OperandReading.{targets_at, constant_at, indexed_at, place_at, bracketed_at, header_at, named_at, operands_at, operands_of};
 ghost use Rattle.bpf_text.specs.Views.{targets_view, operands_view};
 
 use crate::lexis::{number, over, sign, word};
@@ -29,7 +29,7 @@ pub(crate) enum Operands<'a> {
 }
 
 /// One target or two.
-#[tactic(auto, unfolding(crate::specs::Operands::targets_at))]
+#[tactic(auto, unfolding(crate::specs::OperandReading::targets_at))]
 fn read_targets(bytes: &[u8]) -> Option<(Targets<'_>, &[u8])>
     ensures { option_map (λ x. (targets_view x.0, x.1.now)) result ≡ targets_at bytes.now }
 {
@@ -42,7 +42,7 @@ fn read_targets(bytes: &[u8]) -> Option<(Targets<'_>, &[u8])>
 }
 
 /// The operands that begin with a `#`, from after it on.
-#[tactic(auto, unfolding(crate::specs::Operands::constant_at))]
+#[tactic(auto, unfolding(crate::specs::OperandReading::constant_at))]
 fn constant(bytes: &[u8]) -> Option<(Operands<'_>, &[u8])>
     ensures { option_map (λ x. (operands_view x.0, x.1.now)) result ≡ constant_at bytes.now }
 {
@@ -62,7 +62,7 @@ fn constant(bytes: &[u8]) -> Option<(Operands<'_>, &[u8])>
 }
 
 /// The operand `[x+k]`, from after its `[` on.
-#[tactic(auto, unfolding(crate::specs::Operands::indexed_at))]
+#[tactic(auto, unfolding(crate::specs::OperandReading::indexed_at))]
 fn indexed(bytes: &[u8]) -> Option<(Operands<'_>, &[u8])>
     ensures { option_map (λ x. (operands_view x.0, x.1.now)) result ≡ indexed_at bytes.now }
 {
@@ -77,7 +77,7 @@ fn indexed(bytes: &[u8]) -> Option<(Operands<'_>, &[u8])>
 }
 
 /// The operands that begin with a `[`, from after it on.
-#[tactic(auto, unfolding(crate::specs::Operands::place_at))]
+#[tactic(auto, unfolding(crate::specs::OperandReading::place_at))]
 fn place(bytes: &[u8]) -> Option<(Operands<'_>, &[u8])>
     ensures { option_map (λ x. (operands_view x.0, x.1.now)) result ≡ place_at bytes.now }
 {
@@ -89,7 +89,7 @@ fn place(bytes: &[u8]) -> Option<(Operands<'_>, &[u8])>
 }
 
 /// A number in brackets.
-#[tactic(auto, unfolding(crate::specs::Operands::bracketed_at))]
+#[tactic(auto, unfolding(crate::specs::OperandReading::bracketed_at))]
 fn bracketed(bytes: &[u8]) -> Option<(u32, &[u8])>
     ensures { option_map (λ x. (x.0, x.1.now)) result ≡ bracketed_at bytes.now }
 {
@@ -99,7 +99,7 @@ fn bracketed(bytes: &[u8]) -> Option<(u32, &[u8])>
 }
 
 /// The operand `4*([k]&0xf)`, from after its 4 on.
-#[tactic(auto, unfolding(crate::specs::Operands::header_at))]
+#[tactic(auto, unfolding(crate::specs::OperandReading::header_at))]
 fn header(bytes: &[u8]) -> Option<(Operands<'_>, &[u8])>
     ensures { option_map (λ x. (operands_view x.0, x.1.now)) result ≡ header_at bytes.now }
 {
@@ -115,7 +115,7 @@ fn header(bytes: &[u8]) -> Option<(Operands<'_>, &[u8])>
 }
 
 /// `M` and a number in brackets, or a name.
-#[tactic(auto, unfolding(crate::specs::Operands::named_at))]
+#[tactic(auto, unfolding(crate::specs::OperandReading::named_at))]
 fn named<'a>(name: &'a [u8], rest: &'a [u8]) -> Option<(Operands<'a>, &'a [u8])>
     ensures { option_map (λ x. (operands_view x.0, x.1.now)) result ≡ named_at name.now rest.now }
 {
@@ -132,7 +132,7 @@ fn named<'a>(name: &'a [u8], rest: &'a [u8]) -> Option<(Operands<'a>, &'a [u8])>
 }
 
 /// The operands in front of bytes, and the bytes after them.
-#[tactic(auto, unfolding(crate::specs::Operands::operands_at))]
+#[tactic(auto, unfolding(crate::specs::OperandReading::operands_at))]
 fn some_operands(bytes: &[u8]) -> Option<(Operands<'_>, &[u8])>
     ensures { option_map (λ x. (operands_view x.0, x.1.now)) result ≡ operands_at bytes.now }
 {
@@ -150,7 +150,7 @@ fn some_operands(bytes: &[u8]) -> Option<(Operands<'_>, &[u8])>
 }
 
 /// The operands that are all of the bytes but a comment.
-#[tactic(auto, unfolding(crate::specs::Operands::operands_of))]
+#[tactic(auto, unfolding(crate::specs::OperandReading::operands_of))]
 pub(crate) fn read_operands(bytes: &[u8]) -> Option<Operands<'_>>
     ensures { option_map operands_view result ≡ operands_of bytes.now }
 {

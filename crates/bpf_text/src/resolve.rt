@@ -1,6 +1,7 @@
 ghost use Rattle.std.specs.Prelude.{◌≡◌, ◌⊎◌, Ok, Err, IfOk, IfErr};
 ghost use Rattle.bpf_code.specs.declared.error.CodeError.TheVariants.{NoMemory};
-ghost use Rattle.bpf_text.specs.Source.{distance, goes_by, parts_by, resolve, program_in};
+ghost use Rattle.bpf_text.specs.Source.{distance, goes_by, parts_by, resolve};
+ghost use Rattle.bpf_text.specs.Sketches.{program_in};
 ghost use Rattle.bpf_text.specs.Views.{row_view, sketch_view};
 
 use crate::draft::Draft;

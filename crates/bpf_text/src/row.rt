@@ -1,6 +1,7 @@
 ghost use Rattle.std.specs.Prelude.{◌≡◌};
 ghost use Rattle.std.specs.Option.{option_map};
-ghost use Rattle.bpf_text.specs.Rows.{plain as plain_row, is_absent, row_of, row_after, statement_of};
+ghost use Rattle.bpf_text.specs.Rows.{plain as plain_row, is_absent, row_of};
+ghost use Rattle.bpf_text.specs.LineReading.{row_after, statement_of};
 ghost use Rattle.bpf_text.specs.Views.{operands_view, row_view};
 
 use crate::lexis::{is_spaced, over, word};
@@ -99,7 +100,7 @@ fn is_none(operands: Operands) -> bool
 }
 
 /// The instruction of a mnemonic and the bytes after it.
-#[tactic(auto, unfolding(crate::specs::Rows::row_after))]
+#[tactic(auto, unfolding(crate::specs::LineReading::row_after))]
 fn read_row<'a>(name: &[u8], rest: &'a [u8]) -> Option<Row<'a>>
     ensures { option_map row_view result ≡ row_after name.now rest.now }
 {
@@ -113,7 +114,7 @@ fn read_row<'a>(name: &[u8], rest: &'a [u8]) -> Option<Row<'a>>
 }
 
 /// The instruction of a line after its labels, if there is one; `None` where the bytes aren't of the form.
-#[tactic(auto, unfolding(crate::specs::Rows::statement_of))]
+#[tactic(auto, unfolding(crate::specs::LineReading::statement_of))]
 pub(crate) fn statement(bytes: &[u8]) -> Option<Option<Row<'_>>>
     ensures { option_map (λ row. option_map row_view row) result ≡ statement_of bytes.now }
 {

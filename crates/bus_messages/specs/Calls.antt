@@ -90,11 +90,6 @@ Refuses BadEdition method given = (method ≡ names.AttachEdition) × (edition_o
 Refuses NoMemory method given = takes_program method ≡ true
 Refuses InvalidArgs method given = Lacks method given
 
--- what a message that calls a method is read as, if its body has the method's signature
-abbrev pub Understands : Method → Given → Result Call CallError → Type 0
-Understands method given (Ok call) = IsCallOf call method given
-Understands method given (Err error) = Refuses error method given
-
 -- the method that a message calls
 abbrev pub row_called : Option (List ℕ) → Option (List ℕ) → Option MethodRow
 row_called interface (Some member) = method_called interface member

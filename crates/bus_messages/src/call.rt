@@ -6,7 +6,8 @@ ghost use Rattle.message_view.specs.Message.{Message};
 ghost use Rattle.message_view.specs.Valid.{Valid};
 ghost use Rattle.bus_messages.specs.declared.call.Call.TheVariants.{Get, GetAll};
 ghost use Rattle.bus_messages.specs.declared.call.CallError.TheVariants.{InvalidArgs};
-ghost use Rattle.bus_messages.specs.Calls.{Understands, IsReadAs, is_property};
+ghost use Rattle.bus_messages.specs.Calls.{IsReadAs, is_property};
+ghost use Rattle.bus_messages.specs.CallAnswers.{Understands};
 ghost use Rattle.bus_messages.specs.Methods.{bus};
 
 use crate::arguments::Arguments;

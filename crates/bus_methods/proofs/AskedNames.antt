@@ -1,7 +1,9 @@
 -- Names that clients ask about.
 use Rattle.std.proofs.Common.{◌≡◌, ℕ, Bool, true, false, not, ◌&&◌, List, Option, Result, Ok, Err, if◌then◌else◌, inl, arith}
 use Rattle.owners.specs.declared.error.ClaimError.TheVariants.{BadName, Reserved}
-use Rattle.owners.specs.WellKnown.{bus_name, is_well_known, is_claimable, name_in}
+use Rattle.owners.specs.WellKnown.{is_well_known, name_in}
+use Rattle.signature.specs.Name.{bus_name}
+use Rattle.owners.specs.Claimable.{is_claimable}
 use Rattle.std.specs.Str.{bytes_eq}
 use Rattle.program_table.specs.State.{State}
 use Rattle.connections.specs.declared.refused.Refused.{Refused}

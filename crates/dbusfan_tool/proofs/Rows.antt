@@ -12,7 +12,8 @@ use Rattle.std.proofs.Math.Bool.{or-false}
 use Rattle.std.proofs.lemmas.Bool.{cases_Bool, false_from_ne_true}
 use Rattle.std.proofs.lemmas.Bool.Decides.{Decides-ltb}
 use Rattle.std.proofs.lemmas.Slice.Eq.{bytes_eq-Decides}
-use Rattle.dbusfan_tool.specs.Row.{match_word, asm_word, check_word, compile_word, run_word, owns_word, edition_word, word_of_edition, end_word, is_option, is_input, Options, no_options, Spells, nothing, ended, named, owned, in_edition, Asked, to_match, to_asm, to_check, to_compile, to_run, IsRow, match_row, asm_row, check_row, compile_row, run_row, asked_by}
+use Rattle.dbusfan_tool.specs.Row.{match_word, asm_word, check_word, compile_word, run_word, owns_word, edition_word, word_of_edition, end_word, is_option, is_input, Options, no_options, Spells, nothing, ended, named, owned, in_edition, Asked, to_match, to_asm, to_check, to_compile, to_run, IsRow, match_row, asm_row, check_row, compile_row, run_row}
+use Rattle.dbusfan_tool.specs.Views.{asked_by}
 use Rattle.dbusfan_tool.specs.RowReading.{Gathering, no_words, with_name, with_owns, with_edition, edition_of, gathered, match_of, only_word, run_of, asked_of, asked_in}
 
 abbrev Words : Type 0

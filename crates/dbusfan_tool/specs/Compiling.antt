@@ -1,4 +1,4 @@
--- What compiling a rule comes to.
+-- What compiling a rule comes to (own).
 use Rattle.std.specs.Prelude.{◌≡◌, ℕ, ◌<◌, List, Option, Result, Ok, Err}
 use Rattle.std.specs.Option.{option_map}
 use Rattle.bpf_code.specs.declared.instruction.Ins.{Ins}

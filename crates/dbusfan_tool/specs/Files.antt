@@ -1,4 +1,4 @@
--- Reads of files.
+-- Reads of files (own).
 use Rattle.std.specs.Prelude.{◌≡◌, List, [], ◌∷◌, ℕ, ⊤, Option, Some, None, Result, Ok, Err}
 use Rattle.std.specs.Global.{Vec}
 use Rattle.dbusfan_tool.specs.declared.files.FileError.{FileError}

@@ -1,4 +1,4 @@
--- What a write does to an output.
+-- What a write does to an output (own).
 use Rattle.std.specs.Prelude.{◌≡◌, ◌≢◌, ◌⊎◌, ℕ, true, false, List, []}
 use Rattle.dbusfan_tool.specs.declared.output.Output.{Output}
 

@@ -1,4 +1,4 @@
--- What the file of a program comes to.
+-- What the file of a program comes to (own).
 use Rattle.std.specs.Prelude.{◌≢◌, ℕ, List, length, Option, Some, None, Result, Ok, Err}
 use Rattle.bpf_code.specs.declared.instruction.Ins.{Ins}
 use Rattle.bpf_code.specs.declared.error.CodeError.{CodeError}

@@ -1,11 +1,9 @@
--- The rows of the command line, and the words that spell them. A word is its bytes.
+-- The rows of the command line, and the words that spell them (own). A word is its bytes.
 use Rattle.std.specs.Prelude.{◌≡◌, ℕ, nat_lt, ◌==◌, ◌&&◌, Bool, true, false, List, [], ◌∷◌, length, map, slice_index, codes, Option, Some, None, unwrap_or}
 use Rattle.std.specs.Borrow.{Bor}
 use Rattle.std.specs.Str.{bytes_eq}
 use Rattle.summary.specs.declared.edition.Edition.{Edition}
 use Rattle.summary.specs.declared.edition.Edition.TheVariants.{One, Two}
-use Rattle.dbusfan_tool.specs.declared.command_line.Row.{Row}
-use Rattle.dbusfan_tool.specs.declared.command_line.Row.TheVariants.{Match, Asm, Check, Run, Compile}
 
 -- what words are
 abbrev pub texts : List (Bor (List ℕ)) → List (List ℕ)
@@ -90,11 +88,3 @@ pub data IsRow : Asked → List (List ℕ) → Type 0 where
   check_row : {file : List ℕ} {words : List (List ℕ)} → Spells no_options (file ∷ []) words → IsRow (to_check file) (check_word ∷ words)
   compile_row : {rule : List ℕ} {words : List (List ℕ)} → Spells no_options (rule ∷ []) words → IsRow (to_compile rule) (compile_word ∷ words)
   run_row : {program file : List ℕ} {option : Option Edition} {words : List (List ℕ)} → is_input program && is_input file ≡ false → Spells (record { owns = false; edition = option }) (program ∷ file ∷ []) words → IsRow (to_run program file (unwrap_or option One)) (run_word ∷ words)
-
--- a row of the code as what it asks for
-abbrev pub asked_by : Row → Asked
-asked_by (Match rule file owns) = to_match rule.now file.now owns
-asked_by (Asm file) = to_asm file.now
-asked_by (Check file) = to_check file.now
-asked_by (Compile rule) = to_compile rule.now
-asked_by (Run program file edition) = to_run program.now file.now edition

@@ -1,4 +1,4 @@
--- What running a program over a message comes to.
+-- What running a program over a message comes to (own).
 use Rattle.std.specs.Prelude.{◌≡◌, ℕ, List, replicate, Some, None, Result, Ok, Err}
 use Rattle.bpf_code.specs.declared.instruction.Ins.{Ins}
 use Rattle.bpf_code.specs.Program.{WellFormed}

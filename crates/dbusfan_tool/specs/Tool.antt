@@ -1,4 +1,4 @@
--- What the rows of the command line come to.
+-- What the rows of the command line come to (own).
 use Rattle.std.specs.Prelude.{◌≡◌, ◌<◌, ◌⊎◌, ◌↔◌, ℕ, Bool, List, [], Some, None, Result, Ok, Err, IsTrue}
 use Rattle.dbusfan_tool.specs.declared.fault.Fault.{Fault}
 use Rattle.dbusfan_tool.specs.declared.fault.Fault.TheVariants.{Rule, Message as BadMessage, Hex, File, Memory}

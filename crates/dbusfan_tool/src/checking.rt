@@ -5,7 +5,8 @@ ghost use Rattle.dbusfan_tool.specs.Program.{Checks};
 ghost use Rattle.dbusfan_tool.specs.Tool.{Tool};
 ghost use Rattle.dbusfan_tool.specs.Row.{to_check};
 ghost use Rattle.dbusfan_tool.specs.Files.{MadeReads};
-ghost use Rattle.dbusfan_tool.specs.Answer.{said_by, failing};
+ghost use Rattle.dbusfan_tool.specs.Answer.{failing};
+ghost use Rattle.dbusfan_tool.specs.Views.{said_by};
 
 use crate::answer::Answer;
 use crate::fault::Fault;

@@ -35,7 +35,8 @@ pub(crate) enum Row<'a> {
 impl<'a> Row<'a> {
     ghost use Rattle.std.specs.Prelude.{◌≡◌, IfSome, Some};
     ghost use Rattle.std.specs.Option.{option_map};
-    ghost use Rattle.dbusfan_tool.specs.Row.{Asked, IsRow, asked_by, texts};
+    ghost use Rattle.dbusfan_tool.specs.Row.{Asked, IsRow, texts};
+    ghost use Rattle.dbusfan_tool.specs.Views.{asked_by};
     ghost use Rattle.dbusfan_tool.specs.RowReading.{asked_in};
 
     /// The row that some words are, if they are one.

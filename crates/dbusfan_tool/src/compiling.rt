@@ -5,7 +5,8 @@ ghost use Rattle.bpf_code.specs.Program.{WellFormed};
 ghost use Rattle.rule_compile.specs.Compiled.{IsCompiled, IsRefusal};
 ghost use Rattle.dbusfan_tool.specs.declared.fault.Fault.{Fault};
 ghost use Rattle.dbusfan_tool.specs.Compiling.{Compiles, slot_for};
-ghost use Rattle.dbusfan_tool.specs.Answer.{said_by, said_of, saying, failing};
+ghost use Rattle.dbusfan_tool.specs.Answer.{said_of, saying, failing};
+ghost use Rattle.dbusfan_tool.specs.Views.{said_by};
 
 use crate::answer::Answer;
 use crate::fault::Fault;

@@ -2,7 +2,8 @@
 
 ghost use Rattle.std.specs.Prelude.{◌≡◌, ◌⊎◌, []};
 ghost use Rattle.dbusfan_tool.specs.Row.{Asked, IsRow, texts};
-ghost use Rattle.dbusfan_tool.specs.Answer.{Tells, said_by, failing};
+ghost use Rattle.dbusfan_tool.specs.Answer.{Tells, failing};
+ghost use Rattle.dbusfan_tool.specs.Views.{said_by};
 ghost use Rattle.dbusfan_tool.specs.Tool.{Tool, Says};
 ghost use Rattle.dbusfan_tool.specs.Usage.{SaysUsage};
 ghost use Rattle.dbusfan_tool.specs.Files.{MadeReads};

@@ -37,9 +37,8 @@ pub(crate) struct Gathered<'a> {
 impl<'a> Gathered<'a> {
     ghost use Rattle.std.specs.Prelude.{◌≡◌, map};
     ghost use Rattle.std.specs.Option.{option_map};
-    ghost use Rattle.dbusfan_tool.specs.Row.{asked_by};
+    ghost use Rattle.dbusfan_tool.specs.Views.{asked_by, names_of, gathering_of};
     ghost use Rattle.dbusfan_tool.specs.RowReading.{no_words, with_name, with_owns, with_edition, with_edition_word, with_any, with_word, gathered, match_of, only_word, run_of};
-    ghost use Rattle.dbusfan_tool.specs.Gathered.{names_of, gathering_of};
 
     fn nothing() -> Gathered<'a>
         ensures { gathering_of result ≡ no_words }

@@ -5,7 +5,8 @@ ghost use Rattle.dbusfan_tool.specs.Running.{Runs};
 ghost use Rattle.dbusfan_tool.specs.Tool.{Tool};
 ghost use Rattle.dbusfan_tool.specs.Row.{to_run};
 ghost use Rattle.dbusfan_tool.specs.Files.{MadeReads};
-ghost use Rattle.dbusfan_tool.specs.Answer.{said_by, said_of_run, failing};
+ghost use Rattle.dbusfan_tool.specs.Answer.{said_of_run, failing};
+ghost use Rattle.dbusfan_tool.specs.Views.{said_by};
 
 use crate::answer::Answer;
 use crate::fault::Fault;

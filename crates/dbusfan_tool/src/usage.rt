@@ -1,7 +1,8 @@
 // Words that are no row of the command line.
 
 ghost use Rattle.std.specs.Prelude.{◌≡◌, ◌⊎◌, ℕ, List, []};
-ghost use Rattle.dbusfan_tool.specs.Answer.{said_by, failing};
+ghost use Rattle.dbusfan_tool.specs.Answer.{failing};
+ghost use Rattle.dbusfan_tool.specs.Views.{said_by};
 ghost use Rattle.dbusfan_tool.specs.Usage.{SaysUsage, asks_for_text, is_request};
 
 use crate::answer::Answer;

@@ -1,4 +1,4 @@
--- The entries of the bus.
+-- The entries of the bus (own).
 use Rattle.std.specs.Prelude.{ℕ, ◌≤◌, Bool, true, false, not, ◌&&◌, ◌||◌, List, [], filter, length, ◌==◌, nat_le, All, AllPairs, ◌<◌}
 use Rattle.match_rule.specs.RuleTree.{RuleTree, rule_eq}
 use Rattle.entry_table.specs.declared.entry.Entry.{Entry}

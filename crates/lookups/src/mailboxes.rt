@@ -6,7 +6,8 @@ ghost use Rattle.message_view.specs.Message.{Message};
 ghost use Rattle.message_view.specs.Valid.{Valid};
 ghost use Rattle.program_table.specs.Connections.{numbers_of};
 ghost use Rattle.program_table.specs.History.{after};
-ghost use Rattle.lookups.specs.Newcomers.{IsOutboxOf, HasEntry, Adds, AreNewcomers};
+ghost use Rattle.lookups.specs.Newcomers.{IsOutboxOf, AreNewcomers};
+ghost use Rattle.lookups.specs.Searching.{HasEntry, Adds};
 ghost use Rattle.lookups.specs.Addressees.{AreListed};
 ghost use Rattle.lookups.specs.Broadcasts.{AreConnected, IsFound};
 

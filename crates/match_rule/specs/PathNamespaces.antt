@@ -1,4 +1,4 @@
--- The path namespace that a rule asks for, by which rules are told apart that fix no text.
+-- The path namespace that a rule asks for, by which rules are told apart that fix no text (own).
 use Rattle.std.specs.Prelude.{ℕ, ◌-◌, List, Option, IsSomeAnd, length, slice_index_or}
 use Rattle.match_key.specs.declared.source.Field.TheVariants.{Path}
 use Rattle.match_key.specs.declared.source.Source.TheVariants.{Header}

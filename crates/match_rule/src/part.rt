@@ -3,7 +3,7 @@
 ghost use Rattle.std.specs.Prelude.{◌≡◌};
 ghost use Rattle.match_rule.specs.declared.quoting.Quoting.TheVariants.{Outside};
 ghost use Rattle.match_rule.specs.Reading.{Gives, key_at, part_at, value_from};
-ghost use Rattle.match_rule.specs.Parts.{terms_of, rule_of, tree_at};
+ghost use Rattle.match_rule.specs.Gathering.{terms_of, rule_of, tree_at};
 
 use crate::parts::Parts;
 use crate::quoting::{Quoting, Step};

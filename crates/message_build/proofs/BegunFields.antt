@@ -15,7 +15,7 @@ use Rattle.message_view.specs.Message.{Field}
 use Rattle.message_view.specs.Spelling.{field_value_place, field_bytes}
 use Rattle.message_view.specs.Valid.{IsField}
 use Rattle.message_build.specs.declared.kept_fields.Begun.{Begun}
-use Rattle.message_build.specs.StampWords.{IsAfter, LiesAt, begun_at}
+use Rattle.message_build.specs.StampedFields.{IsAfter, LiesAt, begun_at}
 use Rattle.message_build.proofs.MovedFields.{field_spelled}
 
 abbrev pub begun : ℕ → ℕ → Begun

@@ -20,13 +20,15 @@ use Rattle.message_view.specs.Message.{Field, Message}
 use Rattle.message_view.specs.Spelling.{fixed_len, fields_bytes, header_bytes, body_bytes, body_place, message_bytes}
 use Rattle.message_view.specs.Valid.{AreFields, Valid, max_message_len}
 use Rattle.message_build.specs.Asked.{Asked, Asks, is_spoiled}
-use Rattle.message_build.specs.Building.{IsValidButForSize, AreAsked, AsksTooMuch, AsksNone, Finishes}
+use Rattle.message_build.specs.Building.{IsValidButForSize, AreAsked, AsksTooMuch, AsksNone, Finishes, listed}
 use Rattle.message_build.specs.declared.error.BuildError.{BuildError}
 use Rattle.message_build.specs.declared.error.BuildError.TheVariants.{NoMemory}
 use Rattle.message_build.specs.declared.field.HeaderField.{HeaderField}
 use Rattle.message_build.specs.declared.given.Given.{Given}
 use Rattle.message_build.specs.declared.header.Header.{Header}
-use Rattle.message_build.specs.Words.{HoldEach, InRange, asked, fields_of, fields_set, are_allowed, is_sound_header, kind_is_own, has_needed, IsBody, fixed_bytes, spelled, listed}
+use Rattle.message_build.specs.MessageBytes.{IsBody, fixed_bytes, spelled}
+use Rattle.message_build.specs.Headers.{InRange, asked, fields_set, is_sound_header, kind_is_own, has_needed}
+use Rattle.message_build.specs.HeaderFields.{HoldEach, fields_of, are_allowed}
 use Rattle.message_build.proofs.AllowedFields.{AreOnce, fields_are, fields_were}
 use Rattle.message_build.proofs.SetFields.{set_once, required_set, signature_set}
 

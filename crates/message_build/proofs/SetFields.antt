@@ -12,7 +12,8 @@ use Rattle.message_view.specs.Message.{Field, field_with, text_in, or_empty, sig
 use Rattle.message_view.specs.Valid.{IsOnce}
 use Rattle.message_build.specs.Asked.{text_field, number_field, signature_field}
 use Rattle.message_build.specs.declared.header.Header.{Header}
-use Rattle.message_build.specs.Words.{said, fields_set, has_needed_of}
+use Rattle.message_build.specs.Headers.{fields_set, has_needed_of}
+use Rattle.message_build.specs.HeaderFields.{said}
 use Rattle.message_build.proofs.AllowedFields.{AreOnce}
 
 -- each code is above

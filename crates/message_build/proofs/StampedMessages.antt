@@ -19,8 +19,9 @@ use Rattle.message_build.specs.Building.{IsTooLarge}
 use Rattle.message_build.specs.declared.stamping.StampError.{StampError}
 use Rattle.message_build.specs.declared.stamping.StampError.TheVariants.{TooLarge, NoMemory}
 use Rattle.message_build.specs.Stamped.{is_kept, sender_field, stamped, Stamps}
-use Rattle.message_build.specs.StampWords.{HeadsStamped, stamped_fields}
-use Rattle.message_build.specs.Words.{bare_header, fixed_bytes}
+use Rattle.message_build.specs.StampedFields.{HeadsStamped, stamped_fields}
+use Rattle.message_build.specs.MessageBytes.{fixed_bytes}
+use Rattle.message_build.specs.Headers.{bare_header}
 use Rattle.message_build.proofs.KeptFields.{stamped_are, are_moved, required_same, signature_same, sender_last}
 use Rattle.message_build.proofs.MovedFields.{fields_moved}
 

@@ -3,7 +3,7 @@
 ghost use Rattle.std.specs.Prelude.{◌≡◌, ◌++◌, ◌∷◌, [], length, take, Ok};
 ghost use Rattle.signature.specs.DataType.{basic};
 ghost use Rattle.message_value.specs.Value.{text, number};
-ghost use Rattle.message_build.specs.Words.{Completes};
+ghost use Rattle.message_build.specs.Growing.{Completes};
 
 use crate::appending::{push_number, push_string};
 use crate::builder::Builder;
@@ -37,7 +37,7 @@ impl<'a> Builder<'a> {
     ghost use Rattle.std.specs.Prelude.{◌≡◌, if◌then◌else◌};
     ghost use Rattle.signature.specs.DataType.{basic, array};
     ghost use Rattle.message_value.specs.Value.{text, number, elements};
-    ghost use Rattle.message_build.specs.Words.{Adds, with_argument, with_raw, string_values};
+    ghost use Rattle.message_build.specs.Adding.{Adds, with_argument, with_raw, string_values};
 
     /// Adds a string.
     ///

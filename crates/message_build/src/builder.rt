@@ -19,7 +19,7 @@ pub struct Builder<'a> {
 
 impl<'a> Model for Builder<'a> {
     ghost use Rattle.message_build.specs.Asked.{Asked};
-    ghost use Rattle.message_build.specs.Words.{asked};
+    ghost use Rattle.message_build.specs.Headers.{asked};
 
     ghost Value = { Asked };
 
@@ -30,8 +30,7 @@ impl<'a> Builder<'a> {
     ghost use Rattle.std.specs.Prelude.{◌≡◌, ℕ, List, [], Some, None};
     ghost use Rattle.message_build.specs.declared.given.Given.TheVariants.{Nothing};
     ghost use Rattle.message_build.specs.Asked.{Asked, nothing_asked};
-    ghost use Rattle.message_build.specs.Building.{Finishes};
-    ghost use Rattle.message_build.specs.Words.{listed};
+    ghost use Rattle.message_build.specs.Building.{Finishes, listed};
 
     /// A builder of a message with no fields and no body. It takes no memory.
     pub fn new(alloc: Global, kind: Kind, flags: u8, serial: u32) -> Self

@@ -3,7 +3,8 @@
 ghost use Rattle.std.specs.Prelude.{◌≡◌, ◌<◌, ℕ, List, ◌∷◌, []};
 ghost use Rattle.message_view.specs.Header.{kind_byte};
 ghost use Rattle.message_build.specs.Asked.{text_field, number_field, signature_field};
-ghost use Rattle.message_build.specs.Words.{HoldEach, InRange, bare_header, fields_of, fields_set, said, has_needed, is_sound_header, kind_is_own};
+ghost use Rattle.message_build.specs.Headers.{InRange, bare_header, fields_set, has_needed, is_sound_header, kind_is_own};
+ghost use Rattle.message_build.specs.HeaderFields.{HoldEach, fields_of, said};
 
 use crate::field::HeaderField;
 use message_view::Kind;

@@ -1,14 +1,14 @@
 // The header fields of a message that are copied.
 
 ghost use Rattle.std.specs.Prelude.{◌≡◌, ◌+◌, ◌-◌, ◌<◌, ◌≤◌, ◌++◌, ℕ, List, length, take, drop, filter, IfOk, IfSome, MatchOption};
+ghost use Rattle.message_value.specs.Answers.{Reads};
 ghost use Rattle.std.specs.List.{list_all};
-ghost use Rattle.message_value.specs.Words.{Reads};
 ghost use Rattle.message_view.specs.Message.{Field};
 ghost use Rattle.message_view.specs.Spelling.{fields_bytes};
 ghost use Rattle.message_view.specs.Valid.{AreFields};
 ghost use Rattle.message_build.specs.Stamped.{is_kept};
-ghost use Rattle.message_build.specs.StampWords.{begun_at, is_kept_code, kept_bytes, IsFound, IsAfter, LiesAt};
-ghost use Rattle.message_build.specs.Words.{Appends};
+ghost use Rattle.message_build.specs.StampedFields.{begun_at, is_kept_code, kept_bytes, IsFound, IsAfter, LiesAt};
+ghost use Rattle.message_build.specs.Growing.{Appends};
 
 use crate::appending::align;
 use message_value::{Cursor, MsgError, Order, check_value};
@@ -32,7 +32,7 @@ struct Found<'a> {
 }
 
 /// Goes over a field, with the zeros before it.
-#[tactic(auto, unfolding(crate::specs::StampWords::begun_at))]
+#[tactic(auto, unfolding(crate::specs::StampedFields::begun_at))]
 fn skip_field(cursor: &mut Cursor<'_>, order: Order) -> Result<Begun, MsgError>
     ensures { Reads (λ begun. begun) result cursor.new (begun_at order cursor.old) }
 {

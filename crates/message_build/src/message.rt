@@ -5,8 +5,11 @@ ghost use Rattle.message_value.specs.declared.order.Order.TheVariants.{Little};
 ghost use Rattle.message_value.specs.Fits.{max_array_len};
 ghost use Rattle.message_value.specs.Order.{order_byte};
 ghost use Rattle.message_view.specs.Spelling.{fixed_len, fields_bytes};
-ghost use Rattle.message_build.specs.Building.{Finishes};
-ghost use Rattle.message_build.specs.Words.{Appends, fixed_bytes, spelled, listed, asked, fields_of, are_allowed};
+ghost use Rattle.message_build.specs.Building.{Finishes, listed};
+ghost use Rattle.message_build.specs.Growing.{Appends};
+ghost use Rattle.message_build.specs.MessageBytes.{fixed_bytes, spelled};
+ghost use Rattle.message_build.specs.Headers.{asked};
+ghost use Rattle.message_build.specs.HeaderFields.{fields_of, are_allowed};
 
 use crate::appending::{align, push_word};
 use crate::body::is_body;

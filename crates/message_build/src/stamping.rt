@@ -6,9 +6,9 @@ ghost use Rattle.message_view.specs.Message.{Field, Message};
 ghost use Rattle.message_view.specs.Spelling.{field_bytes, fields_bytes, header_bytes};
 ghost use Rattle.message_view.specs.Valid.{AreFields, Valid};
 ghost use Rattle.message_build.specs.ErrorName.{stamp_number_of, stamp_name_of};
-ghost use Rattle.message_build.specs.Stamped.{Stamps, sender_field};
-ghost use Rattle.message_build.specs.StampWords.{HeadsStamped, stamp_listed, stamped_fields};
-ghost use Rattle.message_build.specs.Words.{Appends};
+ghost use Rattle.message_build.specs.Stamped.{Stamps, sender_field, stamp_listed};
+ghost use Rattle.message_build.specs.StampedFields.{HeadsStamped, stamped_fields};
+ghost use Rattle.message_build.specs.Growing.{Appends};
 
 use crate::appending::{align, push_string};
 use crate::field::MAX_ARRAY_LEN;

@@ -13,7 +13,8 @@ use Rattle.message_value.specs.Value.{Value, number, text}
 use Rattle.message_value.specs.Spelling.{aligned, number_len, width_of, bare_bytes, value_bytes}
 use Rattle.message_value.specs.Reading.{At, item_at, aligned_at, long_text_at, short_text_at, text_value_at, counted, number_value_at, value_at}
 use Rattle.message_value.specs.Arguments.{Argument, text_start, argument_of}
-use Rattle.message_value.specs.Words.{IsNoText, text_code}
+use Rattle.message_value.specs.Forms.{IsNoText}
+use Rattle.message_value.specs.TextTypes.{text_code}
 use Rattle.message_value.proofs.OkSteps.{bind_ok, ok_is, not_refused}
 use Rattle.message_value.proofs.WordBytes.{IsBytes}
 use Rattle.message_value.proofs.ReadItems.{Takes-leaves, aligned_takes, length-padded}

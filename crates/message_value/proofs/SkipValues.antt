@@ -14,7 +14,9 @@ use Rattle.message_value.specs.Value.{Value, Values, number, text, elements, ent
 use Rattle.message_value.specs.Spelling.{number_len, width_of, entry_alignment}
 use Rattle.message_value.specs.Fits.{is_text_code, max_array_len}
 use Rattle.message_value.specs.Reading.{At, ◌>>=◌, item_at, aligned_at, word_at, inside, within_limit, extent_at, each_at, text_value_at, counted, number_value_at, signature_at, Reader, members_at, entry_at, variant_at, array_at, dict_at, struct_at, bare_at, value_by, value_at}
-use Rattle.message_value.specs.Words.{IsRead, IsGone, Reaches, basic_at, text_code}
+use Rattle.message_value.specs.Steps.{IsRead, IsGone, Reaches}
+use Rattle.message_value.specs.Forms.{basic_at}
+use Rattle.message_value.specs.TextTypes.{text_code}
 use Rattle.message_value.proofs.OkSteps.{bind_ok, ok_is, not_refused}
 use Rattle.message_value.proofs.ReadShorter.{item_fits, word_fits}
 use Rattle.message_value.proofs.ValueSteps.{deeper, begun, basic_is, is_container}

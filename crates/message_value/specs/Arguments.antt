@@ -1,4 +1,4 @@
--- The arguments of a message, as they lie in its bytes.
+-- The arguments of a message, as they lie in its bytes (own).
 use Rattle.std.specs.Prelude.{ℕ, ◌+◌, List, [], ◌∷◌, length, slice_index, Option, Some, None, ◌==◌, if◌then◌else◌}
 use Rattle.signature.specs.DataType.{DataType, DataTypes, basic, one_more, spelling}
 use Rattle.signature.specs.Alignment.{alignment_of}

@@ -1,4 +1,5 @@
--- Reading values from left to right, with the first fault that is met.
+-- Reading values from left to right, with the first fault that is met (own; which bytes are values is in
+-- Spelling.antt and Fits.antt).
 use Rattle.std.specs.Prelude.{ℕ, zero, suc, ◌+◌, not, List, [], ◌∷◌, length, take, drop, slice_index, Option, Some, None, Result, Ok, Err, nat_lt, ◌==◌, ◌&&◌, if◌then◌else◌}
 use Rattle.std.specs.List.{list_all}
 use Rattle.signature.specs.DataType.{DataType, DataTypes, basic, variant, array, dict, struct, no_types, one_more}

@@ -7,8 +7,11 @@ ghost use Rattle.message_value.specs.Value.{Value};
 ghost use Rattle.message_value.specs.Spelling.{aligned};
 ghost use Rattle.message_value.specs.Reading.{At, text_value_at, value_at};
 ghost use Rattle.message_value.specs.Arguments.{text_start};
-ghost use Rattle.message_value.specs.Words.{IsRead, IsNoText, IsAligned, AreBytes, text_code};
-ghost use Rattle.message_value.specs.ShownArguments.{ShowsArgument};
+ghost use Rattle.message_value.specs.Steps.{IsRead, IsAligned};
+ghost use Rattle.message_value.specs.Forms.{IsNoText};
+ghost use Rattle.message_value.specs.TextTypes.{text_code};
+ghost use Rattle.message_value.specs.Bytes.{AreBytes};
+ghost use Rattle.message_value.specs.ArgumentsLeft.{ShowsArgument};
 
 use crate::basic_form::BasicForm;
 use crate::cursor::Cursor;

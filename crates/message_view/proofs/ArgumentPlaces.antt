@@ -16,7 +16,7 @@ use Rattle.message_value.specs.Fits.{max_levels, BareFits, MembersFit}
 use Rattle.message_value.specs.Arguments.{Argument, argument_of, arguments_from}
 use Rattle.message_value.proofs.WordBytes.{length-word_bytes}
 use Rattle.message_value.proofs.ReadItems.{length-zeros}
-use Rattle.message_value.specs.Words.{AreBytes}
+use Rattle.message_value.specs.Bytes.{AreBytes}
 use Rattle.message_view.specs.Header.{kind_byte}
 use Rattle.message_view.specs.Message.{Message}
 use Rattle.message_view.specs.Places.{slice_at, LiesIn}

@@ -19,7 +19,7 @@ use Rattle.message_view.specs.Message.{Field, Message, field_with, text_in}
 use Rattle.message_view.specs.Spelling.{fixed_len, field_value_place, field_bytes, fields_bytes, header_bytes, body_bytes, message_bytes}
 use Rattle.message_view.specs.Places.{text_field_code, text_extent, extent_from, extent_of, text_of, IsSlice}
 use Rattle.message_view.specs.Valid.{Valid, IsAllowed, AreFields, levels_in_field}
-use Rattle.message_value.specs.Words.{AreBytes}
+use Rattle.message_value.specs.Bytes.{AreBytes}
 use Rattle.message_view.proofs.TextBytes.{text_bytes}
 use Rattle.message_view.proofs.TextStands.{Stands, stands_here, stands_before, stands_after, stands_within, stands_slice}
 

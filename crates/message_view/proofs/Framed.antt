@@ -7,7 +7,8 @@ use Rattle.message_value.specs.declared.fault.MsgError.{MsgError}
 use Rattle.message_value.specs.Value.{Values}
 use Rattle.message_value.specs.Spelling.{padding}
 use Rattle.message_value.specs.Reading.{At, inside}
-use Rattle.message_value.specs.Words.{AreBytes, Gives}
+use Rattle.message_value.specs.Steps.{Gives}
+use Rattle.message_value.specs.Bytes.{AreBytes}
 use Rattle.message_view.specs.declared.fields.Fields.{Fields}
 use Rattle.message_view.specs.declared.fixed.Fixed.{Fixed}
 use Rattle.message_view.specs.declared.view.Sections.{Sections}
@@ -16,7 +17,9 @@ use Rattle.message_view.specs.Slots.{slots_of, AreExtents}
 use Rattle.message_view.specs.Spelling.{body_place}
 use Rattle.message_view.specs.Fixed.{order_in, fields_len, whole_len}
 use Rattle.message_view.specs.Reading.{header_fault, header_padding, types_in, arguments_at, in_body, body_at, message_of, fields_of, fields_from, framed_message}
-use Rattle.message_view.specs.Words.{body_of, IsFixed, HasHeader, shown, lying}
+use Rattle.message_view.specs.HeaderAnswers.{body_of, HasHeader}
+use Rattle.message_view.specs.FieldAnswers.{shown, lying}
+use Rattle.message_view.specs.FixedAnswers.{IsFixed}
 use Rattle.message_view.proofs.BodyTypes.{types_spelled}
 use Rattle.message_view.proofs.OneMessage.{fields_are}
 

@@ -12,11 +12,11 @@ use Rattle.message_value.specs.Reading.{At}
 use Rattle.message_view.specs.declared.content.Content.{Content}
 use Rattle.message_view.specs.declared.field.FieldCode.{FieldCode}
 use Rattle.message_view.specs.declared.field.FieldCode.TheVariants as codes
-use Rattle.message_view.specs.Header.{code_byte, code_of, type_code}
+use Rattle.message_view.specs.Header.{code_of, type_code}
+use Rattle.message_view.specs.Slots.{code_byte, Slots, slot_of, slots_of}
 use Rattle.message_view.specs.Message.{Field, field_with}
 use Rattle.message_view.specs.Reading.{code_at, content_at, field_at}
-use Rattle.message_view.specs.Slots.{Slots, slot_of, slots_of}
-use Rattle.message_view.specs.Words.{value_of}
+use Rattle.message_view.specs.FieldAnswers.{value_of}
 use Rattle.message_view.proofs.ReadFields.{code_byte-code_of, once_at, field_of, code_takes}
 
 -- a slot shows its value

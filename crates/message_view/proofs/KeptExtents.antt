@@ -8,7 +8,8 @@ use Rattle.signature.specs.DataType.{basic}
 use Rattle.message_value.specs.declared.order.Order.{Order}
 use Rattle.message_value.specs.declared.fault.MsgError.{MsgError}
 use Rattle.message_value.specs.Reading.{At}
-use Rattle.message_value.specs.Words.{AreBytes, Checks}
+use Rattle.message_value.specs.Answers.{Checks}
+use Rattle.message_value.specs.Bytes.{AreBytes}
 use Rattle.message_view.specs.declared.content.Content.{Content}
 use Rattle.message_view.specs.declared.fields.Fields.{Fields}
 use Rattle.message_view.specs.declared.extent.Extent.{Extent}
@@ -16,13 +17,13 @@ use Rattle.message_view.specs.declared.extent.TextField.{TextField}
 use Rattle.message_view.specs.declared.extent.TextField.TheVariants as names
 use Rattle.message_view.specs.declared.field.FieldCode.{FieldCode}
 use Rattle.message_view.specs.declared.field.FieldCode.TheVariants as codes
-use Rattle.message_view.specs.Header.{code_byte, code_of, type_code}
+use Rattle.message_view.specs.Header.{code_of, type_code}
+use Rattle.message_view.specs.Slots.{code_byte, Slots, Extents, no_slots, no_extents, slot_of, slots_of, named_code, extent_in, AreExtents}
 use Rattle.message_view.specs.Message.{Field, field_with}
 use Rattle.message_view.specs.Spelling.{field_bytes, fields_bytes}
 use Rattle.message_view.specs.Places.{text_field_code, text_extent, extent_from}
 use Rattle.message_view.specs.Reading.{code_at, content_at, field_at}
-use Rattle.message_view.specs.Slots.{Slots, Extents, no_slots, no_extents, slot_of, slots_of, named_code, extent_in, AreExtents}
-use Rattle.message_view.specs.Words.{value_of, lies_in, extent_before, shown, lying, LiesBefore, IsFront, KeepsNext}
+use Rattle.message_view.specs.FieldAnswers.{value_of, lies_in, extent_before, shown, lying, LiesBefore, IsFront, KeepsNext}
 use Rattle.message_view.proofs.ReadFields.{once_at, field_of, field_takes}
 use Rattle.message_view.proofs.TextPlaces.{fields_push, extent_other, extent_new, name_before}
 use Rattle.message_view.proofs.Kept.{kept_next, passed_next, passed_fault}

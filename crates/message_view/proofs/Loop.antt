@@ -8,9 +8,10 @@ use Rattle.message_view.specs.declared.fields.Fields.{Fields}
 use Rattle.message_view.specs.Message.{Field}
 use Rattle.message_view.specs.Slots.{no_slots, no_extents, slots_of, AreExtents}
 use Rattle.message_value.specs.Reading.{At, ◌>>=◌}
-use Rattle.message_value.specs.Words.{AreBytes, Gives, IsRead}
+use Rattle.message_value.specs.Steps.{Gives}
+use Rattle.message_value.specs.Bytes.{AreBytes}
 use Rattle.message_view.specs.Reading.{field_at, fields_from}
-use Rattle.message_view.specs.Words.{shown, lying, IsFront}
+use Rattle.message_view.specs.FieldAnswers.{shown, lying, IsFront}
 use Rattle.message_value.proofs.OkSteps.{bind_ok, ok_is}
 use Rattle.message_view.proofs.FieldTurns.{field_shorter}
 use Rattle.message_view.proofs.KeptExtents.{front_none}

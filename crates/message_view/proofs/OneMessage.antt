@@ -24,7 +24,7 @@ use Rattle.message_view.specs.Spelling.{fixed_len, body_place, fields_bytes, hea
 use Rattle.message_view.specs.Valid.{Valid, AreFields}
 use Rattle.message_view.specs.Fixed.{order_in, serial_in, fields_len, body_len, whole_len, framing}
 use Rattle.message_view.specs.Reading.{fields_from, fields_of, header_padding, header_fault, types_in, in_body, all_read, arguments_at, body_at, message_of, or_fault, or_kind, framed_message, or_short, of_len, message_at}
-use Rattle.message_view.specs.Words.{body_of}
+use Rattle.message_view.specs.HeaderAnswers.{body_of}
 use Rattle.message_view.proofs.ReadFields.{or_fault_ok}
 use Rattle.message_view.proofs.FieldArrays.{nothing_front, fields_again, fields_take}
 use Rattle.message_view.proofs.FixedPart.{IsFixed, order_of-order_byte, order_byte-order_of, kind_byte-kind_of, kind_again, framing_takes, framing_again}

@@ -18,7 +18,8 @@ use Rattle.message_value.proofs.ReadTexts.{signature_takes, signature_again}
 use Rattle.message_value.proofs.ReadValues.{value_takes, value_again}
 use Rattle.message_view.specs.declared.field.FieldCode.{FieldCode}
 use Rattle.message_view.specs.declared.field.FieldCode.TheVariants.{Path, Interface, Member, ErrorName, ReplySerial, Destination, Sender, Signature, UnixFds}
-use Rattle.message_view.specs.Header.{code_byte, code_of, type_code, is_named_well, is_reserved, is_number_allowed}
+use Rattle.message_view.specs.Header.{code_of, type_code, is_named_well, is_reserved, is_number_allowed}
+use Rattle.message_view.specs.Slots.{code_byte}
 use Rattle.message_view.specs.Message.{Field, field_with}
 use Rattle.message_view.specs.Spelling.{field_value_place, field_bytes}
 use Rattle.message_view.specs.Valid.{HasContent, IsAllowed, IsField, IsOnce}

@@ -12,7 +12,7 @@ use Rattle.signature.specs.Trees.{types_of}
 use Rattle.signature.proofs.Ascii.{path_ascii}
 use Rattle.message_value.specs.Fits.{is_text_of}
 use Rattle.message_value.proofs.SignatureTexts.{signature_utf8}
-use Rattle.message_value.specs.Words.{AreBytes}
+use Rattle.message_value.specs.Bytes.{AreBytes}
 
 -- ---- bytes, one after the other
 

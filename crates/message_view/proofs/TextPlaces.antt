@@ -19,7 +19,7 @@ use Rattle.message_view.specs.Message.{Field, field_with}
 use Rattle.message_view.specs.Spelling.{field_front, field_value_place, field_bytes, fields_bytes}
 use Rattle.message_view.specs.Places.{text_extent, extent_from}
 use Rattle.message_view.specs.Slots.{named_code}
-use Rattle.message_view.specs.Words.{extent_before}
+use Rattle.message_view.specs.FieldAnswers.{extent_before}
 use Rattle.message_view.proofs.ReadFields.{field_of}
 
 -- ---- a text that was read

@@ -13,7 +13,9 @@ use Rattle.message_value.specs.Value.{Value, number}
 use Rattle.message_value.specs.Spelling.{padding, width_of}
 use Rattle.message_value.specs.Fits.{is_text_code}
 use Rattle.message_value.specs.Reading.{◌>>=◌, At, item_at, aligned_at, byte_at, word_at, signature_at, text_value_at, counted, number_value_at, value_at}
-use Rattle.message_value.specs.Words.{IsRead, IsGone, Reaches, text_code, basic_at}
+use Rattle.message_value.specs.Steps.{IsRead, IsGone, Reaches}
+use Rattle.message_value.specs.TextTypes.{text_code}
+use Rattle.message_value.specs.Forms.{basic_at}
 use Rattle.message_value.proofs.OkSteps.{bind_ok, ok_is}
 use Rattle.message_value.proofs.ReadItems.{at, Takes, item_again}
 use Rattle.message_value.proofs.ReadTexts.{signature_takes}
@@ -24,7 +26,7 @@ use Rattle.message_view.specs.declared.field.FieldType.{FieldType}
 use Rattle.message_view.specs.Header.{code_of, type_code}
 use Rattle.message_view.specs.Message.{Field}
 use Rattle.message_view.specs.Reading.{content_fault, or_fault, is_basic_of, type_fault, known_fault, content_at, code_fault, code_at, field_at}
-use Rattle.message_view.specs.Words.{type_of, type_code_of}
+use Rattle.message_view.specs.FieldAnswers.{type_of, type_code_of}
 use Rattle.message_view.proofs.ReadFields.{or_fault_ok, basic_is, basic_again, field_of}
 use Rattle.message_view.proofs.FieldContents.{type_code-type_of, content_is}
 

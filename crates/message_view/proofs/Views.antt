@@ -27,7 +27,9 @@ use Rattle.message_view.specs.declared.kind.Kind.{Kind}
 use Rattle.message_view.specs.declared.extent.Extent.{Extent}
 use Rattle.message_view.specs.declared.extent.TextField.{TextField}
 use Rattle.message_view.specs.declared.extent.TextField.TheVariants as names
-use Rattle.message_view.specs.Words.{body_of, IsFixed, IsKept, HasHeader, ReadsFramed, ReadsView, kept_by, shown, lying}
+use Rattle.message_view.specs.HeaderAnswers.{body_of, IsKept, HasHeader, ReadsFramed, ReadsView, kept_by}
+use Rattle.message_view.specs.FieldAnswers.{shown, lying}
+use Rattle.message_view.specs.FixedAnswers.{IsFixed}
 use Rattle.message_view.proofs.FixedPart.{framing_again}
 use Rattle.message_view.proofs.Framed.{cursor_is}
 use Rattle.message_view.proofs.OneMessage.{valid_lies, valid_fixed, valid_reads, reads_valid, message_whole, members_read, fault_invalid}

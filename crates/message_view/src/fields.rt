@@ -4,13 +4,15 @@ ghost use Rattle.std.specs.Prelude.{◌≡◌, ℕ, ◌+◌, ◌<◌, ◌≤◌,
 ghost use Rattle.signature.specs.DataType.{DataType, TypeText, SigText, basic};
 ghost use Rattle.signature.specs.Alignment.{alignment_of};
 ghost use Rattle.message_value.specs.Reading.{At, inside, text_value_at, value_at};
-ghost use Rattle.message_value.specs.Words.{Reads, Checks, Gives, text_code};
+ghost use Rattle.message_value.specs.Steps.{Gives};
+ghost use Rattle.message_value.specs.Answers.{Reads, Checks};
+ghost use Rattle.message_value.specs.TextTypes.{text_code};
 ghost use Rattle.message_view.specs.Message.{Field, text_in, number_in, signature_in};
-ghost use Rattle.message_view.specs.Header.{code_byte, type_code, has_required};
+ghost use Rattle.message_view.specs.Header.{type_code, has_required};
+ghost use Rattle.message_view.specs.Slots.{code_byte, slot_of, slots_of, no_slots, no_extents, AreExtents};
 ghost use Rattle.message_view.specs.Valid.{levels_in_field};
-ghost use Rattle.message_view.specs.Slots.{slot_of, slots_of, no_slots, no_extents, AreExtents};
 ghost use Rattle.message_view.specs.Reading.{is_basic_of, content_at, code_fault, code_at, field_at, fields_from, types_in};
-ghost use Rattle.message_view.specs.Words.{value_of, type_code_of, shown, lies_in, lying, LiesBefore, IsFront, KeepsNext};
+ghost use Rattle.message_view.specs.FieldAnswers.{value_of, type_code_of, shown, lies_in, lying, LiesBefore, IsFront, KeepsNext};
 
 use crate::content::Content;
 use crate::extent::Extent;

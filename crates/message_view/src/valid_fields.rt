@@ -3,13 +3,14 @@
 ghost use Rattle.std.specs.Prelude.{◌≡◌, ℕ, ◌+◌, ◌<◌, ◌≤◌, List, [], length, Some, None, Ok};
 ghost use Rattle.signature.specs.DataType.{basic};
 ghost use Rattle.message_value.specs.Reading.{At, inside, aligned_at, byte_at, word_at, signature_at, text_value_at, value_at};
-ghost use Rattle.message_value.specs.Words.{IsRead, IsGone, Reaches, text_code};
+ghost use Rattle.message_value.specs.Steps.{IsRead, IsGone, Reaches};
+ghost use Rattle.message_value.specs.TextTypes.{text_code};
 ghost use Rattle.message_view.specs.Header.{type_code};
 ghost use Rattle.message_view.specs.Message.{Field};
 ghost use Rattle.message_view.specs.Reading.{content_at, code_at, field_at, fields_from};
 ghost use Rattle.message_view.specs.Slots.{slots_of, AreExtents};
 ghost use Rattle.message_view.specs.Valid.{levels_in_field};
-ghost use Rattle.message_view.specs.Words.{value_of, type_code_of, shown, lying, LiesBefore, IsFront, KeepsField};
+ghost use Rattle.message_view.specs.FieldAnswers.{value_of, type_code_of, shown, lying, LiesBefore, IsFront, KeepsField};
 
 use crate::content::Content;
 use crate::extent::Extent;

@@ -2,13 +2,15 @@
 
 ghost use Rattle.std.specs.Prelude.{◌≡◌, ℕ, List, length, Some, Ok};
 ghost use Rattle.signature.specs.DataType.{DataTypes, SigText};
-ghost use Rattle.message_value.specs.Words.{AreBytes};
+ghost use Rattle.message_value.specs.Bytes.{AreBytes};
 ghost use Rattle.message_view.specs.Message.{Message, Field};
 ghost use Rattle.message_view.specs.Valid.{Valid};
 ghost use Rattle.message_view.specs.Fixed.{whole_len};
 ghost use Rattle.message_view.specs.Reading.{framed_message, header_fault, arguments_at};
 ghost use Rattle.message_view.specs.Slots.{slots_of};
-ghost use Rattle.message_view.specs.Words.{HasHeader, ReadsFixed, ReadsHeader, ReadsFramed, Passes, shown};
+ghost use Rattle.message_view.specs.HeaderAnswers.{HasHeader, ReadsHeader, ReadsFramed, Passes};
+ghost use Rattle.message_view.specs.FieldAnswers.{shown};
+ghost use Rattle.message_view.specs.FixedAnswers.{ReadsFixed};
 
 use crate::extent::{Extent, TextField};
 use crate::field::FieldCode;
@@ -141,7 +143,8 @@ impl<'a> Model for View<'a> {
     ghost use Rattle.std.specs.Prelude.{ℕ, List, map};
     ghost use Rattle.message_view.specs.Message.{text_in, number_in};
     ghost use Rattle.message_view.specs.Slots.{extents_in};
-    ghost use Rattle.message_view.specs.Words.{IsKept, shown, lying};
+    ghost use Rattle.message_view.specs.HeaderAnswers.{IsKept};
+    ghost use Rattle.message_view.specs.FieldAnswers.{shown, lying};
 
     ghost Value = { List ℕ };
 
@@ -158,7 +161,7 @@ impl<'a> View<'a> {
     ghost use Rattle.message_view.specs.Slots.{slot_of, slots_of};
     ghost use Rattle.message_view.specs.Spelling.{body_bytes, arguments_of};
     ghost use Rattle.message_view.specs.Places.{extent_of};
-    ghost use Rattle.message_view.specs.Words.{IsKept, ReadsView, kept_by};
+    ghost use Rattle.message_view.specs.HeaderAnswers.{IsKept, ReadsView, kept_by};
 
     /// The view of bytes whose parts these are.
     #[inline(always)]

@@ -7,7 +7,8 @@ use Rattle.crossbeam_queue.specs.Fifo.{Pushes, Pops, Learns, Admits, Held}
 use Rattle.outbox.specs.declared.rule.Item.{Item}
 use Rattle.outbox.specs.declared.rule.SeatView.{SeatView}
 use Rattle.outbox.specs.Counts.{Put, Rises, last_of, count_of, counts_by, Names, InOrder, Among}
-use Rattle.outbox.specs.Views.{blank, item_of, known, Fits, Ordered, Follows, after_put, TakesNext}
+use Rattle.outbox.specs.Views.{blank, item_of, known, Fits, Ordered, Follows, after_put}
+use Rattle.outbox.specs.Taking.{TakesNext}
 use Rattle.outbox.proofs.Rising.{rises_snoc, last_snoc, rises_front, counts_append, names_append, names_any, among_snoc, among_more, among_rises}
 
 -- what a seat in the list knows

@@ -1,8 +1,8 @@
--- The rule of an outbox, over what stands in it and what each seat knows.
-use Rattle.std.specs.Prelude.{ℕ, ◌≡◌, ◌<◌, Option, Some, None, IfSome, List, [], ◌∷◌, ◌++◌, map, slice_index_or}
+-- The rule of an outbox, over what stands in it and what each seat knows (own).
+use Rattle.std.specs.Prelude.{ℕ, ◌≡◌, ◌<◌, Option, Some, None, IfSome, List, [], ◌++◌, map, slice_index_or}
 use Rattle.outbox.specs.declared.rule.Item.{Item}
 use Rattle.outbox.specs.declared.rule.SeatView.{SeatView}
-use Rattle.outbox.specs.Counts.{Put, Rises, last_of, counts_by, Names, InOrder, Among}
+use Rattle.outbox.specs.Counts.{Put, Rises, last_of, counts_by, Names, Among}
 
 -- a new seat's view: it names no origin and has put and taken nothing
 abbrev pub blank : SeatView
@@ -38,10 +38,6 @@ Follows v (Some m) = IfSome v.origin (λ o. o ≡ m.0) × (v.last < m.1)
 abbrev pub after_put : SeatView → Option (ℕ × ℕ) → SeatView
 after_put v None = v
 after_put v (Some m) = record { origin = Some m.0; last = m.1; taken = v.taken }
-
--- the list taken is longer by this item, which some seat put, and in order
-abbrev pub TakesNext : SeatView → Item → SeatView → Type 0
-TakesNext v x w = (seat : ℕ) × (w ≡ record { origin = v.origin; last = v.last; taken = v.taken ++ (seat, x) ∷ [] }) × InOrder w.taken
 
 -- this seat, and no other, names the origin
 abbrev pub NamedAlone : ℕ → ℕ → List SeatView → Type 0

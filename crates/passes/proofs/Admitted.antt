@@ -9,7 +9,8 @@ use Rattle.published.specs.Publication.{Publication}
 use Rattle.passes.specs.declared.error.BusError.{BusError}
 use Rattle.passes.specs.Passes.{PassState, HasTaken}
 use Rattle.passes.specs.Calls.{IsShutOut, unconnected, closed, ended, others, fewer, Answers}
-use Rattle.passes.specs.Admission.{IsAdmitted, IsReady}
+use Rattle.passes.specs.Admission.{IsAdmitted}
+use Rattle.passes.specs.Readiness.{IsReady}
 use Rattle.passes.proofs.Owned.{own_same}
 use Rattle.passes.proofs.Done.{counted}
 use Rattle.passes.proofs.Commands.{IsTold, IsCounted}

@@ -7,7 +7,7 @@ ghost use Rattle.program_table.specs.History.{after, is_command_of, IsHistory};
 ghost use Rattle.published.specs.Publication.{Publication, nothing_published};
 ghost use Rattle.passes.specs.Passes.{PassState, new_pass};
 ghost use Rattle.passes.specs.Calls.{Answers, Connects};
-ghost use Rattle.passes.specs.Admission.{Admits, IsReady};
+ghost use Rattle.passes.specs.Readiness.{Admits, IsReady};
 
 use crate::error::BusError;
 use crate::pass::Pass;

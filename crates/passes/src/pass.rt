@@ -8,7 +8,8 @@ ghost use Rattle.owners.specs.Queues.{owner_of, queue_of};
 ghost use Rattle.program_table.specs.Connections.{is_connected, numbers_of};
 ghost use Rattle.program_table.specs.History.{after, own_commands};
 ghost use Rattle.program_table.specs.Recipients.{AreRecipients};
-ghost use Rattle.passes.specs.Passes.{PassState, HasTaken, new_pass, sending};
+ghost use Rattle.passes.specs.Passes.{PassState, HasTaken, new_pass};
+ghost use Rattle.passes.specs.Sending.{sending};
 ghost use Rattle.lookups.specs.NameOwners.{IsOwner};
 ghost use Rattle.lookups.specs.Addressees.{IsAddressee};
 ghost use Rattle.lookups.specs.Broadcasts.{AreFound, IsFound};
@@ -53,7 +54,8 @@ impl<J: Naming, M: Mailbox> Model for Pass<J, M>
 where
     Published: Protocol<Shown<J, M>, LinkedList<Command<M>>>,
 {
-    ghost use Rattle.passes.specs.Passes.{PassState, HasTaken, SendsFor, count_in, stops_in};
+    ghost use Rattle.passes.specs.Passes.{PassState, HasTaken};
+    ghost use Rattle.passes.specs.Sending.{SendsFor, count_in, stops_in};
 
     ghost Value = { PassState M };
 

@@ -12,7 +12,8 @@ use Rattle.program_table.specs.declared.command.Reply.TheVariants as replies
 use Rattle.program_table.specs.declared.refusal.Refusal.{Refusal}
 use Rattle.program_table.specs.declared.refusal.Refusal.TheVariants as refusals
 use Rattle.program_table.specs.SlotNames.{slot_next}
-use Rattle.program_table.specs.Refusals.{◌>>=◌, refuse_if, claim_refusal}
+use Rattle.program_table.specs.Refusals.{◌>>=◌, refuse_if}
+use Rattle.program_table.specs.SlotSearch.{claim_refusal}
 use Rattle.program_table.specs.Answers.{request_answer}
 use Rattle.program_table.specs.Ties.{slot_names, registrations_of, AreTied}
 use Rattle.program_table.proofs.Holdings.{slot_next-holdings}

@@ -1,4 +1,4 @@
--- What a command of a connection that is there is answered, by what is registered.
+-- What a command of a connection that is there is answered, by what is registered (own).
 use Rattle.std.specs.Prelude.{ℕ, ◌+◌, not, List, length, find, Option, Some, None, option_map, is_none, Result, Ok, nat_le, nat_lt, nat_eq, ◌==◌, ◌||◌}
 use Rattle.std.specs.List.{list_any}
 use Rattle.std.specs.Option.{option_eq}

@@ -1,4 +1,4 @@
--- The connections and the last number that was given.
+-- Inner: the connections and the last number that was given.
 use Rattle.std.specs.Prelude.{ℕ, ◌+◌, ◌≤◌, List, [], ◌∷◌, ◌++◌, All, length}
 use Rattle.std.specs.List.Sorted.{IsStrictlyIncreasing}
 use Rattle.program_table.specs.declared.connection.Connection.{Connection}

@@ -1,4 +1,4 @@
--- What is true of each state of the bus.
+-- What is true of each state of the bus (own).
 use Rattle.std.specs.Prelude.{◌≡◌, ℕ, ◌≤◌, ◌<◌, Bool, true, ◌&&◌, List, All, AllPairs, Option, Some, None, is_some, length, nat_eq, nat_le, slice_get}
 use Rattle.std.specs.List.{list_all}
 use Rattle.std.specs.Option.{option_eq}

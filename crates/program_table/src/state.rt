@@ -47,7 +47,8 @@ impl<M: Mailbox> BusState<M> {
     ghost use Rattle.program_table.specs.State.{State, opening};
     ghost use Rattle.program_table.specs.Does.{Does, reply_to, max_commands, answer_of, is_accepted, is_sharing, row, connect_row, connected, changed, effect};
     ghost use Rattle.program_table.specs.Recipients.{AreOwnedSlots};
-    ghost use Rattle.program_table.specs.RuleSlots.{IsRuleSlot, rule_slot_of};
+    ghost use Rattle.program_table.specs.RuleSlots.{IsRuleSlot};
+    ghost use Rattle.program_table.specs.SlotSearch.{rule_slot_of};
     ghost use Rattle.program_table.specs.IsState.{IsState};
     ghost use Rattle.rule_compile.specs.Compiled.{IsSlotOf};
 

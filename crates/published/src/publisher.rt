@@ -8,7 +8,7 @@ ghost use Rattle.program_table.specs.Does.{is_accepted, reply_to};
 ghost use Rattle.program_table.specs.History.{after, own_commands, IsHistory};
 ghost use Rattle.published.specs.ErrorName.{publish_error_name};
 ghost use Rattle.published.specs.Publication.{Publication, nothing_published, with_next};
-ghost use Rattle.published.specs.Publishing.{Continues};
+ghost use Rattle.published.specs.Steps.{Continues};
 
 use crate::history::{Book, Front, Law, Naming, Opened};
 use crate::shown::{Entry, Notes, Published, Sees, Shown};

@@ -85,7 +85,7 @@ pub struct Entry<J: Naming, M: Mailbox> {
 impl<J: Naming, M: Mailbox> Model for Entry<J, M> {
     ghost use Rattle.std.specs.Prelude.{List};
     ghost use Rattle.program_table.specs.declared.command.Command.{Command};
-    ghost use Rattle.published.specs.Publishing.{EndsWith};
+    ghost use Rattle.published.specs.Steps.{EndsWith};
 
     ghost Value = { List (Command M) };
 
@@ -167,7 +167,7 @@ impl<J: Naming, M: Mailbox> Protocol<Shown<J, M>, LinkedList<Command<M>>> for Pu
 pub struct Sees;
 
 impl<J: Naming, M: Mailbox> Outcome<Shown<J, M>, LinkedList<Command<M>>> for Sees {
-    ghost use Rattle.published.specs.Publishing.{Shows};
+    ghost use Rattle.published.specs.Steps.{Shows};
 
     ghost then = { Shows };
 }

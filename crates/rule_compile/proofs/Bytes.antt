@@ -6,7 +6,8 @@ use Rattle.bpf_code.specs.declared.operation.Width.{Width}
 use Rattle.bpf_code.specs.declared.operation.Width.TheVariants.{Word, Half, Byte}
 use Rattle.bpf_code.specs.declared.operation.Test.TheVariants.{Equal}
 use Rattle.bpf_code.specs.Loads.{load_byte, load_half, load_word}
-use Rattle.summary.specs.Shown.{Lies, AreBytes}
+use Rattle.summary.specs.Shown.{Lies}
+use Rattle.message_value.specs.Bytes.{AreBytes}
 use Rattle.rule_compile.specs.Code.{indexed, want, two, four, same_word, same_words, same_bytes}
 use Rattle.rule_compile.proofs.Pieces.{Tests}
 use Rattle.rule_compile.proofs.Combined.{Extends, extends_none, extends_more, extends_then, extends_want, tests_none, tests_same, tests_then, tests_both, tests_indexed}

@@ -32,7 +32,8 @@ use Rattle.match_rule.specs.Parts.{has_small_number}
 use Rattle.match_rule.specs.RuleTree.{is_owned_name}
 use Rattle.summary.specs.declared.edition.Edition.TheVariants.{Two}
 use Rattle.summary.specs.Sets.{has_slot}
-use Rattle.summary.specs.Shown.{AreBytes, Tells, ShowsText, Shows}
+use Rattle.summary.specs.Shown.{Tells, ShowsText, Shows}
+use Rattle.message_value.specs.Bytes.{AreBytes}
 use Rattle.summary.specs.Layout.{kind_place, text_place, argument_place, ownership_place}
 use Rattle.rule_compile.specs.Code.{image_word, want, is_there, has_text_len, has_bytes, in_namespace}
 use Rattle.rule_compile.specs.Folders.{is_nested}

@@ -7,7 +7,8 @@ use Rattle.bpf_code.specs.declared.operation.Test.{Test}
 use Rattle.bpf_code.specs.declared.operation.Test.TheVariants.{Equal, AtLeast}
 use Rattle.match_rule.specs.Bytes.{ends_with}
 use Rattle.match_rule.specs.Holds.{AreNested}
-use Rattle.summary.specs.Shown.{AreBytes, Tells}
+use Rattle.summary.specs.Shown.{Tells}
+use Rattle.message_value.specs.Bytes.{AreBytes}
 use Rattle.rule_compile.specs.Code.{same_bytes, has_len, index_text, may_end}
 use Rattle.rule_compile.specs.Folders.{with_front, parts_of, along, is_nested}
 use Rattle.rule_compile.proofs.Pieces.{Any, Tests}

@@ -16,7 +16,7 @@ use Rattle.match_rule.specs.declared.condition.Condition.{Condition}
 use Rattle.match_rule.specs.declared.condition.Condition.TheVariants.{Kind, Sender, Compares}
 use Rattle.match_rule.specs.Arguments.{text_in}
 use Rattle.match_rule.specs.Condition.{value_of}
-use Rattle.message_value.specs.Words.{AreBytes}
+use Rattle.message_value.specs.Bytes.{AreBytes}
 use Rattle.match_rule.specs.FixedTexts.{member_asked, interface_asked, path_asked, arg0_asked, arg0_of, fixed_texts, texts_of, AreFound}
 use Rattle.match_rule.specs.Parts.{is_sender, has_one_sender, has_small_number, have_small_numbers}
 use Rattle.match_rule.specs.RuleTree.{RuleTree, condition_weight, weight_of, owned_name_in, or_else, first_owned_name, sender_name_of}

@@ -24,7 +24,8 @@ use Rattle.match_rule.specs.RuleTree.{RuleTree, is_owned_name, or_else, first_ow
 use Rattle.summary.specs.declared.edition.Edition.TheVariants.{Two}
 use Rattle.summary.specs.ImageBytes.{image_bytes}
 use Rattle.summary.specs.Sets.{has_slot}
-use Rattle.summary.specs.Shown.{AreBytes, ShowsText, Shows}
+use Rattle.summary.specs.Shown.{ShowsText, Shows}
+use Rattle.message_value.specs.Bytes.{AreBytes}
 use Rattle.summary.specs.Layout.{text_place}
 use Rattle.rule_compile.specs.declared.condition.Part.TheVariants.{Words, Bytes}
 use Rattle.rule_compile.specs.Code.{returns}

@@ -9,7 +9,8 @@ use Rattle.bpf_code.specs.declared.operation.Test.TheVariants.{Equal, Above, AtL
 use Rattle.bpf_code.specs.Loads.{load_word}
 use Rattle.bpf_code.specs.Effects.{passes}
 use Rattle.match_rule.specs.Holds.{Begins}
-use Rattle.summary.specs.Shown.{AreBytes, Tells, ShowsText}
+use Rattle.summary.specs.Shown.{Tells, ShowsText}
+use Rattle.message_value.specs.Bytes.{AreBytes}
 use Rattle.rule_compile.specs.Code.{image_word, indexed, want, same_bytes, has_len, is_there, is_there_if, has_text_len, index_text, has_bytes, may_end, in_namespace}
 use Rattle.rule_compile.proofs.Pieces.{Any, Tests}
 use Rattle.rule_compile.proofs.InTurn.{InTurn, turn_then, turn_same}

@@ -1,5 +1,5 @@
 -- The hash of a text at a point: a polynomial modulo the prime 2^61 - 1, whose coefficients are the text's words, by
--- Horner's rule.
+-- Horner's rule (own).
 use Rattle.std.specs.Prelude.{ℕ, zero, suc, ◌+◌, ◌-◌, ◌*◌, ◌/◌, ◌%◌, List, length}
 use Rattle.text_hash.specs.Words.{seven_at, last_word}
 

@@ -10,7 +10,8 @@ use Rattle.world.specs.declared.event.Event.{Event}
 use Rattle.world.specs.declared.event.Event.TheVariants.{Piece, End}
 use Rattle.world.specs.Histories.{state_after}
 use Rattle.world.specs.Jobs.{parts, events_since, Begins, is_end_of, is_piece_of, is_free, IsOpen, IsClosed, AreRecipientsOf}
-use Rattle.world.specs.OpenJobs.{OpenJob, opened, is_free_in, with_part}
+use Rattle.world.specs.OpenJobs.{OpenJob}
+use Rattle.world.specs.Steps.{opened, is_free_in, with_part}
 use Rattle.world.specs.IsWorld.{IsKept}
 use Rattle.world.proofs.Elements.{or_false, slice_get_end, slice_get-set_same, slice_get-set_other}
 use Rattle.world.proofs.Growing.{within, length_end, open_cases, closed_end, recipients_end, asked_end}

@@ -12,10 +12,10 @@ use Rattle.world.specs.declared.answer.Answer.TheVariants.{Reply, Fault, Ignored
 use Rattle.world.specs.Histories.{commands_of, state_after}
 use Rattle.world.specs.Jobs.{Begins, is_end_of, is_piece_of, is_free, IsClosed, AreRecipientsOf, AreRecipientsIn}
 use Rattle.world.specs.Answers.{IsAnswered}
-use Rattle.world.specs.OpenJobs.{OpenJob, opened, job_of, with_part, SetsJob, SameJobs, LacksPart, HasPart}
+use Rattle.world.specs.OpenJobs.{OpenJob, job_of}
+use Rattle.world.specs.Steps.{opened, with_part, SetsJob, SameJobs, LacksPart, HasPart, Step, IsNext}
 use Rattle.world.specs.WorldState.{WorldState}
 use Rattle.world.specs.IsWorld.{IsKept, IsWorld}
-use Rattle.world.specs.Steps.{Step, IsNext}
 use Rattle.world.proofs.Growing.{length_end, state_end, state_stays, closed_end}
 use Rattle.world.proofs.Keeping.{kept_end, free_kept, opened_end, ended_end, piece_end, piece_stays}
 

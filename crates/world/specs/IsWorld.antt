@@ -1,4 +1,4 @@
--- Which events a world is of, and what it is that events are done.
+-- Which events a world is of, and what it is that events are done (own).
 use Rattle.std.specs.Prelude.{◌≡◌, ℕ, ◌+◌, ◌<◌, List, ◌++◌, length, slice_get, Option, Some, None}
 use Rattle.std.specs.List.{list_any}
 use Rattle.world.specs.declared.event.Event.{Event}

@@ -2,7 +2,7 @@
 
 ghost use Rattle.std.specs.Prelude.{◌≡◌, ◌≤◌, true, false, length, MatchOption};
 ghost use Rattle.world.specs.Jobs.{in_part};
-ghost use Rattle.world.specs.OpenJobs.{opened, is_free_in, with_part};
+ghost use Rattle.world.specs.Steps.{opened, is_free_in, with_part};
 
 use arrayvec::ArrayVec;
 use std::marker::Model;

@@ -1,7 +1,8 @@
 // The open jobs by number.
 
 ghost use Rattle.std.specs.Prelude.{◌≡◌, [], Some, None, OnOk, OnErr, MatchOption, IsSomeAnd};
-ghost use Rattle.world.specs.OpenJobs.{job_of, opened, SetsJob, SameJobs, HasPart, LacksPart};
+ghost use Rattle.world.specs.OpenJobs.{job_of};
+ghost use Rattle.world.specs.Steps.{opened, SetsJob, SameJobs, HasPart, LacksPart};
 
 use crate::job::Job;
 use arrayvec::ArrayVec;

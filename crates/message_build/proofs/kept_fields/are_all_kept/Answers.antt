@@ -2,7 +2,7 @@ use Rattle.std.proofs.Common.{length, sym, ap, subst, ◌∙◌, ◌<◌}
 use Rattle.std.specs.List.{list_all}
 use Rattle.message_value.specs.Reading.{At}
 use Rattle.message_build.specs.Stamped.{is_kept}
-use Rattle.message_build.specs.StampWords.{is_kept_code}
+use Rattle.message_build.specs.StampedFields.{is_kept_code}
 use Rattle.message_build.proofs.AllKept.{Rest, at_start, turn, at_end}
 use Rattle.message_build.proofs.kept_fields.are_all_kept.Goals as goal
 

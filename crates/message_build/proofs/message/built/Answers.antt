@@ -1,6 +1,8 @@
 use Rattle.std.proofs.Common.{◌≡◌, true, List, refl, sym, ap, ◌∙◌, arith}
 use Rattle.message_view.specs.Message.{Field}
-use Rattle.message_build.specs.Words.{fields_set, are_allowed, is_sound_header, spelled}
+use Rattle.message_build.specs.MessageBytes.{spelled}
+use Rattle.message_build.specs.Headers.{fields_set, is_sound_header}
+use Rattle.message_build.specs.HeaderFields.{are_allowed}
 use Rattle.message_build.proofs.MessageLaws.{header_refused, fields_refused, body_refused, asked_sound, fields_above, fields_end_is, fields_too_large, message_too_large, built_valid, no_memory}
 use Rattle.message_build.proofs.message.built.Goals as goal
 

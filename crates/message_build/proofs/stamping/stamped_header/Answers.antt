@@ -1,6 +1,6 @@
 use Rattle.std.proofs.Common.{◌≡◌, ℕ, ◌-◌, ◌++◌, length, take, drop, ap, ◌∙◌, arith}
 use Rattle.message_value.specs.Order.{word_bytes}
-use Rattle.message_build.specs.StampWords.{stamped_fields}
+use Rattle.message_build.specs.StampedFields.{stamped_fields}
 use Rattle.message_build.proofs.StampedMessages.{Headed, fields_len_is, header_written}
 use Rattle.message_build.proofs.stamping.stamped_header.Goals as goal
 

@@ -1,7 +1,7 @@
 use Rattle.std.proofs.Common.{◌≡◌, ℕ, Ok, ap, sym, refl, ◌∙◌}
 use Rattle.signature.specs.BasicType.{basic_alignment}
 use Rattle.message_value.specs.Reading.{aligned_at}
-use Rattle.message_view.specs.Words.{type_code_of}
+use Rattle.message_view.specs.FieldAnswers.{type_code_of}
 use Rattle.message_view.proofs.ValidFields.{value_gone, value_text, value_number, value_as, number_word, word_number}
 use Rattle.message_view.proofs.field.FieldType.valid_value.Goals as goal
 

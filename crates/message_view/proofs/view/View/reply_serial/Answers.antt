@@ -1,6 +1,6 @@
 use Rattle.std.proofs.Common.{ap, ◌∙◌}
 use Rattle.message_view.specs.Slots.{slots_of}
-use Rattle.message_view.specs.Words.{shown}
+use Rattle.message_view.specs.FieldAnswers.{shown}
 use Rattle.message_view.proofs.Views.{kept_is, number_kept}
 use Rattle.message_view.proofs.view.View.reply_serial.Goals as goal
 

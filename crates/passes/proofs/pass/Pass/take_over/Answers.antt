@@ -1,7 +1,8 @@
 use Rattle.std.proofs.Common.{◌≡◌, refl, ap, sym, subst, List}
 use mathlib.Core.List.{IsPrefix}
 use Rattle.program_table.specs.declared.command.Command.{Command}
-use Rattle.passes.specs.Passes.{PassState, count_in, stops_in}
+use Rattle.passes.specs.Passes.{PassState}
+use Rattle.passes.specs.Sending.{count_in, stops_in}
 use Rattle.passes.proofs.Done.{still_taken}
 use Rattle.passes.proofs.pass.Pass.take_over.Goals as goal
 

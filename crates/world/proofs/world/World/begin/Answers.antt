@@ -1,7 +1,7 @@
 use Rattle.std.proofs.Common.{Some, sym, subst}
 use Rattle.message_view.specs.Valid.{Valid}
 use Rattle.program_table.specs.Recipients.{AreRecipients}
-use Rattle.world.specs.OpenJobs.{opened, SetsJob}
+use Rattle.world.specs.Steps.{opened, SetsJob}
 use Rattle.world.specs.WorldState.{WorldState}
 use Rattle.world.proofs.world.World.begin.Goals as goal
 

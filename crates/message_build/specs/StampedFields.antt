@@ -1,5 +1,5 @@
--- Words that the contracts of stamping use.
-use Rattle.std.specs.Prelude.{◌≡◌, ◌+◌, ◌<◌, ◌≤◌, ℕ, Bool, not, ◌&&◌, List, [], ◌∷◌, ◌++◌, length, drop, is_some, ◌==◌, Option, Some, None, Result, Ok, Err, Vec, filter, if◌then◌else◌}
+-- Inner: the fields of a message, kept one after the other for its stamp.
+use Rattle.std.specs.Prelude.{◌≡◌, ◌+◌, ◌<◌, ◌≤◌, ℕ, Bool, not, ◌&&◌, List, [], ◌∷◌, ◌++◌, length, drop, is_some, ◌==◌, Option, Some, None, Result, Ok, Err, filter, if◌then◌else◌}
 use Rattle.message_value.specs.declared.order.Order.{Order}
 use Rattle.message_value.specs.declared.fault.MsgError.{MsgError}
 use Rattle.message_value.specs.Fits.{max_array_len}
@@ -15,7 +15,7 @@ use Rattle.message_build.specs.declared.stamping.StampError.{StampError}
 use Rattle.message_build.specs.declared.stamping.StampError.TheVariants.{TooLarge, NoMemory}
 use Rattle.message_build.specs.declared.header.Header.{Header}
 use Rattle.message_build.specs.Stamped.{is_kept, sender_field}
-use Rattle.message_build.specs.Words.{fixed_bytes}
+use Rattle.message_build.specs.MessageBytes.{fixed_bytes}
 
 -- a code that has a meaning, and isn't SENDER's
 abbrev pub is_kept_code : ℕ → Bool
@@ -64,8 +64,3 @@ HeadsStamped (Ok bytes) order h body_len fields =
     (length fields ≤ max_array_len) × (bytes ≡ fixed_bytes order h (length fields) body_len ++ (fields ++ zeros (padding 8 (length fields))))
 HeadsStamped (Err TooLarge) order h body_len fields = max_array_len < length fields
 HeadsStamped (Err NoMemory) order h body_len fields = Unit {0}
-
--- the bytes of a result
-abbrev pub stamp_listed : {A : Type 0} → Result (Vec ℕ A) StampError → Result (List ℕ) StampError
-stamp_listed (Ok v) = Ok v.items
-stamp_listed (Err e) = Err e
