@@ -5,7 +5,7 @@ use Rattle.bpf_code.specs.declared.operation.Op.{Op}
 use Rattle.bpf_code.specs.declared.error.CodeError.{CodeError}
 use Rattle.bpf_code.specs.declared.error.CodeError.TheVariants as errors
 use Rattle.bpf_text.specs.Operands.{One, Both}
-use Rattle.bpf_text.specs.Rows.{Row, Jumps, Stays, Goes, Parts}
+use Rattle.bpf_text.specs.Rows.{LabelIns, Jumps, Stays, Goes, Parts}
 use Rattle.bpf_text.specs.Source.{Label, count_row, Line, AreLines, lines_of, distance, far_or, goes_by, parts_by, resolve_by, resolve, with_ins, with_row, IsTextFault}
 use Rattle.bpf_text.specs.Sketches.{Noted, Sketch, sketch_of, noted_program, program_in}
 use Rattle.bpf_text.proofs.SketchedPrograms.{program_sketched}
@@ -41,7 +41,7 @@ by_fault labels count place line op k (Goes name) e h = goes_fault line op (dist
 by_fault labels count place line op k (Parts (One first)) e h = parts_fault line op k (distance labels count place first) (Some 0) e h
 by_fault labels count place line op k (Parts (Both first second)) e h = parts_fault line op k (distance labels count place first) (distance labels count place second) e h
 
-resolve_fault : (labels : List Label) (count place line : ℕ) (row : Row) (e : CodeError) → resolve labels count place line row ≡ Err e → IsJumps e
+resolve_fault : (labels : List Label) (count place line : ℕ) (row : LabelIns) (e : CodeError) → resolve labels count place line row ≡ Err e → IsJumps e
 unfolding resolve
 resolve_fault labels count place line row e h = by_fault labels count place line row.op row.k row.jumps e h
 
@@ -50,7 +50,7 @@ ins_fault (Err d) rest e first later h = is_same d e (first d refl) h
 ins_fault (Ok ins) (Err d) e first later h = is_same d e (later d refl) h
 ins_fault (Ok ins) (Ok program) e first later h = absurd (cc)
 
-row_fault : (labels : List Label) (count place line : ℕ) (row : Option Row) (rest : Result (List Ins) CodeError) (e : CodeError) → ((d : CodeError) → rest ≡ Err d → IsJumps d) → with_row labels count place line row rest ≡ Err e → IsJumps e
+row_fault : (labels : List Label) (count place line : ℕ) (row : Option LabelIns) (rest : Result (List Ins) CodeError) (e : CodeError) → ((d : CodeError) → rest ≡ Err d → IsJumps d) → with_row labels count place line row rest ≡ Err e → IsJumps e
 row_fault labels count place line None rest e later h = later e h
 row_fault labels count place line (Some row) rest e later h = ins_fault (resolve labels count place line row) rest e (λ d is. resolve_fault labels count place line row d is) later h
 

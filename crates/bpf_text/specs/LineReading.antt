@@ -5,7 +5,7 @@ use Rattle.std.specs.Char.{digit_value}
 use Rattle.bpf_text.specs.Lexis.{◌>>=◌, word_at, is_over, begins_blank, sign_at}
 use Rattle.bpf_text.specs.Mnemonics.{mnemonic_of}
 use Rattle.bpf_text.specs.OperandReading.{operands_of}
-use Rattle.bpf_text.specs.Rows.{Row, row_of, is_absent}
+use Rattle.bpf_text.specs.Rows.{LabelIns, row_of, is_absent}
 use Rattle.bpf_text.specs.Source.{Line, Label, count_row, labels_at, repeats}
 use Rattle.bpf_text.specs.Sketches.{Sketch}
 
@@ -15,18 +15,18 @@ with_digit_of base number digit =
     if nat_lt (digit_value digit) base && nat_lt (number * base + digit_value digit) (2 ^ 32) then Some (number * base + digit_value digit) else None
 
 -- the instruction of a mnemonic and the bytes after it; a blank stands before operands
-unfoldable pub row_after : List ℕ → List ℕ → Option Row
+unfoldable pub row_after : List ℕ → List ℕ → Option LabelIns
 row_after word rest = do
   mnemonic ← mnemonic_of word
   operands ← operands_of rest
   if is_absent operands || begins_blank rest then row_of mnemonic operands else None
 
-abbrev pub statement_by : List ℕ → Option (List ℕ × List ℕ) → Option (Option Row)
+abbrev pub statement_by : List ℕ → Option (List ℕ × List ℕ) → Option (Option LabelIns)
 statement_by bytes None = if is_over bytes then Some None else None
 statement_by bytes (Some word) = option_map Some (row_after word.0 word.1)
 
 -- at most one instruction, and a comment
-unfoldable pub statement_of : List ℕ → Option (Option Row)
+unfoldable pub statement_of : List ℕ → Option (Option LabelIns)
 statement_of bytes = statement_by bytes (word_at bytes)
 
 -- a label and its colon

@@ -17,19 +17,19 @@ pub data Jumps : Type 0 where
   Parts : Targets → Jumps
 
 -- an instruction whose targets are labels
-pub record Row : Type 0 where
+pub record LabelIns : Type 0 where
   pub op : Op
   pub k : ℕ
   pub jumps : Jumps
 
-abbrev pub plain : Op → ℕ → Option Row
+abbrev pub plain : Op → ℕ → Option LabelIns
 plain o k = Some (record { op = o; k = k; jumps = Stays })
 
 -- the operand is this register
-abbrev pub if_named : List ℕ → List ℕ → Option Row → Option Row
+abbrev pub if_named : List ℕ → List ℕ → Option LabelIns → Option LabelIns
 if_named register name row = if bytes_eq name register then row else None
 
-abbrev pub row_of : Mnemonic → Operands → Option Row
+abbrev pub row_of : Mnemonic → Operands → Option LabelIns
 row_of (Load Word) (Number k) = plain op.LoadConstant k
 row_of (Load Word) (Scratch k) = plain op.LoadScratch k
 row_of (Load Word) Length = plain op.LoadLength 0

@@ -3,13 +3,13 @@ use Rattle.std.specs.Prelude.{ℕ, ◌+◌, Bool, List, [], ◌∷◌, ◌++◌,
 use Rattle.bpf_code.specs.declared.instruction.Ins.{Ins}
 use Rattle.bpf_code.specs.declared.error.CodeError.{CodeError}
 use Rattle.bpf_code.specs.declared.error.CodeError.TheVariants as errors
-use Rattle.bpf_text.specs.Rows.{Row}
+use Rattle.bpf_text.specs.Rows.{LabelIns}
 use Rattle.bpf_text.specs.Source.{Line, Label, count_row, labels_at, labels_from, count_of, repeats, with_row}
 
 -- what a line has beside its labels: whether one of them is defined a second time, and its instruction
 pub record Noted : Type 0 where
   pub again : Bool
-  pub row : Option Row
+  pub row : Option LabelIns
 
 abbrev pub noted_from : List Label → ℕ → List Line → List Noted
 noted_from earlier place [] = []

@@ -13,14 +13,14 @@ use Rattle.bpf_text.specs.Lexis.{◌>>=◌, is_over, begins_blank}
 use Rattle.bpf_text.specs.Mnemonics.{mnemonic_of}
 use Rattle.bpf_text.specs.declared.mnemonic.Mnemonic.{Mnemonic}
 use Rattle.bpf_text.specs.Operands.{Operands, One, Both}
-use Rattle.bpf_text.specs.Rows.{Row, Jumps, Stays, Goes, Parts, is_absent, row_of}
+use Rattle.bpf_text.specs.Rows.{LabelIns, Jumps, Stays, Goes, Parts, is_absent, row_of}
 
 -- ---- lines
 
 -- a line: its labels, and the instruction, if it has one
 pub record Line : Type 0 where
   pub labels : List (List ℕ)
-  pub row : Option Row
+  pub row : Option LabelIns
 
 -- bytes begin with these labels, each a word and a colon, and the rest follows
 abbrev pub HasLabels : List ℕ → List (List ℕ) → List ℕ → Type 0
@@ -28,7 +28,7 @@ HasLabels bytes [] rest = bytes ≡ rest
 HasLabels bytes (label ∷ labels) rest = (tail : List ℕ) × Front (Word label ∷ Sign 58 ∷ []) bytes tail × HasLabels tail labels rest
 
 -- bytes spell an instruction: a mnemonic, a blank where operands follow, and the tokens of the operands
-pub record Spells (bytes : List ℕ) (row : Row) : Type 0 where
+pub record Spells (bytes : List ℕ) (row : LabelIns) : Type 0 where
   pub word : List ℕ
   pub tail : List ℕ
   pub mnemonic : Mnemonic
@@ -40,7 +40,7 @@ pub record Spells (bytes : List ℕ) (row : Row) : Type 0 where
   pub means : row_of mnemonic operands ≡ Some row
 
 -- an instruction, or nothing but a comment
-abbrev pub IsStatement : List ℕ → Option Row → Type 0
+abbrev pub IsStatement : List ℕ → Option LabelIns → Type 0
 IsStatement bytes None = is_over bytes ≡ true
 IsStatement bytes (Some row) = Spells bytes row
 
@@ -68,7 +68,7 @@ pub record Label : Type 0 where
   pub name : List ℕ
   pub place : ℕ
 
-abbrev pub count_row : Option Row → ℕ
+abbrev pub count_row : Option LabelIns → ℕ
 count_row None = 0
 count_row (Some row) = 1
 
@@ -127,7 +127,7 @@ resolve_by labels count place line op k (Parts (Both first second)) =
 
 -- The instruction of a row at a place and on a line. A second target that is left out is the next
 -- instruction.
-unfoldable pub resolve : List Label → ℕ → ℕ → ℕ → Row → Result Ins CodeError
+unfoldable pub resolve : List Label → ℕ → ℕ → ℕ → LabelIns → Result Ins CodeError
 resolve labels count place line row = resolve_by labels count place line row.op row.k row.jumps
 
 abbrev pub with_ins : Result Ins CodeError → Result (List Ins) CodeError → Result (List Ins) CodeError
@@ -135,7 +135,7 @@ with_ins (Err e) rest = Err e
 with_ins (Ok ins) (Err e) = Err e
 with_ins (Ok ins) (Ok program) = Ok (ins ∷ program)
 
-abbrev pub with_row : List Label → ℕ → ℕ → ℕ → Option Row → Result (List Ins) CodeError → Result (List Ins) CodeError
+abbrev pub with_row : List Label → ℕ → ℕ → ℕ → Option LabelIns → Result (List Ins) CodeError → Result (List Ins) CodeError
 with_row labels count place line None later = later
 with_row labels count place line (Some row) later = with_ins (resolve labels count place line row) later
 

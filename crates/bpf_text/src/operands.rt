@@ -63,7 +63,7 @@ fn constant(bytes: &[u8]) -> Option<(Operands<'_>, &[u8])>
 
 /// The operand `[x+k]`, from after its `[` on.
 #[tactic(auto, unfolding(crate::specs::OperandReading::indexed_at))]
-fn indexed(bytes: &[u8]) -> Option<(Operands<'_>, &[u8])>
+fn indexed_place(bytes: &[u8]) -> Option<(Operands<'_>, &[u8])>
     ensures { option_map (λ x. (operands_view x.0, x.1.now)) result ≡ indexed_at bytes.now }
 {
     let (name, rest) = word(bytes)?;
@@ -82,7 +82,7 @@ fn place(bytes: &[u8]) -> Option<(Operands<'_>, &[u8])>
     ensures { option_map (λ x. (operands_view x.0, x.1.now)) result ≡ place_at bytes.now }
 {
     let Some((k, rest)) = number(bytes) else {
-        return indexed(bytes);
+        return indexed_place(bytes);
     };
     let rest = sign(b']', rest)?;
     Some((Operands::Place(k), rest))
@@ -90,7 +90,7 @@ fn place(bytes: &[u8]) -> Option<(Operands<'_>, &[u8])>
 
 /// A number in brackets.
 #[tactic(auto, unfolding(crate::specs::OperandReading::bracketed_at))]
-fn bracketed(bytes: &[u8]) -> Option<(u32, &[u8])>
+fn bracket_operand(bytes: &[u8]) -> Option<(u32, &[u8])>
     ensures { option_map (λ x. (x.0, x.1.now)) result ≡ bracketed_at bytes.now }
 {
     let (k, rest) = number(sign(b'[', bytes)?)?;
@@ -104,7 +104,7 @@ fn header(bytes: &[u8]) -> Option<(Operands<'_>, &[u8])>
     ensures { option_map (λ x. (operands_view x.0, x.1.now)) result ≡ header_at bytes.now }
 {
     let inside = sign(b'(', sign(b'*', bytes)?)?;
-    let (k, rest) = bracketed(inside)?;
+    let (k, rest) = bracket_operand(inside)?;
     let (mask, rest) = number(sign(b'&', rest)?)?;
     let rest = sign(b')', rest)?;
     if mask == 15 {
@@ -116,11 +116,11 @@ fn header(bytes: &[u8]) -> Option<(Operands<'_>, &[u8])>
 
 /// `M` and a number in brackets, or a name.
 #[tactic(auto, unfolding(crate::specs::OperandReading::named_at))]
-fn named<'a>(name: &'a [u8], rest: &'a [u8]) -> Option<(Operands<'a>, &'a [u8])>
+fn jump_to_name<'a>(name: &'a [u8], rest: &'a [u8]) -> Option<(Operands<'a>, &'a [u8])>
     ensures { option_map (λ x. (operands_view x.0, x.1.now)) result ≡ named_at name.now rest.now }
 {
     if name == b"M".as_slice()
-        && let Some((k, rest)) = bracketed(rest)
+        && let Some((k, rest)) = bracket_operand(rest)
     {
         return Some((Operands::Scratch(k), rest));
     }
@@ -146,7 +146,7 @@ fn some_operands(bytes: &[u8]) -> Option<(Operands<'_>, &[u8])>
         return if four == 4 { header(rest) } else { None };
     }
     let (name, rest) = word(bytes)?;
-    named(name, rest)
+    jump_to_name(name, rest)
 }
 
 /// The operands that are all of the bytes but a comment.

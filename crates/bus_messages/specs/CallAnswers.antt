@@ -8,5 +8,5 @@ use Rattle.bus_messages.specs.Calls.{IsCallOf, Refuses}
 
 -- what a message that calls a method is read as, if its body has the method's signature
 abbrev pub Understands : Method → Given → Result Call CallError → Type 0
-Understands method given (Ok call) = IsCallOf call method given
-Understands method given (Err error) = Refuses error method given
+Understands method args_left (Ok call) = IsCallOf call method args_left
+Understands method args_left (Err error) = Refuses error method args_left

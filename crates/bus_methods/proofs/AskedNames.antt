@@ -22,5 +22,5 @@ name_read text name e = by_tests (bytes_eq text bus_name) (is_well_known text) t
 
 -- the owner of a name is that of the text that is the name
 pub owner_told : {M : Type 0} → (s : State M) (text : List ℕ) (name : AskedName) (result : Result (Option Owner) Refused) → IsAsked text (Ok name) → TellsOwner s name result → IsOwnerOf s text result
-owner_told s text name (Ok owner) is told = (name, is, told)
-owner_told s text name (Err why) is told = inl told
+owner_told s text name (Ok owner) is evidence = (name, is, evidence)
+owner_told s text name (Err why) is evidence = inl evidence

@@ -87,8 +87,8 @@ impl<J: Naming, M: Mailbox + Carrier> Connection<J, M> {
     {
         let to = UniqueName::new(old);
         let serial = self.serials.take();
-        let built = name_lost(site.alloc, serial, to.as_str(), name);
-        self.tell(site, &to, built)
+        let built_message = name_lost(site.alloc, serial, to.as_str(), name);
+        self.tell(site, &to, built_message)
     }
 
     fn tell_acquired<W: Wait, R: Wait + Drop>(
@@ -101,8 +101,8 @@ impl<J: Naming, M: Mailbox + Carrier> Connection<J, M> {
     {
         let to = UniqueName::new(new);
         let serial = self.serials.take();
-        let built = name_acquired(site.alloc, serial, to.as_str(), name);
-        self.tell(site, &to, built)
+        let built_message = name_acquired(site.alloc, serial, to.as_str(), name);
+        self.tell(site, &to, built_message)
     }
 
     // Sends a signal to one connection, which may be gone by now.
@@ -110,11 +110,11 @@ impl<J: Naming, M: Mailbox + Carrier> Connection<J, M> {
         &mut self,
         site: &Site<'_, J, M, W, R>,
         to: &UniqueName,
-        built: Result<Bytes, BuildError>,
+        built_message: Result<Bytes, BuildError>,
     ) -> Result<(), AnswerError>
         ensures { IfErr result (λ error. error ≡ AnswerError.NoMemory) }
     {
-        let Ok(bytes) = built else {
+        let Ok(bytes) = built_message else {
             return Err(AnswerError::NoMemory);
         };
         match site
@@ -138,8 +138,8 @@ impl<J: Naming, M: Mailbox + Carrier> Connection<J, M> {
         let serial = self.serials.take();
         let old = old.map(|number| UniqueName::new(number));
         let new = new.map(|number| UniqueName::new(number));
-        let built = name_owner_changed(site.alloc, serial, name, text_of(&old), text_of(&new));
-        let Ok(bytes) = built else {
+        let built_message = name_owner_changed(site.alloc, serial, name, text_of(&old), text_of(&new));
+        let Ok(bytes) = built_message else {
             return Err(AnswerError::NoMemory);
         };
         let view = View::of_message(bytes.as_slice());

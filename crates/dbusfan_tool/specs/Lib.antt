@@ -1,4 +1,4 @@
-pub mod Row
+pub mod CommandRow
 pub mod RowReading
 pub mod Views
 pub mod HexText

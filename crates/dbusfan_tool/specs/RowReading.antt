@@ -6,7 +6,7 @@ use Rattle.summary.specs.declared.edition.Edition.{Edition}
 use Rattle.summary.specs.declared.edition.Edition.TheVariants.{One, Two}
 use Rattle.dbusfan_tool.specs.declared.gathered.Awaited.{Awaited}
 use Rattle.dbusfan_tool.specs.declared.gathered.Awaited.TheVariants.{AnyWord, EditionWord, NameAlone}
-use Rattle.dbusfan_tool.specs.Row.{match_word, asm_word, check_word, compile_word, run_word, owns_word, edition_word, word_of_edition, end_word, is_option, is_input, Asked, to_match, to_asm, to_check, to_compile, to_run}
+use Rattle.dbusfan_tool.specs.CommandRow.{match_word, asm_word, check_word, compile_word, run_word, owns_word, edition_word, word_of_edition, end_word, is_option, is_input, Asked, to_match, to_asm, to_check, to_compile, to_run}
 
 -- What has been read so far: at most two words that are no options, the options, and what the next word may be.
 pub record Gathering : Type 0 where

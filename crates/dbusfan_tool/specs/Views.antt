@@ -3,12 +3,12 @@ use Rattle.std.specs.Prelude.{ℕ, List, [], ◌∷◌, string_bytes, if◌then�
 use Rattle.dbusfan_tool.specs.declared.gathered.Names.{Names}
 use Rattle.dbusfan_tool.specs.declared.gathered.Names.TheVariants.{Nothing, One, Two}
 use Rattle.dbusfan_tool.specs.declared.gathered.Gathered.{Gathered}
-use Rattle.dbusfan_tool.specs.declared.command_line.Row.{Row}
-use Rattle.dbusfan_tool.specs.declared.command_line.Row.TheVariants.{Match, Asm, Check, Run, Compile}
+use Rattle.dbusfan_tool.specs.declared.command_line.CommandRow.{CommandRow}
+use Rattle.dbusfan_tool.specs.declared.command_line.CommandRow.TheVariants.{Match, Asm, Check, Run, Compile}
 use Rattle.dbusfan_tool.specs.declared.answer.Answer.{Answer}
 use Rattle.dbusfan_tool.specs.declared.answer.Answer.TheVariants.{Verdict, Text, Ran, Fault as Fails}
 use Rattle.dbusfan_tool.specs.RowReading.{Gathering}
-use Rattle.dbusfan_tool.specs.Row.{Asked, to_match, to_asm, to_check, to_compile, to_run}
+use Rattle.dbusfan_tool.specs.CommandRow.{Asked, to_match, to_asm, to_check, to_compile, to_run}
 use Rattle.dbusfan_tool.specs.Answer.{Said, failing, said_of_match, saying}
 
 abbrev pub names_of : Names → List (List ℕ)
@@ -20,7 +20,7 @@ abbrev pub gathering_of : Gathered → Gathering
 gathering_of all = record { names = names_of all.names; owns = all.owns; edition = all.edition; awaited = all.awaited }
 
 -- a row of the code as what it asks for
-abbrev pub asked_by : Row → Asked
+abbrev pub asked_by : CommandRow → Asked
 asked_by (Match rule file owns) = to_match rule.now file.now owns
 asked_by (Asm file) = to_asm file.now
 asked_by (Check file) = to_check file.now

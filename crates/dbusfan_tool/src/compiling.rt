@@ -24,13 +24,13 @@ pub(crate) fn answer(alloc: Global, rule: &str) -> Answer
     ensures { ((found : Result (List ℕ) Fault) × Compiles rule.now found × (said_by result ≡ said_of saying found))
         ⊎ (said_by result ≡ failing Fault.Memory) }
 {
-    match compiled(alloc, rule) {
+    match compile_text(alloc, rule) {
         Ok(text) => Answer::Text(text),
         Err(fault) => Answer::Fault(fault),
     }
 }
 
-fn compiled(alloc: Global, rule: &str) -> Result<String, Fault>
+fn compile_text(alloc: Global, rule: &str) -> Result<String, Fault>
     ensures found { IfOk result (λ text. Compiles rule.now (Ok (string_bytes text))) }
     ensures fault { IfErr result (λ fault. Compiles rule.now (Err fault) ⊎ (fault ≡ Fault.Memory)) }
 {
@@ -42,7 +42,7 @@ fn compiled(alloc: Global, rule: &str) -> Result<String, Fault>
 
 /// The program of a rule.
 pub(crate) fn program_of(alloc: Global, rule: &Rule) -> Result<Verified, CompileError>
-    ensures compiled { IfOk result (λ program. IsCompiled rule.now (slot_for rule.now) program) }
+    ensures compile_text { IfOk result (λ program. IsCompiled rule.now (slot_for rule.now) program) }
     ensures refused { IfErr result (IsRefusal rule.now) }
 {
     let slot = match rule.sender_name() {

@@ -1,7 +1,7 @@
 // The command line.
 
 ghost use Rattle.std.specs.Prelude.{◌≡◌, ◌⊎◌, []};
-ghost use Rattle.dbusfan_tool.specs.Row.{Asked, IsRow, texts};
+ghost use Rattle.dbusfan_tool.specs.CommandRow.{Asked, IsRow, texts};
 ghost use Rattle.dbusfan_tool.specs.Answer.{Tells, failing};
 ghost use Rattle.dbusfan_tool.specs.Views.{said_by};
 ghost use Rattle.dbusfan_tool.specs.Tool.{Tool, Says};
@@ -10,7 +10,7 @@ ghost use Rattle.dbusfan_tool.specs.Files.{MadeReads};
 ghost use Rattle.dbusfan_tool.specs.Output.{Puts};
 
 use crate::answer::Answer;
-use crate::command_line::Row;
+use crate::command_line::CommandRow;
 use crate::fault::Fault;
 use crate::files::Files;
 use crate::output::Output;
@@ -50,13 +50,13 @@ fn answer<'a, F: Files>(alloc: Global, words: &'a [&'a str], files: &mut F) -> A
         → SaysUsage words.entry.now (said_by result) ⊎ (said_by result ≡ failing Fault.Memory) }
     ensures unread { ((asked : Asked) → ¬ IsRow asked (texts words.entry.now)) → files.new ≡ files.old }
 {
-    match Row::read(words) {
-        Some(Row::Match { rule, file, owns }) => matching::answer(alloc, rule, file, owns, files),
-        Some(Row::Asm { file }) => assembling::answer(alloc, file, files),
-        Some(Row::Check { file }) => checking::answer(alloc, file, files),
-        Some(Row::Compile { rule }) => compiling::answer(alloc, rule),
+    match CommandRow::read(words) {
+        Some(CommandRow::Match { rule, file, owns }) => matching::answer(alloc, rule, file, owns, files),
+        Some(CommandRow::Asm { file }) => assembling::answer(alloc, file, files),
+        Some(CommandRow::Check { file }) => checking::answer(alloc, file, files),
+        Some(CommandRow::Compile { rule }) => compiling::answer(alloc, rule),
         Some(
-            Row::Run {
+            CommandRow::Run {
                 program,
                 file,
                 edition,

@@ -1,10 +1,10 @@
 // The words after a command.
 
 ghost use Rattle.std.specs.Prelude.{◌≡◌};
-ghost use Rattle.dbusfan_tool.specs.Row.{is_option};
+ghost use Rattle.dbusfan_tool.specs.CommandRow.{is_option};
 ghost use Rattle.dbusfan_tool.specs.RowReading.{edition_of};
 
-use crate::command_line::Row;
+use crate::command_line::CommandRow;
 use summary::Edition;
 
 #[derive(Clone, Copy)]
@@ -134,11 +134,11 @@ impl<'a> Gathered<'a> {
     }
 
     /// What `match` and these words ask for.
-    pub(crate) fn to_match(self) -> Option<Row<'a>>
+    pub(crate) fn to_match(self) -> Option<CommandRow<'a>>
         ensures { option_map asked_by result ≡ match_of (names_of self.entry.names) self.entry.owns self.entry.edition }
     {
         match (self.names, self.edition) {
-            (Names::Two(rule, file), None) => Some(Row::Match {
+            (Names::Two(rule, file), None) => Some(CommandRow::Match {
                 rule,
                 file,
                 owns: self.owns,
@@ -158,7 +158,7 @@ impl<'a> Gathered<'a> {
     }
 
     /// What `run` and these words ask for.
-    pub(crate) fn to_run(self) -> Option<Row<'a>>
+    pub(crate) fn to_run(self) -> Option<CommandRow<'a>>
         ensures { option_map asked_by result ≡ run_of (names_of self.entry.names) self.entry.owns self.entry.edition }
     {
         match self.names {
@@ -166,7 +166,7 @@ impl<'a> Gathered<'a> {
                 if program == "-" && file == "-" {
                     return None;
                 }
-                Some(Row::Run {
+                Some(CommandRow::Run {
                     program,
                     file,
                     edition: self.edition.unwrap_or(Edition::One),

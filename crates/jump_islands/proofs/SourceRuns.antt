@@ -11,7 +11,7 @@ use Rattle.bpf_code.specs.declared.operation.Width.TheVariants.{Byte}
 use Rattle.bpf_code.specs.declared.operation.Operand.TheVariants.{Constant, Index}
 use Rattle.bpf_code.specs.Table.{op_of}
 use Rattle.bpf_code.specs.Loads.{load}
-use Rattle.bpf_code.specs.Effects.{Effect, SetA, SetX, SetWord, Skip, Finish, or_finish, computed, index_operand, passes, branch, effect_of}
+use Rattle.bpf_code.specs.Effects.{Effect, SetA, SetX, SetWord, Skip, Finish, or_finish, result_of, index_operand, passes, branch, effect_of}
 use Rattle.bpf_code.specs.Steps.{State, Next, Goes, Stops, after, step_of, Arrives, EndsFrom}
 use Rattle.jump_islands.specs.Source.{is_plain_op, jump_over}
 use Rattle.jump_islands.specs.Tails.{TailTree, len, height}
@@ -125,8 +125,8 @@ plain_effect IndexLength ins image a x word h = tt
 plain_effect IndexHeader ins image a x word h = plain_or_finish _ (load Byte image ins.k) (λ v. tt)
 plain_effect StoreA ins image a x word h = tt
 plain_effect StoreX ins image a x word h = tt
-plain_effect (Compute f Constant) ins image a x word h = plain_map SetA (computed f a ins.k) (λ v. tt)
-plain_effect (Compute f Index) ins image a x word h = plain_or_finish SetA (computed f a (index_operand f x)) (λ v. tt)
+plain_effect (Compute f Constant) ins image a x word h = plain_map SetA (result_of f a ins.k) (λ v. tt)
+plain_effect (Compute f Index) ins image a x word h = plain_or_finish SetA (result_of f a (index_operand f x)) (λ v. tt)
 plain_effect Negate ins image a x word h = tt
 plain_effect Jump ins image a x word h = cc
 plain_effect (Branch test operand) ins image a x word h = cc

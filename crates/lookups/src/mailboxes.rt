@@ -24,7 +24,7 @@ use std::alloc::{AllocError, Global};
 #[derive(Drop)]
 pub struct Audience<M: Carrier> {
     pub newcomers: Vec<Recipient<M>>,
-    pub connected: Option<Vec<u64>>,
+    pub numbers_connected: Option<Vec<u64>>,
 }
 
 /// A sender with this many seats gives up those at the outboxes of closed connections.
@@ -44,7 +44,7 @@ fn newcomer<'a, M: Mailbox + Carrier>(
         Some(mailbox) => Ok(Recipient::new(number, mailbox.share()?)),
         None => {
             // The contract of this call says that entries are of connections alone.
-            let _ = state.offered(view);
+            let _ = state.entries_for(view);
             unreachable!()
         }
     }
@@ -89,7 +89,7 @@ fn newcomers_of<'a, M: Mailbox + Carrier>(
 }
 
 // The numbers of the connections.
-fn connected<M: Mailbox>(alloc: Global, state: &BusState<M>) -> Result<Vec<u64>, AllocError>
+fn numbers_connected<M: Mailbox>(alloc: Global, state: &BusState<M>) -> Result<Vec<u64>, AllocError>
     ensures { IfOk result (λ numbers. numbers.items ≡ numbers_of state.now.connections) }
 {
     let mut numbers = Vec::new(alloc);
@@ -110,8 +110,8 @@ fn connected_if_many<'a, M: Mailbox + Carrier>(
 {
     if sender.seats() > MANY_SEATS {
         // The contract of this call says that the recipients are among the connections.
-        let _ = state.offered(view);
-        Ok(Some(connected(alloc, state)?))
+        let _ = state.entries_for(view);
+        Ok(Some(numbers_connected(alloc, state)?))
     } else {
         Ok(None)
     }
@@ -126,7 +126,7 @@ pub(crate) fn listed_if_many<M: Mailbox + Carrier>(
     ensures { IfOk result (λ numbers. AreListed state.now (option_map (λ v. v.items) numbers)) }
 {
     if sender.seats() > MANY_SEATS {
-        Ok(Some(connected(alloc, state)?))
+        Ok(Some(numbers_connected(alloc, state)?))
     } else {
         Ok(None)
     }
@@ -142,15 +142,15 @@ fn found_in<'a, M: Mailbox + Carrier>(
     recipients: &mut ArrayVec<u64, MAX_RECIPIENTS>,
 ) -> Result<Audience<M>, AllocError>
     requires { recipients.old.items ≡ [] }
-    ensures { IfOk result (λ found. IsFound M.outbox_of state.now from view.now sender.now.stops recipients.new.items found.newcomers.items (option_map (λ v. v.items) found.connected)) }
+    ensures { IfOk result (λ found. IsFound M.outbox_of state.now from view.now sender.now.stops recipients.new.items found.newcomers.items (option_map (λ v. v.items) found.numbers_connected)) }
 {
     let _ = view.raw();
     select_into(state, from, view, recipients);
     let newcomers = newcomers_of(alloc, state, view, sender, recipients.as_slice())?;
-    let connected = connected_if_many(alloc, state, view, sender)?;
+    let numbers_connected = connected_if_many(alloc, state, view, sender)?;
     Ok(Audience {
         newcomers,
-        connected,
+        numbers_connected,
     })
 }
 
@@ -165,7 +165,7 @@ pub fn found_mailboxes<'a, J: Naming, M: Mailbox + Carrier>(
     recipients: &mut ArrayVec<u64, MAX_RECIPIENTS>,
 ) -> Option<Result<Audience<M>, AllocError>>
     requires { recipients.old.items ≡ [] }
-    ensures { MatchOption result (sight.new ≡ sight.old) (λ found. IsPrefix sight.old sight.new × IfOk found (λ found. IsFound M.outbox_of (after sight.new) from view.now sender.now.stops recipients.new.items found.newcomers.items (option_map (λ v. v.items) found.connected))) }
+    ensures { MatchOption result (sight.new ≡ sight.old) (λ found. IsPrefix sight.old sight.new × IfOk found (λ found. IsFound M.outbox_of (after sight.new) from view.now sender.now.stops recipients.new.items found.newcomers.items (option_map (λ v. v.items) found.numbers_connected))) }
 {
     let visit = sight.enter()?;
     let found = found_in(alloc, visit.state(), view, sender, from, recipients);

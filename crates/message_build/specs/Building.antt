@@ -49,6 +49,6 @@ Finishes a (Err TooLarge) = AsksTooMuch a
 Finishes a (Err NoMemory) = (bytes : List ℕ) × AreAsked a bytes
 
 -- the bytes of a result
-abbrev pub listed : {A : Type 0} → Result (Vec ℕ A) BuildError → Result (List ℕ) BuildError
-listed (Ok v) = Ok v.items
-listed (Err e) = Err e
+abbrev pub listed_bytes : {A : Type 0} → Result (Vec ℕ A) BuildError → Result (List ℕ) BuildError
+listed_bytes (Ok v) = Ok v.items
+listed_bytes (Err e) = Err e

@@ -16,9 +16,9 @@ use Rattle.message_build.specs.declared.field.HeaderField.{HeaderField}
 use Rattle.message_build.specs.declared.field.HeaderField.TheVariants.{Path, Interface, Member, ErrorName, ReplySerial, Destination, Sender, Signature}
 
 -- the text, where there is one
-abbrev pub said : Option (Bor (List ℕ)) → Option (List ℕ)
-said (Some t) = Some t.now
-said None = None
+abbrev pub text_said : Option (Bor (List ℕ)) → Option (List ℕ)
+text_said (Some t) = Some t.now
+text_said None = None
 
 -- a field as the variant that it is
 abbrev pub field_of : HeaderField → Field

@@ -5,38 +5,38 @@ use Rattle.message_view.specs.declared.kind.Kind.TheVariants as kinds
 use Rattle.message_view.specs.Message.{Field}
 use Rattle.message_view.specs.Header.{kind_byte}
 use Rattle.message_build.specs.declared.header.Header.{Header}
-use Rattle.message_build.specs.declared.given.Given.{Given}
+use Rattle.message_build.specs.declared.body_state.BodyState.{BodyState}
 use Rattle.message_build.specs.Asked.{Asked, text_field, number_field, signature_field}
-use Rattle.message_build.specs.HeaderFields.{said}
+use Rattle.message_build.specs.HeaderFields.{text_said}
 
 -- what a builder with this header, signature and body was asked for
-abbrev pub asked : Header → List ℕ → List ℕ → Given → Asked
-asked h signature body given = record {
+abbrev pub request_of : Header → List ℕ → List ℕ → BodyState → Asked
+request_of h signature body body_state = record {
   kind = h.kind;
   flags = h.flags;
   serial = h.serial;
-  path = said h.path;
-  interface = said h.interface;
-  member = said h.member;
-  error_name = said h.error_name;
+  path = text_said h.path;
+  interface = text_said h.interface;
+  member = text_said h.member;
+  error_name = text_said h.error_name;
   reply_serial = h.reply_serial;
-  destination = said h.destination;
-  sender = said h.sender;
+  destination = text_said h.destination;
+  sender = text_said h.sender;
   signature = signature;
   body = body;
-  given = given;
+  body_state = body_state;
 }
 
 -- the fields of a header, and of the signature of a body
 abbrev pub fields_set : Header → List ℕ → List Field
 fields_set h signature =
-    text_field 1 111 (said h.path)
-    ++ (text_field 2 115 (said h.interface)
-    ++ (text_field 3 115 (said h.member)
-    ++ (text_field 4 115 (said h.error_name)
+    text_field 1 111 (text_said h.path)
+    ++ (text_field 2 115 (text_said h.interface)
+    ++ (text_field 3 115 (text_said h.member)
+    ++ (text_field 4 115 (text_said h.error_name)
     ++ (number_field 5 h.reply_serial
-    ++ (text_field 6 115 (said h.destination)
-    ++ (text_field 7 115 (said h.sender)
+    ++ (text_field 6 115 (text_said h.destination)
+    ++ (text_field 7 115 (text_said h.sender)
     ++ signature_field signature))))))
 
 -- a kind is the one of its byte

@@ -18,8 +18,8 @@ abbrev pub is_kept : Field → Bool
 is_kept field = is_some (code_of field.code) && not (field.code == 7)
 
 -- The message with the known fields in their order without SENDER, then SENDER; all else is the same.
-abbrev pub stamped : Message → List ℕ → Message
-stamped m sender = record {
+abbrev pub with_sender : Message → List ℕ → Message
+with_sender m sender = record {
   order = m.order;
   kind = m.kind;
   flags = m.flags;
@@ -31,8 +31,8 @@ stamped m sender = record {
 
 -- Valid bytes of the stamped message; or its spelling is above the limits; or memory ran out.
 abbrev pub Stamps : Message → List ℕ → Result (List ℕ) StampError → Type 0
-Stamps m sender (Ok bytes) = Valid bytes (stamped m sender)
-Stamps m sender (Err TooLarge) = IsTooLarge (stamped m sender)
+Stamps m sender (Ok bytes) = Valid bytes (with_sender m sender)
+Stamps m sender (Err TooLarge) = IsTooLarge (with_sender m sender)
 Stamps m sender (Err NoMemory) = Unit {0}
 
 -- the bytes of a result

@@ -10,7 +10,7 @@ mod error;
 mod field;
 mod fields;
 mod finishing;
-mod given;
+mod body_state;
 mod header;
 mod kept_fields;
 mod message;

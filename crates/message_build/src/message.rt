@@ -5,10 +5,10 @@ ghost use Rattle.message_value.specs.declared.order.Order.TheVariants.{Little};
 ghost use Rattle.message_value.specs.Fits.{max_array_len};
 ghost use Rattle.message_value.specs.Order.{order_byte};
 ghost use Rattle.message_view.specs.Spelling.{fixed_len, fields_bytes};
-ghost use Rattle.message_build.specs.Building.{Finishes, listed};
+ghost use Rattle.message_build.specs.Building.{Finishes, listed_bytes};
 ghost use Rattle.message_build.specs.Growing.{Appends};
-ghost use Rattle.message_build.specs.MessageBytes.{fixed_bytes, spelled};
-ghost use Rattle.message_build.specs.Headers.{asked};
+ghost use Rattle.message_build.specs.MessageBytes.{fixed_bytes, message_spelling};
+ghost use Rattle.message_build.specs.Headers.{request_of};
 ghost use Rattle.message_build.specs.HeaderFields.{fields_of, are_allowed};
 
 use crate::appending::{align, push_word};
@@ -16,7 +16,7 @@ use crate::body::is_body;
 use crate::error::BuildError;
 use crate::field::{HeaderField, are_allowed};
 use crate::fields::{FIXED_LEN, fields_end, push_fields};
-use crate::given::Given;
+use crate::body_state::BodyState;
 use crate::header::Header;
 use message_value::{Order, padding};
 use std::alloc::{AllocError, Global};
@@ -63,7 +63,7 @@ fn message(
     requires end { end ≡ fixed_len + length (fields_bytes Little fixed_len (fields_of fields.now)) }
     requires short { end ≤ fixed_len + max_array_len }
     requires body { length body.now ≤ 134217728 }
-    ensures { IfOk result (λ v. v.items ≡ spelled header.now (fields_of fields.now) body.now) }
+    ensures { IfOk result (λ v. v.items ≡ message_spelling header.now (fields_of fields.now) body.now) }
 {
     let mut bytes = Vec::with_capacity(alloc, end + padding(8, end) + body.len())?;
     push_fixed(
@@ -81,17 +81,17 @@ fn message(
 
 /// The message that was asked for, or why there is none. What a message may hold is looked at before its size,
 /// so that only a message that is valid otherwise is too large.
-pub(crate) fn built(
+pub(crate) fn build_message(
     alloc: Global,
     header: &Header<'_>,
     signature: &[u8],
     body: &[u8],
-    given: Given,
+    body_state: BodyState,
 ) -> Result<Vec<u8>, BuildError>
-    ensures { Finishes (asked header.now signature.now body.now given) (listed result) }
+    ensures { Finishes (request_of header.now signature.now body.now body_state) (listed_bytes result) }
 {
     let fields = header.fields(signature);
-    if given.is_spoiled() {
+    if body_state.is_spoiled() {
         return Err(BuildError::Invalid);
     }
     if !header.is_sound() {

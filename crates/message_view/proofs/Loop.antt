@@ -11,7 +11,7 @@ use Rattle.message_value.specs.Reading.{At, ◌>>=◌}
 use Rattle.message_value.specs.Steps.{Gives}
 use Rattle.message_value.specs.Bytes.{AreBytes}
 use Rattle.message_view.specs.Reading.{field_at, fields_from}
-use Rattle.message_view.specs.FieldAnswers.{shown, lying, IsFront}
+use Rattle.message_view.specs.FieldAnswers.{slots_shown, lying, IsFront}
 use Rattle.message_value.proofs.OkSteps.{bind_ok, ok_is}
 use Rattle.message_view.proofs.FieldTurns.{field_shorter}
 use Rattle.message_view.proofs.KeptExtents.{front_none}
@@ -24,7 +24,7 @@ pub record SoFar (order : Order) (start : ℕ) (fields : Fields) (at : At) (whol
   pub is : IsFront order start front fields at
   pub same : fields_from turns order front at ≡ whole
 
-pub at_start : (order : Order) (fields : Fields) (at : At) → shown fields ≡ no_slots → lying fields ≡ no_extents → AreBytes at.rest → SoFar order at.place fields at (fields_from (length at.rest) order [] at)
+pub at_start : (order : Order) (fields : Fields) (at : At) → slots_shown fields ≡ no_slots → lying fields ≡ no_extents → AreBytes at.rest → SoFar order at.place fields at (fields_from (length at.rest) order [] at)
 at_start order fields at shows lie fits = record { front = []; turns = length at.rest; enough = omega arith; is = front_none order at.place fields at shows lie fits refl; same = refl }
 
 -- one turn, where bytes are left
@@ -62,7 +62,7 @@ empty_front (suc turns) order front at none = rw none refl
 all_front : (order : Order) (start : ℕ) (fields : Fields) (at : At) (whole : Result (List Field) MsgError) (so_far : SoFar order start fields at whole) → (length at.rest == 0) ≡ true → whole ≡ Ok so_far.front
 all_front order start fields at whole so_far none = sym so_far.same ∙ empty_front so_far.turns order so_far.front at none
 
-pub at_end : (order : Order) (start : ℕ) (fields : Fields) (at : At) (whole : Result (List Field) MsgError) → SoFar order start fields at whole → (length at.rest == 0) ≡ true → Gives {X = Fields} shown slots_of (Ok fields) whole
+pub at_end : (order : Order) (start : ℕ) (fields : Fields) (at : At) (whole : Result (List Field) MsgError) → SoFar order start fields at whole → (length at.rest == 0) ≡ true → Gives {X = Fields} slots_shown slots_of (Ok fields) whole
 at_end order start fields at whole so_far none = rw (all_front order start fields at whole so_far none) so_far.is.shows
 
 pub extents_end : (order : Order) (start : ℕ) (fields : Fields) (at : At) (whole : Result (List Field) MsgError) (front : List Field) → SoFar order start fields at whole → (length at.rest == 0) ≡ true → whole ≡ Ok front → AreExtents order start front (lying fields)
@@ -70,7 +70,7 @@ extents_end order start fields at whole front so_far none is =
     let same : so_far.front ≡ front = ok_is so_far.front front (sym (all_front order start fields at whole so_far none) ∙ is) in
     subst (λ (x : List Field). AreExtents order start x (lying fields)) same so_far.is.lie
 
-pub shows_end : (order : Order) (start : ℕ) (fields : Fields) (at : At) (whole : Result (List Field) MsgError) (front : List Field) → SoFar order start fields at whole → (length at.rest == 0) ≡ true → whole ≡ Ok front → shown fields ≡ slots_of front
+pub shows_end : (order : Order) (start : ℕ) (fields : Fields) (at : At) (whole : Result (List Field) MsgError) (front : List Field) → SoFar order start fields at whole → (length at.rest == 0) ≡ true → whole ≡ Ok front → slots_shown fields ≡ slots_of front
 shows_end order start fields at whole front so_far none is =
     let same : so_far.front ≡ front = ok_is so_far.front front (sym (all_front order start fields at whole so_far none) ∙ is) in
     so_far.is.shows ∙ ap slots_of same

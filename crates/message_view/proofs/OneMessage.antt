@@ -277,7 +277,7 @@ pub record IsWhole (bytes : List ℕ) (m : Message) : Type 0 where
 pub message_whole : (bytes : List ℕ) (m : Message) → message_at bytes ≡ Ok m → IsWhole bytes m
 unfolding message_at
 message_whole bytes m e =
-    let a = bind_ok (framing bytes) (λ framed. or_short framed >>= λ len. of_len len bytes) m e in
+    let a = bind_ok (framing bytes) (λ sections_of_frame. or_short sections_of_frame >>= λ len. of_len len bytes) m e in
     let b = bind_ok (or_short a.0) (λ len. of_len len bytes) m a.2 in
     let is = or_short_ok a.0 b.0 b.1 in
     let f = framing_takes bytes b.0 (a.1 ∙ ap (λ (o : Option ℕ). Ok o) is) in

@@ -12,7 +12,7 @@ use Rattle.message_value.specs.Order.{number_of, word_of}
 use Rattle.message_value.specs.Value.{Value, number}
 use Rattle.message_value.specs.Spelling.{padding, width_of}
 use Rattle.message_value.specs.Fits.{is_text_code}
-use Rattle.message_value.specs.Reading.{◌>>=◌, At, item_at, aligned_at, byte_at, word_at, signature_at, text_value_at, counted, number_value_at, value_at}
+use Rattle.message_value.specs.Reading.{◌>>=◌, At, item_at, aligned_at, byte_at, word_at, signature_at, text_value_at, count_at, number_value_at, value_at}
 use Rattle.message_value.specs.Steps.{IsRead, IsGone, Reaches}
 use Rattle.message_value.specs.TextTypes.{text_code}
 use Rattle.message_value.specs.Forms.{basic_at}
@@ -162,7 +162,7 @@ word_there order a item is = rw is refl
 pub number_word : (order : Order) (a : At) → IsRead (number_value_at order 117 a) → IsRead (word_at order a)
 unfolding number_value_at
 number_word order a h =
-    let s = bind_ok (item_at 4 a) (λ bytes. counted 117 (number_of order (width_of 117) bytes.0) bytes.1) h.0 h.1 in
+    let s = bind_ok (item_at 4 a) (λ bytes. count_at 117 (number_of order (width_of 117) bytes.0) bytes.1) h.0 h.1 in
     ((word_of order s.0.0, s.0.1), word_there order a s.0 s.1)
 
 pub word_number : (order : Order) (a tail : At) (n : ℕ) → word_at order a ≡ Ok (n, tail) → number_value_at order 117 a ≡ Ok (number n, tail)

@@ -28,7 +28,7 @@ use Rattle.message_view.specs.declared.extent.Extent.{Extent}
 use Rattle.message_view.specs.declared.extent.TextField.{TextField}
 use Rattle.message_view.specs.declared.extent.TextField.TheVariants as names
 use Rattle.message_view.specs.HeaderAnswers.{body_of, IsKept, HasHeader, ReadsFramed, ReadsView, kept_by}
-use Rattle.message_view.specs.FieldAnswers.{shown, lying}
+use Rattle.message_view.specs.FieldAnswers.{slots_shown, lying}
 use Rattle.message_view.specs.FixedAnswers.{IsFixed}
 use Rattle.message_view.proofs.FixedPart.{framing_again}
 use Rattle.message_view.proofs.Framed.{cursor_is}
@@ -81,7 +81,7 @@ kept_first fixed sections bytes read is same found =
     record {
       message = m;
       read = same ∙ found.2;
-      is = ap (kept_like fixed.order fixed.kind fixed.flags fixed.serial (shown sections.fields)) (extents_are m (lying sections.fields) found.6) ∙ rw (is.order, is.flags, is.serial, found.3) refl;
+      is = ap (kept_like fixed.order fixed.kind fixed.flags fixed.serial (slots_shown sections.fields)) (extents_are m (lying sections.fields) found.6) ∙ rw (is.order, is.flags, is.serial, found.3) refl;
       typed = found.4;
       tail = found.5;
     }
@@ -136,10 +136,10 @@ pub body_kept : (bytes now body signature : List ℕ) (m : Message) (kept : Kept
 body_kept bytes now body signature m kept keeps same valid = keeps.tail ∙ ap body_of same ∙ (valid_lies now m valid).is_body
 
 -- and the signature is that of its arguments
-pub signature_kept : (bytes now body signature given : List ℕ) (m : Message) (kept : Kept) → IsKept bytes body signature kept → bytes ≡ now → Valid now m → given ≡ signature → SigText m.types given
-signature_kept bytes now body signature given m kept keeps same valid is =
-    let typed : SigText keeps.message.types given = rw is keeps.typed in
-    subst (λ (x : Message). SigText x.types given) (message_is bytes now body signature m kept keeps same valid) typed
+pub signature_kept : (bytes now body signature given_signature : List ℕ) (m : Message) (kept : Kept) → IsKept bytes body signature kept → bytes ≡ now → Valid now m → given_signature ≡ signature → SigText m.types given_signature
+signature_kept bytes now body signature given_signature m kept keeps same valid is =
+    let typed : SigText keeps.message.types given_signature = rw is keeps.typed in
+    subst (λ (x : Message). SigText x.types given_signature) (message_is bytes now body signature m kept keeps same valid) typed
 
 pub text_kept : (xs ys : Slots) (i : ℕ) → map text_in xs ≡ map text_in ys → text_in (slice_index_or xs i None) ≡ text_in (slice_index_or ys i None)
 text_kept xs ys i same = sym (get_or-map text_in xs i None) ∙ ap (λ texts. get_or texts i None) same ∙ get_or-map text_in ys i None
@@ -179,9 +179,9 @@ body_fits bytes body signature kept keeps =
     (omega (arith, len), omega (arith, w.whole, w.fixed.whole))
 
 -- what the arguments are read from
-pub args_found : (bytes now body signature given : List ℕ) (kept : Kept) (cursor : At) → IsKept bytes body signature kept → bytes ≡ now → given ≡ signature → cursor ≡ body_at now
-    → (types : DataTypes) × SigText types given × ((values : Values) × (tail : At) × (members_at (value_at 64 kept.order) types cursor ≡ Ok (values, tail)))
-args_found bytes now body signature given kept cursor keeps same is place =
+pub args_found : (bytes now body signature given_signature : List ℕ) (kept : Kept) (cursor : At) → IsKept bytes body signature kept → bytes ≡ now → given_signature ≡ signature → cursor ≡ body_at now
+    → (types : DataTypes) × SigText types given_signature × ((values : Values) × (tail : At) × (members_at (value_at 64 kept.order) types cursor ≡ Ok (values, tail)))
+args_found bytes now body signature given_signature kept cursor keeps same is place =
     let m = keeps.message in
     let found = members_read bytes m (message_whole bytes m keeps.read).parts in
     let order : kept.order ≡ m.order = ap (λ (k : Kept). k.order) keeps.is in
@@ -190,11 +190,11 @@ args_found bytes now body signature given kept cursor keeps same is place =
     (m.types, rw is keeps.typed, (m.arguments, found.0, read))
 
 -- they are those of the message that the bytes spell
-pub args_are : (bytes now body signature given : List ℕ) (m : Message) (kept : Kept) (cursor : At) (args : List Argument) → IsKept bytes body signature kept → bytes ≡ now → Valid now m → given ≡ signature → cursor ≡ body_at now
-    → ((types : DataTypes) (values : Values) (tail : At) → SigText types given → members_at (value_at 64 kept.order) types cursor ≡ Ok (values, tail) → args ≡ arguments_from kept.order cursor.place types values) → args ≡ arguments_of m
+pub args_are : (bytes now body signature given_signature : List ℕ) (m : Message) (kept : Kept) (cursor : At) (args : List Argument) → IsKept bytes body signature kept → bytes ≡ now → Valid now m → given_signature ≡ signature → cursor ≡ body_at now
+    → ((types : DataTypes) (values : Values) (tail : At) → SigText types given_signature → members_at (value_at 64 kept.order) types cursor ≡ Ok (values, tail) → args ≡ arguments_from kept.order cursor.place types values) → args ≡ arguments_of m
 unfolding args_found
-args_are bytes now body signature given m kept cursor args keeps same valid is place given_by =
-    let found = args_found bytes now body signature given kept cursor keeps same is place in
+args_are bytes now body signature given_signature m kept cursor args keeps same valid is place given_by =
+    let found = args_found bytes now body signature given_signature kept cursor keeps same is place in
     let message : keeps.message ≡ m = message_is bytes now body signature m kept keeps same valid in
     let order : kept.order ≡ m.order = ap (λ (k : Kept). k.order) keeps.is ∙ ap (λ (x : Message). x.order) message in
     let start : cursor.place ≡ body_place (length (header_bytes m)) = ap (λ (a : At). a.place) place ∙ ap body_place (valid_lies now m valid).is_len in

@@ -56,8 +56,8 @@ type_code_of (types.Text t) = text_code t
 type_code_of types.Number = 117
 
 -- the values that are kept of the known fields
-abbrev pub shown : Fields → Slots
-shown fields = map (option_map value_of) fields.slots
+abbrev pub slots_shown : Fields → Slots
+slots_shown fields = map (option_map value_of) fields.slots
 
 -- where the texts lie that are kept of the known fields
 abbrev pub lying : Fields → Extents
@@ -65,7 +65,7 @@ lying fields = map lies_in fields.slots
 
 -- what is kept is that of the fields in front, after which reading stands
 pub record IsFront (order : Order) (start : ℕ) (front : List Field) (fields : Fields) (at : At) : Type 0 where
-  pub shows : shown fields ≡ slots_of front
+  pub shows : slots_shown fields ≡ slots_of front
   pub lie : AreExtents order start front (lying fields)
   pub fits : AreBytes at.rest
   pub place : at.place ≡ start + length (fields_bytes order start front)

@@ -11,7 +11,7 @@ use Rattle.message_view.specs.Fixed.{order_in, fields_len}
 use Rattle.message_view.specs.Spelling.{fixed_len, body_place}
 use Rattle.message_view.specs.Reading.{fields_of, header_padding, header_fault, types_in, message_of, framed_message, message_at}
 use Rattle.message_view.specs.Slots.{AreExtents, Kept, extents_in, kept_of, slots_of}
-use Rattle.message_view.specs.FieldAnswers.{shown, lying}
+use Rattle.message_view.specs.FieldAnswers.{slots_shown, lying}
 
 -- the bytes after the header and its padding
 abbrev pub body_of : List ℕ → List ℕ
@@ -27,7 +27,7 @@ pub record HasHeader (found : Sections) (kind : Kind) (bytes : List ℕ) : Type 
   pub front : List Field
   pub read : fields_of bytes ≡ Ok front
   pub passes : header_fault kind (header_padding bytes) front ≡ None
-  pub shows : shown found.fields ≡ slots_of front
+  pub shows : slots_shown found.fields ≡ slots_of front
   pub typed : SigText (types_in front) found.signature
   pub body : found.body.now ≡ body_of bytes
   pub lie : AreExtents (order_in bytes) fixed_len front (lying found.fields)
@@ -41,7 +41,7 @@ ReadsHeader (Err fault) kind bytes = framed_message bytes ≡ Err fault
 abbrev pub ReadsFramed : Result Sections MsgError → Kind → List ℕ → Result Message MsgError → Type 0
 ReadsFramed (Ok found) kind bytes read =
     (front : List Field) × (arguments : Values) × (read ≡ Ok (message_of bytes kind front arguments))
-    × (shown found.fields ≡ slots_of front) × SigText (types_in front) found.signature × (found.body.now ≡ body_of bytes)
+    × (slots_shown found.fields ≡ slots_of front) × SigText (types_in front) found.signature × (found.body.now ≡ body_of bytes)
     × AreExtents (order_in bytes) fixed_len front (lying found.fields)
 ReadsFramed (Err fault) kind bytes read = read ≡ Err fault
 
@@ -60,4 +60,4 @@ pub record IsKept (bytes body signature : List ℕ) (kept : Kept) : Type 0 where
 
 -- what a view keeps of a fixed part and of what is after it
 abbrev pub kept_by : Fixed → Sections → Kept
-kept_by fixed sections = record { order = fixed.order; kind = fixed.kind; flags = fixed.flags; serial = fixed.serial; texts = map text_in (shown sections.fields); numbers = map number_in (shown sections.fields); extents = extents_in (lying sections.fields) }
+kept_by fixed sections = record { order = fixed.order; kind = fixed.kind; flags = fixed.flags; serial = fixed.serial; texts = map text_in (slots_shown sections.fields); numbers = map number_in (slots_shown sections.fields); extents = extents_in (lying sections.fields) }

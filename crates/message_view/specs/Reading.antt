@@ -164,6 +164,6 @@ of_len len bytes =
 -- the message, or the first fault
 unfoldable pub message_at : List ℕ → Result Message MsgError
 message_at bytes = do
-  framed ← framing bytes
-  len ← or_short framed
+  sections_of_frame ← framing bytes
+  len ← or_short sections_of_frame
   of_len len bytes

@@ -10,7 +10,7 @@ ghost use Rattle.message_view.specs.Message.{Field};
 ghost use Rattle.message_view.specs.Reading.{content_at, code_at, field_at, fields_from};
 ghost use Rattle.message_view.specs.Slots.{slots_of, AreExtents};
 ghost use Rattle.message_view.specs.Valid.{levels_in_field};
-ghost use Rattle.message_view.specs.FieldAnswers.{value_of, type_code_of, shown, lying, LiesBefore, IsFront, KeepsField};
+ghost use Rattle.message_view.specs.FieldAnswers.{value_of, type_code_of, slots_shown, lying, LiesBefore, IsFront, KeepsField};
 
 use crate::content::Content;
 use crate::extent::Extent;
@@ -152,7 +152,7 @@ impl<'a> Fields<'a> {
     pub(crate) fn of_valid(order: Order, place: usize, bytes: &'a [u8]) -> Fields<'a>
         requires short { place + length bytes.now ≤ 134217728 }
         requires valid { (front : List Field) × (fields_from (length bytes.now) order [] (inside place bytes.now) ≡ Ok front) }
-        ensures read { (front : List Field) → fields_from (length bytes.entry.now) order [] (inside place bytes.entry.now) ≡ Ok front → shown result ≡ slots_of front }
+        ensures read { (front : List Field) → fields_from (length bytes.entry.now) order [] (inside place bytes.entry.now) ≡ Ok front → slots_shown result ≡ slots_of front }
         ensures lie { (front : List Field) → fields_from (length bytes.entry.now) order [] (inside place bytes.entry.now) ≡ Ok front → AreExtents order place front (lying result) }
     {
         let mut fields = Fields::new();

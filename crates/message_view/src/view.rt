@@ -9,7 +9,7 @@ ghost use Rattle.message_view.specs.Fixed.{whole_len};
 ghost use Rattle.message_view.specs.Reading.{framed_message, header_fault, arguments_at};
 ghost use Rattle.message_view.specs.Slots.{slots_of};
 ghost use Rattle.message_view.specs.HeaderAnswers.{HasHeader, ReadsHeader, ReadsFramed, Passes};
-ghost use Rattle.message_view.specs.FieldAnswers.{shown};
+ghost use Rattle.message_view.specs.FieldAnswers.{slots_shown};
 ghost use Rattle.message_view.specs.FixedAnswers.{ReadsFixed};
 
 use crate::extent::{Extent, TextField};
@@ -31,7 +31,7 @@ pub(crate) struct Sections<'a> {
 
 /// The fault of what lies between the fields and the body, if there is one.
 fn header_fault(kind: Kind, fields: &Fields<'_>, skipped: &[u8]) -> Option<MsgError>
-    ensures { (front : List Field) → shown fields.now ≡ slots_of front → result ≡ header_fault kind skipped.now front }
+    ensures { (front : List Field) → slots_shown fields.now ≡ slots_of front → result ≡ header_fault kind skipped.now front }
 {
     if !fields.has_required(kind) {
         Some(MsgError::FieldMissing)
@@ -105,7 +105,7 @@ fn valid_sections<'a>(fixed: &Fixed, bytes: &'a [u8]) -> Sections<'a>
 }
 
 /// The fields and the body of a message whose fixed part was read, and whose length is the one that it says.
-fn framed<'a>(fixed: &Fixed, bytes: &'a [u8]) -> Result<Sections<'a>, MsgError>
+fn sections_of_frame<'a>(fixed: &Fixed, bytes: &'a [u8]) -> Result<Sections<'a>, MsgError>
     requires fixed { ReadsFixed (Ok (Some fixed.now)) bytes.now }
     requires whole { length bytes.now ≡ whole_len bytes.now }
     ensures { ReadsFramed result fixed.now.kind bytes.entry.now (framed_message bytes.entry.now) }
@@ -144,13 +144,13 @@ impl<'a> Model for View<'a> {
     ghost use Rattle.message_view.specs.Message.{text_in, number_in};
     ghost use Rattle.message_view.specs.Slots.{extents_in};
     ghost use Rattle.message_view.specs.HeaderAnswers.{IsKept};
-    ghost use Rattle.message_view.specs.FieldAnswers.{shown, lying};
+    ghost use Rattle.message_view.specs.FieldAnswers.{slots_shown, lying};
 
     ghost Value = { List ℕ };
 
     ghost view = { λ v. v.bytes.now };
 
-    ghost invariant = { λ v. IsKept v.bytes.now v.body.now v.signature (record { order = v.order; kind = v.kind; flags = v.flags; serial = v.serial; texts = map text_in (shown v.fields); numbers = map number_in (shown v.fields); extents = extents_in (lying v.fields) }) };
+    ghost invariant = { λ v. IsKept v.bytes.now v.body.now v.signature (record { order = v.order; kind = v.kind; flags = v.flags; serial = v.serial; texts = map text_in (slots_shown v.fields); numbers = map number_in (slots_shown v.fields); extents = extents_in (lying v.fields) }) };
 }
 
 impl<'a> View<'a> {
@@ -195,7 +195,7 @@ impl<'a> View<'a> {
         if bytes.len() > len {
             return Err(MsgError::Trailing);
         }
-        let sections = framed(&fixed, bytes)?;
+        let sections = sections_of_frame(&fixed, bytes)?;
         Ok(View::of_sections(bytes, &fixed, sections))
     }
 

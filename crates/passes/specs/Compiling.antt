@@ -29,7 +29,7 @@ module _ {M : Type 0} where
     pub fits : (program : List Ins) → is_accepted s (add_of s connection rule program) ≡ true
 
   abbrev pub Compiles : State M → ℕ → RuleTree → Result CompiledRule BusError → Type 0
-  Compiles s connection rule (Ok compiled) = (compiled ≡ compiled_in s rule compiled.program) × IsFit compiled
+  Compiles s connection rule (Ok compile_for) = (compile_for ≡ compiled_in s rule compile_for.program) × IsFit compile_for
   Compiles s connection rule (Err error) = IsKeptOut s connection rule error ⊎ (IsHeavy s connection rule error ⊎ (error ≡ errors.NoMemory))
 
 -- the error of a rule that isn't compiled

@@ -108,33 +108,33 @@ impl<J: Naming, M: Mailbox> Pass<J, M> {
     }
 
     /// Takes over a told history: the longer of the two is then seen. One of them begins the other.
-    pub fn learn(&mut self, told: &Front<J, M>)
-        ensures one { (self.new.seen ≡ self.old.seen) ⊎ (self.new.seen ≡ told.now) }
+    pub fn learn(&mut self, told_history: &Front<J, M>)
+        ensures one { (self.new.seen ≡ self.old.seen) ⊎ (self.new.seen ≡ told_history.now) }
         ensures this { IsPrefix self.old.seen self.new.seen }
-        ensures that { IsPrefix told.now self.new.seen }
+        ensures that { IsPrefix told_history.now self.new.seen }
         ensures same { self.new ≡ record self.old { seen = self.new.seen } }
     {
-        self.sight.learn(told);
+        self.sight.learn(told_history);
     }
 
     /// Takes over a history, which begins with what was seen; it is then seen.
-    pub(crate) fn take_over(&mut self, told: Front<J, M>)
-        requires { IsPrefix self.old.seen told }
-        ensures { self.new ≡ record self.old { seen = told } }
+    pub(crate) fn take_over(&mut self, told_history: Front<J, M>)
+        requires { IsPrefix self.old.seen told_history }
+        ensures { self.new ≡ record self.old { seen = told_history } }
     {
-        self.sight.take_over(told);
+        self.sight.take_over(told_history);
     }
 
     /// Takes over a history in which one more command of the connection was accepted; it is then seen.
-    pub(crate) fn count_in(&mut self, told: Front<J, M>, connection: u64)
-        requires begins { IsPrefix self.old.seen told }
+    pub(crate) fn count_in(&mut self, told_history: Front<J, M>, connection: u64)
+        requires begins { IsPrefix self.old.seen told_history }
         requires room { self.old.took + 1 < 2 ^ 64 }
         requires number { connection ≢ 0 }
         requires same { (self.old.connection ≡ 0) ⊎ (connection ≡ self.old.connection) }
-        requires own { self.old.took + 1 ≤ length (own_commands connection told) }
-        ensures { self.new ≡ record self.old { seen = told; connection = connection; took = self.old.took + 1 } }
+        requires own { self.old.took + 1 ≤ length (own_commands connection told_history) }
+        ensures { self.new ≡ record self.old { seen = told_history; connection = connection; took = self.old.took + 1 } }
     {
-        self.sight.take_over(told);
+        self.sight.take_over(told_history);
         self.connection = connection;
         self.took += 1;
     }

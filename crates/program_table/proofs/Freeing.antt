@@ -8,7 +8,7 @@ use Rattle.owners.specs.Registry as registry
 use Rattle.entry_table.specs.declared.entry.Entry.{Entry}
 use Rattle.entry_table.specs.Entries.{Entries, AreEntries}
 use Rattle.program_table.specs.SlotNames.{slot_of, slot_next, sender_asked, asks_for, is_name, is_used, used_slot, used_slots}
-use Rattle.program_table.specs.Registrations.{Registrations, settled}
+use Rattle.program_table.specs.Registrations.{Registrations, settle_names}
 use Rattle.program_table.specs.Senders.{without_sender}
 use Rattle.program_table.specs.IsState.{slot_in, has_own_slot}
 use Rattle.program_table.specs.Ties.{slot_names, rules_with, holdings, registrations_of, AreTied}
@@ -107,7 +107,7 @@ module _ (e : Entry) (front back : List Entry) (names : registry.Registry) (all 
   freed_tie later f is entries =
       tied later after (used_slots names.claims after.entries slots) is entries (freed_slots later f) (own-used_slots names.claims after.entries slots own_rest)
 
-  pub freed_view : (later : registry.Registry) → later ≡ without_sender (sender_asked e.filter) names → registrations_of later after ≡ settled (record { claims = names.claims; slots = slots; entries = after.entries; last_entry = after.last })
+  pub freed_view : (later : registry.Registry) → later ≡ without_sender (sender_asked e.filter) names → registrations_of later after ≡ settle_names (record { claims = names.claims; slots = slots; entries = after.entries; last_entry = after.last })
   freed_view later f =
       seen later after (used_slots names.claims after.entries slots) (freed_slots later f)
       ∙ ap (λ (cs : List _). let r : Registrations = record { claims = cs; slots = used_slots names.claims after.entries slots; entries = after.entries; last_entry = after.last } in r) (same_claims later (sender_asked e.filter) f)

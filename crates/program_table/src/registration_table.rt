@@ -249,11 +249,11 @@ impl RegistrationTable {
     }
 
     /// The entries that a message is offered to.
-    pub(crate) fn offered<'a>(&'a self, view: &View<'a>) -> Offered<'a>
-        ensures offered { (m : Message) → Valid view.now m → AreOffered self.now.entries m result }
+    pub(crate) fn entries_for<'a>(&'a self, view: &View<'a>) -> Offered<'a>
+        ensures entries_for { (m : Message) → Valid view.now m → AreOffered self.now.entries m result }
         ensures sound { AreRegistrations self.now }
     {
-        self.entries.offered(view)
+        self.entries.entries_for(view)
     }
 
     /// The primary owner of a name.

@@ -105,7 +105,7 @@ impl<M: Mailbox> Opened<M> {
     }
 
     /// The history's word under a name, and the beginning that has no command.
-    pub(crate) fn named<J: Naming>(self) -> (Book<J, M>, Front<J, M>)
+    pub(crate) fn open_named<J: Naming>(self) -> (Book<J, M>, Front<J, M>)
         requires { self ≡ J.book }
         ensures { result.1 ≡ [] }
     {

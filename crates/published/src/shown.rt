@@ -184,7 +184,7 @@ impl<M: Mailbox> Split<LinkedList<Command<M>>> for Notes {
 impl<M: Mailbox> Join<LinkedList<Command<M>>> for Notes {
     ghost use Rattle.std.specs.Prelude.{[]};
 
-    ghost both = { λ seen told. told };
+    ghost both = { λ seen told_history. told_history };
 
     ghost spent = { [] };
 }

@@ -24,9 +24,9 @@ use Rattle.match_key.specs.Kinds.{kind_meant}
 use Rattle.match_rule.specs.Condition.{value_of}
 use Rattle.summary.specs.Layout.{kind_place, text_place, argument_place, ownership_place}
 use Rattle.rule_compile.specs.declared.condition.Part.TheVariants.{Words, Bytes}
-use Rattle.rule_compile.specs.Code.{image_word, indexed, index_from_a, branch, want, settle, two, four, same_word, same_words, same_bytes, has_len, is_there, is_there_if, has_text_len, index_text, has_bytes, may_end, in_namespace}
-use Rattle.rule_compile.specs.Folders.{with_front, parts_of, along, is_nested}
-use Rattle.rule_compile.specs.RuleCode.{field_at, words_at, has_type, has_text_type, owns, path_namespace_len, path_namespace, relation_len, relation_bytes, there_code, type_code, part_code, rank_of, ranks, of_rank, rising, falling, offered, verdicts, rule_code}
+use Rattle.rule_compile.specs.Code.{image_word, load_indexed, index_from_a, branch, want, settle, half_number, four, same_word, same_words, same_bytes, has_len, is_there, is_there_if, has_text_len, index_text, has_bytes, may_end, in_namespace}
+use Rattle.rule_compile.specs.Folders.{with_front, parts_of, follow_parts, is_nested}
+use Rattle.rule_compile.specs.RuleCode.{field_at, words_at, has_type, has_text_type, owns, path_namespace_len, path_namespace, relation_len, relation_bytes, there_code, type_code, part_code, rank_of, ranks, of_rank, rising, falling, destination_fits, verdicts, rule_code}
 
 -- ---- single instructions
 
@@ -53,10 +53,10 @@ total_cons ins rest = sum_by-cons (λ size. size) (size_of (op_of ins.code) ins 
 image_total : (at : ℕ) (rest : List Ins) → total (image_word at ∷ rest) ≡ 1 + total rest
 image_total at rest = total_cons (image_word at) rest
 
-indexed_total : (width : Width) (at : ℕ) (rest : List Ins) → total (indexed width at ∷ rest) ≡ 1 + total rest
-indexed_total Word at rest = total_cons (indexed Word at) rest
-indexed_total Half at rest = total_cons (indexed Half at) rest
-indexed_total Byte at rest = total_cons (indexed Byte at) rest
+indexed_total : (width : Width) (at : ℕ) (rest : List Ins) → total (load_indexed width at ∷ rest) ≡ 1 + total rest
+indexed_total Word at rest = total_cons (load_indexed Word at) rest
+indexed_total Half at rest = total_cons (load_indexed Half at) rest
+indexed_total Byte at rest = total_cons (load_indexed Byte at) rest
 
 index_total : (rest : List Ins) → total (index_from_a ∷ rest) ≡ 1 + total rest
 index_total rest = total_cons index_from_a rest
@@ -98,10 +98,10 @@ words_total at value (suc n) rest =
 same_total : (at : ℕ) (bytes : List ℕ) (rest : List Ins) → total (same_bytes at bytes rest) ≤ length bytes + 3 + total rest
 same_total at [] rest = omega arith
 same_total at (a ∷ []) rest = omega (arith, indexed_total Byte at (want Equal a rest), want_total Equal a rest)
-same_total at (a ∷ b ∷ []) rest = omega (arith, indexed_total Half at (want Equal (two a b) rest), want_total Equal (two a b) rest)
+same_total at (a ∷ b ∷ []) rest = omega (arith, indexed_total Half at (want Equal (half_number a b) rest), want_total Equal (half_number a b) rest)
 same_total at (a ∷ b ∷ c ∷ []) rest =
-    let tail = indexed Byte (at + 2) ∷ want Equal c rest in
-    omega (arith, indexed_total Half at (want Equal (two a b) tail), want_total Equal (two a b) tail, indexed_total Byte (at + 2) (want Equal c rest), want_total Equal c rest)
+    let tail = load_indexed Byte (at + 2) ∷ want Equal c rest in
+    omega (arith, indexed_total Half at (want Equal (half_number a b) tail), want_total Equal (half_number a b) tail, indexed_total Byte (at + 2) (want Equal c rest), want_total Equal c rest)
 same_total at (a ∷ b ∷ c ∷ d ∷ more) rest =
     let value = a ∷ b ∷ c ∷ d ∷ more in
     let n = (length more + 3) / 4 in
@@ -135,7 +135,7 @@ may_end_total at n exit rest = omega (arith, image_total (at + 4) (settle Equal 
 
 namespace_total : (at separator : ℕ) (value : List ℕ) (rest : List Ins) → total (in_namespace at separator value rest) ≤ length value + 11 + total rest
 namespace_total at separator value rest =
-    let last = indexed Byte (length value) ∷ want Equal separator rest in
+    let last = load_indexed Byte (length value) ∷ want Equal separator rest in
     let a = bytes_total at value (may_end at (length value) rest last) in
     let b = may_end_total at (length value) rest last in
     let c = indexed_total Byte (length value) (want Equal separator rest) in
@@ -152,14 +152,14 @@ weight_of_parts (part ∷ parts) = length part + 9 + weight_of_parts parts
 part_total : (test : Test) (at place : ℕ) (part : List ℕ) (rest : List Ins) → total (has_len test (place + length part) at (same_bytes place part rest)) ≤ length part + 6 + total rest
 part_total test at place part rest = omega (arith, len_total test (place + length part) at (same_bytes place part rest), same_total place part rest)
 
-along_total : (at place : ℕ) (parts : List (List ℕ)) (rest : List Ins) → total (along at place parts rest) ≤ weight_of_parts parts + total rest
-along_total at place [] rest = omega arith
-along_total at place (part ∷ []) rest =
+follow_parts_total : (at place : ℕ) (parts : List (List ℕ)) (rest : List Ins) → total (follow_parts at place parts rest) ≤ weight_of_parts parts + total rest
+follow_parts_total at place [] rest = omega arith
+follow_parts_total at place (part ∷ []) rest =
     choice_total (ends_with 47 part) (weight_of_parts (part ∷ []) + total rest) _ _ (omega (arith, part_total AtLeast at place part rest)) (omega (arith, part_total Equal at place part rest))
-along_total at place (part ∷ next ∷ more) rest =
-    let tail = along at (place + length part) (next ∷ more) rest in
+follow_parts_total at place (part ∷ next ∷ more) rest =
+    let tail = follow_parts at (place + length part) (next ∷ more) rest in
     let ends = may_end at (place + length part) rest tail in
-    omega (arith, part_total AtLeast at place part ends, may_end_total at (place + length part) rest tail, along_total at (place + length part) (next ∷ more) rest)
+    omega (arith, part_total AtLeast at place part ends, may_end_total at (place + length part) rest tail, follow_parts_total at (place + length part) (next ∷ more) rest)
 
 front_weight : (b : ℕ) (parts : List (List ℕ)) (n : ℕ) → weight_of_parts parts ≤ n + 9 → weight_of_parts (with_front b parts) ≤ n + 10
 front_weight b [] n h = omega arith
@@ -178,10 +178,10 @@ parts_weight (b ∷ bs) = rw (slashes_cons b bs) (go (b == 47) (parts_weight bs)
 
 nested_total : (at : ℕ) (value : List ℕ) (rest : List Ins) → total (is_nested at value rest) ≤ length value + 9 * slashes value + 11 + total rest
 nested_total at value rest =
-    let tail = along at 0 (parts_of value) rest in
+    let tail = follow_parts at 0 (parts_of value) rest in
     let a = len_total Equal 0 at rest in
     let b = text_total at tail in
-    let c = along_total at 0 (parts_of value) rest in
+    let c = follow_parts_total at 0 (parts_of value) rest in
     let d = parts_weight value in
     choice_total (length value == 0) (length value + 9 * slashes value + 11 + total rest) (has_len Equal 0 at rest) (index_text at tail) (omega arith) (omega arith)
 
@@ -335,7 +335,7 @@ module _ (weight : Condition → ℕ) (piece : Condition → List Ins → List I
       let sum = sum_by-cons weight c cs in
       omega arith
 
-offered_total : (eavesdrops : Bool) → total (offered eavesdrops verdicts) ≤ 5
+offered_total : (eavesdrops : Bool) → total (destination_fits eavesdrops verdicts) ≤ 5
 offered_total eavesdrops = choice_total eavesdrops 5 verdicts (image_word (text_place texts.Destination) ∷ want Equal 0 verdicts) (omega (arith, verdicts_total)) (omega (arith, image_total (text_place texts.Destination) (want Equal 0 verdicts), want_total Equal 0 verdicts, verdicts_total))
 
 both_sums : (cs : List Condition) → sum_by words_weight cs + sum_by bytes_weight cs ≤ sum_by condition_weight cs
@@ -346,7 +346,7 @@ both_sums (c ∷ cs) =
 code_total : (slot : ℕ) (rule : RuleTree) → total (rule_code slot rule) ≤ weight_of rule
 code_total slot rule =
     let cs = rule.conditions in
-    let tail = offered rule.eavesdrops verdicts in
+    let tail = destination_fits rule.eavesdrops verdicts in
     let bytes = falling (part_code Bytes slot) ranks cs tail in
     let a = rising_total words_weight (part_code Words slot) (words_within slot) ranks cs bytes in
     let b = falling_total bytes_weight (part_code Bytes slot) (bytes_within slot) ranks cs tail in

@@ -24,8 +24,8 @@ abbrev pub image_word : ℕ → Ins
 image_word at = plain (LoadImage Word) at
 
 -- A becomes what stands k bytes after X
-abbrev pub indexed : Width → ℕ → Ins
-indexed width k = plain (LoadIndexed width) k
+abbrev pub load_indexed : Width → ℕ → Ins
+load_indexed width k = plain (LoadIndexed width) k
 
 -- X becomes A
 abbrev pub index_from_a : Ins
@@ -49,8 +49,8 @@ abbrev pub settle : Test → ℕ → List Ins → List Ins → List Ins
 settle test k exit rest = branch test k (length rest - length exit) 0 ∷ rest
 
 -- two and four bytes as a number, the highest first
-abbrev pub two : ℕ → ℕ → ℕ
-two a b = a * 256 + b
+abbrev pub half_number : ℕ → ℕ → ℕ
+half_number a b = a * 256 + b
 
 abbrev pub four : ℕ → ℕ → ℕ → ℕ → ℕ
 four a b c d = ((a * 256 + b) * 256 + c) * 256 + d
@@ -58,7 +58,7 @@ four a b c d = ((a * 256 + b) * 256 + c) * 256 + d
 -- the four bytes from `at` + i after X on are those of a value from its byte i on
 abbrev pub same_word : ℕ → List ℕ → ℕ → List Ins → List Ins
 same_word at value i rest =
-    indexed Word (at + i) ∷ want Equal (four (slice_index value i) (slice_index value (i + 1)) (slice_index value (i + 2)) (slice_index value (i + 3))) rest
+    load_indexed Word (at + i) ∷ want Equal (four (slice_index value i) (slice_index value (i + 1)) (slice_index value (i + 2)) (slice_index value (i + 3))) rest
 
 -- the first n words of a value
 abbrev pub same_words : ℕ → List ℕ → ℕ → List Ins → List Ins
@@ -69,9 +69,9 @@ same_words at value (suc n) rest = same_words at value n (same_word at value (4 
 -- as many words as have the other bytes, the last of which may overlap those four.
 abbrev pub same_bytes : ℕ → List ℕ → List Ins → List Ins
 same_bytes at [] rest = rest
-same_bytes at (a ∷ []) rest = indexed Byte at ∷ want Equal a rest
-same_bytes at (a ∷ b ∷ []) rest = indexed Half at ∷ want Equal (two a b) rest
-same_bytes at (a ∷ b ∷ c ∷ []) rest = indexed Half at ∷ want Equal (two a b) (indexed Byte (at + 2) ∷ want Equal c rest)
+same_bytes at (a ∷ []) rest = load_indexed Byte at ∷ want Equal a rest
+same_bytes at (a ∷ b ∷ []) rest = load_indexed Half at ∷ want Equal (half_number a b) rest
+same_bytes at (a ∷ b ∷ c ∷ []) rest = load_indexed Half at ∷ want Equal (half_number a b) (load_indexed Byte (at + 2) ∷ want Equal c rest)
 same_bytes at (a ∷ b ∷ c ∷ d ∷ more) rest =
     same_word at (a ∷ b ∷ c ∷ d ∷ more) (length more) (same_words at (a ∷ b ∷ c ∷ d ∷ more) ((length more + 3) / 4) rest)
 
@@ -108,4 +108,4 @@ may_end at n exit rest = image_word (at + 4) ∷ settle Equal n exit rest
 -- the text, which isn't shorter, is this value, or begins with it and a separator
 abbrev pub in_namespace : ℕ → ℕ → List ℕ → List Ins → List Ins
 in_namespace at separator value rest =
-    has_bytes at value (may_end at (length value) rest (indexed Byte (length value) ∷ want Equal separator rest))
+    has_bytes at value (may_end at (length value) rest (load_indexed Byte (length value) ∷ want Equal separator rest))

@@ -151,8 +151,8 @@ falling piece zero cs rest = rest
 falling piece (suc n) cs rest = of_rank piece n cs (falling piece n cs rest)
 
 -- a message with a destination is offered to a rule that eavesdrops alone
-abbrev pub offered : Bool → List Ins → List Ins
-offered eavesdrops rest = if eavesdrops then rest else image_word (text_place texts.Destination) ∷ want Equal 0 rest
+abbrev pub destination_fits : Bool → List Ins → List Ins
+destination_fits eavesdrops rest = if eavesdrops then rest else image_word (text_place texts.Destination) ∷ want Equal 0 rest
 
 -- a match, and after it no match
 abbrev pub verdicts : List Ins
@@ -163,4 +163,4 @@ verdicts = returns 1 ∷ returns 0 ∷ []
 -- differ most in those texts.
 abbrev pub rule_code : ℕ → RuleTree → List Ins
 rule_code slot rule =
-    rising (part_code Words slot) ranks rule.conditions (falling (part_code Bytes slot) ranks rule.conditions (offered rule.eavesdrops verdicts))
+    rising (part_code Words slot) ranks rule.conditions (falling (part_code Bytes slot) ranks rule.conditions (destination_fits rule.eavesdrops verdicts))

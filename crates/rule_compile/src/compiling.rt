@@ -13,7 +13,7 @@ use match_rule::Rule;
 use std::alloc::Global;
 
 /// A well-formed program, which is accepted.
-fn accepted(program: Vec<Ins>) -> Verified
+fn verified_program(program: Vec<Ins>) -> Verified
     requires { WellFormed program.items }
     ensures { result ≡ program.items }
 {
@@ -37,7 +37,7 @@ fn compile_tested(
     let slot = slot.unwrap_or(0);
     let code = rule_code(alloc, slot, rule.conditions(), rule.eavesdrops(), tested)?;
     let program = code.lower(alloc)?;
-    Ok(accepted(program))
+    Ok(verified_program(program))
 }
 
 /// The program of a rule, for images of edition 2: its verdict is nonzero exactly where the rule holds of the message

@@ -2,7 +2,7 @@
 ghost use Rattle.std.specs.Prelude.{◌≡◌, ◌<◌, ◌-◌, ◌∷◌, length, IfOk, OnOk, IsTrue, Some};
 ghost use Rattle.bpf_code.specs.Table.{op_of};
 ghost use Rattle.jump_islands.specs.Source.{is_plain_op, AreWellMade};
-ghost use Rattle.rule_compile.specs.Code.{plain, image_word, indexed, index_from_a, branch, want};
+ghost use Rattle.rule_compile.specs.Code.{plain, image_word, load_indexed, index_from_a, branch, want};
 ghost use Rattle.rule_compile.specs.RuleCode.{verdicts};
 ghost use Rattle.rule_compile.specs.Sound.{IsOfPiece};
 
@@ -102,8 +102,8 @@ impl Code {
     }
 
     /// A becomes what stands `at` bytes after X.
-    pub(crate) fn indexed(&mut self, width: Width, at: u32) -> Result<(), AllocError>
-        ensures { OnOk result (self.new ≡ indexed width at ∷ self.old) }
+    pub(crate) fn load_indexed(&mut self, width: Width, at: u32) -> Result<(), AllocError>
+        ensures { OnOk result (self.new ≡ load_indexed width at ∷ self.old) }
     {
         self.put(Op::LoadIndexed(width), at)
     }

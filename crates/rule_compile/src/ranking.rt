@@ -4,7 +4,7 @@ ghost use Rattle.std.specs.Prelude.{◌≡◌, ◌<◌, ◌^◌, sum_by, filter,
 ghost use Rattle.match_rule.specs.RuleTree.{condition_weight};
 ghost use Rattle.jump_islands.specs.Source.{AreWellMade};
 ghost use Rattle.rule_compile.specs.Rest.{is_tested, tested_of};
-ghost use Rattle.rule_compile.specs.RuleCode.{field_rank, whole_rank, other_rank, relation_rank, rank_of, ranks, part_code, of_rank, rising, falling, offered, rule_code};
+ghost use Rattle.rule_compile.specs.RuleCode.{field_rank, whole_rank, other_rank, relation_rank, rank_of, ranks, part_code, of_rank, rising, falling, destination_fits, rule_code};
 
 use crate::condition::Part;
 use crate::piece::Code;
@@ -128,8 +128,8 @@ impl Code {
     }
 
     /// A message with a destination is offered to a rule that eavesdrops alone.
-    fn offered(&mut self, eavesdrops: bool) -> Result<(), AllocError>
-        ensures { OnOk result (self.new ≡ offered eavesdrops self.old) }
+    fn destination_fits(&mut self, eavesdrops: bool) -> Result<(), AllocError>
+        ensures { OnOk result (self.new ≡ destination_fits eavesdrops self.old) }
     {
         if !eavesdrops {
             self.want(Test::Equal, 0)?;
@@ -153,7 +153,7 @@ pub(crate) fn rule_code(
     ensures made { IfOk result AreWellMade }
 {
     let mut code = Code::verdicts(alloc)?;
-    code.offered(eavesdrops)?;
+    code.destination_fits(eavesdrops)?;
     code.all_bytes(slot, conditions, tested)?;
     code.all_words(slot, conditions, tested)?;
     Ok(code.finish())

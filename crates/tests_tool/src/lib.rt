@@ -5,7 +5,7 @@
 #[cfg(test)]
 mod compiling;
 #[cfg(test)]
-mod given;
+mod two_files;
 #[cfg(test)]
 mod help;
 #[cfg(test)]

@@ -24,8 +24,8 @@ abbrev pub with_letter : ℕ → Option ℕ → List ℕ
 with_letter b (Some letter) = 92 ∷ letter ∷ []
 with_letter b None = if is_printable b then b ∷ [] else octal b
 
-abbrev pub escaped : ℕ → List ℕ
-escaped b = with_letter b (letter_of b)
+abbrev pub escape_of : ℕ → List ℕ
+escape_of b = with_letter b (letter_of b)
 
 abbrev pub escaped_text : List ℕ → List ℕ
-escaped_text text = flat_map escaped text
+escaped_text text = flat_map escape_of text

@@ -7,7 +7,7 @@ use Rattle.std.specs.Map.{lookup}
 -- the recipients of a broadcast, and for each part whether it was asked for
 pub record OpenJob : Type 0 where
   pub recipients : List ℕ
-  pub given : List Bool
+  pub parts_done : List Bool
 
 -- the job of a number
 abbrev pub job_of : ℕ → List (ℕ × OpenJob) → Option OpenJob

@@ -15,14 +15,14 @@ use Rattle.world.specs.OpenJobs.{OpenJob, job_of}
 use Rattle.world.specs.WorldState.{WorldState}
 use Rattle.world.specs.Jobs.{parts, in_part}
 
-abbrev pub opened : List ℕ → OpenJob
-opened recipients = record { recipients = recipients; given = replicate parts false }
+abbrev pub opened_job : List ℕ → OpenJob
+opened_job recipients = record { recipients = recipients; parts_done = replicate parts false }
 
 abbrev pub is_free_in : OpenJob → ℕ → Bool
-is_free_in job part = nat_le 1 part && nat_le part parts && not (slice_index_or job.given (part - 1) false)
+is_free_in job part = nat_le 1 part && nat_le part parts && not (slice_index_or job.parts_done (part - 1) false)
 
 abbrev pub with_part : ℕ → OpenJob → OpenJob
-with_part part job = record { recipients = job.recipients; given = slice_set job.given (part - 1) true }
+with_part part job = record { recipients = job.recipients; parts_done = slice_set job.parts_done (part - 1) true }
 
 -- the job of a number is this one now, and the others are as they were
 abbrev pub SetsJob : ℕ → Option OpenJob → List (ℕ × OpenJob) → List (ℕ × OpenJob) → Type 0
@@ -42,7 +42,7 @@ pub record HasPart (number part : ℕ) (before after : List (ℕ × OpenJob)) (n
   pub job : OpenJob
   pub found : job_of number before ≡ Some job
   pub free : is_free_in job part ≡ true
-  pub given : SetsJob number (Some (with_part part job)) before after
+  pub parts_done : SetsJob number (Some (with_part part job)) before after
   pub numbers_are : numbers ≡ in_part part job.recipients
 
 -- what recipients are answered, where there are any to be told
@@ -56,7 +56,7 @@ pub record BeginsJob (sender : Option ℕ) (bytes : List ℕ) (before after : Wo
   pub valid : Valid bytes message
   pub recipients : List ℕ
   pub are : AreRecipients before.state sender message recipients
-  pub jobs : SetsJob before.events (Some (opened recipients)) before.jobs after.jobs
+  pub jobs : SetsJob before.events (Some (opened_job recipients)) before.jobs after.jobs
 
 -- what a Begin does to the jobs
 abbrev pub BeginStep : Option ℕ → List ℕ → WorldState → WorldState → Option Answer → Type 0

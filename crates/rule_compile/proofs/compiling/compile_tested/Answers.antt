@@ -36,7 +36,7 @@ returns-in_err-program-clause-refused c =
 pub accepted-requires : goal.accepted-requires
 accepted-requires c =
     let target : IsTarget c.in_ok-code.code c.in_ok-program.program.items = c.in_ok-program.ensures.lowered in
-    target.accepted c.in_ok-code.ensures.made
+    target.verified_program c.in_ok-code.ensures.made
 
 pub returns-clause-compiled : goal.returns-clause-compiled
 returns-clause-compiled c =
@@ -50,4 +50,4 @@ returns-clause-compiled c =
     let decides : Decides left slot code = (λ bytes m slots owned valid set agree. rule_runs bytes m slots owned left slot valid (image_shows Two bytes m slots valid set.size set.bits) fits agree (one_sender tested rule c.conditions.ensures.one_sender) (small_numbers tested rule c.conditions.ensures.numbers) (same_bytes tested rule c.conditions.ensures.bytes)) in
     let Compiled : List Ins → Type 0 = IsCompiled left slot in
     let Target : List Ins → Type 0 = λ source. IsTarget source c.in_ok-program.program.items in
-    subst Compiled (sym c.accepted.ensures) (compiled left slot code c.in_ok-program.program.items (subst Target same c.in_ok-program.ensures.lowered) decides)
+    subst Compiled (sym c.verified_program.ensures) (compiled left slot code c.in_ok-program.program.items (subst Target same c.in_ok-program.ensures.lowered) decides)

@@ -3,10 +3,10 @@ use Rattle.std.specs.Prelude.{Ok}
 use Rattle.program_table.specs.declared.command.Command.TheVariants.{Request}
 use Rattle.program_table.specs.State.{State}
 use Rattle.program_table.specs.Answers.{request_answer}
-use Rattle.program_table.specs.Does.{connected, row}
+use Rattle.program_table.specs.Does.{refuse_unconnected, row}
 use Rattle.program_table.proofs.state.BusState.row.Goals as goal
 
-row_request : {M : Type 0} (s : State M) (c : ℕ) (name : List ℕ) (flags : ℕ) → connected c s ≡ Ok tt → row s (Request c name flags) ≡ request_answer name c flags s.registrations
+row_request : {M : Type 0} (s : State M) (c : ℕ) (name : List ℕ) (flags : ℕ) → refuse_unconnected c s ≡ Ok tt → row s (Request c name flags) ≡ request_answer name c flags s.registrations
 row_request s c name flags e = rw e refl
 
 pub returns-in_ok-connected-in-Request : goal.returns-in_ok-connected-in-Request
