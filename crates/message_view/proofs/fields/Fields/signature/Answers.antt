@@ -4,7 +4,7 @@ use Rattle.message_view.specs.Reading.{types_in}
 use Rattle.message_view.proofs.BodyTypes.{types_found}
 use Rattle.message_view.proofs.fields.Fields.signature.Goals as goal
 
-pub checked-requires : goal.checked-requires
+pub checked-requires : goal.of_checked_text-requires
 checked-requires c =
     let front = c.requires.0 in
     let same = c.as_bytes.ensures.value ∙ c.signature_text.ensures front c.requires.1 in
