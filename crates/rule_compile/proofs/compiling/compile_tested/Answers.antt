@@ -33,8 +33,8 @@ returns-in_err-program-clause-refused c =
     let p = err_from_is_err_and c.from_residual-in_err-program.result c.from_residual-in_err-program.ensures.1 in
     rw (p.1, p.2) (refused rule left (rule_code number left) c.in_err-program.field-0.0 (subst Refused same c.in_err-program.ensures.refused) (rule_length number left) (no_heavier tested rule))
 
-pub accepted-requires : goal.verified_program-requires
-accepted-requires c =
+pub verified_program-requires : goal.verified_program-requires
+verified_program-requires c =
     let target : IsTarget c.in_ok-code.code c.in_ok-program.program.items = c.in_ok-program.ensures.lowered in
     target.verified_program c.in_ok-code.ensures.made
 
