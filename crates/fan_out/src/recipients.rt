@@ -139,7 +139,7 @@ fn consider_offered<'a, M: Mailbox>(
     marks: &mut Marks,
 ) -> u32
     requires state { IsState state.now }
-    requires entries_for { (m : Message) → Valid view.now m → AreOffered state.now.registrations.entries m (first.now ∷ others.old) }
+    requires offered { (m : Message) → Valid view.now m → AreOffered state.now.registrations.entries m (first.now ∷ others.old) }
     requires none_marked { marks.old.places ≡ replicate MAX_RECIPIENTS false }
     ensures exact { (m : Message) → Valid view.now m → AreMarkedRecipients state.now sender m piece.part piece.of marks.new.places }
     ensures most { result ≤ length others.old + 1 }
@@ -171,10 +171,10 @@ pub(crate) fn mark_recipients<'a, M: Mailbox>(
     ensures state { IsState state.entry.now }
 {
     found_where_it_holds();
-    let mut entries_for = state.entries_for(view);
-    match entries_for.next() {
+    let mut offered = state.entries_for(view);
+    match offered.next() {
         None => 0,
-        Some(first) => { consider_offered(state, sender, view, piece, first, &mut entries_for, marks) }
+        Some(first) => { consider_offered(state, sender, view, piece, first, &mut offered, marks) }
     }
 }
 

@@ -250,7 +250,7 @@ impl RegistrationTable {
 
     /// The entries that a message is offered to.
     pub(crate) fn entries_for<'a>(&'a self, view: &View<'a>) -> Offered<'a>
-        ensures entries_for { (m : Message) → Valid view.now m → AreOffered self.now.entries m result }
+        ensures offered { (m : Message) → Valid view.now m → AreOffered self.now.entries m result }
         ensures sound { AreRegistrations self.now }
     {
         self.entries.entries_for(view)

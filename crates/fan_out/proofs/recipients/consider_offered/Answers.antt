@@ -5,16 +5,16 @@ use Rattle.fan_out.proofs.recipients.consider_offered.Goals as goal
 pub consider_all-requires-clause-few : goal.consider_all-requires-clause-few
 consider_all-requires-clause-few g c =
     let spelled = c.raw.ensures.spells in
-    omega (arith, offered_fit c.args.state.now spelled.0 (c.args.first.now ∷ c.args.others.now) c.requires.state (c.requires.entries_for spelled.0 spelled.1))
+    omega (arith, offered_fit c.args.state.now spelled.0 (c.args.first.now ∷ c.args.others.now) c.requires.state (c.requires.offered spelled.0 spelled.1))
 
 pub consider_all-requires-clause-connected : goal.consider_all-requires-clause-connected
 consider_all-requires-clause-connected g c =
     let spelled = c.raw.ensures.spells in
-    offered_connected c.args.state.now spelled.0 (c.args.first.now ∷ c.args.others.now) c.requires.state (c.requires.entries_for spelled.0 spelled.1)
+    offered_connected c.args.state.now spelled.0 (c.args.first.now ∷ c.args.others.now) c.requires.state (c.requires.offered spelled.0 spelled.1)
 
 pub returns-clause-exact : goal.returns-clause-exact
 returns-clause-exact g c m valid =
     let marked = rw (c.new-programs.ensures.view, c.new-programs.ensures.owned) at c.consider_all.ensures.exact in
     recipients_marked c.args.state.now c.args.sender m c.args.view.now c.slots_of-owned.result c.args.piece.part c.args.piece.of (c.args.first.now ∷ c.args.others.now) c.consider_all.new.marks.places
-    c.requires.state c.slots_of-owned.ensures valid c.ends_in_one_way.ensures c.found_where_it_holds.ensures (c.requires.entries_for m valid)
+    c.requires.state c.slots_of-owned.ensures valid c.ends_in_one_way.ensures c.found_where_it_holds.ensures (c.requires.offered m valid)
     (marked c.args.sender m valid)
