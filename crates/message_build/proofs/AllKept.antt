@@ -10,7 +10,6 @@ use Rattle.message_value.specs.declared.fault.MsgError.{MsgError}
 use Rattle.message_value.specs.Reading.{At}
 use Rattle.message_value.proofs.MovedValues.{Alike}
 use Rattle.message_value.proofs.ReadItems.{at}
-use Rattle.message_view.specs.declared.field.FieldCode.{FieldCode}
 use Rattle.message_view.specs.Header.{code_of}
 use Rattle.message_view.specs.Message.{Field}
 use Rattle.message_view.specs.Reading.{field_at}
@@ -40,7 +39,7 @@ pub record Turn (order : Order) (a : At) (whole : Bool) : Type 0 where
   pub kept : is_kept field ≡ true → Rest order tail whole
   pub other : is_kept field ≡ false → false ≡ whole
 
-once_first : (o : Option FieldCode) (code : ℕ) → IsOnce o code []
+once_first : (o : _) (code : ℕ) → IsOnce o code []
 once_first (Some known) code = refl
 once_first None code = tt
 

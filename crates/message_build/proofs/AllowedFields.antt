@@ -43,16 +43,16 @@ both_true : (a b : Bool) → a ≡ true → b ≡ true → (a && b) ≡ true
 both_true a b p q = rw (p, q) refl
 
 one_path : IsOneType (basic 111)
-one_path = (record { message_spelling = refl; fits = refl }, omega arith)
+one_path = (record { spelled = refl; fits = refl }, omega arith)
 
 pub one_string : IsOneType (basic 115)
-one_string = (record { message_spelling = refl; fits = refl }, omega arith)
+one_string = (record { spelled = refl; fits = refl }, omega arith)
 
 one_number : IsOneType (basic 117)
-one_number = (record { message_spelling = refl; fits = refl }, omega arith)
+one_number = (record { spelled = refl; fits = refl }, omega arith)
 
 one_signature : IsOneType (basic 103)
-one_signature = (record { message_spelling = refl; fits = refl }, omega arith)
+one_signature = (record { spelled = refl; fits = refl }, omega arith)
 
 field_is : (place : ℕ) (f : HeaderField) → Holds f → is_allowed f ≡ true → IsField Little place (field_of f)
 field_is place (Path t) holds e =

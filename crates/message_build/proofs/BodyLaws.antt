@@ -29,7 +29,7 @@ read_body types s body outside values tail typed bytes few e end =
     let t = members_takes max_levels Little types (at 0 body outside) (values, tail) bytes e in
     let whole = members_bytes Little 0 types values in
     let is : body ≡ whole = t.0.parts ∙ ap (λ (l : List ℕ). whole ++ l) (no_bytes tail.rest end) ∙ append_nothing whole in
-    (types, values, record { typed = typed; fit = t.1; message_spelling = is; counted = few })
+    (types, values, record { typed = typed; fit = t.1; spelled = is; counted = few })
 
 -- a body is read to its end
 pub body_read : (types : DataTypes) (s body : List ℕ) (outside : MsgError) → SigText types s → (b : IsBody s body)
@@ -37,7 +37,7 @@ pub body_read : (types : DataTypes) (s body : List ℕ) (outside : MsgError) →
 body_read types s body outside typed b =
     let same : b.0 ≡ types = SigText-unique b.0 types s b.2.typed typed in
     let fit : MembersFit Little max_levels 0 types b.1 = subst (λ (ts : DataTypes). MembersFit Little max_levels 0 ts b.1) same b.2.fit in
-    let is : body ≡ members_bytes Little 0 types b.1 = b.2.message_spelling ∙ ap (λ (ts : DataTypes). members_bytes Little 0 ts b.1) same in
+    let is : body ≡ members_bytes Little 0 types b.1 = b.2.spelled ∙ ap (λ (ts : DataTypes). members_bytes Little 0 ts b.1) same in
     let whole : body ≡ members_bytes Little 0 types b.1 ++ [] = is ∙ sym (append_nothing (members_bytes Little 0 types b.1)) in
     ap (λ (l : List ℕ). members_at (value_at max_levels Little) types (at 0 l outside)) whole ∙ members_again max_levels Little types 0 outside b.1 [] fit
 

@@ -27,7 +27,7 @@ body_within m = omega (arith, length-laid m.order (kind_byte m.kind) m.flags m.s
 
 valid_sound : (bytes : List ℕ) (m : Message) → Valid bytes m → IsValidButForSize m
 valid_sound bytes m v =
-    let whole : length bytes ≡ length (message_bytes m) = ap (λ (l : List ℕ). length l) v.message_spelling in
+    let whole : length bytes ≡ length (message_bytes m) = ap (λ (l : List ℕ). length l) v.spelled in
     let fits : length bytes ≤ max_message_len = v.fits in
     let within = body_within m in
     record {
@@ -47,7 +47,7 @@ valid_sound bytes m v =
 valid_within : (bytes : List ℕ) (m : Message) → Valid bytes m → IsTooLarge m → ⊥
 valid_within bytes m v (inl long) = let fits : length (header_bytes m) ≤ max_array_len = v.fields_fit in absurd (omega arith)
 valid_within bytes m v (inr long) =
-    let whole : length bytes ≡ length (message_bytes m) = ap (λ (l : List ℕ). length l) v.message_spelling in
+    let whole : length bytes ≡ length (message_bytes m) = ap (λ (l : List ℕ). length l) v.spelled in
     let fits : length bytes ≤ max_message_len = v.fits in
     absurd (omega arith)
 
@@ -55,7 +55,7 @@ pub valid_at_its_size : (bytes : List ℕ) (m : Message) → (Valid bytes m) ↔
 valid_at_its_size bytes m = (there, back)
   where
     there : Valid bytes m → IsValidButForSize m × (IsTooLarge m → ⊥) × (bytes ≡ message_bytes m)
-    there v = (valid_sound bytes m v, valid_within bytes m v, v.message_spelling)
+    there v = (valid_sound bytes m v, valid_within bytes m v, v.spelled)
 
     back : IsValidButForSize m × (IsTooLarge m → ⊥) × (bytes ≡ message_bytes m) → Valid bytes m
     back s =
@@ -100,7 +100,7 @@ too_large_too a m n first other (inr long) = inr (subst (λ (l : List ℕ). max_
 -- ---- one answer
 
 pub one_answer : (a : Asked) (first other : Result (List ℕ) BuildError) → Finishes a first → Finishes a other → first ≢ Err NoMemory → other ≢ Err NoMemory → first ≡ other
-one_answer a (Ok x) (Ok y) f o p q = ap (λ (l : List ℕ). Ok l) (f.2.message_spelling ∙ bytes_are a f.0 f.1 ∙ sym (bytes_are a o.0 o.1) ∙ sym o.2.message_spelling)
+one_answer a (Ok x) (Ok y) f o p q = ap (λ (l : List ℕ). Ok l) (f.2.spelled ∙ bytes_are a f.0 f.1 ∙ sym (bytes_are a o.0 o.1) ∙ sym o.2.spelled)
 one_answer a (Ok x) (Err Invalid) f o p q = absurd (o f.0 f.1 (valid_sound x f.0 f.2))
 one_answer a (Ok x) (Err TooLarge) f o p q = absurd (valid_within x f.0 f.2 (too_large_too a o.0 f.0 o.1 f.1 o.3))
 one_answer a (Err Invalid) (Ok y) f o p q = absurd (f o.0 o.1 (valid_sound y o.0 o.2))

@@ -186,7 +186,7 @@ stamped_valid raw m sender order h body head bytes r is short fits whole =
       arguments = members_fit_moved m.order 64 (body_place from) (body_place to) (bodies_alike from to) m.types m.arguments v.arguments;
       fields_fit = subst (λ (n : ℕ). n ≤ max_array_len) same short;
       fits = subst (λ (n : ℕ). n ≤ max_message_len) (sym sum) fits;
-      message_spelling = whole ∙ stamped_spelled raw m sender order h body head r is;
+      spelled = whole ∙ stamped_spelled raw m sender order h body head r is;
     }
 
 pub fields_too_large : (raw : List ℕ) (m : Message) (sender : List ℕ) (order : Order) (h : Header) (body : List ℕ) → IsRead raw m sender order h body → max_array_len < length (stamped_fields order m.fields sender) → IsTooLarge (with_sender m sender)

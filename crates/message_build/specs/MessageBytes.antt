@@ -16,7 +16,7 @@ use Rattle.message_build.specs.declared.header.Header.{Header}
 pub record BodyOf (types : DataTypes) (values : Values) (signature body : List ℕ) : Type 0 where
   pub typed : SigText types signature
   pub fit : MembersFit Little max_levels 0 types values
-  pub message_spelling : body ≡ members_bytes Little 0 types values
+  pub spelled : body ≡ members_bytes Little 0 types values
   pub counted : length body < 2 ^ 32
 
 abbrev pub IsBody : List ℕ → List ℕ → Type 0
@@ -28,7 +28,7 @@ fixed_bytes order h fields_len body_len =
     (order_byte order ∷ kind_byte h.kind ∷ h.flags ∷ 1 ∷ []) ++ (word_bytes order body_len ++ (word_bytes order h.serial ++ word_bytes order fields_len))
 
 -- a message of these fields
-abbrev pub message_spelling : Header → List Field → List ℕ → List ℕ
-message_spelling h fields body =
+abbrev pub spelled : Header → List Field → List ℕ → List ℕ
+spelled h fields body =
     let all = fields_bytes Little fixed_len fields in
     fixed_bytes Little h (length all) (length body) ++ (all ++ (zeros (padding 8 (length all)) ++ body))
