@@ -47,11 +47,11 @@ texts_read true m = texts_of m
 texts_read false m = record { member = member_of m; interface = interface_of m; path = path_of m; arg0 = None }
 
 -- what is still to come at the start: those of shape 0, and those of each shape in use
-pub record IsLookedUp (index : Index) (held : List Placed) (m : Message) (entries_for : List Entry) : Type 0 where
+pub record IsLookedUp (index : Index) (held : List Placed) (m : Message) (offered : List Entry) : Type 0 where
   pub used : List ℕ
   pub once : AreOnce used
   pub same : (shape : ℕ) → has_place shape used ≡ is_in_use shape index.shapes
   -- argument 0 is read, or no shape in use has it
   pub has_arg0 : Bool
   pub without : has_arg0 ≡ false → (shape : ℕ) → is_in_use shape index.shapes ≡ true → shape < 8
-  pub is : entries_for ≡ coming held index.by_texts (record { points = index.points; texts = texts_read has_arg0 m }) (record { shape = 0; places = places_in index.by_texts hash_lists; shapes = used })
+  pub is : offered ≡ coming held index.by_texts (record { points = index.points; texts = texts_read has_arg0 m }) (record { shape = 0; places = places_in index.by_texts hash_lists; shapes = used })

@@ -22,6 +22,6 @@ mod texts;
 pub use attachment::Attachment;
 pub use entry::{Entry, Filter};
 pub use index_key::IndexKey;
-pub use entries_for::Offered;
+pub use offered::Offered;
 pub use rule_program::RuleProgram;
 pub use table::{EntryTable, MAX_ENTRIES};

@@ -36,7 +36,7 @@ returns-in_err-program-clause-refused c =
 pub verified_program-requires : goal.verified_program-requires
 verified_program-requires c =
     let target : IsTarget c.in_ok-code.code c.in_ok-program.program.items = c.in_ok-program.ensures.lowered in
-    target.verified_program c.in_ok-code.ensures.made
+    target.accepted c.in_ok-code.ensures.made
 
 pub returns-clause-compiled : goal.returns-clause-compiled
 returns-clause-compiled c =
