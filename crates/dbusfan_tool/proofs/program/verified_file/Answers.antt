@@ -8,7 +8,7 @@ returns-in_err-program-clause-fault g c = check_fails _ _ _ c.from_residual.ensu
 
 pub returns-in-Ok-clause-found : goal.returns-in-Ok-clause-found
 returns-in-Ok-clause-found g c =
-    check_accepts _ _ _ c.in_ok-program.ensures.found (c.in-Ok.ensures.verified_file.0 refl) c.in-Ok.ensures.same
+    check_accepts _ _ _ c.in_ok-program.ensures.found (c.in-Ok.ensures.accepted.0 refl) c.in-Ok.ensures.same
 
 pub returns-clause-fault : goal.returns-clause-fault
 returns-clause-fault g c = inl (refused c.in_ok-program.ensures.found c.in-Err.ensures.fault)
