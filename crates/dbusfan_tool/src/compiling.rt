@@ -42,7 +42,7 @@ fn compile_text(alloc: Global, rule: &str) -> Result<String, Fault>
 
 /// The program of a rule.
 pub(crate) fn program_of(alloc: Global, rule: &Rule) -> Result<Verified, CompileError>
-    ensures compile_text { IfOk result (λ program. IsCompiled rule.now (slot_for rule.now) program) }
+    ensures compiled { IfOk result (λ program. IsCompiled rule.now (slot_for rule.now) program) }
     ensures refused { IfErr result (IsRefusal rule.now) }
 {
     let slot = match rule.sender_name() {

@@ -14,7 +14,7 @@ module _ {M : Type 0} where
   AreListed s (Some numbers) = numbers ≡ numbers_of s.connections
 
   -- the connection that owns the name, and what the sender needs for it
-  pub record IsAddressee (outbox_of : M → OutboxId) (s : State M) (name : List ℕ) (stops : List StopView) (number : ℕ) (newcomers : List RecipientView) (numbers_connected : Option (List ℕ)) : Type 0 where
+  pub record IsAddressee (outbox_of : M → OutboxId) (s : State M) (name : List ℕ) (stops : List StopView) (number : ℕ) (newcomers : List RecipientView) (connected : Option (List ℕ)) : Type 0 where
     pub owner : IsOwner s name number
     pub new : AreNewcomers outbox_of s (number ∷ []) stops newcomers
-    pub listed : AreListed s numbers_connected
+    pub listed : AreListed s connected

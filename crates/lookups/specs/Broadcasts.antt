@@ -29,8 +29,8 @@ module _ {M : Type 0} where
   AreConnected s (Some numbers) = (numbers ≡ numbers_of s.connections) × IsState s
 
   -- the recipients of a message, and what the sender needs for them
-  pub record IsFound (outbox_of : M → OutboxId) (s : State M) (from : Option ℕ) (bytes : List ℕ) (stops : List StopView) (recipients : List ℕ) (newcomers : List RecipientView) (numbers_connected : Option (List ℕ)) : Type 0 where
+  pub record IsFound (outbox_of : M → OutboxId) (s : State M) (from : Option ℕ) (bytes : List ℕ) (stops : List StopView) (recipients : List ℕ) (newcomers : List RecipientView) (connected : Option (List ℕ)) : Type 0 where
     pub are : (m : Message) → Valid bytes m → AreRecipients s from m recipients
     pub new : AreNewcomers outbox_of s recipients stops newcomers
-    pub there : AreConnected s numbers_connected
+    pub there : AreConnected s connected
     pub valid : (m : Message) × Valid bytes m

@@ -21,7 +21,7 @@ use std::alloc::{AllocError, Global};
 pub struct Addressee<M: Carrier> {
     pub number: u64,
     pub newcomers: Vec<Recipient<M>>,
-    pub numbers_connected: Option<Vec<u64>>,
+    pub connected: Option<Vec<u64>>,
 }
 
 // The connection, where the sender has no seat at its outbox yet.
@@ -52,17 +52,17 @@ fn addressee_in<M: Mailbox + Carrier>(
     sender: &Sender<M>,
     name: &str,
 ) -> Result<Option<Addressee<M>>, AllocError>
-    ensures { IfOk result (λ found. MatchOption found ((n : ℕ) → IsOwner state.now name.now n → ⊥) (λ a. IsAddressee M.outbox_of state.now name.now sender.now.stops a.number a.newcomers.items (option_map (λ v. v.items) a.numbers_connected))) }
+    ensures { IfOk result (λ found. MatchOption found ((n : ℕ) → IsOwner state.now name.now n → ⊥) (λ a. IsAddressee M.outbox_of state.now name.now sender.now.stops a.number a.newcomers.items (option_map (λ v. v.items) a.connected))) }
 {
     let Some(number) = owner_in(state, name) else {
         return Ok(None);
     };
     let newcomers = newcomer_if_new(alloc, state, sender, number)?;
-    let numbers_connected = listed_if_many(alloc, state, sender)?;
+    let connected = listed_if_many(alloc, state, sender)?;
     Ok(Some(Addressee {
         number,
         newcomers,
-        numbers_connected,
+        connected,
     }))
 }
 
@@ -74,7 +74,7 @@ pub fn found_addressee<J: Naming, M: Mailbox + Carrier>(
     sender: &Sender<M>,
     name: &str,
 ) -> Option<Result<Option<Addressee<M>>, AllocError>>
-    ensures { MatchOption result (sight.new ≡ sight.old) (λ found. IsPrefix sight.old sight.new × IfOk found (λ found. MatchOption found ((n : ℕ) → IsOwner (after sight.new) name.now n → ⊥) (λ a. IsAddressee M.outbox_of (after sight.new) name.now sender.now.stops a.number a.newcomers.items (option_map (λ v. v.items) a.numbers_connected)))) }
+    ensures { MatchOption result (sight.new ≡ sight.old) (λ found. IsPrefix sight.old sight.new × IfOk found (λ found. MatchOption found ((n : ℕ) → IsOwner (after sight.new) name.now n → ⊥) (λ a. IsAddressee M.outbox_of (after sight.new) name.now sender.now.stops a.number a.newcomers.items (option_map (λ v. v.items) a.connected)))) }
 {
     let visit = sight.enter()?;
     let found = addressee_in(alloc, visit.state(), sender, name);

@@ -24,7 +24,7 @@ use std::alloc::{AllocError, Global};
 #[derive(Drop)]
 pub struct Audience<M: Carrier> {
     pub newcomers: Vec<Recipient<M>>,
-    pub numbers_connected: Option<Vec<u64>>,
+    pub connected: Option<Vec<u64>>,
 }
 
 /// A sender with this many seats gives up those at the outboxes of closed connections.
@@ -142,15 +142,15 @@ fn found_in<'a, M: Mailbox + Carrier>(
     recipients: &mut ArrayVec<u64, MAX_RECIPIENTS>,
 ) -> Result<Audience<M>, AllocError>
     requires { recipients.old.items ≡ [] }
-    ensures { IfOk result (λ found. IsFound M.outbox_of state.now from view.now sender.now.stops recipients.new.items found.newcomers.items (option_map (λ v. v.items) found.numbers_connected)) }
+    ensures { IfOk result (λ found. IsFound M.outbox_of state.now from view.now sender.now.stops recipients.new.items found.newcomers.items (option_map (λ v. v.items) found.connected)) }
 {
     let _ = view.raw();
     select_into(state, from, view, recipients);
     let newcomers = newcomers_of(alloc, state, view, sender, recipients.as_slice())?;
-    let numbers_connected = connected_if_many(alloc, state, view, sender)?;
+    let connected = connected_if_many(alloc, state, view, sender)?;
     Ok(Audience {
         newcomers,
-        numbers_connected,
+        connected,
     })
 }
 
@@ -165,7 +165,7 @@ pub fn found_mailboxes<'a, J: Naming, M: Mailbox + Carrier>(
     recipients: &mut ArrayVec<u64, MAX_RECIPIENTS>,
 ) -> Option<Result<Audience<M>, AllocError>>
     requires { recipients.old.items ≡ [] }
-    ensures { MatchOption result (sight.new ≡ sight.old) (λ found. IsPrefix sight.old sight.new × IfOk found (λ found. IsFound M.outbox_of (after sight.new) from view.now sender.now.stops recipients.new.items found.newcomers.items (option_map (λ v. v.items) found.numbers_connected))) }
+    ensures { MatchOption result (sight.new ≡ sight.old) (λ found. IsPrefix sight.old sight.new × IfOk found (λ found. IsFound M.outbox_of (after sight.new) from view.now sender.now.stops recipients.new.items found.newcomers.items (option_map (λ v. v.items) found.connected))) }
 {
     let visit = sight.enter()?;
     let found = found_in(alloc, visit.state(), view, sender, from, recipients);

@@ -17,4 +17,4 @@ returns-in_err-text-clause-fault c =
 pub returns-clause-found : goal.returns-clause-found
 returns-clause-found c =
     let source = rw c.code.ensures.value at c.in_ok-text.ensures.source in
-    of_text _ _ _ _ c.in_ok-rule.ensures.found source c.code.ensures.well_formed c.in_ok-program.ensures.compile_text
+    of_text _ _ _ _ c.in_ok-rule.ensures.found source c.code.ensures.well_formed c.in_ok-program.ensures.compiled

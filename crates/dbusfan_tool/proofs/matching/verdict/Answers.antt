@@ -34,4 +34,4 @@ returns g c =
     let found = rw c.deref-2.ensures.value at c.in_ok-message.ensures.found in
     let valid = subst (λ (bytes : List ℕ). Valid bytes found.1.0) (sym found.0) found.1.1 in
     let image = c.new-image.ensures found.1.0 valid in
-    of_verdict _ _ _ _ _ c.in_ok-rule.ensures.found _ _ _ found.1.0 _ _ _ _ c.in_ok-program.ensures.compile_text c.in_ok-text.ensures spells found.1.1 c.slots-owned.ensures.set c.slots-owned.ensures.owned image c.run.ensures.ends
+    of_verdict _ _ _ _ _ c.in_ok-rule.ensures.found _ _ _ found.1.0 _ _ _ _ c.in_ok-program.ensures.compiled c.in_ok-text.ensures spells found.1.1 c.slots-owned.ensures.set c.slots-owned.ensures.owned image c.run.ensures.ends
