@@ -26,7 +26,7 @@ registrations_sound names all tie =
       own_slots = tie.own_slots;
       used =
           sym (slot_names-holdings all.entries (used_slots names.claims all.entries slots))
-          ∙ ap slot_names (sym (kept-holdings names.claims all.entries slots) ∙ ap (map (registry.kept names.claims)) tie.counted ∙ tie.registry.used);
+          ∙ ap slot_names (sym (kept-holdings names.claims all.entries slots) ∙ ap (map (registry.kept_slot names.claims)) tie.counted ∙ tie.registry.used);
       rising = tie.entries.rising;
       below_last = tie.entries.below_last;
       few_entries = tie.entries.few;
