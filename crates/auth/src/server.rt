@@ -8,7 +8,7 @@ ghost use Rattle.auth.specs.Stages.{is_over};
 
 use crate::command::Command;
 use crate::line::{LineState, MAX_LINE_LEN, add, without_end};
-use crate::stage::{Reply, StageRow, Stage};
+use crate::stage::{Reply, Stage, StageRow};
 use arrayvec::ArrayVec;
 use std::error::Error;
 use std::fmt;

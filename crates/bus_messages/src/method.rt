@@ -130,7 +130,11 @@ impl MethodEntry {
 }
 
 /// The first row of the method that a call is of.
-fn first_called<'r>(rows: &'r [MethodEntry], interface: Option<&str>, member: &str) -> Option<&'r MethodEntry>
+fn first_called<'r>(
+    rows: &'r [MethodEntry],
+    interface: Option<&str>,
+    member: &str,
+) -> Option<&'r MethodEntry>
     ensures { option_map (λ row. row.now) result ≡ find (λ row. is_called (option_map (λ name. name.now) interface.entry) member.now (method_row_of row)) rows.entry.now }
 {
     rows.iter().find(|row| row.is_called(interface, member))

@@ -49,7 +49,12 @@ fn ask<'a>(
 }
 
 /// A call that adds to the body. It fails only where memory runs out.
-fn add(alloc: Global, builder: &mut Builder<'_>, word: &str, field_text: &str) -> Result<(), LineError> {
+fn add(
+    alloc: Global,
+    builder: &mut Builder<'_>,
+    word: &str,
+    field_text: &str,
+) -> Result<(), LineError> {
     let added = match word {
         "string" => builder.arg_str(field_text),
         "strings" => builder.arg_strs(&[field_text]),

@@ -138,7 +138,13 @@ impl<J: Naming, M: Mailbox + Carrier> Connection<J, M> {
         let serial = self.serials.take();
         let old = old.map(|number| UniqueName::new(number));
         let new = new.map(|number| UniqueName::new(number));
-        let built_message = name_owner_changed(site.alloc, serial, name, text_of(&old), text_of(&new));
+        let built_message = name_owner_changed(
+            site.alloc,
+            serial,
+            name,
+            text_of(&old),
+            text_of(&new),
+        );
         let Ok(bytes) = built_message else {
             return Err(AnswerError::NoMemory);
         };

@@ -51,7 +51,9 @@ fn answer<'a, F: Files>(alloc: Global, words: &'a [&'a str], files: &mut F) -> A
     ensures unread { ((asked : Asked) → ¬ IsRow asked (texts words.entry.now)) → files.new ≡ files.old }
 {
     match CommandRow::read(words) {
-        Some(CommandRow::Match { rule, file, owns }) => matching::answer(alloc, rule, file, owns, files),
+        Some(CommandRow::Match { rule, file, owns }) => matching::answer(
+            alloc, rule, file, owns, files,
+        ),
         Some(CommandRow::Asm { file }) => assembling::answer(alloc, file, files),
         Some(CommandRow::Check { file }) => checking::answer(alloc, file, files),
         Some(CommandRow::Compile { rule }) => compiling::answer(alloc, rule),

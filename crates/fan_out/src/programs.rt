@@ -65,7 +65,11 @@ pub(crate) struct Programs<'v, 'a> {
 
 impl<'v, 'a> Programs<'v, 'a> {
     /// The programs for a message whose sender owns the names of these slots.
-    pub(crate) fn new(view: &'v View<'a>, owned: &'v Slots, edition_two: &'v Image<'a>) -> Programs<'v, 'a>
+    pub(crate) fn new(
+        view: &'v View<'a>,
+        owned: &'v Slots,
+        edition_two: &'v Image<'a>,
+    ) -> Programs<'v, 'a>
         requires { IsImage Two view.now owned.now edition_two.now }
         ensures view { result.view.now ≡ view.entry.now }
         ensures owned { result.owned.now ≡ owned.entry.now }

@@ -6,9 +6,9 @@ ghost use Rattle.message_value.specs.Value.{text, number};
 ghost use Rattle.message_build.specs.Growing.{Completes};
 
 use crate::appending::{push_number, push_string};
+use crate::body_state::BodyState;
 use crate::builder::Builder;
 use crate::error::BuildError;
-use crate::body_state::BodyState;
 use crate::strings::push_strings;
 use message_value::Order;
 use std::alloc::AllocError;

@@ -1,7 +1,7 @@
 // A builder, and what it was told so far.
 
-use crate::error::BuildError;
 use crate::body_state::BodyState;
+use crate::error::BuildError;
 use crate::header::Header;
 use crate::message::build_message;
 use message_view::Kind;
@@ -102,6 +102,12 @@ impl<'a> Builder<'a> {
     pub fn finish(&self, alloc: Global) -> Result<Vec<u8>, BuildError>
         ensures { Finishes self.now (listed_bytes result) }
     {
-        build_message(alloc, &self.header, &self.signature, &self.body, self.body_state)
+        build_message(
+            alloc,
+            &self.header,
+            &self.signature,
+            &self.body,
+            self.body_state,
+        )
     }
 }

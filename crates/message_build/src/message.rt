@@ -13,10 +13,10 @@ ghost use Rattle.message_build.specs.HeaderFields.{fields_of, are_allowed};
 
 use crate::appending::{align, push_word};
 use crate::body::is_body;
+use crate::body_state::BodyState;
 use crate::error::BuildError;
 use crate::field::{HeaderField, are_allowed};
 use crate::fields::{FIXED_LEN, fields_end, push_fields};
-use crate::body_state::BodyState;
 use crate::header::Header;
 use message_value::{Order, padding};
 use std::alloc::{AllocError, Global};

@@ -1,5 +1,5 @@
 -- What the reading of a field says of each of its steps, where it gives a field.
-use Rattle.std.proofs.Common.{◌≡◌, ℕ, ◌+◌, Bool, true, false, cond, List, [], ◌∷◌, ◌++◌, length, Option, Some, None, Result, Ok, Err, refl, sym, ap, subst, ◌∙◌, arith}
+use Rattle.std.proofs.Common.{◌≡◌, ℕ, ◌+◌, Bool, true, false, cond, List, [], ◌∷◌, ◌++◌, Option, Some, None, Result, Ok, Err, refl, sym, ap, ◌∙◌}
 use Rattle.std.specs.Prelude.{◌==◌}
 use Rattle.std.specs.List.{list_all}
 use Rattle.signature.specs.BasicType.{basic_alignment}
@@ -15,7 +15,6 @@ use Rattle.message_value.specs.Fits.{is_text_code}
 use Rattle.message_value.specs.Reading.{◌>>=◌, At, item_at, aligned_at, byte_at, word_at, signature_at, text_value_at, count_at, number_value_at, value_at}
 use Rattle.message_value.specs.Steps.{IsRead, IsGone, Reaches}
 use Rattle.message_value.specs.TextTypes.{text_code}
-use Rattle.message_value.specs.Forms.{basic_at}
 use Rattle.message_value.proofs.OkSteps.{bind_ok, ok_is}
 use Rattle.message_value.proofs.ReadItems.{at, Takes, item_again}
 use Rattle.message_value.proofs.ReadTexts.{signature_takes}

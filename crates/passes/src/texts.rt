@@ -53,7 +53,12 @@ impl<J: Naming, M: Mailbox, R: Wait + Drop> Control<J, M, R> {
     }
 
     // The rule with its program, for the slot that the state gives to its sender name.
-    fn compile_for(&self, alloc: Global, connection: u64, rule: Rule) -> Result<RuleProgram, BusError>
+    fn compile_for(
+        &self,
+        alloc: Global,
+        connection: u64,
+        rule: Rule,
+    ) -> Result<RuleProgram, BusError>
         ensures { Compiles (after self.now.history) connection rule result }
     {
         match self.state().rule_slot(connection, &rule) {

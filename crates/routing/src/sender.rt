@@ -124,7 +124,14 @@ impl<C: Carrier> Sender<C> {
         let shares = shares_of(alloc, bytes, recipients.len())?;
         let mark = (self.origin, self.count + 1);
         gate.before(0);
-        put_all(rt, self.stops.as_mut_slice(), recipients, mark, shares, refused);
+        put_all(
+            rt,
+            self.stops.as_mut_slice(),
+            recipients,
+            mark,
+            shares,
+            refused,
+        );
         gate.after(0);
         self.count = mark.1;
         Ok(())

@@ -1,4 +1,4 @@
--- The pieces of programs that rules are compiled to. A program is written from its last instruction to its
+-- Inner: the pieces of programs that rules are compiled to. A program is written from its last instruction to its
 -- first: each piece stands in front of the rest, so that each jump has its target already. Of any rest the last
 -- instruction is the one that says no match.
 use Rattle.std.specs.Prelude.{ℕ, zero, suc, ◌+◌, ◌-◌, ◌*◌, ◌/◌, List, [], ◌∷◌, length, slice_index, ◌==◌, if◌then◌else◌, Bool}

@@ -1,4 +1,4 @@
--- Texts cut after each `/`, and the piece of a program that compares paths.
+-- Inner: texts cut after each `/`, and the piece of a program that compares paths.
 use Rattle.std.specs.Prelude.{ℕ, ◌+◌, List, [], ◌∷◌, length, ◌==◌, if◌then◌else◌}
 use Rattle.bpf_code.specs.declared.instruction.Ins.{Ins}
 use Rattle.bpf_code.specs.declared.operation.Test.TheVariants.{Equal, AtLeast}

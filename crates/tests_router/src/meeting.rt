@@ -31,7 +31,11 @@ fn meet<J: Naming + Send + Sync, R: Wait + Threads + Abort>(
     let added = bus.add_match(rt, alloc, &mut one, MEMBER_C);
     expect_reply(rt, added, Reply::Entry(1));
     let told_history = bus.tell(rt, &mut one).expect(rt, "the history");
-    let (found, _) = join(rt, move || learn_and_look(second_pass, &told_history), || ());
+    let (found, _) = join(
+        rt,
+        move || learn_and_look(second_pass, &told_history),
+        || (),
+    );
     assert_eq!(rt; found, Some(1));
 }
 

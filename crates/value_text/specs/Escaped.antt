@@ -1,6 +1,6 @@
 -- Text between quotes, as `busctl` writes it: the escapes of C, with three octal digits for a byte that has no
 -- letter (the escapes of ISO C).
-use Rattle.std.specs.Prelude.{ℕ, Bool, List, nat_le, ◌&&◌, ◌||◌, ◌==◌, ◌+◌, ◌/◌, ◌%◌, ◌∷◌, [], ◌++◌, if◌then◌else◌, Option, Some, None}
+use Rattle.std.specs.Prelude.{ℕ, List, ◌||◌, ◌==◌, ◌+◌, ◌/◌, ◌%◌, ◌∷◌, [], if◌then◌else◌, Option, Some, None}
 use Rattle.std.specs.List.{flat_map}
 use Rattle.value_text.specs.Printable.{is_printable}
 

@@ -1,4 +1,4 @@
-use Rattle.std.proofs.Common.{◌≡◌, ℕ, ap, ◌∙◌}
+use Rattle.std.proofs.Common.{◌≡◌, ap, ◌∙◌}
 use Rattle.message_value.specs.Spelling.{padding}
 use Rattle.message_view.proofs.ValidFields.{never, padding_item, padding_is}
 use Rattle.message_view.proofs.valid_fields.skip_padding.Goals as goal

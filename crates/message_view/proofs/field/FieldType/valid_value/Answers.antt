@@ -1,4 +1,4 @@
-use Rattle.std.proofs.Common.{◌≡◌, ℕ, Ok, ap, sym, refl, ◌∙◌}
+use Rattle.std.proofs.Common.{◌≡◌, ℕ, Ok, ap, sym, ◌∙◌}
 use Rattle.signature.specs.BasicType.{basic_alignment}
 use Rattle.message_value.specs.Reading.{aligned_at}
 use Rattle.message_view.specs.FieldAnswers.{type_code_of}

@@ -1,4 +1,4 @@
-use Rattle.message_view.proofs.Views.{known_first, known_whole}
+use Rattle.message_view.proofs.Views.{known_first}
 use Rattle.message_view.proofs.view.View.of_message.Goals as goal
 
 pub of_sections-requires : goal.of_sections-requires
