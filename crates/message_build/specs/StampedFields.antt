@@ -4,7 +4,7 @@ use Rattle.message_value.specs.declared.order.Order.{Order}
 use Rattle.message_value.specs.declared.fault.MsgError.{MsgError}
 use Rattle.message_value.specs.Fits.{max_array_len}
 use Rattle.message_value.specs.Spelling.{padding, zeros}
-use Rattle.message_value.specs.Reading.{At, aligned_at, byte_at, signature_at, value_at}
+use Rattle.message_value.specs.Reading.{◌>>=◌, At, aligned_at, byte_at, signature_at, value_at}
 use Rattle.message_view.specs.Header.{code_of}
 use Rattle.message_view.specs.Message.{Field}
 use Rattle.message_view.specs.Spelling.{field_alignment, fixed_len, field_bytes, fields_bytes}
