@@ -2,8 +2,8 @@
 use Rattle.std.proofs.Common.{◌≡◌, ℕ, ◌+◌, ◌-◌, ◌≤◌, Bool, true, false, cond, suc, List, [], ◌∷◌, ◌++◌, drop, length, refl, ap, ◌∙◌, arith, get_or, length-append}
 use Rattle.std.specs.Prelude.{◌==◌, ◌&&◌}
 use Rattle.std.proofs.lemmas.Bool.{eqb-true}
-use Rattle.auth.specs.Lines.{cr, lf, Pieces, with_byte, pieces_of, whole_piece}
-use Rattle.auth.specs.LineStates.{ends_in_cr, ended_piece}
+use Rattle.auth.specs.Lines.{cr, lf, Pieces, with_byte, pieces_of}
+use Rattle.auth.specs.LineStates.{whole_piece, ends_in_cr, ended_piece}
 
 both : (a b : Bool) → (a && b) ≡ true → (a ≡ true) × (b ≡ true)
 both true b e = (refl, e)
@@ -16,9 +16,9 @@ neither false = refl
 -- ---- bytes after pieces
 
 -- pieces, with bytes added to the last one
-abbrev pub continued : List ℕ → List (List ℕ) → List ℕ → Pieces
-continued piece [] bytes = pieces_of (piece ++ bytes)
-continued piece (next ∷ later) bytes = record { first = piece; later = (continued next later bytes).first ∷ (continued next later bytes).later }
+abbrev pub continue_line : List ℕ → List (List ℕ) → List ℕ → Pieces
+continue_line piece [] bytes = pieces_of (piece ++ bytes)
+continue_line piece (next ∷ later) bytes = record { first = piece; later = (continue_line next later bytes).first ∷ (continue_line next later bytes).later }
 
 -- LF, and before it CR, is a line end
 crlf_ends : (pieces : Pieces) → with_byte cr (with_byte lf pieces) ≡ record { first = []; later = pieces.first ∷ pieces.later }
@@ -30,23 +30,23 @@ joined t byte piece later = cond t (record { first = []; later = drop 1 piece �
 
 -- a byte before pieces, and bytes after them
 byte_continued : (byte : ℕ) (piece : List ℕ) (later : List (List ℕ)) (bytes : List ℕ)
-    → with_byte byte (continued piece later bytes) ≡ continued (with_byte byte (record { first = piece; later = later })).first (with_byte byte (record { first = piece; later = later })).later bytes
+    → with_byte byte (continue_line piece later bytes) ≡ continue_line (with_byte byte (record { first = piece; later = later })).first (with_byte byte (record { first = piece; later = later })).later bytes
 byte_continued byte [] [] bytes = refl
 byte_continued byte (b ∷ piece) [] bytes = go (b == lf && byte == cr) refl
   where
     go : (t : Bool) → (b == lf && byte == cr) ≡ t
-        → with_byte byte (pieces_of (b ∷ piece ++ bytes)) ≡ continued (joined t byte (b ∷ piece) []).first (joined t byte (b ∷ piece) []).later bytes
+        → with_byte byte (pieces_of (b ∷ piece ++ bytes)) ≡ continue_line (joined t byte (b ∷ piece) []).first (joined t byte (b ∷ piece) []).later bytes
     go true is =
         let e = both (b == lf) (byte == cr) is in
         rw (eqb-true b lf e.0, eqb-true byte cr e.1) (crlf_ends (pieces_of (piece ++ bytes)))
     go false is = refl
 byte_continued byte piece (next ∷ later) bytes = go (get_or piece 0 0 == lf && byte == cr)
   where
-    go : (t : Bool) → joined t byte piece ((continued next later bytes).first ∷ (continued next later bytes).later) ≡ continued (joined t byte piece (next ∷ later)).first (joined t byte piece (next ∷ later)).later bytes
+    go : (t : Bool) → joined t byte piece ((continue_line next later bytes).first ∷ (continue_line next later bytes).later) ≡ continue_line (joined t byte piece (next ∷ later)).first (joined t byte piece (next ∷ later)).later bytes
     go true = refl
     go false = refl
 
-pub pieces_of-append : (front back : List ℕ) → pieces_of (front ++ back) ≡ continued (pieces_of front).first (pieces_of front).later back
+pub pieces_of-append : (front back : List ℕ) → pieces_of (front ++ back) ≡ continue_line (pieces_of front).first (pieces_of front).later back
 pieces_of-append [] back = refl
 pieces_of-append (byte ∷ front) back = ap (with_byte byte) (pieces_of-append front back) ∙ byte_continued byte (pieces_of front).first (pieces_of front).later back
 

@@ -8,12 +8,12 @@ use Rattle.auth.specs.declared.stage.Stage.{Stage}
 use Rattle.auth.specs.declared.stage.Stage.TheVariants.{Failed}
 use Rattle.auth.specs.declared.stage.Reply.{Reply}
 use Rattle.auth.specs.declared.stage.Reply.TheVariants.{Rejected}
-use Rattle.auth.specs.Lines.{max_line_len, pieces_of, whole_piece, len_through, through_line}
+use Rattle.auth.specs.Lines.{max_line_len, pieces_of, len_through, through_line}
+use Rattle.auth.specs.LineStates.{whole_piece, ended_piece}
 use Rattle.auth.specs.Commands.{command_of}
 use Rattle.auth.specs.Stages.{max_rejections, is_over, row_of, reply_bytes}
-use Rattle.auth.specs.LineStates.{ended_piece}
 use Rattle.auth.specs.Talk.{Standing, Outcome, at_stage, no_answer, refusal, row_answer, hear, wait, after, by_pieces, talk_in, by_lines}
-use Rattle.auth.proofs.LineEnds.{continued, pieces_of-append, first_len}
+use Rattle.auth.proofs.LineEnds.{continue_line, pieces_of-append, first_len}
 use Rattle.auth.proofs.Talks.{over_stays, with_line, lines_in_cuts}
 
 -- ---- after an answer no line has begun
@@ -75,8 +75,8 @@ open_talk s bytes longer n t on open_line short =
 
 pub ended_len : (line bytes longer : List ℕ) (n : ℕ) → Takes line bytes longer n → 2 ≤ length longer → pieces_of longer ≡ ended_piece longer → n ≡ through_line line bytes
 ended_len line bytes longer n t two ends =
-    let pieces : pieces_of (line ++ bytes) ≡ continued (take (length longer - 2) longer) ([] ∷ []) (drop n bytes) =
-    ap pieces_of (all_bytes line bytes longer n t) ∙ pieces_of-append longer (drop n bytes) ∙ ap (λ p. continued p.first p.later (drop n bytes)) ends in
+    let pieces : pieces_of (line ++ bytes) ≡ continue_line (take (length longer - 2) longer) ([] ∷ []) (drop n bytes) =
+    ap pieces_of (all_bytes line bytes longer n t) ∙ pieces_of-append longer (drop n bytes) ∙ ap (λ p. continue_line p.first p.later (drop n bytes)) ends in
     let said : through_line line bytes ≡ length (take (length longer - 2) longer) + 2 - length line = ap (len_through (length line) (length bytes)) pieces in
     let len : length (take (length longer - 2) longer) ≡ length longer - 2 = length-take-le (length longer - 2) longer (omega arith) in
     let all : length longer ≡ length line + n = longer_len line bytes longer n t in

@@ -8,11 +8,12 @@ use Rattle.auth.specs.declared.stage.Stage.{Stage}
 use Rattle.auth.specs.declared.stage.Stage.TheVariants.{Opening, Start, Data, Ready, Begun, Failed}
 use Rattle.auth.specs.declared.stage.Reply.{Reply}
 use Rattle.auth.specs.declared.stage.Reply.TheVariants.{Nothing, Rejected}
-use Rattle.auth.specs.Lines.{max_line_len, Pieces, pieces_of, whole_piece}
+use Rattle.auth.specs.Lines.{max_line_len, Pieces, pieces_of}
+use Rattle.auth.specs.LineStates.{whole_piece}
 use Rattle.auth.specs.Commands.{command_of}
 use Rattle.auth.specs.Stages.{max_rejections, is_over, start_row, data_row, ready_row, row_of, reply_bytes}
 use Rattle.auth.specs.Talk.{Standing, Outcome, at_stage, no_answer, refusal, row_answer, hear, wait, after, by_pieces, talk_in, by_lines, start_of, talk}
-use Rattle.auth.proofs.LineEnds.{continued, pieces_of-append, LastIsOpen, last_open, first_len, first_whole}
+use Rattle.auth.proofs.LineEnds.{continue_line, pieces_of-append, LastIsOpen, last_open, first_len, first_whole}
 
 -- ---- a talk that is over
 
@@ -60,7 +61,7 @@ after_after : (front back : List ℕ) (t : Outcome) → after front (after back 
 after_after front back t = ap (λ (x : List ℕ). record { standing = t.standing; answers = x }) (sym (append_assoc front back t.answers))
 
 pieces_go_on : (s : Standing) (piece : List ℕ) (later : List (List ℕ)) (bytes : List ℕ) → LastIsOpen piece later
-    → talk_in s (continued piece later bytes) ≡ after (by_pieces s piece later).answers (by_lines (by_pieces s piece later).standing bytes)
+    → talk_in s (continue_line piece later bytes) ≡ after (by_pieces s piece later).answers (by_lines (by_pieces s piece later).standing bytes)
 pieces_go_on s piece [] bytes is = rest_goes_on s piece bytes is
 pieces_go_on s line (next ∷ later) bytes is =
     ap (after (hear s line).answers) (pieces_go_on (hear s line).standing next later bytes is)

@@ -1,4 +1,4 @@
--- What a call of `feed` answers.
+-- What a call of `feed` answers (own).
 use Rattle.std.specs.Prelude.{ℕ, List, [], Result, Ok, Err}
 use Rattle.auth.specs.declared.server.Fed.{Fed}
 use Rattle.auth.specs.declared.server.AuthError.{AuthError}

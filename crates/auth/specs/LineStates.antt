@@ -2,7 +2,11 @@
 use Rattle.std.specs.Prelude.{◌≡◌, ℕ, ◌-◌, ◌<◌, ◌≤◌, ◌==◌, Bool, List, [], ◌∷◌, length, take, slice_index}
 use Rattle.auth.specs.declared.line.LineState.{LineState}
 use Rattle.auth.specs.declared.line.LineState.TheVariants.{Open, Ended, Full}
-use Rattle.auth.specs.Lines.{cr, max_line_len, Pieces, pieces_of, whole_piece}
+use Rattle.auth.specs.Lines.{cr, max_line_len, Pieces, pieces_of}
+
+-- no line ends in the bytes
+abbrev pub whole_piece : List ℕ → Pieces
+whole_piece bytes = record { first = bytes; later = [] }
 
 abbrev pub ends_in_cr : List ℕ → Bool
 ends_in_cr line = slice_index line (length line - 1) == cr

@@ -29,10 +29,6 @@ abbrev pub pieces_of : List ℕ → Pieces
 pieces_of [] = record { first = []; later = [] }
 pieces_of (byte ∷ bytes) = with_byte byte (pieces_of bytes)
 
--- no line ends in the bytes
-abbrev pub whole_piece : List ℕ → Pieces
-whole_piece bytes = record { first = bytes; later = [] }
-
 -- how many of the bytes after those that are there go through the first line end, all where there is none
 abbrev pub len_through : ℕ → ℕ → Pieces → ℕ
 len_through there all pieces = through pieces.later

@@ -6,7 +6,7 @@ use Rattle.auth.specs.declared.stage.Stage.{Stage}
 use Rattle.auth.specs.declared.stage.Stage.TheVariants.{Start, Data, Ready, Begun, Failed}
 use Rattle.auth.specs.declared.stage.Reply.{Reply}
 use Rattle.auth.specs.declared.stage.Reply.TheVariants.{Nothing, Challenge, Accepted, Rejected, Unclear}
-use Rattle.auth.specs.declared.stage.Row.{Row}
+use Rattle.auth.specs.declared.stage.StageRow.{StageRow}
 
 -- how many rejections are sent
 abbrev pub max_rejections : ℕ
@@ -19,10 +19,10 @@ is_over Failed = true
 is_over _ = false
 
 -- the answer to a command, and the stage after it
-abbrev pub row : Reply → Stage → Row
+abbrev pub row : Reply → Stage → StageRow
 row reply stage = record { reply = reply; stage = stage }
 
-abbrev pub start_row : Command → Row
+abbrev pub start_row : Command → StageRow
 start_row AskExternal = row Challenge Data
 start_row Claim = row Accepted Ready
 start_row OtherAuth = row Rejected Start
@@ -30,7 +30,7 @@ start_row Complaint = row Rejected Start
 start_row Begin = row Nothing Failed
 start_row _ = row Unclear Start
 
-abbrev pub data_row : Command → Row
+abbrev pub data_row : Command → StageRow
 data_row Response = row Accepted Ready
 data_row OtherData = row Rejected Start
 data_row Cancel = row Rejected Start
@@ -38,13 +38,13 @@ data_row Complaint = row Rejected Start
 data_row Begin = row Nothing Failed
 data_row _ = row Unclear Data
 
-abbrev pub ready_row : Command → Row
+abbrev pub ready_row : Command → StageRow
 ready_row Begin = row Nothing Begun
 ready_row Cancel = row Rejected Start
 ready_row Complaint = row Rejected Start
 ready_row _ = row Unclear Ready
 
-abbrev pub row_of : Stage → Command → Row
+abbrev pub row_of : Stage → Command → StageRow
 row_of Start command = start_row command
 row_of Data command = data_row command
 row_of Ready command = ready_row command

@@ -5,7 +5,7 @@ use Rattle.auth.specs.declared.stage.Stage.{Stage}
 use Rattle.auth.specs.declared.stage.Stage.TheVariants.{Opening, Start, Begun, Failed}
 use Rattle.auth.specs.declared.stage.Reply.{Reply}
 use Rattle.auth.specs.declared.stage.Reply.TheVariants.{Rejected}
-use Rattle.auth.specs.declared.stage.Row.{Row}
+use Rattle.auth.specs.declared.stage.StageRow.{StageRow}
 use Rattle.auth.specs.Lines.{max_line_len, Pieces, pieces_of, through_line}
 use Rattle.auth.specs.Commands.{command_of}
 use Rattle.auth.specs.Stages.{max_rejections, is_over, row_of, reply_bytes}
@@ -46,7 +46,7 @@ rejection s stage =
     else refusal s
 
 -- a row's answer is sent, if it isn't one rejection too many
-abbrev pub row_answer : Standing → Row → Outcome
+abbrev pub row_answer : Standing → StageRow → Outcome
 row_answer s row = by_reply row.reply
   where
     by_reply : Reply → Outcome

@@ -1,8 +1,8 @@
 // A line that comes byte by byte.
 
 ghost use Rattle.std.specs.Prelude.{◌≡◌, ◌==◌, ◌&&◌, ◌+◌, ◌-◌, ◌<◌, ◌≤◌, ◌++◌, [], ◌∷◌, ℕ, List, length, take, drop};
-ghost use Rattle.auth.specs.Lines.{lf, pieces_of, whole_piece};
-ghost use Rattle.auth.specs.LineStates.{ends_in_cr, LineIs};
+ghost use Rattle.auth.specs.Lines.{lf, pieces_of};
+ghost use Rattle.auth.specs.LineStates.{whole_piece, ends_in_cr, LineIs};
 
 use arrayvec::ArrayVec;
 

@@ -8,7 +8,7 @@ ghost use Rattle.auth.specs.Stages.{is_over};
 
 use crate::command::Command;
 use crate::line::{LineState, MAX_LINE_LEN, add, without_end};
-use crate::stage::{Reply, Row, Stage};
+use crate::stage::{Reply, Stage, StageRow};
 use arrayvec::ArrayVec;
 use std::error::Error;
 use std::fmt;
@@ -82,7 +82,7 @@ fn answer_line(guid: &[u8; 32], stage: Stage, rejections: u8, line: &[u8]) -> Li
     ensures sent { result.rejections ≤ MAX_REJECTIONS }
     ensures refusal { result.stage ≡ Stage.Failed → result.answer.items ≡ [] }
 {
-    let row = Row::of(stage, Command::of(line));
+    let row = StageRow::of(stage, Command::of(line));
     if row.reply != Reply::Rejected {
         return LineAnswer {
             stage: row.stage,

@@ -47,63 +47,63 @@ pub(crate) enum Reply {
 
 /// The answer to a command, and the stage after it.
 #[derive(Clone, Copy, Debug, PartialEq, Eq)]
-pub(crate) struct Row {
+pub(crate) struct StageRow {
     pub(crate) reply: Reply,
     pub(crate) stage: Stage,
 }
 
-fn start_row(command: Command) -> Row
+fn start_row(command: Command) -> StageRow
     ensures { result ≡ start_row command }
 {
     match command {
-        Command::AskExternal => Row::new(Reply::Challenge, Stage::Data),
-        Command::Claim => Row::new(Reply::Accepted, Stage::Ready),
-        Command::OtherAuth | Command::Complaint => Row::new(Reply::Rejected, Stage::Start),
-        Command::Begin => Row::new(Reply::Nothing, Stage::Failed),
-        _ => Row::new(Reply::Unclear, Stage::Start),
+        Command::AskExternal => StageRow::new(Reply::Challenge, Stage::Data),
+        Command::Claim => StageRow::new(Reply::Accepted, Stage::Ready),
+        Command::OtherAuth | Command::Complaint => StageRow::new(Reply::Rejected, Stage::Start),
+        Command::Begin => StageRow::new(Reply::Nothing, Stage::Failed),
+        _ => StageRow::new(Reply::Unclear, Stage::Start),
     }
 }
 
-fn data_row(command: Command) -> Row
+fn data_row(command: Command) -> StageRow
     ensures { result ≡ data_row command }
 {
     match command {
-        Command::Response => Row::new(Reply::Accepted, Stage::Ready),
-        Command::OtherData | Command::Cancel | Command::Complaint => Row::new(
+        Command::Response => StageRow::new(Reply::Accepted, Stage::Ready),
+        Command::OtherData | Command::Cancel | Command::Complaint => StageRow::new(
             Reply::Rejected,
             Stage::Start,
         ),
-        Command::Begin => Row::new(Reply::Nothing, Stage::Failed),
-        _ => Row::new(Reply::Unclear, Stage::Data),
+        Command::Begin => StageRow::new(Reply::Nothing, Stage::Failed),
+        _ => StageRow::new(Reply::Unclear, Stage::Data),
     }
 }
 
-fn ready_row(command: Command) -> Row
+fn ready_row(command: Command) -> StageRow
     ensures { result ≡ ready_row command }
 {
     match command {
-        Command::Begin => Row::new(Reply::Nothing, Stage::Begun),
-        Command::Cancel | Command::Complaint => Row::new(Reply::Rejected, Stage::Start),
-        _ => Row::new(Reply::Unclear, Stage::Ready),
+        Command::Begin => StageRow::new(Reply::Nothing, Stage::Begun),
+        Command::Cancel | Command::Complaint => StageRow::new(Reply::Rejected, Stage::Start),
+        _ => StageRow::new(Reply::Unclear, Stage::Ready),
     }
 }
 
-impl Row {
-    fn new(reply: Reply, stage: Stage) -> Row
+impl StageRow {
+    fn new(reply: Reply, stage: Stage) -> StageRow
         ensures { result ≡ record { reply = reply; stage = stage } }
     {
-        Row { reply, stage }
+        StageRow { reply, stage }
     }
 
     /// The row of a stage and a command.
-    pub(crate) fn of(stage: Stage, command: Command) -> Row
+    pub(crate) fn of(stage: Stage, command: Command) -> StageRow
         ensures { result ≡ row_of stage command }
     {
         match stage {
             Stage::Start => start_row(command),
             Stage::Data => data_row(command),
             Stage::Ready => ready_row(command),
-            _ => Row::new(Reply::Nothing, stage),
+            _ => StageRow::new(Reply::Nothing, stage),
         }
     }
 }

@@ -1,4 +1,4 @@
--- Programs as bytes.
+-- Programs as bytes (own; the fields are those of linux/filter.h).
 use Rattle.std.specs.Prelude.{ℕ, List, ◌∷◌, ◌++◌}
 use Rattle.std.specs.Int.{w16, w32, to_le_bytes}
 use Rattle.std.specs.List.{flat_map}

@@ -1,4 +1,4 @@
--- The numbers and the names of the errors.
+-- The numbers and the names of the errors (own).
 use Rattle.std.specs.Prelude.{ℕ, List, ◌++◌, Option, Some, None, codes, decimal}
 use Rattle.bpf_code.specs.declared.error.CodeError.{CodeError}
 use Rattle.bpf_code.specs.declared.error.CodeError.TheVariants.{Length, Code, Line, Label, FarJump, NoMemory}

@@ -5,8 +5,10 @@ use Rattle.bpf_code.specs.declared.operation.Op.{Op}
 use Rattle.bpf_code.specs.declared.error.CodeError.{CodeError}
 use Rattle.bpf_code.specs.declared.error.CodeError.TheVariants as errors
 use Rattle.bpf_text.specs.Operands.{One, Both}
-use Rattle.bpf_text.specs.Rows.{Row, Jumps, Stays, Goes, Parts}
-use Rattle.bpf_text.specs.Source.{Label, count_row, Line, AreLines, lines_of, Noted, Sketch, sketch_of, distance, far_or, goes_by, parts_by, resolve_by, resolve, with_ins, with_row, program_from, program_in, IsTextFault}
+use Rattle.bpf_text.specs.Rows.{LabelIns, Jumps, Stays, Goes, Parts}
+use Rattle.bpf_text.specs.Source.{Label, count_row, Line, AreLines, lines_of, distance, far_or, goes_by, parts_by, resolve_by, resolve, with_ins, with_row, IsTextFault}
+use Rattle.bpf_text.specs.Sketches.{Noted, Sketch, sketch_of, noted_program, program_in}
+use Rattle.bpf_text.proofs.SketchedPrograms.{program_sketched}
 
 -- a label's fault or a jump's
 abbrev IsJumps : CodeError → Type 0
@@ -39,7 +41,7 @@ by_fault labels count place line op k (Goes name) e h = goes_fault line op (dist
 by_fault labels count place line op k (Parts (One first)) e h = parts_fault line op k (distance labels count place first) (Some 0) e h
 by_fault labels count place line op k (Parts (Both first second)) e h = parts_fault line op k (distance labels count place first) (distance labels count place second) e h
 
-resolve_fault : (labels : List Label) (count place line : ℕ) (row : Row) (e : CodeError) → resolve labels count place line row ≡ Err e → IsJumps e
+resolve_fault : (labels : List Label) (count place line : ℕ) (row : LabelIns) (e : CodeError) → resolve labels count place line row ≡ Err e → IsJumps e
 unfolding resolve
 resolve_fault labels count place line row e h = by_fault labels count place line row.op row.k row.jumps e h
 
@@ -48,7 +50,7 @@ ins_fault (Err d) rest e first later h = is_same d e (first d refl) h
 ins_fault (Ok ins) (Err d) e first later h = is_same d e (later d refl) h
 ins_fault (Ok ins) (Ok program) e first later h = absurd (cc)
 
-row_fault : (labels : List Label) (count place line : ℕ) (row : Option Row) (rest : Result (List Ins) CodeError) (e : CodeError) → ((d : CodeError) → rest ≡ Err d → IsJumps d) → with_row labels count place line row rest ≡ Err e → IsJumps e
+row_fault : (labels : List Label) (count place line : ℕ) (row : Option LabelIns) (rest : Result (List Ins) CodeError) (e : CodeError) → ((d : CodeError) → rest ≡ Err d → IsJumps d) → with_row labels count place line row rest ≡ Err e → IsJumps e
 row_fault labels count place line None rest e later h = later e h
 row_fault labels count place line (Some row) rest e later h = ins_fault (resolve labels count place line row) rest e (λ d is. resolve_fault labels count place line row d is) later h
 
@@ -56,7 +58,7 @@ again_fault : (line : ℕ) (again : Bool) (rest : Result (List Ins) CodeError) (
 again_fault line true rest e later h = is_same (errors.Label line) e tt h
 again_fault line false rest e later h = later e h
 
-from_fault : (labels : List Label) (count place line : ℕ) (lines : List Noted) (e : CodeError) → program_from labels count place line lines ≡ Err e → IsJumps e
+from_fault : (labels : List Label) (count place line : ℕ) (lines : List Noted) (e : CodeError) → noted_program labels count place line lines ≡ Err e → IsJumps e
 from_fault labels count place line [] e h = absurd (cc)
 from_fault labels count place line (noted ∷ lines) e h =
     again_fault line noted.again _ e (λ d is. row_fault labels count place line noted.row _ d (λ f more. from_fault labels count (place + count_row noted.row) (line + 1) lines f more) is) h
@@ -64,8 +66,8 @@ from_fault labels count place line (noted ∷ lines) e h =
 -- the fault of a program is the text's
 pub text_fault : (text : List ℕ) (lines : List Line) (sketch : Sketch) (e : CodeError) → AreLines (lines_of text) lines → sketch ≡ sketch_of lines → (e ≡ errors.NoMemory) ⊎ (program_in sketch ≡ Err e) → IsTextFault text e
 text_fault text lines sketch e are is (inl none) = subst (IsTextFault text) (sym none) tt
-text_fault text lines sketch (errors.Label line) are is (inr fault) = (lines, are, ap program_in (sym is) ∙ fault)
-text_fault text lines sketch (errors.FarJump line) are is (inr fault) = (lines, are, ap program_in (sym is) ∙ fault)
+text_fault text lines sketch (errors.Label line) are is (inr fault) = (lines, are, program_sketched lines ∙ ap program_in (sym is) ∙ fault)
+text_fault text lines sketch (errors.FarJump line) are is (inr fault) = (lines, are, program_sketched lines ∙ ap program_in (sym is) ∙ fault)
 text_fault text lines sketch errors.NoMemory are is (inr fault) = tt
 text_fault text lines sketch errors.Length are is (inr fault) = absurd (from_fault sketch.labels sketch.count 0 1 sketch.lines errors.Length fault)
 text_fault text lines sketch (errors.Code place) are is (inr fault) = absurd (from_fault sketch.labels sketch.count 0 1 sketch.lines (errors.Code place) fault)

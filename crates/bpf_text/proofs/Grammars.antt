@@ -6,7 +6,8 @@ use Rattle.std.proofs.lemmas.Bool.{eqb-true}
 use Rattle.std.proofs.lemmas.Option.{option_and_then_some, cond_some}
 use Rattle.std.proofs.lemmas.Slice.Eq.{bytes_eq-Decides}
 use Rattle.bpf_text.specs.Lexis.{word_at, number_at, sign_at, is_over}
-use Rattle.bpf_text.specs.Operands.{Operands, Absent, Number, Length, Place, Indexed, Scratch, Header, Name, NumberTo, NameTo, Targets, One, Both, targets_at, last_target, constant_at, constant_by, number_to, length_at, indexed_at, place_at, place_by, bracketed_at, header_at, named_at, scratch_or_name, name_to, by_word, by_number, by_bracket, by_sharp, operands_at, operands_of}
+use Rattle.bpf_text.specs.Operands.{Operands, Absent, Number, Length, Place, Indexed, Scratch, Header, Name, NumberTo, NameTo, Targets, One, Both}
+use Rattle.bpf_text.specs.OperandReading.{targets_at, last_target, constant_at, constant_by, number_to, length_at, indexed_at, place_at, place_by, bracketed_at, header_at, named_at, scratch_or_name, name_to, by_word, by_number, by_bracket, by_sharp, operands_at, operands_of}
 use Rattle.bpf_text.specs.Grammar.{Token, Value, Sign, Front, AreTokens, targets_tokens, tokens_of}
 use Rattle.bpf_text.proofs.Fronts.{sign_no_sign, word_no_sign, number_no_sign, word_no_number, over_no_sign, sign_not_over, word_not_over, number_not_over}
 

@@ -2,11 +2,13 @@
 use Rattle.std.proofs.Common.{◌≡◌, ℕ, ◌+◌, Bool, true, false, ◌||◌, List, [], ◌∷◌, ◌++◌, Option, Some, None, refl, sym, ap, ◌∙◌, append_assoc}
 use Rattle.std.specs.Prelude.{map, is_some}
 use Rattle.std.specs.Option.{option_map}
-use Rattle.bpf_text.specs.declared.row.Row.{Row as LentRow}
+use Rattle.bpf_text.specs.declared.row.LabelIns.{LabelIns as LentRow}
 use Rattle.bpf_text.specs.Views.{row_view}
 use Rattle.std.proofs.lemmas.List.{map-append, append-nil}
-use Rattle.bpf_text.specs.Source.{Begins, label_at, Label, labels_at, has_name, repeats, count_row, IsLine, Line, Noted, Sketch, TakesLabels, with_line}
-use Rattle.bpf_text.specs.Rows.{Row, statement_of}
+use Rattle.bpf_text.specs.Source.{Label, labels_at, has_name, repeats, count_row, IsLine, Line}
+use Rattle.bpf_text.specs.Sketches.{Noted, Sketch}
+use Rattle.bpf_text.specs.LineReading.{Begins, label_at, TakesLabels, with_line, statement_of}
+use Rattle.bpf_text.specs.Rows.{LabelIns}
 use Rattle.bpf_text.proofs.Statements.{labels_sound, labels_complete, statement_sound, statement_complete, statement_no_label}
 
 pub begins_more : (bytes tail rest name : List ℕ) (names : List (List ℕ)) → Begins bytes names tail → label_at tail ≡ Some (name, rest) → Begins bytes (names ++ name ∷ []) rest
@@ -46,7 +48,7 @@ begins_one bytes rest other (name ∷ names) (second ∷ others) (tail, here, mo
     begins_one tail rest other names others more n (rw (same_after (label_at bytes) name second tail tail2 here here2) more2) m
 
 -- a line whose labels are taken, and whose statement is read
-pub line_found : (bytes rest : List ℕ) (old : Sketch) (labels : List Label) (again : Bool) (row : Option Row) → TakesLabels bytes rest old.count old.labels labels again → statement_of rest ≡ Some row → (lines : List Noted) (count : ℕ) → lines ≡ old.lines ++ record { again = again; row = row } ∷ [] → count ≡ old.count + count_row row → (line : Line) × IsLine bytes line × ◌≡◌ {A = Sketch} (record { labels = labels; lines = lines; count = count }) (with_line old line)
+pub line_found : (bytes rest : List ℕ) (old : Sketch) (labels : List Label) (again : Bool) (row : Option LabelIns) → TakesLabels bytes rest old.count old.labels labels again → statement_of rest ≡ Some row → (lines : List Noted) (count : ℕ) → lines ≡ old.lines ++ record { again = again; row = row } ∷ [] → count ≡ old.count + count_row row → (line : Line) × IsLine bytes line × ◌≡◌ {A = Sketch} (record { labels = labels; lines = lines; count = count }) (with_line old line)
 line_found bytes rest old labels again row taken is lines count same_lines same_count =
     let line : Line = record { labels = taken.names; row = row } in
     let fine : IsLine bytes line = record { rest = rest; labels = labels_sound bytes taken.names rest taken.begins; row = statement_sound rest row is } in

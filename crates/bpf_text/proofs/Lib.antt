@@ -15,6 +15,7 @@ pub mod PrintedTexts
 pub mod PrintedTokens
 pub mod Prints
 pub mod Programs
+pub mod SketchedPrograms
 pub mod Statements
 pub mod Widths
 pub mod LabelMap

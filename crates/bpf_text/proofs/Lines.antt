@@ -6,7 +6,9 @@ use Rattle.std.proofs.lemmas.List.{append-nil, get_or_default}
 use Rattle.std.proofs.lemmas.List.Splits.{slice_split_none, slice_split_first}
 use Rattle.std.proofs.lemmas.List.Sums.{position_or_len_is}
 use Rattle.memchr.specs.Find.{is_byte, Nowhere, NoneBefore, Passes}
-use Rattle.bpf_text.specs.Source.{IsLine, Line, AreLines, lines_of, Label, labels_at, labels_from, count_row, count_of, repeats, Noted, noted_from, Sketch, with_line, sketch_of, IsBadLine}
+use Rattle.bpf_text.specs.Source.{IsLine, Line, AreLines, lines_of, Label, labels_at, labels_from, count_row, count_of, repeats, IsBadLine}
+use Rattle.bpf_text.specs.Sketches.{Noted, noted_from, Sketch, sketch_of}
+use Rattle.bpf_text.specs.LineReading.{with_line}
 
 -- ---- one line
 

@@ -3,8 +3,9 @@ use Rattle.std.proofs.Common.{◌≡◌, ℕ, List, [], ◌∷◌, ◌++◌, Opt
 use Rattle.bpf_code.specs.declared.instruction.Ins.{Ins}
 use Rattle.bpf_code.specs.declared.error.CodeError.{CodeError}
 use Rattle.bpf_code.specs.declared.error.CodeError.TheVariants as errors
-use Rattle.bpf_text.specs.Rows.{Row, statement_of}
-use Rattle.bpf_text.specs.Source.{label_at, Begins, IsLine, Line, AreLines, lines_of, program_of, SourceText, IsTextFault}
+use Rattle.bpf_text.specs.Rows.{LabelIns}
+use Rattle.bpf_text.specs.LineReading.{statement_of, label_at, Begins}
+use Rattle.bpf_text.specs.Source.{IsLine, Line, AreLines, lines_of, program_of, SourceText, IsTextFault}
 use Rattle.bpf_text.proofs.Statements.{labels_complete, statement_complete, statement_no_label}
 
 some_one : {T : Type 0} (o : Option T) (x y : T) → o ≡ Some x → o ≡ Some y → x ≡ y
@@ -25,7 +26,7 @@ both_one bytes rest other (name ∷ names) (second ∷ others) (tail, here, more
     let rests = both_one tail rest other names others more n (rw e more2) m in
     (rests.0, rw (f, rests.1))
 
-same_line : (a b : List (List ℕ)) (r s : Option Row) → a ≡ b → r ≡ s → ◌≡◌ {A = Line} (record { labels = a; row = r }) (record { labels = b; row = s })
+same_line : (a b : List (List ℕ)) (r s : Option LabelIns) → a ≡ b → r ≡ s → ◌≡◌ {A = Line} (record { labels = a; row = r }) (record { labels = b; row = s })
 same_line a b r s p q = rw (p, q)
 
 one_line : (bytes : List ℕ) (x y : Line) → IsLine bytes x → IsLine bytes y → x ≡ y

@@ -4,7 +4,8 @@ use Rattle.std.proofs.lemmas.Fmt.{decimal_injective}
 use Rattle.std.proofs.lemmas.Slice.Eq.{bytes_eq-Decides}
 use Rattle.bpf_code.specs.declared.instruction.Ins.{Ins}
 use Rattle.bpf_text.specs.Printing.{is_target}
-use Rattle.bpf_text.specs.Source.{Line, Label, count_of, labels_at, labels_from, has_name, repeats, Noted, noted_from, defined}
+use Rattle.bpf_text.specs.Source.{Line, Label, count_of, labels_at, labels_from, has_name, repeats, defined}
+use Rattle.bpf_text.specs.Sketches.{Noted, noted_from}
 use Rattle.bpf_text.proofs.Fronts.{not_true}
 use Rattle.bpf_text.proofs.PrintedTokens.{label_name, one_more}
 use Rattle.bpf_text.proofs.PrintedLines.{labels_for}

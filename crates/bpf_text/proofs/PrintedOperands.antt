@@ -11,7 +11,7 @@ use Rattle.bpf_text.specs.Lexis.{is_blank, is_digit, is_name_byte, unblanked, nu
 use Rattle.bpf_text.specs.Grammar.{Token, Word, Value, Sign, Front, AreTokens, targets_tokens, tokens_of}
 use Rattle.bpf_text.specs.Operands.{Operands, Absent, Number, Length, Place, Indexed, Scratch, Header, Name, NumberTo, NameTo, Targets, Both}
 use Rattle.bpf_text.specs.Printing.{operand_text, targets_text}
-use Rattle.bpf_text.specs.Rows.{Row, Jumps, Stays, Goes, Parts}
+use Rattle.bpf_text.specs.Rows.{LabelIns, Jumps, Stays, Goes, Parts}
 use Rattle.bpf_text.specs.Used.{used_k}
 use Rattle.bpf_text.proofs.PrintedTokens.{Stops, token_after_blank, sign_here, word_here, number_here, number_printed, label_name, name_printed}
 
@@ -74,7 +74,7 @@ abbrev pub row_k : Op → ℕ → ℕ
 row_k Jump k = 0
 row_k op k = used_k op k
 
-abbrev pub row_for : ℕ → Op → Ins → Row
+abbrev pub row_for : ℕ → Op → Ins → LabelIns
 row_for place op ins = record { op = op; k = row_k op ins.k; jumps = jumps_for place op ins }
 
 -- the targets of a jump at a place are places

@@ -10,7 +10,8 @@ use Rattle.bpf_code.specs.declared.operation.Operand.TheVariants.{Constant, Inde
 use Rattle.bpf_code.specs.Table.{op_of, code_of}
 use Rattle.bpf_code.specs.Program.{IsJumpFine}
 use Rattle.bpf_text.specs.Printing.{jumps_by, is_target, text_from, text_of}
-use Rattle.bpf_text.specs.Source.{Label, labels_from, count_of, noted_from, defined, distance, parts_by, resolve, with_ins, program_from, program_of, SourceText}
+use Rattle.bpf_text.specs.Source.{Label, labels_from, count_of, defined, distance, parts_by, resolve, with_ins, program_of, SourceText}
+use Rattle.bpf_text.specs.Sketches.{noted_from, noted_program}
 use Rattle.bpf_text.specs.Used.{used_of, with_unused_zero_in, with_unused_zero, IsInRange}
 use Rattle.std.proofs.lemmas.List.Elements.{All-head, All-tail}
 use Rattle.bpf_text.proofs.OneSource.{one_program}
@@ -19,6 +20,7 @@ use Rattle.bpf_text.proofs.PrintedTokens.{same_number, label_name}
 use Rattle.bpf_text.proofs.PrintedOperands.{row_for}
 use Rattle.bpf_text.proofs.PrintedTexts.{known_op, known_is, printed_lines, HasLine, has_line, jump_fine, are_lines}
 use Rattle.bpf_text.proofs.PrintedLabels.{quiet, noted_printed, target_defined, count_printed}
+use Rattle.bpf_text.proofs.SketchedPrograms.{program_sketched}
 
 -- ---- one instruction
 
@@ -111,13 +113,13 @@ row_here labels count place line ins op rest later is fits inside defines h =
     ∙ ap (λ (l : Result (List Ins) CodeError). with_ins (Ok (used_of ins (Some op))) l) h
     ∙ ap (λ (i : Ins). Ok (i ∷ rest)) used
 
-named : (program : List Ins) (labels : List Label) (place line : ℕ) (rest : List Ins) (text : List ℕ) → AllByRecursion IsInRange rest → Knows labels (length program) place rest → text_from program place rest ≡ Ok text → program_from labels (length program) place line (map quiet (printed_lines program place rest)) ≡ Ok (with_unused_zero rest)
-named program labels place line [] text fits knows h = refl
-named program labels place line (ins ∷ rest) text (fits, later) knows h =
+jump_to_name : (program : List Ins) (labels : List Label) (place line : ℕ) (rest : List Ins) (text : List ℕ) → AllByRecursion IsInRange rest → Knows labels (length program) place rest → text_from program place rest ≡ Ok text → noted_program labels (length program) place line (map quiet (printed_lines program place rest)) ≡ Ok (with_unused_zero rest)
+jump_to_name program labels place line [] text fits knows h = refl
+jump_to_name program labels place line (ins ∷ rest) text (fits, later) knows h =
     let l : HasLine program place ins rest text = has_line program place ins rest text h in
-    row_here labels (length program) place line ins l.op (with_unused_zero rest) (program_from labels (length program) (place + 1) (line + 1) (map quiet (printed_lines program (place + 1) rest)))
+    row_here labels (length program) place line ins l.op (with_unused_zero rest) (noted_program labels (length program) (place + 1) (line + 1) (map quiet (printed_lines program (place + 1) rest)))
     l.is fits (jump_fine (length program) place l.op ins l.stays) (knows_here labels (length program) place ins rest l.op l.is knows)
-    (named program labels (place + 1) (line + 1) rest l.later later (knows_later labels (length program) place ins rest knows) l.rest)
+    (jump_to_name program labels (place + 1) (line + 1) rest l.later later (knows_later labels (length program) place ins rest knows) l.rest)
 
 zero_plus : (n : ℕ) → 0 + n ≡ n
 zero_plus n = omega arith
@@ -128,7 +130,7 @@ program_is program text fits low h =
     let count : count_of (printed_lines program 0 program) ≡ length program = count_printed program 0 program in
     let quiets : noted_from [] 0 (printed_lines program 0 program) ≡ map quiet (printed_lines program 0 program) = noted_printed program [] 0 program tt (omega arith) in
     let knows : Knows labels (length program) 0 program = λ to inside target. target_defined program 0 program to (omega arith) (omega arith) (omega arith) target in
-    rw (count, quiets) (named program labels 0 1 program text fits knows h)
+    program_sketched (printed_lines program 0 program) ∙ rw (count, quiets) (jump_to_name program labels 0 1 program text fits knows h)
 
 source_printed : (program : List Ins) (text : List ℕ) → AllByRecursion IsInRange program → length program < 2 ^ 64 → text_of program ≡ Ok text → SourceText text (with_unused_zero program)
 source_printed program text fits low h =
@@ -145,13 +147,13 @@ names_itself program text fits low h = source_printed program text (by_recursion
 
 pub names_one : (program other : List Ins) (text : List ℕ) → All IsInRange program → length program < 2 ^ 64 → text_of program ≡ Ok text → (SourceText text other ↔ (other ≡ with_unused_zero program))
 names_one program other text fits low h =
-    let named : SourceText text (with_unused_zero program) = names_itself program text fits low h in
-    (λ (source : SourceText text other). one_program text other (with_unused_zero program) source named, λ (same : other ≡ with_unused_zero program). subst (SourceText text) (sym same) named)
+    let jump_to_name : SourceText text (with_unused_zero program) = names_itself program text fits low h in
+    (λ (source : SourceText text other). one_program text other (with_unused_zero program) source jump_to_name, λ (same : other ≡ with_unused_zero program). subst (SourceText text) (sym same) jump_to_name)
 
 pub names_same : (program other : List Ins) (text : List ℕ) → All IsInRange program → length program < 2 ^ 64 → with_unused_zero program ≡ program → text_of program ≡ Ok text → (SourceText text other ↔ (other ≡ program))
 names_same program other text fits low zero_there h =
-    let named : SourceText text program = subst (SourceText text) zero_there (names_itself program text fits low h) in
-    (λ (source : SourceText text other). one_program text other program source named, λ (same : other ≡ program). subst (SourceText text) (sym same) named)
+    let jump_to_name : SourceText text program = subst (SourceText text) zero_there (names_itself program text fits low h) in
+    (λ (source : SourceText text other). one_program text other program source jump_to_name, λ (same : other ≡ program). subst (SourceText text) (sym same) jump_to_name)
 
 pub source_of : {A : Type 0} (program : List Ins) (result : Result (String A) CodeError) → length program < 2 ^ 64 → OnOk result (All IsInRange program) → IfOk result (λ text. text_of program ≡ Ok (string_bytes text)) → IfOk result (λ text. SourceText (string_bytes text) (with_unused_zero program))
 source_of program (Ok text) few widths found = names_itself program (string_bytes text) widths few found

@@ -16,7 +16,7 @@ use Rattle.bpf_text.specs.Grammar.{Word}
 use Rattle.bpf_text.specs.Mnemonics.{mnemonic_of}
 use Rattle.bpf_text.specs.Operands.{Operands}
 use Rattle.bpf_text.specs.Printing.{load_word, arithmetic_word, test_word, word_of}
-use Rattle.bpf_text.specs.Rows.{Row, is_absent, row_of}
+use Rattle.bpf_text.specs.Rows.{LabelIns, is_absent, row_of}
 use Rattle.bpf_text.specs.Source.{Spells}
 use Rattle.bpf_text.proofs.Fronts.{some_length}
 use Rattle.bpf_text.proofs.PrintedTokens.{Stops, token_after_blank, word_here}
@@ -212,7 +212,7 @@ instruction_printed place op ins low near = record {
 }
 
 -- a blank may stand before an instruction
-pub spells_after_blank : (bytes : List ℕ) (row : Row) → Spells bytes row → Spells (32 ∷ bytes) row
+pub spells_after_blank : (bytes : List ℕ) (row : LabelIns) → Spells bytes row → Spells (32 ∷ bytes) row
 spells_after_blank bytes row s = record {
   word = s.word;
   tail = s.tail;

@@ -5,10 +5,12 @@ use Rattle.std.proofs.lemmas.Option.{option_and_then_some, cond_some}
 use Rattle.bpf_text.specs.declared.mnemonic.Mnemonic.{Mnemonic}
 use Rattle.bpf_text.specs.Lexis.{word_at, number_at, sign_at, is_over, begins_blank}
 use Rattle.bpf_text.specs.Mnemonics.{mnemonic_of}
-use Rattle.bpf_text.specs.Operands.{Operands, operands_at, operands_of}
+use Rattle.bpf_text.specs.Operands.{Operands}
+use Rattle.bpf_text.specs.OperandReading.{operands_at, operands_of}
 use Rattle.bpf_text.specs.Grammar.{Word, Sign, Front}
-use Rattle.bpf_text.specs.Rows.{Row, is_absent, row_of, row_after, statement_by, statement_of}
-use Rattle.bpf_text.specs.Source.{label_at, Begins, HasLabels, Spells, IsStatement}
+use Rattle.bpf_text.specs.Rows.{LabelIns, is_absent, row_of}
+use Rattle.bpf_text.specs.LineReading.{row_after, statement_by, statement_of, label_at, Begins}
+use Rattle.bpf_text.specs.Source.{HasLabels, Spells, IsStatement}
 use Rattle.bpf_text.proofs.Fronts.{none_unless, sign_no_sign, sign_not_over, word_not_over, word_no_sign, number_no_sign}
 use Rattle.bpf_text.proofs.Grammars.{operands_sound, operands_complete}
 
@@ -39,7 +41,7 @@ labels_complete bytes (label ∷ labels) rest (tail, here, later) = (tail, label
 
 -- ---- statements
 
-row_sound : (bytes word tail : List ℕ) (row : Row) → word_at bytes ≡ Some (word, tail) → row_after word tail ≡ Some row → Spells bytes row
+row_sound : (bytes word tail : List ℕ) (row : LabelIns) → word_at bytes ≡ Some (word, tail) → row_after word tail ≡ Some row → Spells bytes row
 unfolding row_after
 row_sound bytes word tail row begins h =
     option_and_then_some _ (mnemonic_of word) row h (λ (m : Mnemonic) names e1.
@@ -50,7 +52,7 @@ row_sound bytes word tail row begins h =
     spelled m o names is true apart means = record { word = word; tail = tail; mnemonic = m; operands = o; begins = begins; names = names; apart = apart; spelled = operands_sound tail o is; means = means }
     spelled m o names is false apart means = absurd (cc)
 
-row_complete : (bytes : List ℕ) (row : Row) (s : Spells bytes row) → row_after s.word s.tail ≡ Some row
+row_complete : (bytes : List ℕ) (row : LabelIns) (s : Spells bytes row) → row_after s.word s.tail ≡ Some row
 unfolding row_after
 row_complete bytes row s =
     let names : mnemonic_of s.word ≡ Some s.mnemonic = s.names in
@@ -58,33 +60,33 @@ row_complete bytes row s =
     let apart : (is_absent s.operands || begins_blank s.tail) ≡ true = s.apart in
     rw (names, operands, apart) s.means
 
-mapped : (row : Option Row) (x : Option Row) → option_map Some row ≡ Some x → row ≡ x
+mapped : (row : Option LabelIns) (x : Option LabelIns) → option_map Some row ≡ Some x → row ≡ x
 mapped None x h = absurd (cc)
 mapped (Some r) x h = same_some (Some r) x h
 
-by_sound : (bytes : List ℕ) (w : Option (List ℕ × List ℕ)) (row : Option Row) → word_at bytes ≡ w → statement_by bytes w ≡ Some row → IsStatement bytes row
+by_sound : (bytes : List ℕ) (w : Option (List ℕ × List ℕ)) (row : Option LabelIns) → word_at bytes ≡ w → statement_by bytes w ≡ Some row → IsStatement bytes row
 by_sound bytes None row w h =
     let both = cond_some (is_over bytes) None row h in
     subst (IsStatement bytes) both.1 both.0
 by_sound bytes (Some word) None w h = absurd (no_none (row_after word.0 word.1) h)
   where
-    no_none : (r : Option Row) → ◌≡◌ {A = Option (Option Row)} (option_map Some r) (Some None) → ⊥
+    no_none : (r : Option LabelIns) → ◌≡◌ {A = Option (Option LabelIns)} (option_map Some r) (Some None) → ⊥
     no_none None e = cc
     no_none (Some x) e = cc
 by_sound bytes (Some word) (Some row) w h = row_sound bytes word.0 word.1 row w (inner (row_after word.0 word.1) h)
   where
-    inner : (r : Option Row) → ◌≡◌ {A = Option (Option Row)} (option_map Some r) (Some (Some row)) → r ≡ Some row
+    inner : (r : Option LabelIns) → ◌≡◌ {A = Option (Option LabelIns)} (option_map Some r) (Some (Some row)) → r ≡ Some row
     inner None e = absurd (cc)
     inner (Some x) e = same_some (Some x) (Some row) e
 
-pub statement_sound : (bytes : List ℕ) (row : Option Row) → statement_of bytes ≡ Some row → IsStatement bytes row
+pub statement_sound : (bytes : List ℕ) (row : Option LabelIns) → statement_of bytes ≡ Some row → IsStatement bytes row
 unfolding statement_of
 statement_sound bytes row h = by_sound bytes (word_at bytes) row refl h
 
 both_bool : (b : Bool) → b ≡ true → b ≡ false → ⊥
 both_bool b p q = cc
 
-pub statement_complete : (bytes : List ℕ) (row : Option Row) → IsStatement bytes row → statement_of bytes ≡ Some row
+pub statement_complete : (bytes : List ℕ) (row : Option LabelIns) → IsStatement bytes row → statement_of bytes ≡ Some row
 unfolding statement_of
 statement_complete bytes None over =
     let none : word_at bytes ≡ None = none_unless (word_at bytes) (λ w is. both_bool (is_over bytes) over (word_not_over bytes w is)) in
@@ -121,10 +123,10 @@ same_word o a b p q = cc
 neither : (o : Option Operands) (x : Operands) → o ≡ None → o ≡ Some x → ⊥
 neither o x p q = cc
 
-pub statement_no_label : (bytes : List ℕ) (row : Option Row) → IsStatement bytes row → label_at bytes ≡ None
+pub statement_no_label : (bytes : List ℕ) (row : Option LabelIns) → IsStatement bytes row → label_at bytes ≡ None
 statement_no_label bytes row is = none_unless (label_at bytes) (λ l here. clash row is l (label_sound bytes l.0 l.1 here))
   where
-    clash : (r : Option Row) → IsStatement bytes r → (l : List ℕ × List ℕ) → Front (Word l.0 ∷ Sign 58 ∷ []) bytes l.1 → ⊥
+    clash : (r : Option LabelIns) → IsStatement bytes r → (l : List ℕ × List ℕ) → Front (Word l.0 ∷ Sign 58 ∷ []) bytes l.1 → ⊥
     clash None over l (a, w, more) = both_bool (is_over bytes) over (word_not_over bytes (l.0, a) w)
     clash (Some r) s l (a, w, (b, colon, e)) =
         let same : a ≡ s.tail = ap (λ (p : List ℕ × List ℕ). p.1) (same_word (word_at bytes) (l.0, a) (s.word, s.tail) w s.begins) in

@@ -1,4 +1,5 @@
--- The spelling of operands: a tree's tokens, and how tokens stand in bytes.
+-- The spelling of operands: a tree's tokens, and how tokens stand in bytes (own, in the manner of Linux's
+-- `bpf_asm`).
 use Rattle.std.specs.Prelude.{◌≡◌, ℕ, true, List, [], ◌∷◌, Some, codes}
 use Rattle.bpf_text.specs.Lexis.{word_at, number_at, sign_at, is_over}
 use Rattle.bpf_text.specs.Operands.{Operands, Absent, Number, Length, Place, Indexed, Scratch, Header, Name, NumberTo, NameTo, Targets, One, Both}

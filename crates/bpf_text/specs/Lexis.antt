@@ -1,5 +1,6 @@
--- Tokens of the assembler's text: words, numbers and single characters, with blanks between them.
-use Rattle.std.specs.Prelude.{ℕ, ◌+◌, ◌*◌, ◌^◌, Bool, true, false, ◌&&◌, ◌||◌, not, List, length, drop, Option, Some, None, if◌then◌else◌, ◌==◌, nat_lt, option_and_then, slice_index}
+-- Tokens of the assembler's text: words, numbers and single characters, with blanks between them (own, in the manner
+-- of Linux's `bpf_asm`).
+use Rattle.std.specs.Prelude.{ℕ, ◌^◌, Bool, true, false, ◌&&◌, ◌||◌, not, List, length, drop, Option, Some, None, if◌then◌else◌, ◌==◌, nat_lt, option_and_then, slice_index}
 use Rattle.std.specs.Int.{is_in_range}
 use Rattle.std.specs.Char.{digit_value}
 use Rattle.std.specs.Str.Parse.{digits_value}
@@ -30,11 +31,6 @@ run_of bytes = take_while is_name_byte bytes
 
 unfoldable pub after_run : List ℕ → List ℕ
 after_run bytes = drop (prefix_len is_name_byte bytes) bytes
-
--- a number with one more digit, if that is one of the base and it fits 32 bits
-abbrev pub with_digit_of : ℕ → ℕ → ℕ → Option ℕ
-with_digit_of base number digit =
-    if nat_lt (digit_value digit) base && nat_lt (number * base + digit_value digit) (2 ^ 32) then Some (number * base + digit_value digit) else None
 
 -- the number that digits of a base write, if it fits 32 bits
 unfoldable pub number_in : ℕ → List ℕ → Option ℕ

@@ -2,9 +2,12 @@ pub mod Grammar
 pub mod Lexis
 pub mod Mnemonics
 pub mod Operands
+pub mod OperandReading
 pub mod Printing
 pub mod Rows
+pub mod LineReading
 pub mod Source
+pub mod Sketches
 pub mod Used
 pub mod Views
 pub mod LabelPlaces

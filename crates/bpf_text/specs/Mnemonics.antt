@@ -1,4 +1,4 @@
--- The words that name instructions.
+-- The words that name instructions (own, in the manner of Linux's `bpf_asm`).
 use Rattle.std.specs.Prelude.{ℕ, List, Option, Some, None, if◌then◌else◌, codes}
 use Rattle.std.specs.Str.{bytes_eq}
 use Rattle.bpf_code.specs.declared.operation.Width.TheVariants.{Word, Half, Byte}

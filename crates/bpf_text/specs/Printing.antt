@@ -1,4 +1,5 @@
--- The text that a program is printed as: one instruction a line, spelled as in the table of instructions.
+-- The text that a program is printed as: one instruction a line, spelled as in the table of instructions (own, in
+-- the manner of Linux's `bpf_asm`).
 use Rattle.std.specs.Prelude.{◌≡◌, ℕ, ◌+◌, Bool, true, false, ◌&&◌, ◌||◌, not, List, [], ◌∷◌, ◌++◌, length, Option, Some, None, Result, Ok, Err, if◌then◌else◌, ◌==◌, nat_lt, codes, decimal}
 use Rattle.bpf_code.specs.declared.instruction.Ins.{Ins}
 use Rattle.bpf_code.specs.declared.error.CodeError.{CodeError}

@@ -1,6 +1,6 @@
--- Which instruction a mnemonic with its operands names: the table of instructions, read from its texts.
-use Rattle.std.specs.Prelude.{ℕ, Bool, true, false, ◌||◌, List, Option, Some, None, if◌then◌else◌, codes}
-use Rattle.std.specs.Option.{option_map}
+-- Which instruction a mnemonic with its operands names: the table of instructions, read from its texts (own, in the
+-- manner of Linux's `bpf_asm`).
+use Rattle.std.specs.Prelude.{ℕ, Bool, true, false, List, Option, Some, None, if◌then◌else◌, codes}
 use Rattle.std.specs.Str.{bytes_eq}
 use Rattle.bpf_code.specs.declared.operation.Op.{Op}
 use Rattle.bpf_code.specs.declared.operation.Op.TheVariants as op
@@ -8,9 +8,7 @@ use Rattle.bpf_code.specs.declared.operation.Width.TheVariants.{Word}
 use Rattle.bpf_code.specs.declared.operation.Operand.TheVariants.{Constant, Index}
 use Rattle.bpf_text.specs.declared.mnemonic.Mnemonic.{Mnemonic}
 use Rattle.bpf_text.specs.declared.mnemonic.Mnemonic.TheVariants.{Load, LoadX, LoadHeader, Store, StoreIndex, Compute, Negation, Always, When, Return, ToIndex, FromIndex}
-use Rattle.bpf_text.specs.Lexis.{◌>>=◌, word_at, is_over, begins_blank}
-use Rattle.bpf_text.specs.Mnemonics.{mnemonic_of}
-use Rattle.bpf_text.specs.Operands.{Operands, Absent, Number, Length, Place, Indexed, Scratch, Header, Name, NumberTo, NameTo, Targets, operands_of}
+use Rattle.bpf_text.specs.Operands.{Operands, Absent, Number, Length, Place, Indexed, Scratch, Header, Name, NumberTo, NameTo, Targets}
 
 -- the labels that an instruction jumps to
 pub data Jumps : Type 0 where
@@ -19,19 +17,19 @@ pub data Jumps : Type 0 where
   Parts : Targets → Jumps
 
 -- an instruction whose targets are labels
-pub record Row : Type 0 where
+pub record LabelIns : Type 0 where
   pub op : Op
   pub k : ℕ
   pub jumps : Jumps
 
-abbrev pub plain : Op → ℕ → Option Row
+abbrev pub plain : Op → ℕ → Option LabelIns
 plain o k = Some (record { op = o; k = k; jumps = Stays })
 
 -- the operand is this register
-abbrev pub if_named : List ℕ → List ℕ → Option Row → Option Row
+abbrev pub if_named : List ℕ → List ℕ → Option LabelIns → Option LabelIns
 if_named register name row = if bytes_eq name register then row else None
 
-abbrev pub row_of : Mnemonic → Operands → Option Row
+abbrev pub row_of : Mnemonic → Operands → Option LabelIns
 row_of (Load Word) (Number k) = plain op.LoadConstant k
 row_of (Load Word) (Scratch k) = plain op.LoadScratch k
 row_of (Load Word) Length = plain op.LoadLength 0
@@ -59,18 +57,3 @@ row_of _ _ = None
 abbrev pub is_absent : Operands → Bool
 is_absent Absent = true
 is_absent _ = false
-
--- the instruction of a mnemonic and the bytes after it; a blank stands before operands
-unfoldable pub row_after : List ℕ → List ℕ → Option Row
-row_after word rest = do
-  mnemonic ← mnemonic_of word
-  operands ← operands_of rest
-  if is_absent operands || begins_blank rest then row_of mnemonic operands else None
-
-abbrev pub statement_by : List ℕ → Option (List ℕ × List ℕ) → Option (Option Row)
-statement_by bytes None = if is_over bytes then Some None else None
-statement_by bytes (Some word) = option_map Some (row_after word.0 word.1)
-
--- at most one instruction, and a comment
-unfoldable pub statement_of : List ℕ → Option (Option Row)
-statement_of bytes = statement_by bytes (word_at bytes)

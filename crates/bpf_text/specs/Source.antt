@@ -1,4 +1,4 @@
--- What an assembler text means: its lines, and the program that they name.
+-- What an assembler text means: its lines, and the program that they name (own, in the manner of Linux's `bpf_asm`).
 use Rattle.std.specs.Prelude.{◌≡◌, ℕ, ◌+◌, ◌-◌, ◌^◌, Bool, false, ◌&&◌, ◌||◌, List, [], ◌∷◌, ◌++◌, length, map, Option, Some, None, Result, Ok, Err, if◌then◌else◌, ◌==◌, nat_lt, true}
 use Rattle.std.specs.Option.{option_map}
 use Rattle.std.specs.List.{list_any, find, slice_split}
@@ -9,30 +9,18 @@ use Rattle.bpf_code.specs.declared.error.CodeError.TheVariants as errors
 use Rattle.bpf_code.specs.Table.{code_of}
 use Rattle.bpf_code.specs.declared.operation.Op.{Op}
 use Rattle.bpf_text.specs.Grammar.{Word, Sign, IsToken, Front, AreTokens, tokens_of}
-use Rattle.bpf_text.specs.Lexis.{◌>>=◌, word_at, sign_at, is_over, begins_blank}
+use Rattle.bpf_text.specs.Lexis.{◌>>=◌, is_over, begins_blank}
 use Rattle.bpf_text.specs.Mnemonics.{mnemonic_of}
 use Rattle.bpf_text.specs.declared.mnemonic.Mnemonic.{Mnemonic}
 use Rattle.bpf_text.specs.Operands.{Operands, One, Both}
-use Rattle.bpf_text.specs.Rows.{Row, Jumps, Stays, Goes, Parts, is_absent, row_of}
+use Rattle.bpf_text.specs.Rows.{LabelIns, Jumps, Stays, Goes, Parts, is_absent, row_of}
 
 -- ---- lines
-
--- a label and its colon
-unfoldable pub label_at : List ℕ → Option (List ℕ × List ℕ)
-label_at bytes = do
-  word ← word_at bytes
-  rest ← sign_at 58 word.1
-  Some (word.0, rest)
-
--- these labels are read from bytes one after another, and the rest follows
-abbrev pub Begins : List ℕ → List (List ℕ) → List ℕ → Type 0
-Begins bytes [] rest = bytes ≡ rest
-Begins bytes (label ∷ labels) rest = (tail : List ℕ) × (label_at bytes ≡ Some (label, tail)) × Begins tail labels rest
 
 -- a line: its labels, and the instruction, if it has one
 pub record Line : Type 0 where
   pub labels : List (List ℕ)
-  pub row : Option Row
+  pub row : Option LabelIns
 
 -- bytes begin with these labels, each a word and a colon, and the rest follows
 abbrev pub HasLabels : List ℕ → List (List ℕ) → List ℕ → Type 0
@@ -40,7 +28,7 @@ HasLabels bytes [] rest = bytes ≡ rest
 HasLabels bytes (label ∷ labels) rest = (tail : List ℕ) × Front (Word label ∷ Sign 58 ∷ []) bytes tail × HasLabels tail labels rest
 
 -- bytes spell an instruction: a mnemonic, a blank where operands follow, and the tokens of the operands
-pub record Spells (bytes : List ℕ) (row : Row) : Type 0 where
+pub record Spells (bytes : List ℕ) (row : LabelIns) : Type 0 where
   pub word : List ℕ
   pub tail : List ℕ
   pub mnemonic : Mnemonic
@@ -52,7 +40,7 @@ pub record Spells (bytes : List ℕ) (row : Row) : Type 0 where
   pub means : row_of mnemonic operands ≡ Some row
 
 -- an instruction, or nothing but a comment
-abbrev pub IsStatement : List ℕ → Option Row → Type 0
+abbrev pub IsStatement : List ℕ → Option LabelIns → Type 0
 IsStatement bytes None = is_over bytes ≡ true
 IsStatement bytes (Some row) = Spells bytes row
 
@@ -80,7 +68,7 @@ pub record Label : Type 0 where
   pub name : List ℕ
   pub place : ℕ
 
-abbrev pub count_row : Option Row → ℕ
+abbrev pub count_row : Option LabelIns → ℕ
 count_row None = 0
 count_row (Some row) = 1
 
@@ -106,43 +94,6 @@ has_name labels name = list_any (λ (label : Label). bytes_eq label.name name) l
 abbrev pub repeats : List Label → ℕ → List (List ℕ) → Bool
 repeats earlier place [] = false
 repeats earlier place (name ∷ names) = has_name earlier name || repeats (earlier ++ record { name = name; place = place } ∷ []) place names
-
--- what a line has beside its labels: whether one of them is defined a second time, and its instruction
-pub record Noted : Type 0 where
-  pub again : Bool
-  pub row : Option Row
-
-abbrev pub noted_from : List Label → ℕ → List Line → List Noted
-noted_from earlier place [] = []
-noted_from earlier place (line ∷ lines) =
-    record { again = repeats earlier place line.labels; row = line.row } ∷ noted_from (earlier ++ labels_at place line.labels) (place + count_row line.row) lines
-
--- Bytes begin with labels and go on with the rest. The labels stand at a place and are added after the earlier ones;
--- again tells whether one of them was defined before.
-pub record TakesLabels (bytes rest : List ℕ) (place : ℕ) (old new : List Label) (again : Bool) : Type 0 where
-  pub names : List (List ℕ)
-  pub begins : Begins bytes names rest
-  pub last : label_at rest ≡ None
-  pub labels : new ≡ old ++ labels_at place names
-  pub repeated : again ≡ repeats old place names
-
--- what lines so far come to
-pub record Sketch : Type 0 where
-  pub labels : List Label
-  pub lines : List Noted
-  pub count : ℕ
-
--- one more line
-abbrev pub with_line : Sketch → Line → Sketch
-with_line old line = record {
-  labels = old.labels ++ labels_at old.count line.labels;
-  lines = old.lines ++ record { again = repeats old.labels old.count line.labels; row = line.row } ∷ [];
-  count = old.count + count_row line.row;
-}
-
--- what all lines come to
-abbrev pub sketch_of : List Line → Sketch
-sketch_of lines = record { labels = labels_from 0 lines; lines = noted_from [] 0 lines; count = count_of lines }
 
 -- ---- the program
 
@@ -176,7 +127,7 @@ resolve_by labels count place line op k (Parts (Both first second)) =
 
 -- The instruction of a row at a place and on a line. A second target that is left out is the next
 -- instruction.
-unfoldable pub resolve : List Label → ℕ → ℕ → ℕ → Row → Result Ins CodeError
+unfoldable pub resolve : List Label → ℕ → ℕ → ℕ → LabelIns → Result Ins CodeError
 resolve labels count place line row = resolve_by labels count place line row.op row.k row.jumps
 
 abbrev pub with_ins : Result Ins CodeError → Result (List Ins) CodeError → Result (List Ins) CodeError
@@ -184,24 +135,22 @@ with_ins (Err e) rest = Err e
 with_ins (Ok ins) (Err e) = Err e
 with_ins (Ok ins) (Ok program) = Ok (ins ∷ program)
 
-abbrev pub with_row : List Label → ℕ → ℕ → ℕ → Option Row → Result (List Ins) CodeError → Result (List Ins) CodeError
+abbrev pub with_row : List Label → ℕ → ℕ → ℕ → Option LabelIns → Result (List Ins) CodeError → Result (List Ins) CodeError
 with_row labels count place line None later = later
 with_row labels count place line (Some row) later = with_ins (resolve labels count place line row) later
 
--- The program of lines, or the fault of the first line that has one: a label that is defined a second
--- time, a jump's label that names no instruction ahead, a distance that is too far.
-abbrev pub program_from : List Label → ℕ → ℕ → ℕ → List Noted → Result (List Ins) CodeError
-program_from labels count place line [] = Ok []
-program_from labels count place line (noted ∷ more) =
-    if noted.again then Err (errors.Label line)
-    else with_row labels count place line noted.row (program_from labels count (place + count_row noted.row) (line + 1) more)
-
-abbrev pub program_in : Sketch → Result (List Ins) CodeError
-program_in sketch = program_from sketch.labels sketch.count 0 1 sketch.lines
+-- The program of lines, the first of which has this number, or the fault of the first line that has one: a label that is
+-- defined a second time, a jump's label that names no instruction ahead, a distance that is too far. `labels` are those of
+-- all lines, `earlier` those of the lines before; `place` is that of the next instruction, of which all lines have `count`.
+abbrev pub program_from : List Label → ℕ → List Label → ℕ → ℕ → List Line → Result (List Ins) CodeError
+program_from labels count earlier place number [] = Ok []
+program_from labels count earlier place number (line ∷ more) =
+    if repeats earlier place line.labels then Err (errors.Label number)
+    else with_row labels count place number line.row (program_from labels count (earlier ++ labels_at place line.labels) (place + count_row line.row) (number + 1) more)
 
 -- the program of all lines of a text
 abbrev pub program_of : List Line → Result (List Ins) CodeError
-program_of lines = program_in (sketch_of lines)
+program_of lines = program_from (labels_from 0 lines) (count_of lines) [] 0 1 lines
 
 -- the text has the form of lines, and names this program
 abbrev pub SourceText : List ℕ → List Ins → Type 0

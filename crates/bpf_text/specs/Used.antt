@@ -1,4 +1,4 @@
--- Which fields of an instruction its row of the table uses.
+-- Which fields of an instruction its row of the table uses (own).
 use Rattle.std.specs.Prelude.{ℕ, ◌<◌, ◌^◌, List, map, Option, Some, None}
 use Rattle.bpf_code.specs.declared.instruction.Ins.{Ins}
 use Rattle.bpf_code.specs.declared.operation.Op.{Op}

@@ -1,4 +1,4 @@
--- Operands without where their names lie in memory.
+-- Inner: operands without where their names lie in memory.
 use Rattle.std.specs.Prelude.{map}
 use Rattle.bpf_text.specs.declared.operands.Operands.{Operands as Lent}
 use Rattle.bpf_text.specs.declared.operands.Operands.TheVariants as lent
@@ -6,12 +6,12 @@ use Rattle.bpf_text.specs.declared.operands.Targets.{Targets as LentTargets}
 use Rattle.bpf_text.specs.declared.operands.Targets.TheVariants as lent_targets
 use Rattle.bpf_text.specs.declared.row.Jumps.{Jumps as LentJumps}
 use Rattle.bpf_text.specs.declared.row.Jumps.TheVariants as lent_jumps
-use Rattle.bpf_text.specs.declared.row.Row.{Row as LentRow}
+use Rattle.bpf_text.specs.declared.row.LabelIns.{LabelIns as LentRow}
 use Rattle.bpf_text.specs.declared.draft.Noted.{Noted as LentNoted}
 use Rattle.std.specs.Option.{option_map}
-use Rattle.bpf_text.specs.Source.{Noted, Sketch}
+use Rattle.bpf_text.specs.Sketches.{Noted, Sketch}
 use Rattle.bpf_text.specs.declared.draft.Draft.{Draft as LentDraft}
-use Rattle.bpf_text.specs.Rows.{Row, Jumps, Stays, Goes, Parts}
+use Rattle.bpf_text.specs.Rows.{LabelIns, Jumps, Stays, Goes, Parts}
 use Rattle.bpf_text.specs.Operands.{Operands, Absent, Number, Length, Place, Indexed, Scratch, Header, Name, NumberTo, NameTo, Targets, One, Both}
 
 abbrev pub targets_view : LentTargets → Targets
@@ -35,7 +35,7 @@ jumps_view lent_jumps.Stays = Stays
 jumps_view (lent_jumps.Goes label) = Goes label.now
 jumps_view (lent_jumps.Parts targets) = Parts (targets_view targets)
 
-abbrev pub row_view : LentRow → Row
+abbrev pub row_view : LentRow → LabelIns
 row_view row = record { op = row.op; k = row.k; jumps = jumps_view row.jumps }
 
 abbrev pub noted_view : LentNoted → Noted

@@ -1,7 +1,8 @@
 ghost use Rattle.std.specs.Prelude.{◌≡◌, ◌<◌, ◌≤◌, length, nat_lt, IfSome};
 ghost use Rattle.std.specs.Option.{option_map};
 ghost use Rattle.std.specs.List.{prefix_len, list_all};
-ghost use Rattle.bpf_text.specs.Lexis.{is_blank, is_digit, is_name_byte, unblanked, run_of, after_run, with_digit_of, number_in, number_of, word_at, number_at, sign_at, is_over, begins_blank};
+ghost use Rattle.bpf_text.specs.Lexis.{is_blank, is_digit, is_name_byte, unblanked, run_of, after_run, number_in, number_of, word_at, number_at, sign_at, is_over, begins_blank};
+ghost use Rattle.bpf_text.specs.LineReading.{with_digit_of};
 
 /// Whether a byte is a blank: space, tab or CR.
 fn is_blank_byte(byte: u8) -> bool

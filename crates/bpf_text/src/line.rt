@@ -1,7 +1,8 @@
 ghost use Rattle.std.specs.Prelude.{◌≡◌, ◌⊎◌, ◌<◌, length, IfOk, IfErr, IfSome, OnOk};
 ghost use Rattle.std.specs.Option.{option_map};
 ghost use Rattle.bpf_code.specs.declared.error.CodeError.TheVariants.{NoMemory};
-ghost use Rattle.bpf_text.specs.Source.{label_at, IsLine, Line, TakesLabels, with_line};
+ghost use Rattle.bpf_text.specs.Source.{IsLine, Line};
+ghost use Rattle.bpf_text.specs.LineReading.{label_at, TakesLabels, with_line};
 ghost use Rattle.bpf_text.specs.Views.{sketch_view};
 
 use crate::draft::{Draft, Noted};
@@ -11,7 +12,7 @@ use crate::row::statement;
 use bpf_code::CodeError;
 
 /// A label and its colon.
-#[tactic(auto, unfolding(crate::specs::Source::label_at))]
+#[tactic(auto, unfolding(crate::specs::LineReading::label_at))]
 fn read_label(bytes: &[u8]) -> Option<(&[u8], &[u8])>
     ensures value { option_map (λ x. (x.0.now, x.1.now)) result ≡ label_at bytes.now }
     ensures shorter { IfSome result (λ x. length x.1.now < length bytes.now) }

@@ -1,6 +1,6 @@
 ghost use Rattle.std.specs.Prelude.{◌≡◌};
 ghost use Rattle.std.specs.Option.{option_map};
-ghost use Rattle.bpf_text.specs.Operands.{targets_at, constant_at, indexed_at, place_at, bracketed_at, header_at, named_at, operands_at, operands_of};
+ghost use Rattle.bpf_text.specs.OperandReading.{targets_at, constant_at, indexed_at, place_at, bracketed_at, header_at, named_at, operands_at, operands_of};
 ghost use Rattle.bpf_text.specs.Views.{targets_view, operands_view};
 
 use crate::lexis::{number, over, sign, word};
@@ -29,7 +29,7 @@ pub(crate) enum Operands<'a> {
 }
 
 /// One target or two.
-#[tactic(auto, unfolding(crate::specs::Operands::targets_at))]
+#[tactic(auto, unfolding(crate::specs::OperandReading::targets_at))]
 fn read_targets(bytes: &[u8]) -> Option<(Targets<'_>, &[u8])>
     ensures { option_map (λ x. (targets_view x.0, x.1.now)) result ≡ targets_at bytes.now }
 {
@@ -42,7 +42,7 @@ fn read_targets(bytes: &[u8]) -> Option<(Targets<'_>, &[u8])>
 }
 
 /// The operands that begin with a `#`, from after it on.
-#[tactic(auto, unfolding(crate::specs::Operands::constant_at))]
+#[tactic(auto, unfolding(crate::specs::OperandReading::constant_at))]
 fn constant(bytes: &[u8]) -> Option<(Operands<'_>, &[u8])>
     ensures { option_map (λ x. (operands_view x.0, x.1.now)) result ≡ constant_at bytes.now }
 {
@@ -62,8 +62,8 @@ fn constant(bytes: &[u8]) -> Option<(Operands<'_>, &[u8])>
 }
 
 /// The operand `[x+k]`, from after its `[` on.
-#[tactic(auto, unfolding(crate::specs::Operands::indexed_at))]
-fn indexed(bytes: &[u8]) -> Option<(Operands<'_>, &[u8])>
+#[tactic(auto, unfolding(crate::specs::OperandReading::indexed_at))]
+fn indexed_place(bytes: &[u8]) -> Option<(Operands<'_>, &[u8])>
     ensures { option_map (λ x. (operands_view x.0, x.1.now)) result ≡ indexed_at bytes.now }
 {
     let (name, rest) = word(bytes)?;
@@ -77,20 +77,20 @@ fn indexed(bytes: &[u8]) -> Option<(Operands<'_>, &[u8])>
 }
 
 /// The operands that begin with a `[`, from after it on.
-#[tactic(auto, unfolding(crate::specs::Operands::place_at))]
+#[tactic(auto, unfolding(crate::specs::OperandReading::place_at))]
 fn place(bytes: &[u8]) -> Option<(Operands<'_>, &[u8])>
     ensures { option_map (λ x. (operands_view x.0, x.1.now)) result ≡ place_at bytes.now }
 {
     let Some((k, rest)) = number(bytes) else {
-        return indexed(bytes);
+        return indexed_place(bytes);
     };
     let rest = sign(b']', rest)?;
     Some((Operands::Place(k), rest))
 }
 
 /// A number in brackets.
-#[tactic(auto, unfolding(crate::specs::Operands::bracketed_at))]
-fn bracketed(bytes: &[u8]) -> Option<(u32, &[u8])>
+#[tactic(auto, unfolding(crate::specs::OperandReading::bracketed_at))]
+fn bracket_operand(bytes: &[u8]) -> Option<(u32, &[u8])>
     ensures { option_map (λ x. (x.0, x.1.now)) result ≡ bracketed_at bytes.now }
 {
     let (k, rest) = number(sign(b'[', bytes)?)?;
@@ -99,12 +99,12 @@ fn bracketed(bytes: &[u8]) -> Option<(u32, &[u8])>
 }
 
 /// The operand `4*([k]&0xf)`, from after its 4 on.
-#[tactic(auto, unfolding(crate::specs::Operands::header_at))]
+#[tactic(auto, unfolding(crate::specs::OperandReading::header_at))]
 fn header(bytes: &[u8]) -> Option<(Operands<'_>, &[u8])>
     ensures { option_map (λ x. (operands_view x.0, x.1.now)) result ≡ header_at bytes.now }
 {
     let inside = sign(b'(', sign(b'*', bytes)?)?;
-    let (k, rest) = bracketed(inside)?;
+    let (k, rest) = bracket_operand(inside)?;
     let (mask, rest) = number(sign(b'&', rest)?)?;
     let rest = sign(b')', rest)?;
     if mask == 15 {
@@ -115,12 +115,12 @@ fn header(bytes: &[u8]) -> Option<(Operands<'_>, &[u8])>
 }
 
 /// `M` and a number in brackets, or a name.
-#[tactic(auto, unfolding(crate::specs::Operands::named_at))]
-fn named<'a>(name: &'a [u8], rest: &'a [u8]) -> Option<(Operands<'a>, &'a [u8])>
+#[tactic(auto, unfolding(crate::specs::OperandReading::named_at))]
+fn jump_to_name<'a>(name: &'a [u8], rest: &'a [u8]) -> Option<(Operands<'a>, &'a [u8])>
     ensures { option_map (λ x. (operands_view x.0, x.1.now)) result ≡ named_at name.now rest.now }
 {
     if name == b"M".as_slice()
-        && let Some((k, rest)) = bracketed(rest)
+        && let Some((k, rest)) = bracket_operand(rest)
     {
         return Some((Operands::Scratch(k), rest));
     }
@@ -132,7 +132,7 @@ fn named<'a>(name: &'a [u8], rest: &'a [u8]) -> Option<(Operands<'a>, &'a [u8])>
 }
 
 /// The operands in front of bytes, and the bytes after them.
-#[tactic(auto, unfolding(crate::specs::Operands::operands_at))]
+#[tactic(auto, unfolding(crate::specs::OperandReading::operands_at))]
 fn some_operands(bytes: &[u8]) -> Option<(Operands<'_>, &[u8])>
     ensures { option_map (λ x. (operands_view x.0, x.1.now)) result ≡ operands_at bytes.now }
 {
@@ -146,11 +146,11 @@ fn some_operands(bytes: &[u8]) -> Option<(Operands<'_>, &[u8])>
         return if four == 4 { header(rest) } else { None };
     }
     let (name, rest) = word(bytes)?;
-    named(name, rest)
+    jump_to_name(name, rest)
 }
 
 /// The operands that are all of the bytes but a comment.
-#[tactic(auto, unfolding(crate::specs::Operands::operands_of))]
+#[tactic(auto, unfolding(crate::specs::OperandReading::operands_of))]
 pub(crate) fn read_operands(bytes: &[u8]) -> Option<Operands<'_>>
     ensures { option_map operands_view result ≡ operands_of bytes.now }
 {

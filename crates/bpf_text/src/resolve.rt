@@ -1,12 +1,13 @@
 ghost use Rattle.std.specs.Prelude.{◌≡◌, ◌⊎◌, Ok, Err, IfOk, IfErr};
 ghost use Rattle.bpf_code.specs.declared.error.CodeError.TheVariants.{NoMemory};
-ghost use Rattle.bpf_text.specs.Source.{distance, goes_by, parts_by, resolve, program_in};
+ghost use Rattle.bpf_text.specs.Source.{distance, goes_by, parts_by, resolve};
+ghost use Rattle.bpf_text.specs.Sketches.{program_in};
 ghost use Rattle.bpf_text.specs.Views.{row_view, sketch_view};
 
 use crate::draft::Draft;
 use crate::named_labels::Labels;
 use crate::operands::Targets;
-use crate::row::{Jumps, Row};
+use crate::row::{Jumps, LabelIns};
 use bpf_code::{CodeError, Ins, Op};
 use std::alloc::Global;
 
@@ -77,7 +78,7 @@ fn resolve_row(
     count: usize,
     place: usize,
     line: usize,
-    row: &Row,
+    row: &LabelIns,
 ) -> Result<Ins, CodeError>
     ensures { result ≡ resolve labels.now count place line (row_view row.now) }
 {

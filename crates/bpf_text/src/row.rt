@@ -1,6 +1,7 @@
 ghost use Rattle.std.specs.Prelude.{◌≡◌};
 ghost use Rattle.std.specs.Option.{option_map};
-ghost use Rattle.bpf_text.specs.Rows.{plain as plain_row, is_absent, row_of, row_after, statement_of};
+ghost use Rattle.bpf_text.specs.Rows.{plain as plain_row, is_absent, row_of};
+ghost use Rattle.bpf_text.specs.LineReading.{row_after, statement_of};
 ghost use Rattle.bpf_text.specs.Views.{operands_view, row_view};
 
 use crate::lexis::{is_spaced, over, word};
@@ -18,17 +19,17 @@ pub(crate) enum Jumps<'a> {
 
 /// An instruction whose targets are labels.
 #[derive(Clone, Copy)]
-pub(crate) struct Row<'a> {
+pub(crate) struct LabelIns<'a> {
     pub(crate) op: Op,
     pub(crate) k: u32,
     pub(crate) jumps: Jumps<'a>,
 }
 
 /// An instruction without a jump.
-fn plain<'a>(op: Op, k: u32) -> Option<Row<'a>>
+fn plain<'a>(op: Op, k: u32) -> Option<LabelIns<'a>>
     ensures { option_map row_view result ≡ plain_row op k }
 {
-    Some(Row {
+    Some(LabelIns {
         op,
         k,
         jumps: Jumps::Stays,
@@ -36,7 +37,7 @@ fn plain<'a>(op: Op, k: u32) -> Option<Row<'a>>
 }
 
 /// The instruction that a mnemonic with its operands names.
-fn make_row<'a>(mnemonic: Mnemonic, operands: Operands<'a>) -> Option<Row<'a>>
+fn make_row<'a>(mnemonic: Mnemonic, operands: Operands<'a>) -> Option<LabelIns<'a>>
     ensures { option_map row_view result ≡ row_of mnemonic (operands_view operands.entry) }
 {
     match (mnemonic, operands) {
@@ -57,21 +58,21 @@ fn make_row<'a>(mnemonic: Mnemonic, operands: Operands<'a>) -> Option<Row<'a>>
         }
         (Mnemonic::Negation, Operands::Absent) => plain(Op::Negate, 0),
         (Mnemonic::Always, Operands::Name(label)) => {
-            Some(Row {
+            Some(LabelIns {
                 op: Op::Jump,
                 k: 0,
                 jumps: Jumps::Goes(label),
             })
         }
         (Mnemonic::When(test), Operands::NumberTo(k, targets)) => {
-            Some(Row {
+            Some(LabelIns {
                 op: Op::Branch(test, Operand::Constant),
                 k,
                 jumps: Jumps::Parts(targets),
             })
         }
         (Mnemonic::When(test), Operands::NameTo(name, targets)) if name == b"x".as_slice() => {
-            Some(Row {
+            Some(LabelIns {
                 op: Op::Branch(test, Operand::Index),
                 k: 0,
                 jumps: Jumps::Parts(targets),
@@ -99,8 +100,8 @@ fn is_none(operands: Operands) -> bool
 }
 
 /// The instruction of a mnemonic and the bytes after it.
-#[tactic(auto, unfolding(crate::specs::Rows::row_after))]
-fn read_row<'a>(name: &[u8], rest: &'a [u8]) -> Option<Row<'a>>
+#[tactic(auto, unfolding(crate::specs::LineReading::row_after))]
+fn read_row<'a>(name: &[u8], rest: &'a [u8]) -> Option<LabelIns<'a>>
     ensures { option_map row_view result ≡ row_after name.now rest.now }
 {
     let mnemonic = Mnemonic::of(name)?;
@@ -113,8 +114,8 @@ fn read_row<'a>(name: &[u8], rest: &'a [u8]) -> Option<Row<'a>>
 }
 
 /// The instruction of a line after its labels, if there is one; `None` where the bytes aren't of the form.
-#[tactic(auto, unfolding(crate::specs::Rows::statement_of))]
-pub(crate) fn statement(bytes: &[u8]) -> Option<Option<Row<'_>>>
+#[tactic(auto, unfolding(crate::specs::LineReading::statement_of))]
+pub(crate) fn statement(bytes: &[u8]) -> Option<Option<LabelIns<'_>>>
     ensures { option_map (λ row. option_map row_view row) result ≡ statement_of bytes.now }
 {
     let Some((name, rest)) = word(bytes) else {

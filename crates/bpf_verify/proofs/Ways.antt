@@ -12,7 +12,7 @@ use Rattle.bpf_code.specs.declared.operation.Op.{Op}
 use Rattle.bpf_code.specs.declared.operation.Op.TheVariants.{LoadScratch, IndexScratch, StoreA, StoreX, Jump, Branch, ReturnConstant, ReturnA}
 use Rattle.bpf_code.specs.Table.{op_of}
 use Rattle.bpf_code.specs.Flow.{At, Leads, Follows, IsPath, Reads, stores, stores_at, stored_on}
-use Rattle.bpf_verify.specs.Masks.{AreBelow, mask_after, handed, met}
+use Rattle.bpf_verify.specs.Masks.{AreBelow, mask_after, merge_into_successors, merge_at}
 use Rattle.bpf_code.specs.Program.{IsScratchFine, IsFine, IsReturn}
 use Rattle.bpf_verify.specs.Fault.{FineBefore, ReadsUnset, IsFirstUnset}
 use Rattle.bpf_verify.proofs.Faults.{At_in, At_out, at_row, fine_row, below_next}
@@ -42,58 +42,58 @@ zero_and a b k h = one_zero (bit_at a k) (bit_at b k) (bit_at-lt a k) (bit_at-lt
 
 -- ---- masks that meet
 
-pub length-met : (masks : List ℕ) (to mask : ℕ) → length (met masks to mask) ≡ length masks
-length-met masks to mask = length-set masks to (bit_and (get_or masks to 0) mask)
+pub length-merge_at : (masks : List ℕ) (to mask : ℕ) → length (merge_at masks to mask) ≡ length masks
+length-merge_at masks to mask = length-set masks to (bit_and (get_or masks to 0) mask)
 
-met_same : (masks : List ℕ) (to mask p : ℕ) → to < length masks → p ≡ to → get_or (met masks to mask) p 0 ≡ bit_and (get_or masks p 0) mask
-met_same masks to mask p small e = rw e (get_or-set_same masks to (bit_and (get_or masks to 0) mask) 0 small)
+merge_at_same : (masks : List ℕ) (to mask p : ℕ) → to < length masks → p ≡ to → get_or (merge_at masks to mask) p 0 ≡ bit_and (get_or masks p 0) mask
+merge_at_same masks to mask p small e = rw e (get_or-set_same masks to (bit_and (get_or masks to 0) mask) 0 small)
 
-met_one : (masks : List ℕ) (to mask p k : ℕ) → to < length masks → bit_at (get_or (met masks to mask) p 0) k ≡ 1 → (bit_at (get_or masks p 0) k ≡ 1) × (p ≡ to → bit_at mask k ≡ 1)
-met_one masks to mask p k small h =
+merge_at_one : (masks : List ℕ) (to mask p k : ℕ) → to < length masks → bit_at (get_or (merge_at masks to mask) p 0) k ≡ 1 → (bit_at (get_or masks p 0) k ≡ 1) × (p ≡ to → bit_at mask k ≡ 1)
+merge_at_one masks to mask p k small h =
     elim (cases_eq p to) [
-      | inl e ↦ (let b = one_and (get_or masks p 0) mask k (ap (λ (m : ℕ). bit_at m k) (sym (met_same masks to mask p small e)) ∙ h) in (b.0, λ _. b.1))
+      | inl e ↦ (let b = one_and (get_or masks p 0) mask k (ap (λ (m : ℕ). bit_at m k) (sym (merge_at_same masks to mask p small e)) ∙ h) in (b.0, λ _. b.1))
       | inr ne ↦ (ap (λ (m : ℕ). bit_at m k) (sym (get_or-set_other masks to p (bit_and (get_or masks to 0) mask) 0 ne)) ∙ h, λ e. absurd (ne e))
     ]
 
-met_zero : (masks : List ℕ) (to mask p k : ℕ) → to < length masks → bit_at (get_or (met masks to mask) p 0) k ≡ 0 → (bit_at (get_or masks p 0) k ≡ 0) ⊎ ((p ≡ to) × (bit_at mask k ≡ 0))
-met_zero masks to mask p k small h =
+merge_at_zero : (masks : List ℕ) (to mask p k : ℕ) → to < length masks → bit_at (get_or (merge_at masks to mask) p 0) k ≡ 0 → (bit_at (get_or masks p 0) k ≡ 0) ⊎ ((p ≡ to) × (bit_at mask k ≡ 0))
+merge_at_zero masks to mask p k small h =
     elim (cases_eq p to) [
-      | inl e ↦ elim (zero_and (get_or masks p 0) mask k (ap (λ (m : ℕ). bit_at m k) (sym (met_same masks to mask p small e)) ∙ h)) [ inl z ↦ inl z | inr z ↦ inr (e, z) ]
+      | inl e ↦ elim (zero_and (get_or masks p 0) mask k (ap (λ (m : ℕ). bit_at m k) (sym (merge_at_same masks to mask p small e)) ∙ h)) [ inl z ↦ inl z | inr z ↦ inr (e, z) ]
       | inr ne ↦ inl (ap (λ (m : ℕ). bit_at m k) (sym (get_or-set_other masks to p (bit_and (get_or masks to 0) mask) 0 ne)) ∙ h)
     ]
 
 -- ---- masks that are handed on
 
-length-handed : (place : ℕ) (op : Op) (ins : Ins) (mask : ℕ) (masks : List ℕ) → length (handed place op ins mask masks) ≡ length masks
-length-handed place Jump ins mask masks = length-met masks _ mask
-length-handed place (Branch test operand) ins mask masks = length-met (met masks _ mask) _ mask ∙ length-met masks _ mask
+length-handed : (place : ℕ) (op : Op) (ins : Ins) (mask : ℕ) (masks : List ℕ) → length (merge_into_successors place op ins mask masks) ≡ length masks
+length-handed place Jump ins mask masks = length-merge_at masks _ mask
+length-handed place (Branch test operand) ins mask masks = length-merge_at (merge_at masks _ mask) _ mask ∙ length-merge_at masks _ mask
 length-handed place ReturnConstant ins mask masks = refl
 length-handed place ReturnA ins mask masks = refl
-length-handed place _ ins mask masks = length-met masks _ mask
+length-handed place _ ins mask masks = length-merge_at masks _ mask
 
-later : (masks : List ℕ) (to at mask : ℕ) → to < length masks → to < length (met masks at mask)
-later masks to at mask h = let e = length-met masks at mask in omega arith
+later : (masks : List ℕ) (to at mask : ℕ) → to < length masks → to < length (merge_at masks at mask)
+later masks to at mask h = let e = length-merge_at masks at mask in omega arith
 
-handed_one : (place : ℕ) (op : Op) (ins : Ins) (mask : ℕ) (masks : List ℕ) (p k : ℕ) → AreBelow (length masks) place op ins → bit_at (get_or (handed place op ins mask masks) p 0) k ≡ 1 → (bit_at (get_or masks p 0) k ≡ 1) × (Leads place p op ins → bit_at mask k ≡ 1)
-handed_one place Jump ins mask masks p k below h = met_one masks _ mask p k below h
+handed_one : (place : ℕ) (op : Op) (ins : Ins) (mask : ℕ) (masks : List ℕ) (p k : ℕ) → AreBelow (length masks) place op ins → bit_at (get_or (merge_into_successors place op ins mask masks) p 0) k ≡ 1 → (bit_at (get_or masks p 0) k ≡ 1) × (Leads place p op ins → bit_at mask k ≡ 1)
+handed_one place Jump ins mask masks p k below h = merge_at_one masks _ mask p k below h
 handed_one place (Branch test operand) ins mask masks p k below h =
-    let second = met_one (met masks (place + 1 + ins.jt) mask) (place + 1 + ins.jf) mask p k (later masks (place + 1 + ins.jf) (place + 1 + ins.jt) mask below.1) h in
-    let first = met_one masks (place + 1 + ins.jt) mask p k below.0 second.0 in
+    let second = merge_at_one (merge_at masks (place + 1 + ins.jt) mask) (place + 1 + ins.jf) mask p k (later masks (place + 1 + ins.jf) (place + 1 + ins.jt) mask below.1) h in
+    let first = merge_at_one masks (place + 1 + ins.jt) mask p k below.0 second.0 in
     (first.0, λ leads. elim leads [ inl e ↦ first.1 e | inr e ↦ second.1 e ])
 handed_one place ReturnConstant ins mask masks p k below h = (h, λ leads. absurd leads)
 handed_one place ReturnA ins mask masks p k below h = (h, λ leads. absurd leads)
-handed_one place _ ins mask masks p k below h = met_one masks (place + 1) mask p k below h
+handed_one place _ ins mask masks p k below h = merge_at_one masks (place + 1) mask p k below h
 
-handed_zero : (place : ℕ) (op : Op) (ins : Ins) (mask : ℕ) (masks : List ℕ) (p k : ℕ) → AreBelow (length masks) place op ins → bit_at (get_or (handed place op ins mask masks) p 0) k ≡ 0 → (bit_at (get_or masks p 0) k ≡ 0) ⊎ (Leads place p op ins × (bit_at mask k ≡ 0))
-handed_zero place Jump ins mask masks p k below h = met_zero masks _ mask p k below h
+handed_zero : (place : ℕ) (op : Op) (ins : Ins) (mask : ℕ) (masks : List ℕ) (p k : ℕ) → AreBelow (length masks) place op ins → bit_at (get_or (merge_into_successors place op ins mask masks) p 0) k ≡ 0 → (bit_at (get_or masks p 0) k ≡ 0) ⊎ (Leads place p op ins × (bit_at mask k ≡ 0))
+handed_zero place Jump ins mask masks p k below h = merge_at_zero masks _ mask p k below h
 handed_zero place (Branch test operand) ins mask masks p k below h =
-    elim (met_zero (met masks (place + 1 + ins.jt) mask) (place + 1 + ins.jf) mask p k (later masks (place + 1 + ins.jf) (place + 1 + ins.jt) mask below.1) h) [
-      | inl z ↦ elim (met_zero masks (place + 1 + ins.jt) mask p k below.0 z) [ inl y ↦ inl y | inr y ↦ inr (inl y.0, y.1) ]
+    elim (merge_at_zero (merge_at masks (place + 1 + ins.jt) mask) (place + 1 + ins.jf) mask p k (later masks (place + 1 + ins.jf) (place + 1 + ins.jt) mask below.1) h) [
+      | inl z ↦ elim (merge_at_zero masks (place + 1 + ins.jt) mask p k below.0 z) [ inl y ↦ inl y | inr y ↦ inr (inl y.0, y.1) ]
       | inr z ↦ inr (inr z.0, z.1)
     ]
 handed_zero place ReturnConstant ins mask masks p k below h = inl h
 handed_zero place ReturnA ins mask masks p k below h = inl h
-handed_zero place _ ins mask masks p k below h = met_zero masks (place + 1) mask p k below h
+handed_zero place _ ins mask masks p k below h = merge_at_zero masks (place + 1) mask p k below h
 
 -- ---- the mask after an instruction
 
@@ -177,21 +177,21 @@ bit_zero : (k : ℕ) → bit_at 0 k ≡ 1 → ⊥
 bit_zero k h = one_not_zero _ h (bit_at-zero k)
 
 -- the masks at the start: one way leads to place 0, with nothing stored, and none yet to another place
-pub masked_start : (program : List Ins) (full : List ℕ) → length full ≡ 4096 → length program ≤ 4096 → ((p : ℕ) → p < 4096 → get_or full p 0 ≡ 65535) → Masked program (met full 0 0) 0
+pub masked_start : (program : List Ins) (full : List ℕ) → length full ≡ 4096 → length program ≤ 4096 → ((p : ℕ) → p < 4096 → get_or full p 0 ≡ 65535) → Masked program (merge_at full 0 0) 0
 masked_start program full long few each = record {
-  long = length-met full 0 0 ∙ long;
+  long = length-merge_at full 0 0 ∙ long;
   known = known;
   unknown = unknown;
   checked = λ p low r. absurd (omega arith);
 }
   where
-    known : (p k : ℕ) (earlier : List ℕ) → p < length program → bit_at (get_or (met full 0 0) p 0) k ≡ 1 → IsPath program p earlier → FromBelow 0 earlier → stored_on program k earlier ≡ true
-    known p k [] inside one path from = absurd (bit_zero k ((met_one full 0 0 p k (omega arith) one).1 path))
+    known : (p k : ℕ) (earlier : List ℕ) → p < length program → bit_at (get_or (merge_at full 0 0) p 0) k ≡ 1 → IsPath program p earlier → FromBelow 0 earlier → stored_on program k earlier ≡ true
+    known p k [] inside one path from = absurd (bit_zero k ((merge_at_one full 0 0 p k (omega arith) one).1 path))
     known p k (q ∷ earlier) inside one path from = absurd (omega arith)
 
-    unknown : (p k : ℕ) → p < length program → k < 16 → bit_at (get_or (met full 0 0) p 0) k ≡ 0 → (earlier : List ℕ) × IsPath program p earlier × FromBelow 0 earlier × (stored_on program k earlier ≡ false)
+    unknown : (p k : ℕ) → p < length program → k < 16 → bit_at (get_or (merge_at full 0 0) p 0) k ≡ 0 → (earlier : List ℕ) × IsPath program p earlier × FromBelow 0 earlier × (stored_on program k earlier ≡ false)
     unknown p k inside small clear =
-        elim (met_zero full 0 0 p k (omega arith) clear) [
+        elim (merge_at_zero full 0 0 p k (omega arith) clear) [
           | inl z ↦ absurd (one_not_zero _ (bit_at_ones 16 k small) (rw (each p (omega arith)) at z))
           | inr z ↦ ([], z.0, tt, refl)
         ]
@@ -221,7 +221,7 @@ through program masks i p k rest ins op masked at row inside (inl stored) path =
 through program masks i p k rest ins op masked at row inside (inr one) path =
     or_right _ _ (masked.known i k rest inside one path (from_path program i rest path))
 
-known_on : (program : List Ins) (masks : List ℕ) (i : ℕ) (ins : Ins) (op : Op) → Masked program masks i → slice_get program i ≡ Some ins → op_of ins.code ≡ Some op → i < length program → IsScratchFine op ins → AreBelow (length masks) i op ins → (p k : ℕ) (earlier : List ℕ) → p < length program → bit_at (get_or (handed i op ins (mask_after op ins (get_or masks i 0)) masks) p 0) k ≡ 1 → IsPath program p earlier → FromBelow (i + 1) earlier → stored_on program k earlier ≡ true
+known_on : (program : List Ins) (masks : List ℕ) (i : ℕ) (ins : Ins) (op : Op) → Masked program masks i → slice_get program i ≡ Some ins → op_of ins.code ≡ Some op → i < length program → IsScratchFine op ins → AreBelow (length masks) i op ins → (p k : ℕ) (earlier : List ℕ) → p < length program → bit_at (get_or (merge_into_successors i op ins (mask_after op ins (get_or masks i 0)) masks) p 0) k ≡ 1 → IsPath program p earlier → FromBelow (i + 1) earlier → stored_on program k earlier ≡ true
 known_on program masks i ins op masked at row inside fine below p k [] within one path from =
     masked.known p k [] within (handed_one i op ins (mask_after op ins (get_or masks i 0)) masks p k below one).0 path tt
 known_on program masks i ins op masked at row inside fine below p k (q ∷ rest) within one path from =
@@ -234,7 +234,7 @@ known_on program masks i ins op masked at row inside fine below p k (q ∷ rest)
           subst goal e (λ way. through program masks i p k rest ins op masked at row inside (after_one op ins (get_or masks i 0) k fine (h.1 (At_out program i ins op (Leads i p) at row way.0))) way.1) path)
     ]
 
-unknown_on : (program : List Ins) (masks : List ℕ) (i : ℕ) (ins : Ins) (op : Op) → Masked program masks i → slice_get program i ≡ Some ins → op_of ins.code ≡ Some op → i < length program → IsScratchFine op ins → AreBelow (length masks) i op ins → (p k : ℕ) → p < length program → k < 16 → bit_at (get_or (handed i op ins (mask_after op ins (get_or masks i 0)) masks) p 0) k ≡ 0 → (earlier : List ℕ) × IsPath program p earlier × FromBelow (i + 1) earlier × (stored_on program k earlier ≡ false)
+unknown_on : (program : List Ins) (masks : List ℕ) (i : ℕ) (ins : Ins) (op : Op) → Masked program masks i → slice_get program i ≡ Some ins → op_of ins.code ≡ Some op → i < length program → IsScratchFine op ins → AreBelow (length masks) i op ins → (p k : ℕ) → p < length program → k < 16 → bit_at (get_or (merge_into_successors i op ins (mask_after op ins (get_or masks i 0)) masks) p 0) k ≡ 0 → (earlier : List ℕ) × IsPath program p earlier × FromBelow (i + 1) earlier × (stored_on program k earlier ≡ false)
 unknown_on program masks i ins op masked at row inside fine below p k within small clear =
     elim (handed_zero i op ins (mask_after op ins (get_or masks i 0)) masks p k below clear) [
       | inl z ↦ (let way = masked.unknown p k within small z in (way.0, way.1, from_more i way.0 way.2, way.3))
@@ -245,7 +245,7 @@ unknown_on program masks i ins op masked at row inside fine below p k within sma
           (i ∷ way.0, (At_in program i ins op (Leads i p) at row z.0, way.1), here, rw (stores_at_row program i ins op k at row ∙ none.0) way.3))
     ]
 
-pub masked_on : (program : List Ins) (masks : List ℕ) (i : ℕ) (ins : Ins) (op : Op) → Masked program masks i → slice_get program i ≡ Some ins → op_of ins.code ≡ Some op → i < length program → IsScratchFine op ins → AreBelow (length masks) i op ins → (Reads ins.k op ins × (bit_at (get_or masks i 0) ins.k ≡ 0) → ⊥) → Masked program (handed i op ins (mask_after op ins (get_or masks i 0)) masks) (i + 1)
+pub masked_on : (program : List Ins) (masks : List ℕ) (i : ℕ) (ins : Ins) (op : Op) → Masked program masks i → slice_get program i ≡ Some ins → op_of ins.code ≡ Some op → i < length program → IsScratchFine op ins → AreBelow (length masks) i op ins → (Reads ins.k op ins × (bit_at (get_or masks i 0) ins.k ≡ 0) → ⊥) → Masked program (merge_into_successors i op ins (mask_after op ins (get_or masks i 0)) masks) (i + 1)
 masked_on program masks i ins op masked at row inside fine below unread = record {
   long = length-handed i op ins _ masks ∙ masked.long;
   known = known_on program masks i ins op masked at row inside fine below;

@@ -1,4 +1,4 @@
--- Which fault of a program is named.
+-- Which fault of a program is named (own).
 use Rattle.std.specs.Prelude.{◌≡◌, ℕ, ◌+◌, ◌-◌, ◌<◌, ◌≤◌, false, ◌&&◌, List, length, Option, Some, None, if◌then◌else◌, nat_lt, ◌==◌, slice_get}
 use Rattle.bpf_code.specs.declared.instruction.Ins.{Ins}
 use Rattle.bpf_code.specs.declared.operation.Op.{Op}

@@ -1,4 +1,4 @@
--- The numbers and the names of the faults.
+-- The numbers and the names of the faults (own).
 use Rattle.std.specs.Prelude.{ℕ, List, Option, Some, None, codes}
 use Rattle.bpf_code.specs.Numbers.{text_at}
 use Rattle.bpf_verify.specs.declared.error.VerifyError.{VerifyError}

@@ -2,7 +2,7 @@ ghost use Rattle.std.specs.Prelude.{◌≡◌, ◌<◌, ◌≤◌, ◌+◌, ◌-
 ghost use Rattle.std.specs.Int.{bit_at};
 ghost use Rattle.bpf_code.specs.Flow.{At, Reads};
 ghost use Rattle.bpf_verify.specs.Fault.{FineBefore, IsFirstUnset, ReadsUnset};
-ghost use Rattle.bpf_verify.specs.Masks.{AreBelow, mask_after, handed, met};
+ghost use Rattle.bpf_verify.specs.Masks.{AreBelow, mask_after, merge_into_successors, merge_at};
 ghost use Rattle.bpf_code.specs.Program.{IsReturn, IsScratchFine};
 
 use bpf_code::{Ins, Op};
@@ -32,7 +32,7 @@ fn after(op: Op, ins: &Ins, mask: u16) -> u16
 /// One way leads to a place with this mask.
 fn meet(masks: &mut [u16], to: usize, mask: u16)
     requires { to < length masks.old }
-    ensures { masks.new ≡ met masks.old to mask }
+    ensures { masks.new ≡ merge_at masks.old to mask }
 {
     masks[to] &= mask;
 }
@@ -40,7 +40,7 @@ fn meet(masks: &mut [u16], to: usize, mask: u16)
 /// Hands the mask after an instruction to its successors.
 fn hand_on(masks: &mut [u16], place: usize, op: Op, ins: &Ins, mask: u16)
     requires { AreBelow (length masks.old) place op ins.now }
-    ensures { masks.new ≡ handed place op ins.now mask masks.old }
+    ensures { masks.new ≡ merge_into_successors place op ins.now mask masks.old }
 {
     match op {
         Op::Jump => meet(masks, place + 1 + ins.k as usize, mask),

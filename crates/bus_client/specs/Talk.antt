@@ -1,4 +1,4 @@
--- How long an authentication talk can go on.
+-- How long an authentication talk can go on (own).
 use Rattle.std.specs.Prelude.{ℕ}
 use Rattle.bus_client.specs.declared.talk.Stage.{Stage}
 use Rattle.bus_client.specs.declared.talk.Stage.TheVariants.{External, ExternalData, Anonymous, AnonymousData}

@@ -1,6 +1,6 @@
 // Addresses of buses.
 
-use crate::escapes::unescaped;
+use crate::escapes::bytes_without_escapes;
 use std::alloc::{AllocError, AllocFailed, Global};
 
 /// Where a bus listens (D-Bus Specification, "Server Addresses").
@@ -92,7 +92,7 @@ impl Keys {
         for pair in list.split(',') {
             if !pair.is_empty() {
                 let (key, value) = pair.split_once('=').ok_or(AddressError::Form)?;
-                let value = unescaped(alloc, value)?.ok_or(AddressError::Form)?;
+                let value = bytes_without_escapes(alloc, value)?.ok_or(AddressError::Form)?;
                 keys.keep(key, value)?;
             }
         }

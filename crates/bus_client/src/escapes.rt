@@ -6,7 +6,10 @@ use std::alloc::{AllocError, Global};
 
 /// The bytes that a value of an address stands for: `%` and two hexadecimal digits are one byte, and others are
 /// themselves (D-Bus Specification, "Server Addresses"); `None` where the digits aren't there.
-pub(crate) fn unescaped(alloc: Global, value: &str) -> Result<Option<Vec<u8>>, AllocError> {
+pub(crate) fn bytes_without_escapes(
+    alloc: Global,
+    value: &str,
+) -> Result<Option<Vec<u8>>, AllocError> {
     let mut bytes = Vec::new(alloc);
     let mut parts = value.split('%');
     if let Some(plain) = parts.next() {

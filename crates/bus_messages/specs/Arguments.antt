@@ -20,7 +20,7 @@ pub record Given : Type 0 where
 
 -- after the first argument
 abbrev pub later : Given → Given
-later given = record given { left = drop 1 given.left }
+later args_left = record args_left { left = drop 1 args_left.left }
 
 -- the first argument, if it is a text
 abbrev pub text_of : List Argument → Option (List ℕ)
@@ -28,7 +28,7 @@ text_of [] = None
 text_of (argument ∷ more) = argument.text
 
 abbrev pub first_text : Given → Option (List ℕ)
-first_text given = text_of given.left
+first_text args_left = text_of args_left.left
 
 -- the number of the first four bytes
 abbrev pub number_from : Order → List ℕ → Option ℕ
@@ -41,7 +41,7 @@ number_at message order [] = None
 number_at message order (argument ∷ more) = number_from order (drop argument.place message)
 
 abbrev pub first_number : Given → Option ℕ
-first_number given = number_at given.message given.order given.left
+first_number args_left = number_at args_left.message args_left.order args_left.left
 
 -- the struct `(qyyu)` of an instruction: code, jt, jf, k
 abbrev pub instruction_of : Order → List ℕ → Ins
@@ -77,7 +77,7 @@ program_at message order [] = None
 program_at message order (argument ∷ more) = option_map (instructions_of order) (elements_of message argument)
 
 abbrev pub first_program : Given → Option (List Ins)
-first_program given = program_at given.message given.order given.left
+first_program args_left = program_at args_left.message args_left.order args_left.left
 
 -- the edition of a number
 abbrev pub edition_of : Option ℕ → Result Edition CallError

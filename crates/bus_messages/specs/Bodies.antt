@@ -5,7 +5,7 @@ use Rattle.message_value.specs.declared.order.Order.TheVariants.{Little}
 use Rattle.message_value.specs.Spelling.{value_bytes}
 use Rattle.message_value.specs.Value.{Value, text, number, elements, entries, of_type, no_values, no_entries, one_entry}
 use Rattle.message_build.specs.Asked.{Asked}
-use Rattle.message_build.specs.Words.{with_argument, with_raw, string_values}
+use Rattle.message_build.specs.Adding.{with_argument, with_raw, string_values}
 use Rattle.bus_messages.specs.declared.body.Body.{Body}
 use Rattle.bus_messages.specs.declared.body.Body.TheVariants.{Nothing, Text, Number, Truth, Texts, EmptyDict, EmptyList, Properties}
 

@@ -18,13 +18,13 @@ use Rattle.bus_messages.specs.Methods.{MethodRow, bus, method_called}
 
 -- a call of a method whose first argument is a text
 abbrev pub IsTextCall : Method → Method → Given → List ℕ → Type 0
-IsTextCall named method given text = (method ≡ named) × (first_text given ≡ Some text)
+IsTextCall named method args_left text = (method ≡ named) × (first_text args_left ≡ Some text)
 
 -- a program is the argument of Attach, or comes after the edition that is the first argument of AttachEdition
 abbrev pub IsAttach : Method → Given → Edition → List Ins → Type 0
-IsAttach method given edition program =
-    ((method ≡ names.Attach) × (edition ≡ One) × (first_program given ≡ Some program))
-    ⊎ ((method ≡ names.AttachEdition) × (edition_of (first_number given) ≡ Ok edition) × (first_program (later given) ≡ Some program))
+IsAttach method args_left edition program =
+    ((method ≡ names.Attach) × (edition ≡ One) × (first_program args_left ≡ Some program))
+    ⊎ ((method ≡ names.AttachEdition) × (edition_of (first_number args_left) ≡ Ok edition) × (first_program (later args_left) ≡ Some program))
 
 -- the properties that the bus has, by interface and name
 abbrev pub is_property : List ℕ → List ℕ → Bool
@@ -32,51 +32,51 @@ is_property interface name = bytes_eq interface bus && (bytes_eq name (codes "Fe
 
 -- the first two arguments are texts that name a property of the bus
 abbrev pub NamesProperty : Given → Type 0
-NamesProperty given =
-    (interface : List ℕ) × (name : List ℕ) × (first_text given ≡ Some interface) × (first_text (later given) ≡ Some name) × (is_property interface name ≡ true)
+NamesProperty args_left =
+    (interface : List ℕ) × (name : List ℕ) × (first_text args_left ≡ Some interface) × (first_text (later args_left) ≡ Some name) × (is_property interface name ≡ true)
 
 -- a call is of the method, and its values are those of the arguments
 abbrev pub IsCallOf : Call → Method → Given → Type 0
-IsCallOf calls.Hello method given = method ≡ names.Hello
-IsCallOf (calls.AddMatch rule) method given = IsTextCall names.AddMatch method given rule.now
-IsCallOf (calls.RemoveMatch rule) method given = IsTextCall names.RemoveMatch method given rule.now
-IsCallOf (calls.RequestName name flags) method given = IsTextCall names.RequestName method given name.now × (first_number (later given) ≡ Some flags)
-IsCallOf (calls.ReleaseName name) method given = IsTextCall names.ReleaseName method given name.now
-IsCallOf (calls.GetNameOwner name) method given = IsTextCall names.GetNameOwner method given name.now
-IsCallOf (calls.NameHasOwner name) method given = IsTextCall names.NameHasOwner method given name.now
-IsCallOf calls.ListNames method given = method ≡ names.ListNames
-IsCallOf calls.Ping method given = method ≡ names.Ping
-IsCallOf (calls.Attach edition program) method given = IsAttach method given edition program.items
-IsCallOf (calls.Detach id) method given = (method ≡ names.Detach) × (first_number given ≡ Some id)
-IsCallOf (calls.StartServiceByName name) method given = IsTextCall names.StartServiceByName method given name.now
-IsCallOf calls.ListActivatableNames method given = method ≡ names.ListActivatableNames
-IsCallOf (calls.ListQueuedOwners name) method given = IsTextCall names.ListQueuedOwners method given name.now
-IsCallOf calls.GetId method given = method ≡ names.GetId
-IsCallOf (calls.GetConnectionUnixUser name) method given = IsTextCall names.GetConnectionUnixUser method given name.now
-IsCallOf (calls.GetConnectionUnixProcessId name) method given = IsTextCall names.GetConnectionUnixProcessId method given name.now
-IsCallOf (calls.GetConnectionCredentials name) method given = IsTextCall names.GetConnectionCredentials method given name.now
-IsCallOf calls.GetMachineId method given = method ≡ names.GetMachineId
-IsCallOf calls.Introspect method given = method ≡ names.Introspect
-IsCallOf calls.Get method given = (method ≡ names.Get) × NamesProperty given
-IsCallOf calls.GetAll method given = (method ≡ names.GetAll) × (first_text given ≡ Some bus)
+IsCallOf calls.Hello method args_left = method ≡ names.Hello
+IsCallOf (calls.AddMatch rule) method args_left = IsTextCall names.AddMatch method args_left rule.now
+IsCallOf (calls.RemoveMatch rule) method args_left = IsTextCall names.RemoveMatch method args_left rule.now
+IsCallOf (calls.RequestName name flags) method args_left = IsTextCall names.RequestName method args_left name.now × (first_number (later args_left) ≡ Some flags)
+IsCallOf (calls.ReleaseName name) method args_left = IsTextCall names.ReleaseName method args_left name.now
+IsCallOf (calls.GetNameOwner name) method args_left = IsTextCall names.GetNameOwner method args_left name.now
+IsCallOf (calls.NameHasOwner name) method args_left = IsTextCall names.NameHasOwner method args_left name.now
+IsCallOf calls.ListNames method args_left = method ≡ names.ListNames
+IsCallOf calls.Ping method args_left = method ≡ names.Ping
+IsCallOf (calls.Attach edition program) method args_left = IsAttach method args_left edition program.items
+IsCallOf (calls.Detach id) method args_left = (method ≡ names.Detach) × (first_number args_left ≡ Some id)
+IsCallOf (calls.StartServiceByName name) method args_left = IsTextCall names.StartServiceByName method args_left name.now
+IsCallOf calls.ListActivatableNames method args_left = method ≡ names.ListActivatableNames
+IsCallOf (calls.ListQueuedOwners name) method args_left = IsTextCall names.ListQueuedOwners method args_left name.now
+IsCallOf calls.GetId method args_left = method ≡ names.GetId
+IsCallOf (calls.GetConnectionUnixUser name) method args_left = IsTextCall names.GetConnectionUnixUser method args_left name.now
+IsCallOf (calls.GetConnectionUnixProcessId name) method args_left = IsTextCall names.GetConnectionUnixProcessId method args_left name.now
+IsCallOf (calls.GetConnectionCredentials name) method args_left = IsTextCall names.GetConnectionCredentials method args_left name.now
+IsCallOf calls.GetMachineId method args_left = method ≡ names.GetMachineId
+IsCallOf calls.Introspect method args_left = method ≡ names.Introspect
+IsCallOf calls.Get method args_left = (method ≡ names.Get) × NamesProperty args_left
+IsCallOf calls.GetAll method args_left = (method ≡ names.GetAll) × (first_text args_left ≡ Some bus)
 
 -- An argument that a method takes isn't where its type puts it, or names nothing that the bus has. A method that takes
 -- none lacks none.
 abbrev pub Lacks : Method → Given → Type 0
-Lacks names.Hello given = ⊥
-Lacks names.ListNames given = ⊥
-Lacks names.Ping given = ⊥
-Lacks names.ListActivatableNames given = ⊥
-Lacks names.GetId given = ⊥
-Lacks names.GetMachineId given = ⊥
-Lacks names.Introspect given = ⊥
-Lacks names.RequestName given = (first_text given ≡ None) ⊎ (first_number (later given) ≡ None)
-Lacks names.Attach given = first_program given ≡ None
-Lacks names.AttachEdition given = (first_number given ≡ None) ⊎ (first_program (later given) ≡ None)
-Lacks names.Detach given = first_number given ≡ None
-Lacks names.Get given = NamesProperty given → ⊥
-Lacks names.GetAll given = first_text given ≢ Some bus
-Lacks _ given = first_text given ≡ None
+Lacks names.Hello args_left = ⊥
+Lacks names.ListNames args_left = ⊥
+Lacks names.Ping args_left = ⊥
+Lacks names.ListActivatableNames args_left = ⊥
+Lacks names.GetId args_left = ⊥
+Lacks names.GetMachineId args_left = ⊥
+Lacks names.Introspect args_left = ⊥
+Lacks names.RequestName args_left = (first_text args_left ≡ None) ⊎ (first_number (later args_left) ≡ None)
+Lacks names.Attach args_left = first_program args_left ≡ None
+Lacks names.AttachEdition args_left = (first_number args_left ≡ None) ⊎ (first_program (later args_left) ≡ None)
+Lacks names.Detach args_left = first_number args_left ≡ None
+Lacks names.Get args_left = NamesProperty args_left → ⊥
+Lacks names.GetAll args_left = first_text args_left ≢ Some bus
+Lacks _ args_left = first_text args_left ≡ None
 
 abbrev pub takes_program : Method → Bool
 takes_program names.Attach = true
@@ -85,15 +85,10 @@ takes_program _ = false
 
 -- why a call of a method is refused whose body has the method's signature
 abbrev pub Refuses : CallError → Method → Given → Type 0
-Refuses UnknownMethod method given = ⊥
-Refuses BadEdition method given = (method ≡ names.AttachEdition) × (edition_of (first_number given) ≡ Err BadEdition)
-Refuses NoMemory method given = takes_program method ≡ true
-Refuses InvalidArgs method given = Lacks method given
-
--- what a message that calls a method is read as, if its body has the method's signature
-abbrev pub Understands : Method → Given → Result Call CallError → Type 0
-Understands method given (Ok call) = IsCallOf call method given
-Understands method given (Err error) = Refuses error method given
+Refuses UnknownMethod method args_left = ⊥
+Refuses BadEdition method args_left = (method ≡ names.AttachEdition) × (edition_of (first_number args_left) ≡ Err BadEdition)
+Refuses NoMemory method args_left = takes_program method ≡ true
+Refuses InvalidArgs method args_left = Lacks method args_left
 
 -- the method that a message calls
 abbrev pub row_called : Option (List ℕ) → Option (List ℕ) → Option MethodRow
@@ -103,11 +98,11 @@ row_called interface None = None
 -- What a message is read as: of a method that isn't there, `UnknownMethod`; of another signature than the method's,
 -- `InvalidArgs`; else as the method's given say.
 abbrev pub ReadsAs : Option MethodRow → List ℕ → Given → Result Call CallError → Type 0
-ReadsAs None signature given (Err UnknownMethod) = Unit {0}
-ReadsAs None signature given _ = ⊥
-ReadsAs (Some row) signature given (Ok call) = (signature ≡ row.takes) × IsCallOf call row.method given
-ReadsAs (Some row) signature given (Err InvalidArgs) = signature ≡ row.takes → Refuses InvalidArgs row.method given
-ReadsAs (Some row) signature given (Err error) = (signature ≡ row.takes) × Refuses error row.method given
+ReadsAs None signature args_left (Err UnknownMethod) = Unit {0}
+ReadsAs None signature args_left _ = ⊥
+ReadsAs (Some row) signature args_left (Ok call) = (signature ≡ row.takes) × IsCallOf call row.method args_left
+ReadsAs (Some row) signature args_left (Err InvalidArgs) = signature ≡ row.takes → Refuses InvalidArgs row.method args_left
+ReadsAs (Some row) signature args_left (Err error) = (signature ≡ row.takes) × Refuses error row.method args_left
 
 -- the arguments of a message
 abbrev pub given_by : Message → Given

@@ -6,3 +6,4 @@ pub mod Methods
 pub mod Rows
 pub mod Arguments
 pub mod Calls
+pub mod CallAnswers

@@ -1,6 +1,6 @@
 -- Inner: the rows of the code's table, as those of the definitions.
-use Rattle.bus_messages.specs.declared.method.Row.{Row}
+use Rattle.bus_messages.specs.declared.method.MethodEntry.{MethodEntry}
 use Rattle.bus_messages.specs.Methods.{MethodRow, row_of}
 
-abbrev pub shown : Row → MethodRow
-shown row = row_of row.method row.interface.now row.member.now row.takes.now row.gives.now
+abbrev pub method_row_of : MethodEntry → MethodRow
+method_row_of row = row_of row.method row.interface.now row.member.now row.takes.now row.gives.now

@@ -1,30 +1,27 @@
 -- The messages that the bus makes (D-Bus Specification, "Message Bus Messages").
 use Rattle.std.specs.Prelude.{ℕ, List, codes, Option, Some, Result, Ok, Err}
+use Rattle.signature.specs.Name.{bus_name}
 use Rattle.message_view.specs.declared.kind.Kind.{Kind}
 use Rattle.message_view.specs.declared.kind.Kind.TheVariants.{MethodReturn, Error, Signal}
-use Rattle.message_build.specs.Asked.{Asked, nothing_asked}
-use Rattle.message_build.specs.Building.{AreAsked, AsksNone, AsksTooMuch}
 use Rattle.message_build.specs.declared.error.BuildError.{BuildError}
 use Rattle.message_build.specs.declared.error.BuildError.TheVariants.{Invalid, TooLarge, NoMemory}
+use Rattle.message_build.specs.Asked.{Asked, nothing_asked}
+use Rattle.message_build.specs.Building.{AreAsked, AsksNone, AsksTooMuch}
 use Rattle.bus_messages.specs.declared.body.Body.{Body}
 use Rattle.bus_messages.specs.declared.error_name.ErrorName.{ErrorName}
 use Rattle.bus_messages.specs.Bodies.{with_text, with_texts, with_body}
 use Rattle.bus_messages.specs.ErrorNames.{full_name, word_of}
 
--- the name of the bus, which is also the interface of its signals
-abbrev pub bus_name : List ℕ
-bus_name = codes "org.freedesktop.DBus"
-
 abbrev pub bus_path : List ℕ
 bus_path = codes "/org/freedesktop/DBus"
 
 -- no reply is expected
-abbrev pub no_reply : ℕ
-no_reply = 1
+abbrev pub no_reply_expected : ℕ
+no_reply_expected = 1
 
 -- a message from the bus without a body
 abbrev pub from_bus : Kind → ℕ → Option (List ℕ) → Asked
-from_bus kind serial to = record (nothing_asked kind no_reply serial) { destination = to; sender = Some bus_name }
+from_bus kind serial to = record (nothing_asked kind no_reply_expected serial) { destination = to; sender = Some bus_name }
 
 -- the answer to the message of a serial, with the arguments of a body
 abbrev pub reply_asked : ℕ → Option (List ℕ) → ℕ → Body → Asked

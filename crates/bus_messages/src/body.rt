@@ -1,6 +1,6 @@
 // What the messages of the bus carry.
 
-ghost use Rattle.message_build.specs.Words.{Adds};
+ghost use Rattle.message_build.specs.Adding.{Adds};
 ghost use Rattle.bus_messages.specs.Bodies.{with_body};
 
 use message_build::{BuildError, Builder};

@@ -6,12 +6,13 @@ ghost use Rattle.message_view.specs.Message.{Message};
 ghost use Rattle.message_view.specs.Valid.{Valid};
 ghost use Rattle.bus_messages.specs.declared.call.Call.TheVariants.{Get, GetAll};
 ghost use Rattle.bus_messages.specs.declared.call.CallError.TheVariants.{InvalidArgs};
-ghost use Rattle.bus_messages.specs.Calls.{Understands, IsReadAs, is_property};
+ghost use Rattle.bus_messages.specs.Calls.{IsReadAs, is_property};
+ghost use Rattle.bus_messages.specs.CallAnswers.{Understands};
 ghost use Rattle.bus_messages.specs.Methods.{bus};
 
 use crate::arguments::Arguments;
 use crate::error_name::ErrorName;
-use crate::method::{BUS, Method, Row};
+use crate::method::{BUS, Method, MethodEntry};
 use bpf_code::Ins;
 use message_view::View;
 use std::alloc::{AllocError, Global};
@@ -169,7 +170,7 @@ impl<'a> Call<'a> {
         ensures { (m : Message) → Valid view.now m → IsReadAs m result }
     {
         let member = view.member().ok_or(CallError::UnknownMethod)?;
-        let row = Row::of(view.interface(), member).ok_or(CallError::UnknownMethod)?;
+        let row = MethodEntry::of(view.interface(), member).ok_or(CallError::UnknownMethod)?;
         if view.signature() != row.takes.as_bytes() {
             return Err(CallError::InvalidArgs);
         }

@@ -1,6 +1,6 @@
 // What Introspect answers.
 
-use crate::method::{BUS, INTERFACES, Row, rows};
+use crate::method::{BUS, INTERFACES, MethodEntry, rows};
 use signature::Signature;
 use std::alloc::{AllocError, Global};
 use std::str;
@@ -37,7 +37,7 @@ fn push_arguments(text: &mut String, before: &str, signature: &str) -> Result<()
     Ok(())
 }
 
-fn push_method(text: &mut String, row: &Row) -> Result<(), AllocError> {
+fn push_method(text: &mut String, row: &MethodEntry) -> Result<(), AllocError> {
     push_between(text, "    <method name=\"", row.member, "\">\n")?;
     push_arguments(text, "      <arg direction=\"in\" type=\"", row.takes)?;
     push_arguments(text, "      <arg direction=\"out\" type=\"", row.gives)?;

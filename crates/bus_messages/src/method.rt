@@ -3,7 +3,7 @@
 ghost use Rattle.std.specs.Prelude.{◌≡◌, map, option_map};
 ghost use Rattle.std.specs.List.{find};
 ghost use Rattle.bus_messages.specs.Methods.{methods, is_of, is_called, method_called};
-ghost use Rattle.bus_messages.specs.Rows.{shown};
+ghost use Rattle.bus_messages.specs.Rows.{method_row_of};
 
 /// A method of the bus.
 #[derive(Clone, Copy, Debug, PartialEq, Eq)]
@@ -35,7 +35,7 @@ pub(crate) enum Method {
 
 /// What a method is called, and the signatures of its arguments and of its answer.
 #[derive(Clone, Copy)]
-pub(crate) struct Row {
+pub(crate) struct MethodEntry {
     pub(crate) method: Method,
     pub(crate) interface: &'static str,
     pub(crate) member: &'static str,
@@ -58,7 +58,7 @@ pub(crate) static INTERFACES: [&str; 5] = [BUS, PEER, PROGRAMS, INTROSPECTABLE, 
 
 macro_rules! rows {
     ($($method:ident $interface:ident $member:literal ($takes:literal) -> $gives:literal;)*) => {
-        [$(Row {
+        [$(MethodEntry {
             method: Method::$method,
             interface: $interface,
             member: $member,
@@ -69,7 +69,7 @@ macro_rules! rows {
 }
 
 /// Each method. A call that names no interface is of the first row with its member.
-static ROWS: [Row; 23] = rows! {
+static ROWS: [MethodEntry; 23] = rows! {
     Hello BUS "Hello" ("") -> "s";
     AddMatch BUS "AddMatch" ("s") -> "";
     RemoveMatch BUS "RemoveMatch" ("s") -> "";
@@ -96,8 +96,8 @@ static ROWS: [Row; 23] = rows! {
 };
 
 /// Every method of the bus.
-pub(crate) fn rows() -> &'static [Row]
-    ensures { map shown result.now ≡ methods }
+pub(crate) fn rows() -> &'static [MethodEntry]
+    ensures { map method_row_of result.now ≡ methods }
 {
     &ROWS
 }
@@ -112,17 +112,17 @@ fn is_of(named: Option<&str>, interface: &str) -> bool
     }
 }
 
-impl Row {
+impl MethodEntry {
     /// Whether a call of this member is a call of this method, where it names this interface or none.
     fn is_called(&self, interface: Option<&str>, member: &str) -> bool
-        ensures { result ≡ is_called (option_map (λ name. name.now) interface.entry) member.now (shown self.now) }
+        ensures { result ≡ is_called (option_map (λ name. name.now) interface.entry) member.now (method_row_of self.now) }
     {
         self.member == member && is_of(interface, self.interface)
     }
 
     /// The row of the method that a call is of.
-    pub(crate) fn of(interface: Option<&str>, member: &str) -> Option<&'static Row>
-        ensures { option_map (λ row. shown row.now) result ≡ method_called (option_map (λ name. name.now) interface.entry) member.now }
+    pub(crate) fn of(interface: Option<&str>, member: &str) -> Option<&'static MethodEntry>
+        ensures { option_map (λ row. method_row_of row.now) result ≡ method_called (option_map (λ name. name.now) interface.entry) member.now }
     {
         let table = rows();
         first_called(table, interface, member)
@@ -130,8 +130,12 @@ impl Row {
 }
 
 /// The first row of the method that a call is of.
-fn first_called<'r>(rows: &'r [Row], interface: Option<&str>, member: &str) -> Option<&'r Row>
-    ensures { option_map (λ row. row.now) result ≡ find (λ row. is_called (option_map (λ name. name.now) interface.entry) member.now (shown row)) rows.entry.now }
+fn first_called<'r>(
+    rows: &'r [MethodEntry],
+    interface: Option<&str>,
+    member: &str,
+) -> Option<&'r MethodEntry>
+    ensures { option_map (λ row. row.now) result ≡ find (λ row. is_called (option_map (λ name. name.now) interface.entry) member.now (method_row_of row)) rows.entry.now }
 {
     rows.iter().find(|row| row.is_called(interface, member))
 }

@@ -32,7 +32,7 @@ fn from_bus<'a>(alloc: Global, kind: Kind, serial: u32, to: Option<&'a str>) -> 
 }
 
 /// The bytes of what was asked for, to be shared.
-fn finished(alloc: Global, builder: &Builder<'_>) -> Result<Bytes, BuildError>
+fn finish_message(alloc: Global, builder: &Builder<'_>) -> Result<Bytes, BuildError>
     ensures { Builds builder.now result }
 {
     let bytes = builder.finish(alloc)?;
@@ -57,7 +57,7 @@ pub fn reply(
     let mut builder = from_bus(alloc, Kind::MethodReturn, serial, to);
     builder.reply_serial(reply_to);
     body.add_to(&mut builder)?;
-    finished(alloc, &builder)
+    finish_message(alloc, &builder)
 }
 
 /// The error that answers the message with a serial. Its argument is the error's word.
@@ -78,7 +78,7 @@ pub fn error(
     builder.error_name(name.name());
     builder.reply_serial(reply_to);
     builder.arg_str(name.word())?;
-    finished(alloc, &builder)
+    finish_message(alloc, &builder)
 }
 
 /// A signal of the bus, without a body yet.
@@ -110,7 +110,7 @@ pub fn name_owner_changed(
     builder.arg_str(name)?;
     builder.arg_str(old)?;
     builder.arg_str(new)?;
-    finished(alloc, &builder)
+    finish_message(alloc, &builder)
 }
 
 /// The signal to a connection that lost a name.
@@ -124,7 +124,7 @@ pub fn name_lost(alloc: Global, serial: u32, to: &str, name: &str) -> Result<Byt
 {
     let mut builder = signal(alloc, serial, Some(to), "NameLost");
     builder.arg_str(name)?;
-    finished(alloc, &builder)
+    finish_message(alloc, &builder)
 }
 
 /// The signal to a connection that has a name now.
@@ -137,5 +137,5 @@ pub fn name_acquired(alloc: Global, serial: u32, to: &str, name: &str) -> Result
 {
     let mut builder = signal(alloc, serial, Some(to), "NameAcquired");
     builder.arg_str(name)?;
-    finished(alloc, &builder)
+    finish_message(alloc, &builder)
 }

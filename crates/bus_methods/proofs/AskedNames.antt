@@ -1,7 +1,9 @@
 -- Names that clients ask about.
 use Rattle.std.proofs.Common.{◌≡◌, ℕ, Bool, true, false, not, ◌&&◌, List, Option, Result, Ok, Err, if◌then◌else◌, inl, arith}
 use Rattle.owners.specs.declared.error.ClaimError.TheVariants.{BadName, Reserved}
-use Rattle.owners.specs.WellKnown.{bus_name, is_well_known, is_claimable, name_in}
+use Rattle.owners.specs.WellKnown.{is_well_known, name_in}
+use Rattle.signature.specs.Name.{bus_name}
+use Rattle.owners.specs.Claimable.{is_claimable}
 use Rattle.std.specs.Str.{bytes_eq}
 use Rattle.program_table.specs.State.{State}
 use Rattle.connections.specs.declared.refused.Refused.{Refused}
@@ -20,5 +22,5 @@ name_read text name e = by_tests (bytes_eq text bus_name) (is_well_known text) t
 
 -- the owner of a name is that of the text that is the name
 pub owner_told : {M : Type 0} → (s : State M) (text : List ℕ) (name : AskedName) (result : Result (Option Owner) Refused) → IsAsked text (Ok name) → TellsOwner s name result → IsOwnerOf s text result
-owner_told s text name (Ok owner) is told = (name, is, told)
-owner_told s text name (Err why) is told = inl told
+owner_told s text name (Ok owner) is evidence = (name, is, evidence)
+owner_told s text name (Err why) is evidence = inl evidence

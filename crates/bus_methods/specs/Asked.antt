@@ -1,8 +1,8 @@
--- Names that clients ask about, and who owns them (D-Bus Specification, "Message Bus Names").
+-- Inner: names that clients ask about, and who owns them (D-Bus Specification, "Message Bus Names").
 use Rattle.std.specs.Prelude.{◌≡◌, ◌≢◌, ◌⊎◌, ◌<◌, ◌^◌, ℕ, true, false, List, Option, Some, None, Result, Ok, Err, if◌then◌else◌}
-use Rattle.signature.specs.Name.{is_bus_name}
+use Rattle.signature.specs.Name.{is_bus_name, bus_name}
 use Rattle.owners.specs.Queues.{owner_of}
-use Rattle.owners.specs.WellKnown.{bus_name, is_claimable}
+use Rattle.owners.specs.Claimable.{is_claimable}
 use Rattle.unique_name.specs.UniqueNames.{unique_name}
 use Rattle.program_table.specs.Connections.{is_connected}
 use Rattle.program_table.specs.State.{State}

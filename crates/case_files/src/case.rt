@@ -2,7 +2,7 @@
 
 use crate::error::LineError;
 use crate::fields::Fields;
-use crate::spelling::unescaped;
+use crate::spelling::bytes_without_escapes;
 use std::alloc::Global;
 
 #[derive(Drop)]
@@ -18,7 +18,7 @@ impl<'a> Case<'a> {
         let (name, spelled) = line.split_once('\t').ok_or(LineError::Unreadable)?;
         let mut fields = Vec::new(alloc);
         for field in spelled.split('\t') {
-            fields.push(unescaped(alloc, field)?)?;
+            fields.push(bytes_without_escapes(alloc, field)?)?;
         }
         let wanted = fields.pop().ok_or(LineError::Unreadable)?;
         if name.is_empty() || fields.len() != inputs {

@@ -3,7 +3,7 @@
 use crate::case::Case;
 use crate::error::LineError;
 use crate::fields::Fields;
-use crate::spelling::escaped;
+use crate::spelling::escape_field;
 use crate::tally::Tally;
 use std::alloc::Global;
 use std::collections::BTreeSet;
@@ -52,7 +52,7 @@ pub(crate) fn judge_line<J: Judge>(
     if came.as_bytes() == case.wanted.as_slice() {
         return Ok(None);
     }
-    let wanted = escaped(alloc, case.wanted.as_slice())?;
-    let came = escaped(alloc, came.as_bytes())?;
+    let wanted = escape_field(alloc, case.wanted.as_slice())?;
+    let came = escape_field(alloc, came.as_bytes())?;
     Ok(Some(format!(in alloc; "{name}: wanted {wanted}, came {came}")?))
 }

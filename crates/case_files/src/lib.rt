@@ -20,5 +20,5 @@ mod tally;
 pub use error::LineError;
 pub use fields::{Fields, digits};
 pub use judging::{Judge, judge_files};
-pub use spelling::escaped;
+pub use spelling::escape_field;
 pub use tally::Tally;

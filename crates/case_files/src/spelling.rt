@@ -18,7 +18,7 @@ enum Piece {
 }
 
 /// The bytes that a field spells.
-pub(crate) fn unescaped(alloc: Global, field: &str) -> Result<Vec<u8>, LineError> {
+pub(crate) fn bytes_without_escapes(alloc: Global, field: &str) -> Result<Vec<u8>, LineError> {
     let mut bytes = Vec::new(alloc);
     let mut repetition: Option<Repetition> = None;
     let mut rest = field.as_bytes();
@@ -82,7 +82,7 @@ fn digit(letter: u8) -> Result<u8, LineError>
 }
 
 /// How a field spells these bytes: `unescaped` reads them back.
-pub fn escaped(alloc: Global, bytes: &[u8]) -> Result<String, AllocError> {
+pub fn escape_field(alloc: Global, bytes: &[u8]) -> Result<String, AllocError> {
     let mut field = String::new(alloc);
     for byte in bytes {
         match *byte {

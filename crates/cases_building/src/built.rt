@@ -21,8 +21,8 @@ impl Judge for Built {
             if call.is_empty() {
                 continue;
             }
-            let (word, given) = call.trim().split_once(' ').ok_or(LineError::Unreadable)?;
-            ask(alloc, &mut builder, word, given)?;
+            let (word, field_text) = call.trim().split_once(' ').ok_or(LineError::Unreadable)?;
+            ask(alloc, &mut builder, word, field_text)?;
         }
         match builder.finish(alloc) {
             Ok(bytes) => words_of(alloc, bytes.as_slice()),
@@ -37,26 +37,31 @@ fn ask<'a>(
     alloc: Global,
     builder: &mut Builder<'a>,
     word: &str,
-    given: &'a str,
+    field_text: &'a str,
 ) -> Result<(), LineError> {
     match word {
-        "path" => builder.path(given),
-        "interface" => builder.interface(given),
-        "member" => builder.member(given),
-        _ => return add(alloc, builder, word, given),
+        "path" => builder.path(field_text),
+        "interface" => builder.interface(field_text),
+        "member" => builder.member(field_text),
+        _ => return add(alloc, builder, word, field_text),
     }
     Ok(())
 }
 
 /// A call that adds to the body. It fails only where memory runs out.
-fn add(alloc: Global, builder: &mut Builder<'_>, word: &str, given: &str) -> Result<(), LineError> {
+fn add(
+    alloc: Global,
+    builder: &mut Builder<'_>,
+    word: &str,
+    field_text: &str,
+) -> Result<(), LineError> {
     let added = match word {
-        "string" => builder.arg_str(given),
-        "strings" => builder.arg_strs(&[given]),
-        "number" => builder.arg_u32(given.parse::<u32>()?),
-        "boolean" => builder.arg_bool(given == "true"),
+        "string" => builder.arg_str(field_text),
+        "strings" => builder.arg_strs(&[field_text]),
+        "number" => builder.arg_u32(field_text.parse::<u32>()?),
+        "boolean" => builder.arg_bool(field_text == "true"),
         "body" => {
-            let (signature, words) = given.split_once(' ').ok_or(LineError::Unreadable)?;
+            let (signature, words) = field_text.split_once(' ').ok_or(LineError::Unreadable)?;
             let body = digits(alloc, words)?;
             builder.raw_body(signature.as_bytes(), body.as_slice())
         }

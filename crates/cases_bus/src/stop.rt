@@ -17,11 +17,11 @@ pub(crate) enum Stop {
 
 impl Stop {
     /// Nobody is connected.
-    pub(crate) fn closed() -> Stop {
-        Stop::refused(Refusal::Closed)
+    pub(crate) fn closed_stop() -> Stop {
+        Stop::refused_stop(Refusal::Closed)
     }
 
-    fn refused(refusal: Refusal) -> Stop {
+    fn refused_stop(refusal: Refusal) -> Stop {
         Stop::Answered(text_of_refusal(refusal))
     }
 
@@ -37,13 +37,13 @@ impl Stop {
 impl From<BusError> for Stop {
     fn from(error: BusError) -> Stop {
         match error {
-            BusError::ConnectionsFull => Stop::refused(Refusal::ConnectionsFull),
-            BusError::EntriesFull => Stop::refused(Refusal::EntriesFull),
-            BusError::NamesFull => Stop::refused(Refusal::NamesFull),
-            BusError::QueueFull => Stop::refused(Refusal::QueueFull),
-            BusError::RuleNotFound => Stop::refused(Refusal::RuleNotFound),
-            BusError::NoAttachment => Stop::refused(Refusal::NoAttachment),
-            BusError::Closed => Stop::closed(),
+            BusError::ConnectionsFull => Stop::refused_stop(Refusal::ConnectionsFull),
+            BusError::EntriesFull => Stop::refused_stop(Refusal::EntriesFull),
+            BusError::NamesFull => Stop::refused_stop(Refusal::NamesFull),
+            BusError::QueueFull => Stop::refused_stop(Refusal::QueueFull),
+            BusError::RuleNotFound => Stop::refused_stop(Refusal::RuleNotFound),
+            BusError::NoAttachment => Stop::refused_stop(Refusal::NoAttachment),
+            BusError::Closed => Stop::closed_stop(),
             BusError::Rule(fault) => Stop::Answered(TextAnswer::Rule(fault)),
             BusError::TooLong => Stop::Answered(TextAnswer::TooLong),
             BusError::NoMemory | BusError::Program(VerifyError::NoMemory) => {

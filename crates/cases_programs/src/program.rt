@@ -48,11 +48,11 @@ pub fn text(alloc: Global, program: &[Ins]) -> Result<String, Refusal> {
 
 /// How many instructions it has, where it is accepted.
 pub fn count(alloc: Global, program: Vec<Ins>) -> Result<String, Refusal> {
-    let count = accepted(program)?.code().len();
+    let count = verify_program(program)?.code().len();
     Ok(format!(in alloc; "ok {count}")?)
 }
 
-pub fn accepted(program: Vec<Ins>) -> Result<Verified, Refusal> {
+pub fn verify_program(program: Vec<Ins>) -> Result<Verified, Refusal> {
     match verify(program) {
         Ok(verified) => Ok(verified),
         Err((fault, _)) => Err(Refusal::Program(fault)),

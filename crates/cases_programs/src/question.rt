@@ -32,7 +32,7 @@ fn answer(alloc: Global, inputs: &Fields) -> Result<String, Refusal> {
         question => {
             let asked = question.strip_prefix("run ").ok_or(LineError::Unreadable)?;
             let message = inputs.digits(alloc, MESSAGE)?;
-            let program = program::accepted(program)?;
+            let program = program::verify_program(program)?;
             image::outcome(alloc, asked, &program, message.as_slice())
         }
     }

@@ -1,11 +1,7 @@
 -- When calls are answered (D-Bus Specification, "Message Format").
-use Rattle.std.specs.Prelude.{◌≡◌, ℕ, Bool, false, Result, IfErr}
+use Rattle.std.specs.Prelude.{◌≡◌, Bool, false, Result, IfErr}
 use Rattle.connections.specs.declared.error.AnswerError.{AnswerError}
 use Rattle.connections.specs.declared.error.AnswerError.TheVariants.{NoMemory}
-
--- the flag of a message whose sender waits for no answer
-abbrev pub no_reply_expected : ℕ
-no_reply_expected = 1
 
 -- Only want of memory ends a call whose caller waits for no answer: no room is needed for one.
 abbrev pub NeverSlow : {A : Type 0} → Bool → Result A AnswerError → Type 0

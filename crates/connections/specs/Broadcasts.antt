@@ -1,4 +1,4 @@
--- Broadcasts of a connection.
+-- Broadcasts of a connection (own).
 use Rattle.std.specs.Prelude.{ℕ, List, Result, Ok, Err}
 use Rattle.outbox.specs.Seated.{OutboxId}
 use Rattle.passes.specs.declared.error.BusError.{BusError}

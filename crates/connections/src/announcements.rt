@@ -6,6 +6,7 @@ ghost use Rattle.connections.specs.Broadcasts.{Broadcasts};
 use crate::connection::Connection;
 use crate::error::AnswerError;
 use crate::site::Site;
+use arrayvec::ArrayVec;
 use bus_messages::{BuildError, Bytes, UniqueName, name_acquired, name_lost, name_owner_changed};
 use message_view::View;
 use owners::Change;
@@ -86,8 +87,8 @@ impl<J: Naming, M: Mailbox + Carrier> Connection<J, M> {
     {
         let to = UniqueName::new(old);
         let serial = self.serials.take();
-        let built = name_lost(site.alloc, serial, to.as_str(), name);
-        self.tell(site, &to, built)
+        let built_message = name_lost(site.alloc, serial, to.as_str(), name);
+        self.tell(site, &to, built_message)
     }
 
     fn tell_acquired<W: Wait, R: Wait + Drop>(
@@ -100,8 +101,8 @@ impl<J: Naming, M: Mailbox + Carrier> Connection<J, M> {
     {
         let to = UniqueName::new(new);
         let serial = self.serials.take();
-        let built = name_acquired(site.alloc, serial, to.as_str(), name);
-        self.tell(site, &to, built)
+        let built_message = name_acquired(site.alloc, serial, to.as_str(), name);
+        self.tell(site, &to, built_message)
     }
 
     // Sends a signal to one connection, which may be gone by now.
@@ -109,11 +110,11 @@ impl<J: Naming, M: Mailbox + Carrier> Connection<J, M> {
         &mut self,
         site: &Site<'_, J, M, W, R>,
         to: &UniqueName,
-        built: Result<Bytes, BuildError>,
+        built_message: Result<Bytes, BuildError>,
     ) -> Result<(), AnswerError>
         ensures { IfErr result (λ error. error ≡ AnswerError.NoMemory) }
     {
-        let Ok(bytes) = built else {
+        let Ok(bytes) = built_message else {
             return Err(AnswerError::NoMemory);
         };
         match site
@@ -137,8 +138,14 @@ impl<J: Naming, M: Mailbox + Carrier> Connection<J, M> {
         let serial = self.serials.take();
         let old = old.map(|number| UniqueName::new(number));
         let new = new.map(|number| UniqueName::new(number));
-        let built = name_owner_changed(site.alloc, serial, name, text_of(&old), text_of(&new));
-        let Ok(bytes) = built else {
+        let built_message = name_owner_changed(
+            site.alloc,
+            serial,
+            name,
+            text_of(&old),
+            text_of(&new),
+        );
+        let Ok(bytes) = built_message else {
             return Err(AnswerError::NoMemory);
         };
         let view = View::of_message(bytes.as_slice());
@@ -161,11 +168,18 @@ impl<J: Naming, M: Mailbox + Carrier> Connection<J, M> {
         ensures routed { Broadcasts M.outbox_of source view.now self.old.pass result self.new.pass }
         ensures name { self.new.name ≡ self.old.name }
     {
-        match site
-            .bus
-            .route(site.rt, site.alloc, &mut self.pass, source, view, bytes)
-        {
-            Ok(_) => Ok(()),
+        let mut refused = ArrayVec::new();
+        let routed = site.bus.route_into(
+            site.rt,
+            site.alloc,
+            &mut self.pass,
+            source,
+            view,
+            bytes,
+            &mut refused,
+        );
+        match routed {
+            Ok(()) => Ok(()),
             Err(_) => Err(AnswerError::NoMemory),
         }
     }

@@ -3,7 +3,7 @@
 ghost use Rattle.std.specs.Prelude.{◌≡◌, ◌==◌, bit_and};
 ghost use Rattle.message_view.specs.Message.{Message};
 ghost use Rattle.message_view.specs.Valid.{Valid};
-ghost use Rattle.connections.specs.Answers.{no_reply_expected};
+ghost use Rattle.bus_messages.specs.Sent.{no_reply_expected};
 
 use message_view::View;
 

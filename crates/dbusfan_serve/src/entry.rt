@@ -49,7 +49,7 @@ where
     ensures { IsStatus result }
 {
     if asks_for_help(words) {
-        return match said(HELP, out) {
+        return match say(HELP, out) {
             Ok(()) => 0,
             Err(fault) => fault.tell(err),
         };
@@ -67,7 +67,7 @@ fn asks_for_help(words: &[&str]) -> bool {
     words.iter().any(|word| *word == "--help" || *word == "-h")
 }
 
-fn said<O: Writer>(text: &[u8], out: &mut Output<O>) -> Result<(), Fault> {
+fn say<O: Writer>(text: &[u8], out: &mut Output<O>) -> Result<(), Fault> {
     out.put(text);
     if out.has_failed {
         return Err(Fault::File);
@@ -114,7 +114,7 @@ fn announce<O: Writer>(
         return Err(Fault::Socket);
     };
     match format!(in alloc; "listening {taken}\n") {
-        Ok(line) => said(line.as_str().as_bytes(), out),
+        Ok(line) => say(line.as_str().as_bytes(), out),
         Err(_) => Err(Fault::Memory),
     }
 }

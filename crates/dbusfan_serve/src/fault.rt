@@ -1,7 +1,8 @@
 // What `serve` is refused for.
 
 ghost use Rattle.std.specs.Prelude.{◌≡◌};
-ghost use Rattle.dbusfan_serve.specs.Status.{status_of, IsStatus};
+ghost use Rattle.dbusfan_serve.specs.Faults.{status_of};
+ghost use Rattle.dbusfan_serve.specs.Status.{IsStatus};
 
 use dbusfan_tool::{Output, Writer};
 use std::io;

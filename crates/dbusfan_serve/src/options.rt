@@ -92,14 +92,14 @@ impl<'a> Options<'a> {
         if words.len() % 2 != 0 {
             return None;
         }
-        let mut given = Given {
+        let mut options_so_far = Given {
             listen: None,
             guid: None,
             connections: None,
         };
         for i in 0..words.len() / 2 {
-            given = given.with(words[2 * i], words[2 * i + 1])?;
+            options_so_far = options_so_far.with(words[2 * i], words[2 * i + 1])?;
         }
-        given.read()
+        options_so_far.read()
     }
 }

@@ -42,19 +42,19 @@ module _ (made : List FileRead → Type 0) (program file : List ℕ) (edition : 
   fails found fault is finds = subst (λ (f : Result Outcome Fault). Finds f) (err_of found fault is) finds
 
   -- a program that `check` refuses isn't run
-  not_run : {fault : Fault} → Checks (λ given. made (one_read program given)) (Err fault) → Runs made program file edition (Err fault)
+  not_run : {fault : Fault} → Checks (λ content_read. made (one_read program content_read)) (Err fault) → Runs made program file edition (Err fault)
   not_run (unassembled none) = no_program none
   not_run (unaccepted reads is) = refused reads is
 
-  pub of_program_fault : (found : Result Outcome Fault) (fault : Fault) → IsErrAnd found (λ f. f ≡ fault) → (Checks (λ given. made (one_read program given)) (Err fault) ⊎ (fault ≡ Memory)) → Finds found
+  pub of_program_fault : (found : Result Outcome Fault) (fault : Fault) → IsErrAnd found (λ f. f ≡ fault) → (Checks (λ content_read. made (one_read program content_read)) (Err fault) ⊎ (fault ≡ Memory)) → Finds found
   of_program_fault found fault is (inl none) = fails found fault is (inl (not_run none))
   of_program_fault found fault is (inr short) = fails found fault is (inr (ap Err short))
 
   -- the program's file gave it, and then the message's file was read
-  module _ (gave gave_next : Option (List ℕ) → Type 0) (both : (given next : Option (List ℕ)) → gave given → gave_next next → made (two_reads program given file next)) (code : List Ins) (reads : Assembles gave (Ok code)) (fine : WellFormed code) where
+  module _ (gave gave_next : Option (List ℕ) → Type 0) (both : (content_read next : Option (List ℕ)) → gave content_read → gave_next next → made (two_reads program content_read file next)) (code : List Ins) (reads : Assembles gave (Ok code)) (fine : WellFormed code) where
     -- what both reads gave
-    assembles : (next : Option (List ℕ)) → gave_next next → Assembles (λ given. made (two_reads program given file next)) (Ok code)
-    assembles next gives = assembled_as (λ given first. both given next first gives) reads
+    assembles : (next : Option (List ℕ)) → gave_next next → Assembles (λ content_read. made (two_reads program content_read file next)) (Ok code)
+    assembles next gives = assembled_as (λ content_read first. both content_read next first gives) reads
 
     pub of_file_fault : (found : Result Outcome Fault) (error : FileError) → IsErrAnd found (λ f. f ≡ fault_of_file error) → ReadsFile gave_next (Err error) → Finds found
     of_file_fault found of_file.File is gives = fails found _ is (inl (no_file (assembles None gives) fine))

@@ -5,14 +5,15 @@ use Rattle.std.specs.Str.{bytes_eq}
 use Rattle.std.specs.Option.{option_and_then, option_map, IfSome}
 use Rattle.summary.specs.declared.edition.Edition.{Edition}
 use Rattle.summary.specs.declared.edition.Edition.TheVariants.{One, Two}
-use Rattle.dbusfan_tool.specs.declared.command_line.Row.{Row}
+use Rattle.dbusfan_tool.specs.declared.command_line.CommandRow.{CommandRow}
 use Rattle.dbusfan_tool.specs.declared.gathered.Awaited.{Awaited}
 use Rattle.dbusfan_tool.specs.declared.gathered.Awaited.TheVariants.{AnyWord, EditionWord, NameAlone}
 use Rattle.std.proofs.Math.Bool.{or-false}
 use Rattle.std.proofs.lemmas.Bool.{cases_Bool, false_from_ne_true}
 use Rattle.std.proofs.lemmas.Bool.Decides.{Decides-ltb}
 use Rattle.std.proofs.lemmas.Slice.Eq.{bytes_eq-Decides}
-use Rattle.dbusfan_tool.specs.Row.{match_word, asm_word, check_word, compile_word, run_word, owns_word, edition_word, word_of_edition, end_word, is_option, is_input, Options, no_options, Spells, nothing, ended, named, owned, in_edition, Asked, to_match, to_asm, to_check, to_compile, to_run, IsRow, match_row, asm_row, check_row, compile_row, run_row, asked_by}
+use Rattle.dbusfan_tool.specs.CommandRow.{match_word, asm_word, check_word, compile_word, run_word, owns_word, edition_word, word_of_edition, end_word, is_option, is_input, Options, no_options, Spells, nothing, ended, named, owned, in_edition, Asked, to_match, to_asm, to_check, to_compile, to_run, IsRow, match_row, asm_row, check_row, compile_row, run_row}
+use Rattle.dbusfan_tool.specs.Views.{asked_by}
 use Rattle.dbusfan_tool.specs.RowReading.{Gathering, no_words, with_name, with_owns, with_edition, edition_of, gathered, match_of, only_word, run_of, asked_of, asked_in}
 
 abbrev Words : Type 0
@@ -309,6 +310,6 @@ read_of_row asked words (run_row {words = tail} one spells) =
     rw (read.1, one) refl
 
 -- What the code reads is a row.
-pub row_of_code : (row : Option Row) (words : Words) → option_map asked_by row ≡ asked_in words → IfSome row (λ (row : Row). IsRow (asked_by row) words)
+pub row_of_code : (row : Option CommandRow) (words : Words) → option_map asked_by row ≡ asked_in words → IfSome row (λ (row : CommandRow). IsRow (asked_by row) words)
 row_of_code None words e = tt
 row_of_code (Some row) words e = row_of_read (asked_by row) words (sym e)

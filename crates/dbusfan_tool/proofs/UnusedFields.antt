@@ -11,7 +11,7 @@ use Rattle.bpf_code.specs.declared.operation.Arithmetic.TheVariants.{Add, Sub, M
 use Rattle.bpf_code.specs.Table.{op_of}
 use Rattle.bpf_code.specs.Flow.{At, Leads, IsPath, Reads, stores, stores_at, stored_on}
 use Rattle.bpf_code.specs.Program.{IsConstantFine, IsScratchFine, IsJumpFine, IsLoadFine, IsFine, IsReturn, WellFormed}
-use Rattle.bpf_code.specs.Effects.{SetA, or_finish, computed, index_operand, effect_of}
+use Rattle.bpf_code.specs.Effects.{SetA, or_finish, result_of, index_operand, effect_of}
 use Rattle.bpf_code.specs.Steps.{State, start, Next, Goes, Stops, after, step_at, step_of, Arrives, EndsFrom, Ends}
 use Rattle.bpf_text.specs.Used.{used_of, with_unused_zero_in, with_unused_zero}
 
@@ -89,7 +89,7 @@ same_step IndexHeader ins image s = refl
 same_step StoreA ins image s = refl
 same_step StoreX ins image s = refl
 same_step (Compute arithmetic Constant) ins image s = refl
-same_step (Compute arithmetic Index) ins image s = ap Some (after_or_finish s 0 ins.k (computed arithmetic s.a (index_operand arithmetic s.x)))
+same_step (Compute arithmetic Index) ins image s = ap Some (after_or_finish s 0 ins.k (result_of arithmetic s.a (index_operand arithmetic s.x)))
 same_step Negate ins image s = refl
 same_step Jump ins image s = refl
 same_step (Branch test Constant) ins image s = refl

@@ -1,13 +1,11 @@
--- What a command has to say, and how it is said.
-use Rattle.std.specs.Prelude.{◌≡◌, ℕ, Bool, true, false, List, [], ◌++◌, codes, decimal, Result, Ok, Err, string_bytes, if◌then◌else◌, ◌==◌}
+-- What a command has to say, and how it is said (own).
+use Rattle.std.specs.Prelude.{◌≡◌, ℕ, Bool, true, false, List, [], ◌++◌, codes, decimal, Result, Ok, Err, if◌then◌else◌, ◌==◌}
 use Rattle.bpf_code.specs.declared.instruction.Ins.{Ins}
 use Rattle.bpf_machine.specs.declared.machine.Outcome.{Outcome}
 use Rattle.dbusfan_tool.specs.declared.fault.Fault.{Fault}
 use Rattle.dbusfan_tool.specs.declared.fault.Fault.TheVariants.{File}
 use Rattle.dbusfan_tool.specs.Fault.{line_end, fault_line, fault_status}
 use Rattle.dbusfan_tool.specs.Listing.{listing_of}
-use Rattle.dbusfan_tool.specs.declared.answer.Answer.{Answer}
-use Rattle.dbusfan_tool.specs.declared.answer.Answer.TheVariants.{Verdict, Text, Ran, Fault as Fails}
 
 -- what is written on standard output and on standard error, and the status
 pub record Said : Type 0 where
@@ -44,13 +42,6 @@ said_of_run outcome =
 abbrev pub said_of : {A : Type 0} → (A → Said) → Result A Fault → Said
 said_of say (Ok found) = say found
 said_of say (Err fault) = failing fault
-
--- how an answer is said
-abbrev pub said_by : Answer → Said
-said_by (Verdict matches) = said_of_match matches
-said_by (Text text) = saying (string_bytes text)
-said_by (Ran text matches) = record { output = string_bytes text; error = []; status = if matches then 0 else 1 }
-said_by (Fails fault) = failing fault
 
 -- What is said was written on `out`, and on `err` where `out` did not fail; where it did, that is the fault.
 pub record Tells (said : Said) (out err : List ℕ → Type 0) (out_failed : Bool) (status : ℕ) : Type 0 where

@@ -1,4 +1,4 @@
--- How a fault is named.
+-- How a fault is named (own).
 use Rattle.std.specs.Prelude.{ℕ, List, [], ◌∷◌, ◌++◌, codes}
 use Rattle.dbusfan_tool.specs.declared.fault.Fault.{Fault}
 use Rattle.dbusfan_tool.specs.declared.fault.Fault.TheVariants.{Rule, Message, Hex, Code, Program, Usage, File, Memory}

@@ -1,4 +1,4 @@
--- Hexadecimal text.
+-- Hexadecimal text (own).
 use Rattle.std.specs.Prelude.{ℕ, List, Bool, not, ◌==◌, ◌||◌, filter, Option}
 use Rattle.std.specs.Result.{result_ok}
 use Rattle.hex.specs.Hex.{decode_of}

@@ -1,6 +1,6 @@
-pub mod Row
+pub mod CommandRow
 pub mod RowReading
-pub mod Gathered
+pub mod Views
 pub mod HexText
 pub mod Files
 pub mod Output

@@ -1,4 +1,4 @@
--- How a program is printed as its bytes.
+-- How a program is printed as its bytes (own).
 use Rattle.std.specs.Prelude.{ℕ, List, ◌++◌}
 use Rattle.std.specs.List.{flat_map}
 use Rattle.hex.specs.Hex.{encode_lower}

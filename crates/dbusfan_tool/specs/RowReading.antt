@@ -1,4 +1,4 @@
--- Reading the words of a command line from left to right.
+-- Inner: reading the words of a command line from left to right.
 use Rattle.std.specs.Prelude.{ℕ, nat_lt, Bool, true, false, ◌&&◌, List, [], ◌∷◌, ◌++◌, length, Option, Some, None, is_some, unwrap_or, option_and_then, if◌then◌else◌}
 use Rattle.std.specs.Option.{option_map}
 use Rattle.std.specs.Str.{bytes_eq}
@@ -6,7 +6,7 @@ use Rattle.summary.specs.declared.edition.Edition.{Edition}
 use Rattle.summary.specs.declared.edition.Edition.TheVariants.{One, Two}
 use Rattle.dbusfan_tool.specs.declared.gathered.Awaited.{Awaited}
 use Rattle.dbusfan_tool.specs.declared.gathered.Awaited.TheVariants.{AnyWord, EditionWord, NameAlone}
-use Rattle.dbusfan_tool.specs.Row.{match_word, asm_word, check_word, compile_word, run_word, owns_word, edition_word, word_of_edition, end_word, is_option, is_input, Asked, to_match, to_asm, to_check, to_compile, to_run}
+use Rattle.dbusfan_tool.specs.CommandRow.{match_word, asm_word, check_word, compile_word, run_word, owns_word, edition_word, word_of_edition, end_word, is_option, is_input, Asked, to_match, to_asm, to_check, to_compile, to_run}
 
 -- What has been read so far: at most two words that are no options, the options, and what the next word may be.
 pub record Gathering : Type 0 where

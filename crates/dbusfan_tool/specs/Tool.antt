@@ -1,4 +1,4 @@
--- What the rows of the command line come to.
+-- What the rows of the command line come to (own).
 use Rattle.std.specs.Prelude.{◌≡◌, ◌<◌, ◌⊎◌, ◌↔◌, ℕ, Bool, List, [], Some, None, Result, Ok, Err, IsTrue}
 use Rattle.dbusfan_tool.specs.declared.fault.Fault.{Fault}
 use Rattle.dbusfan_tool.specs.declared.fault.Fault.TheVariants.{Rule, Message as BadMessage, Hex, File, Memory}
@@ -19,7 +19,7 @@ use Rattle.dbusfan_tool.specs.Program.{Assembles, Checks}
 use Rattle.dbusfan_tool.specs.Running.{Runs}
 use Rattle.dbusfan_tool.specs.Compiling.{Compiles}
 use Rattle.dbusfan_tool.specs.Files.{FileRead, one_read}
-use Rattle.dbusfan_tool.specs.Row.{Asked, to_match, to_asm, to_check, to_compile, to_run}
+use Rattle.dbusfan_tool.specs.CommandRow.{Asked, to_match, to_asm, to_check, to_compile, to_run}
 use Rattle.dbusfan_tool.specs.Answer.{Said, said_of, said_of_match, said_of_asm, said_of_check, said_of_run, saying, failing}
 
 -- What `match` finds for a rule's text, what was read, and whether the sender owns the rule's name. The rule's fault
@@ -37,11 +37,11 @@ pub data Judges (reads : List FileRead → Type 0) (rule file : List ℕ) (owns 
 -- What is said to a row, where `reads` says of a list of reads that these were made, in this order, and no others.
 abbrev pub Tool : (List FileRead → Type 0) → Asked → Said → Type 0
 Tool reads (to_match rule file owns) said = (found : Result Bool Fault) × Judges reads rule file owns found × (said ≡ said_of said_of_match found)
-Tool reads (to_asm file) said = (found : Result (List Ins) Fault) × Assembles (λ given. reads (one_read file given)) found × (said ≡ said_of said_of_asm found)
-Tool reads (to_check file) said = (found : Result ℕ Fault) × Checks (λ given. reads (one_read file given)) found × (said ≡ said_of said_of_check found)
+Tool reads (to_asm file) said = (found : Result (List Ins) Fault) × Assembles (λ content_read. reads (one_read file content_read)) found × (said ≡ said_of said_of_asm found)
+Tool reads (to_check file) said = (found : Result ℕ Fault) × Checks (λ content_read. reads (one_read file content_read)) found × (said ≡ said_of said_of_check found)
 Tool reads (to_compile rule) said = (found : Result (List ℕ) Fault) × Compiles rule found × reads [] × (said ≡ said_of saying found)
 Tool reads (to_run program file edition) said = (found : Result Outcome Fault) × Runs reads program file edition found × (said ≡ said_of said_of_run found)
 
 -- what the words allow is said, or that memory was short
 abbrev pub Says : (Said → Type 0) → (Said → Type 0) → Type 0
-Says allowed told = (said : Said) × (allowed said ⊎ (said ≡ failing Memory)) × told said
+Says allowed tells_outcome = (said : Said) × (allowed said ⊎ (said ≡ failing Memory)) × tells_outcome said

@@ -1,4 +1,4 @@
--- What words get that are no row of the command line.
+-- What words get that are no row of the command line (own).
 use Rattle.std.specs.Prelude.{◌≡◌, ◌⊎◌, ◌||◌, ℕ, Bool, true, List, [], codes}
 use Rattle.std.specs.List.{list_any}
 use Rattle.std.specs.Str.{bytes_eq}

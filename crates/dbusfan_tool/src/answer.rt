@@ -1,7 +1,8 @@
 // What a command has to say.
 
 ghost use Rattle.std.specs.Prelude.{◌≡◌};
-ghost use Rattle.dbusfan_tool.specs.Answer.{said_by, Tells};
+ghost use Rattle.dbusfan_tool.specs.Answer.{Tells};
+ghost use Rattle.dbusfan_tool.specs.Views.{said_by};
 ghost use Rattle.dbusfan_tool.specs.Output.{Puts};
 
 use crate::fault::Fault;

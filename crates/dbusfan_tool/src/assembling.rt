@@ -4,9 +4,10 @@ ghost use Rattle.std.specs.Prelude.{◌≡◌, ◌⊎◌, ◌++◌, ℕ, List, O
 ghost use Rattle.dbusfan_tool.specs.Listing.{listing_line, listing_of};
 ghost use Rattle.dbusfan_tool.specs.Program.{Assembles};
 ghost use Rattle.dbusfan_tool.specs.Tool.{Tool};
-ghost use Rattle.dbusfan_tool.specs.Row.{to_asm};
+ghost use Rattle.dbusfan_tool.specs.CommandRow.{to_asm};
 ghost use Rattle.dbusfan_tool.specs.Files.{MadeReads};
-ghost use Rattle.dbusfan_tool.specs.Answer.{said_by, failing};
+ghost use Rattle.dbusfan_tool.specs.Answer.{failing};
+ghost use Rattle.dbusfan_tool.specs.Views.{said_by};
 
 use crate::answer::Answer;
 use crate::fault::Fault;
@@ -20,15 +21,15 @@ pub(crate) fn answer<F: Files>(alloc: Global, file: &str, files: &mut F) -> Answ
     ensures { Tool (MadeReads F.gives files.old files.new) (to_asm file.now) (said_by result)
         ⊎ (said_by result ≡ failing Fault.Memory) }
 {
-    match assembled(alloc, file, files) {
+    match assemble_file(alloc, file, files) {
         Ok(text) => Answer::Text(text),
         Err(fault) => Answer::Fault(fault),
     }
 }
 
-fn assembled<F: Files>(alloc: Global, file: &str, files: &mut F) -> Result<String, Fault>
-    ensures found { IfOk result (λ text. (program : List Ins) × Assembles (λ given. F.gives files.old file.now given files.new) (Ok program) × (string_bytes text ≡ listing_of program)) }
-    ensures fault { IfErr result (λ fault. Assembles (λ given. F.gives files.old file.now given files.new) (Err fault) ⊎ (fault ≡ Fault.Memory)) }
+fn assemble_file<F: Files>(alloc: Global, file: &str, files: &mut F) -> Result<String, Fault>
+    ensures found { IfOk result (λ text. (program : List Ins) × Assembles (λ content_read. F.gives files.old file.now content_read files.new) (Ok program) × (string_bytes text ≡ listing_of program)) }
+    ensures fault { IfErr result (λ fault. Assembles (λ content_read. F.gives files.old file.now content_read files.new) (Err fault) ⊎ (fault ≡ Fault.Memory)) }
 {
     let program = program::read(alloc, file, files)?;
     let text = listing(alloc, &program)?;

@@ -3,9 +3,10 @@
 ghost use Rattle.std.specs.Prelude.{◌≡◌, ◌⊎◌, Err};
 ghost use Rattle.dbusfan_tool.specs.Program.{Checks};
 ghost use Rattle.dbusfan_tool.specs.Tool.{Tool};
-ghost use Rattle.dbusfan_tool.specs.Row.{to_check};
+ghost use Rattle.dbusfan_tool.specs.CommandRow.{to_check};
 ghost use Rattle.dbusfan_tool.specs.Files.{MadeReads};
-ghost use Rattle.dbusfan_tool.specs.Answer.{said_by, failing};
+ghost use Rattle.dbusfan_tool.specs.Answer.{failing};
+ghost use Rattle.dbusfan_tool.specs.Views.{said_by};
 
 use crate::answer::Answer;
 use crate::fault::Fault;
@@ -18,7 +19,7 @@ pub(crate) fn answer<F: Files>(alloc: Global, file: &str, files: &mut F) -> Answ
     ensures { Tool (MadeReads F.gives files.old files.new) (to_check file.now) (said_by result)
         ⊎ (said_by result ≡ failing Fault.Memory) }
 {
-    let count = match counted(alloc, file, files) {
+    let count = match count_of_file(alloc, file, files) {
         Ok(count) => count,
         Err(fault) => return Answer::Fault(fault),
     };
@@ -28,9 +29,9 @@ pub(crate) fn answer<F: Files>(alloc: Global, file: &str, files: &mut F) -> Answ
     }
 }
 
-fn counted<F: Files>(alloc: Global, file: &str, files: &mut F) -> Result<usize, Fault>
-    ensures { Checks (λ given. F.gives files.old file.now given files.new) result ⊎ (result ≡ Err Fault.Memory) }
+fn count_of_file<F: Files>(alloc: Global, file: &str, files: &mut F) -> Result<usize, Fault>
+    ensures { Checks (λ content_read. F.gives files.old file.now content_read files.new) result ⊎ (result ≡ Err Fault.Memory) }
 {
-    let verified = program::accepted(alloc, file, files)?;
+    let verified = program::verified_file(alloc, file, files)?;
     Ok(verified.code().len())
 }

@@ -5,7 +5,7 @@ use summary::Edition;
 
 /// What a command line asks for.
 #[derive(Clone, Copy)]
-pub(crate) enum Row<'a> {
+pub(crate) enum CommandRow<'a> {
     /// `match RULE FILE [--owns]`: does the rule match the message in the file?
     Match {
         rule: &'a str,
@@ -32,34 +32,35 @@ pub(crate) enum Row<'a> {
     },
 }
 
-impl<'a> Row<'a> {
+impl<'a> CommandRow<'a> {
     ghost use Rattle.std.specs.Prelude.{◌≡◌, IfSome, Some};
     ghost use Rattle.std.specs.Option.{option_map};
-    ghost use Rattle.dbusfan_tool.specs.Row.{Asked, IsRow, asked_by, texts};
+    ghost use Rattle.dbusfan_tool.specs.CommandRow.{Asked, IsRow, texts};
+    ghost use Rattle.dbusfan_tool.specs.Views.{asked_by};
     ghost use Rattle.dbusfan_tool.specs.RowReading.{asked_in};
 
     /// The row that some words are, if they are one.
-    pub(crate) fn read(words: &[&'a str]) -> Option<Row<'a>>
+    pub(crate) fn read(words: &[&'a str]) -> Option<CommandRow<'a>>
         ensures found { IfSome result (λ row. IsRow (asked_by row) (texts words.now)) }
         ensures only { (asked : Asked) → IsRow asked (texts words.now) → option_map asked_by result ≡ Some asked }
     {
-        Row::from_left(words)
+        CommandRow::from_left(words)
     }
 
-    fn from_left(words: &[&'a str]) -> Option<Row<'a>>
+    fn from_left(words: &[&'a str]) -> Option<CommandRow<'a>>
         ensures { option_map asked_by result ≡ asked_in (texts words.now) }
     {
         let (command, words) = words.split_first()?;
         let gathered = Gathered::read(words)?;
         match *command {
             "match" => gathered.to_match(),
-            "asm" => Some(Row::Asm {
+            "asm" => Some(CommandRow::Asm {
                 file: gathered.only_word()?,
             }),
-            "check" => Some(Row::Check {
+            "check" => Some(CommandRow::Check {
                 file: gathered.only_word()?,
             }),
-            "compile" => Some(Row::Compile {
+            "compile" => Some(CommandRow::Compile {
                 rule: gathered.only_word()?,
             }),
             "run" => gathered.to_run(),

@@ -5,7 +5,8 @@ ghost use Rattle.bpf_code.specs.Program.{WellFormed};
 ghost use Rattle.rule_compile.specs.Compiled.{IsCompiled, IsRefusal};
 ghost use Rattle.dbusfan_tool.specs.declared.fault.Fault.{Fault};
 ghost use Rattle.dbusfan_tool.specs.Compiling.{Compiles, slot_for};
-ghost use Rattle.dbusfan_tool.specs.Answer.{said_by, said_of, saying, failing};
+ghost use Rattle.dbusfan_tool.specs.Answer.{said_of, saying, failing};
+ghost use Rattle.dbusfan_tool.specs.Views.{said_by};
 
 use crate::answer::Answer;
 use crate::fault::Fault;
@@ -23,13 +24,13 @@ pub(crate) fn answer(alloc: Global, rule: &str) -> Answer
     ensures { ((found : Result (List ℕ) Fault) × Compiles rule.now found × (said_by result ≡ said_of saying found))
         ⊎ (said_by result ≡ failing Fault.Memory) }
 {
-    match compiled(alloc, rule) {
+    match compile_text(alloc, rule) {
         Ok(text) => Answer::Text(text),
         Err(fault) => Answer::Fault(fault),
     }
 }
 
-fn compiled(alloc: Global, rule: &str) -> Result<String, Fault>
+fn compile_text(alloc: Global, rule: &str) -> Result<String, Fault>
     ensures found { IfOk result (λ text. Compiles rule.now (Ok (string_bytes text))) }
     ensures fault { IfErr result (λ fault. Compiles rule.now (Err fault) ⊎ (fault ≡ Fault.Memory)) }
 {

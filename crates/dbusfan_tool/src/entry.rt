@@ -1,15 +1,16 @@
 // The command line.
 
 ghost use Rattle.std.specs.Prelude.{◌≡◌, ◌⊎◌, []};
-ghost use Rattle.dbusfan_tool.specs.Row.{Asked, IsRow, texts};
-ghost use Rattle.dbusfan_tool.specs.Answer.{Tells, said_by, failing};
+ghost use Rattle.dbusfan_tool.specs.CommandRow.{Asked, IsRow, texts};
+ghost use Rattle.dbusfan_tool.specs.Answer.{Tells, failing};
+ghost use Rattle.dbusfan_tool.specs.Views.{said_by};
 ghost use Rattle.dbusfan_tool.specs.Tool.{Tool, Says};
 ghost use Rattle.dbusfan_tool.specs.Usage.{SaysUsage};
 ghost use Rattle.dbusfan_tool.specs.Files.{MadeReads};
 ghost use Rattle.dbusfan_tool.specs.Output.{Puts};
 
 use crate::answer::Answer;
-use crate::command_line::Row;
+use crate::command_line::CommandRow;
 use crate::fault::Fault;
 use crate::files::Files;
 use crate::output::Output;
@@ -49,13 +50,15 @@ fn answer<'a, F: Files>(alloc: Global, words: &'a [&'a str], files: &mut F) -> A
         → SaysUsage words.entry.now (said_by result) ⊎ (said_by result ≡ failing Fault.Memory) }
     ensures unread { ((asked : Asked) → ¬ IsRow asked (texts words.entry.now)) → files.new ≡ files.old }
 {
-    match Row::read(words) {
-        Some(Row::Match { rule, file, owns }) => matching::answer(alloc, rule, file, owns, files),
-        Some(Row::Asm { file }) => assembling::answer(alloc, file, files),
-        Some(Row::Check { file }) => checking::answer(alloc, file, files),
-        Some(Row::Compile { rule }) => compiling::answer(alloc, rule),
+    match CommandRow::read(words) {
+        Some(CommandRow::Match { rule, file, owns }) => matching::answer(
+            alloc, rule, file, owns, files,
+        ),
+        Some(CommandRow::Asm { file }) => assembling::answer(alloc, file, files),
+        Some(CommandRow::Check { file }) => checking::answer(alloc, file, files),
+        Some(CommandRow::Compile { rule }) => compiling::answer(alloc, rule),
         Some(
-            Row::Run {
+            CommandRow::Run {
                 program,
                 file,
                 edition,

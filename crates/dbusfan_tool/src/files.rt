@@ -21,5 +21,5 @@ pub trait Files {
 
     /// The bytes of a file. A second read may give others, as of standard input.
     fn read(&mut self, alloc: Global, name: &str) -> Result<Vec<u8>, FileError>
-        ensures { ReadsFile (λ given. gives self.old name.now given self.new) result };
+        ensures { ReadsFile (λ content_read. gives self.old name.now content_read self.new) result };
 }

@@ -1,10 +1,10 @@
 // The words after a command.
 
 ghost use Rattle.std.specs.Prelude.{◌≡◌};
-ghost use Rattle.dbusfan_tool.specs.Row.{is_option};
+ghost use Rattle.dbusfan_tool.specs.CommandRow.{is_option};
 ghost use Rattle.dbusfan_tool.specs.RowReading.{edition_of};
 
-use crate::command_line::Row;
+use crate::command_line::CommandRow;
 use summary::Edition;
 
 #[derive(Clone, Copy)]
@@ -37,9 +37,8 @@ pub(crate) struct Gathered<'a> {
 impl<'a> Gathered<'a> {
     ghost use Rattle.std.specs.Prelude.{◌≡◌, map};
     ghost use Rattle.std.specs.Option.{option_map};
-    ghost use Rattle.dbusfan_tool.specs.Row.{asked_by};
+    ghost use Rattle.dbusfan_tool.specs.Views.{asked_by, names_of, gathering_of};
     ghost use Rattle.dbusfan_tool.specs.RowReading.{no_words, with_name, with_owns, with_edition, with_edition_word, with_any, with_word, gathered, match_of, only_word, run_of};
-    ghost use Rattle.dbusfan_tool.specs.Gathered.{names_of, gathering_of};
 
     fn nothing() -> Gathered<'a>
         ensures { gathering_of result ≡ no_words }
@@ -135,11 +134,11 @@ impl<'a> Gathered<'a> {
     }
 
     /// What `match` and these words ask for.
-    pub(crate) fn to_match(self) -> Option<Row<'a>>
+    pub(crate) fn to_match(self) -> Option<CommandRow<'a>>
         ensures { option_map asked_by result ≡ match_of (names_of self.entry.names) self.entry.owns self.entry.edition }
     {
         match (self.names, self.edition) {
-            (Names::Two(rule, file), None) => Some(Row::Match {
+            (Names::Two(rule, file), None) => Some(CommandRow::Match {
                 rule,
                 file,
                 owns: self.owns,
@@ -159,7 +158,7 @@ impl<'a> Gathered<'a> {
     }
 
     /// What `run` and these words ask for.
-    pub(crate) fn to_run(self) -> Option<Row<'a>>
+    pub(crate) fn to_run(self) -> Option<CommandRow<'a>>
         ensures { option_map asked_by result ≡ run_of (names_of self.entry.names) self.entry.owns self.entry.edition }
     {
         match self.names {
@@ -167,7 +166,7 @@ impl<'a> Gathered<'a> {
                 if program == "-" && file == "-" {
                     return None;
                 }
-                Some(Row::Run {
+                Some(CommandRow::Run {
                     program,
                     file,
                     edition: self.edition.unwrap_or(Edition::One),

@@ -3,9 +3,10 @@
 ghost use Rattle.std.specs.Prelude.{◌≡◌, ◌⊎◌, Err};
 ghost use Rattle.summary.specs.Sets.{has_slot, IsSet};
 ghost use Rattle.dbusfan_tool.specs.Tool.{Judges, Tool};
-ghost use Rattle.dbusfan_tool.specs.Row.{to_match};
+ghost use Rattle.dbusfan_tool.specs.CommandRow.{to_match};
 ghost use Rattle.dbusfan_tool.specs.Files.{MadeReads};
-ghost use Rattle.dbusfan_tool.specs.Answer.{said_by, failing};
+ghost use Rattle.dbusfan_tool.specs.Answer.{failing};
+ghost use Rattle.dbusfan_tool.specs.Views.{said_by};
 
 use crate::answer::Answer;
 use crate::compiling::{SENDER_SLOT, program_of};

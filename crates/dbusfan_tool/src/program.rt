@@ -13,8 +13,8 @@ use std::alloc::Global;
 
 /// The program that a file's text names, or the first fault.
 pub(crate) fn read<F: Files>(alloc: Global, file: &str, files: &mut F) -> Result<Vec<Ins>, Fault>
-    ensures found { IfOk result (λ program. Assembles (λ given. F.gives files.old file.now given files.new) (Ok program.items)) }
-    ensures fault { IfErr result (λ fault. Assembles (λ given. F.gives files.old file.now given files.new) (Err fault) ⊎ (fault ≡ Fault.Memory)) }
+    ensures found { IfOk result (λ program. Assembles (λ content_read. F.gives files.old file.now content_read files.new) (Ok program.items)) }
+    ensures fault { IfErr result (λ fault. Assembles (λ content_read. F.gives files.old file.now content_read files.new) (Err fault) ⊎ (fault ≡ Fault.Memory)) }
 {
     let text = files.read(alloc, file)?;
     let program = assemble_bytes(alloc, &text)?;
@@ -22,13 +22,13 @@ pub(crate) fn read<F: Files>(alloc: Global, file: &str, files: &mut F) -> Result
 }
 
 /// The program in a file, if it is accepted, or the first fault.
-pub(crate) fn accepted<F: Files>(
+pub(crate) fn verified_file<F: Files>(
     alloc: Global,
     file: &str,
     files: &mut F,
 ) -> Result<Verified, Fault>
-    ensures found { IfOk result (λ program. Assembles (λ given. F.gives files.old file.now given files.new) (Ok program) × WellFormed program) }
-    ensures fault { IfErr result (λ fault. Checks (λ given. F.gives files.old file.now given files.new) (Err fault) ⊎ (fault ≡ Fault.Memory)) }
+    ensures found { IfOk result (λ program. Assembles (λ content_read. F.gives files.old file.now content_read files.new) (Ok program) × WellFormed program) }
+    ensures fault { IfErr result (λ fault. Checks (λ content_read. F.gives files.old file.now content_read files.new) (Err fault) ⊎ (fault ≡ Fault.Memory)) }
 {
     let program = read(alloc, file, files)?;
     match verify(program) {

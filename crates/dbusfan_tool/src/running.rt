@@ -3,9 +3,10 @@
 ghost use Rattle.std.specs.Prelude.{◌≡◌, ◌⊎◌, Err};
 ghost use Rattle.dbusfan_tool.specs.Running.{Runs};
 ghost use Rattle.dbusfan_tool.specs.Tool.{Tool};
-ghost use Rattle.dbusfan_tool.specs.Row.{to_run};
+ghost use Rattle.dbusfan_tool.specs.CommandRow.{to_run};
 ghost use Rattle.dbusfan_tool.specs.Files.{MadeReads};
-ghost use Rattle.dbusfan_tool.specs.Answer.{said_by, said_of_run, failing};
+ghost use Rattle.dbusfan_tool.specs.Answer.{said_of_run, failing};
+ghost use Rattle.dbusfan_tool.specs.Views.{said_by};
 
 use crate::answer::Answer;
 use crate::fault::Fault;
@@ -29,12 +30,12 @@ pub(crate) fn answer<F: Files>(
         ⊎ (said_by result ≡ failing Fault.Memory) }
 {
     match outcome(alloc, program, file, edition, files) {
-        Ok(outcome) => told(alloc, outcome),
+        Ok(outcome) => tells_outcome(alloc, outcome),
         Err(fault) => Answer::Fault(fault),
     }
 }
 
-fn told(alloc: Global, outcome: Outcome) -> Answer
+fn tells_outcome(alloc: Global, outcome: Outcome) -> Answer
     ensures { (said_by result ≡ said_of_run outcome) ⊎ (said_by result ≡ failing Fault.Memory) }
 {
     let Outcome { verdict, steps } = outcome;
@@ -56,7 +57,7 @@ fn outcome<F: Files>(
 ) -> Result<Outcome, Fault>
     ensures { Runs (MadeReads F.gives files.old files.new) program.now file.now edition result ⊎ (result ≡ Err Fault.Memory) }
 {
-    let program = program::accepted(alloc, program, files)?;
+    let program = program::verified_file(alloc, program, files)?;
     let text = files.read(alloc, file)?;
     let bytes = decode(alloc, &text)?;
     let message = View::read(&bytes)?;

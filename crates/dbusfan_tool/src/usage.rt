@@ -1,7 +1,8 @@
 // Words that are no row of the command line.
 
 ghost use Rattle.std.specs.Prelude.{◌≡◌, ◌⊎◌, ℕ, List, []};
-ghost use Rattle.dbusfan_tool.specs.Answer.{said_by, failing};
+ghost use Rattle.dbusfan_tool.specs.Answer.{failing};
+ghost use Rattle.dbusfan_tool.specs.Views.{said_by};
 ghost use Rattle.dbusfan_tool.specs.Usage.{SaysUsage, asks_for_text, is_request};
 
 use crate::answer::Answer;
@@ -21,7 +22,7 @@ pub(crate) fn answer<'a>(alloc: Global, words: &'a [&'a str]) -> Answer
         return Answer::Fault(Fault::Usage);
     };
     match error.kind() {
-        ErrorKind::DisplayHelp | ErrorKind::DisplayVersion => shown(alloc, &error),
+        ErrorKind::DisplayHelp | ErrorKind::DisplayVersion => show_usage(alloc, &error),
         ErrorKind::OutOfMemory => Answer::Fault(Fault::Memory),
         _ => Answer::Fault(Fault::Usage),
     }
@@ -39,7 +40,7 @@ fn is_request(word: &str) -> bool
     word == "--help" || word == "-h" || word == "help" || word == "--version" || word == "-V"
 }
 
-fn shown(alloc: Global, error: &Error) -> Answer
+fn show_usage(alloc: Global, error: &Error) -> Answer
     ensures { ((text : List ℕ) × (said_by result ≡ record { output = text; error = []; status = 0 })) ⊎ (said_by result ≡ failing Fault.Memory) }
 {
     match error.to_string(alloc) {

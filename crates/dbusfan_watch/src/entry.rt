@@ -39,13 +39,13 @@ pub fn watch<R, F: Files, O: Writer, E: Writer>(
 where
     R: AllocGlobal + Clock + Env + Net<Listener = TcpListener, Stream = TcpStream>,
 {
-    match watched(rt, words, files, out) {
+    match watch_bus(rt, words, files, out) {
         Ok(()) => 0,
         Err(fault) => fault.tell(rt.alloc(), err),
     }
 }
 
-fn watched<R, F: Files, O: Writer>(
+fn watch_bus<R, F: Files, O: Writer>(
     rt: &R,
     words: &[&str],
     files: &mut F,

@@ -4,7 +4,8 @@ use Rattle.std.specs.Prelude.{Option, None, Some, MatchOption}
 use Rattle.std.specs.List.{list_any}
 use Rattle.std.specs.Option.{option_map}
 use Rattle.std.proofs.lemmas.List.Folds.{list_any_at}
-use Rattle.endpoints.specs.Address.{comma, is_special, parts_of}
+use Rattle.endpoints.specs.Address.{comma, is_special}
+use Rattle.endpoints.specs.AddressParts.{parts_of}
 
 -- a value without special bytes has no comma
 pub no_comma : (value : List ℕ) → list_any is_special value ≡ false → (i : ℕ) → i < length value → get_or value i 0 ≢ comma

@@ -1,6 +1,5 @@
 -- Addresses and their texts (D-Bus Specification, "Server Addresses").
 use Rattle.std.specs.Prelude.{◌≡◌, ◌==◌, ◌<◌, ◌||◌, ◌++◌, ◌∷◌, ◌^◌, Bool, false, ℕ, List, length, codes}
-use Rattle.std.specs.Borrow.{Bor}
 use Rattle.std.specs.List.{list_any}
 use Rattle.std.specs.Fmt.{decimal}
 use Rattle.std.specs.Str.Parse.{IsNumeral, digits_value}
@@ -28,15 +27,6 @@ is_special byte = (byte == comma) || (byte == 59) || (byte == 37)
 -- a value that stands for itself
 abbrev pub IsPlain : List ℕ → Type 0
 IsPlain value = (0 < length value) × (list_any is_special value ≡ false)
-
--- the texts round a comma
-pub record Parts : Type 0 where
-  pub front : List ℕ
-  pub back : List ℕ
-
--- two texts of the code as parts
-abbrev pub parts_of : Bor (List ℕ) × Bor (List ℕ) → Parts
-parts_of texts = record { front = texts.0.now; back = texts.1.now }
 
 -- decimal digits that stand for a port
 abbrev pub IsPort : List ℕ → ℕ → Type 0

@@ -1,2 +1,3 @@
 pub mod Address
+pub mod AddressParts
 pub mod Transports

@@ -2,7 +2,8 @@
 
 ghost use Rattle.std.specs.Prelude.{◌≡◌, ◌<◌, ◌^◌, ◌++◌, ◌∷◌, ◌↔◌, ◌==◌, false, List, ℕ, Some, None, IsTrue, IfSome, option_map};
 ghost use Rattle.std.specs.List.{list_any};
-ghost use Rattle.endpoints.specs.Address.{Place, Spells, IsPlain, IsPort, comma, is_special, parts_of, address_text, place_of};
+ghost use Rattle.endpoints.specs.Address.{Place, Spells, IsPlain, IsPort, comma, is_special, address_text, place_of};
+ghost use Rattle.endpoints.specs.AddressParts.{parts_of};
 
 use std::fmt;
 

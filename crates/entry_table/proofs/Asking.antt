@@ -4,7 +4,7 @@ use Rattle.std.proofs.lemmas.Bool.{and_from, eqb-true, eq-eqb, ne_eqb, cases_Boo
 use Rattle.std.proofs.lemmas.List.Elements.{Contains-append_left, Contains-push}
 use Rattle.std.specs.Prelude.{Option, Some, None, Contains, option_map, find}
 use Rattle.message_view.specs.Message.{Message}
-use Rattle.match_rule.specs.FixedTexts.{FixedTexts, texts_of, arg0_of}
+use Rattle.match_rule.specs.FixedTexts.{FixedTexts, texts_of}
 use Rattle.entry_table.specs.declared.entry.Entry.{Entry}
 use Rattle.entry_table.specs.OfferedEntries.{texts_fixed}
 use Rattle.entry_table.specs.FoundTexts.{is_text_found, are_found, is_offered, texts_read}

@@ -14,7 +14,7 @@ use Rattle.entry_table.specs.declared.search.Wanted.{Wanted}
 use Rattle.entry_table.specs.declared.search.Wanted.TheVariants.{Any}
 use Rattle.entry_table.specs.Entries.{AreEntries, is_of}
 use Rattle.entry_table.specs.PlacedEntries.{Placed, places_of, entry_at, but_at}
-use Rattle.entry_table.specs.IndexLists.{keyed, connection_key, connection_lists}
+use Rattle.entry_table.specs.IndexLists.{places_with_key, connection_key, connection_lists}
 use Rattle.entry_table.specs.Searching.{suits, is_wanted, is_wanted_in, or_place, last_place, entries_of, AreGiven, AreBelow, IdsFall, IsTable}
 use Rattle.entry_table.proofs.Keying.{keyed-here, keyed-other}
 
@@ -223,7 +223,7 @@ length-but place e (x ∷ xs) once at =
 pub IsTable-but : (place : ℕ) (e : Entry) (held : List Placed) (last count count' : ℕ) → AreOnce (places_of held) → IsTable held last count → entry_at place held ≡ Some e → count' + 1 ≡ count → IsTable (but_at place held) last count'
 IsTable-but place e held last count count' once h at less = record {
   ids = IdsFall-but place held h.ids;
-  given = AreGiven-but last place held h.given;
+  below_last = AreGiven-but last place held h.below_last;
   few = omega (arith, length-but place e held once at, h.few);
   counted = omega (arith, length-but place e held once at, h.counted, less);
 }
@@ -239,8 +239,8 @@ AreGiven-more last (x ∷ xs) h = (omega (arith, h.0), AreGiven-more last xs h.1
 -- the table with one more entry
 pub IsTable-more : (place : ℕ) (e : Entry) (held : List Placed) (last count : ℕ) → IsTable held last count → e.id ≡ last + 1 → length held < 16384 → IsTable ((place, e) ∷ held) (last + 1) (count + 1)
 IsTable-more place e held last count h id few = record {
-  ids = (subst (λ (k : ℕ). AreBelow k held) (sym id) (AreBelow-given last held h.given), h.ids);
-  given = (omega (arith, id), AreGiven-more last held h.given);
+  ids = (subst (λ (k : ℕ). AreBelow k held) (sym id) (AreBelow-given last held h.below_last), h.ids);
+  below_last = (omega (arith, id), AreGiven-more last held h.below_last);
   few = omega (arith, few);
   counted = omega (arith, h.counted);
 }
@@ -263,7 +263,7 @@ length-entries_of held = length-reverse (map (λ (x : Placed). x.1) held) ∙ le
 pub AreEntries-held : (held : List Placed) (last count : ℕ) → IsTable held last count → AreEntries (record { entries = entries_of held; last = last })
 AreEntries-held held last count h = record {
   rising = all_rising held h.ids;
-  given = all_given last held h.given;
+  below_last = all_given last held h.below_last;
   few = omega (arith, length-entries_of held, h.few);
 }
 
@@ -279,7 +279,7 @@ not_theirs wanted connection e other = decided (is_of connection e) refl
     decided false is = refl
 
 -- in the connection's list the search finds what it finds among all
-pub last_place-theirs : (all xs : List Placed) (wanted : Wanted) (connection : ℕ) → AreKept all xs → last_place (λ place. is_wanted_in wanted connection (entry_at place all)) (keyed connection_key (connection % connection_lists) xs) ≡ last_place (λ place. is_wanted_in wanted connection (entry_at place all)) (places_of xs)
+pub last_place-theirs : (all xs : List Placed) (wanted : Wanted) (connection : ℕ) → AreKept all xs → last_place (λ place. is_wanted_in wanted connection (entry_at place all)) (places_with_key connection_key (connection % connection_lists) xs) ≡ last_place (λ place. is_wanted_in wanted connection (entry_at place all)) (places_of xs)
 last_place-theirs all [] wanted connection kept = refl
 last_place-theirs all (x ∷ xs) wanted connection kept =
     let test : ℕ → Bool = λ place. is_wanted_in wanted connection (entry_at place all) in
@@ -292,7 +292,7 @@ last_place-theirs all (x ∷ xs) wanted connection kept =
     ]
 
 -- what a walk over the connection's list finds
-pub searched : (held : List Placed) (wanted : Wanted) (connection : ℕ) (walk : List ℕ) (r : Option ℕ) → AreOnce (places_of held) → walk ≡ keyed connection_key (connection % connection_lists) held → r ≡ last_place (λ place. is_wanted_in wanted connection (entry_at place held)) walk
+pub searched : (held : List Placed) (wanted : Wanted) (connection : ℕ) (walk : List ℕ) (r : Option ℕ) → AreOnce (places_of held) → walk ≡ places_with_key connection_key (connection % connection_lists) held → r ≡ last_place (λ place. is_wanted_in wanted connection (entry_at place held)) walk
     → IsFound held (is_wanted wanted connection) r (find (is_wanted wanted connection) (entries_of held))
 searched held wanted connection walk r once over is =
     let f = IsFound-search held wanted connection once in
@@ -384,7 +384,7 @@ first-theirs held connection places place found =
     there (Some e) is passes = (e, is, (and_parts (is_of connection e) (suits Any e) (sym (ap (is_wanted_in Any connection) is) ∙ passes)).0)
 
 -- none is the connection's where its list has none
-none-oldest : (all xs : List Placed) (connection : ℕ) → AreKept all xs → find (λ p. is_wanted_in Any connection (entry_at p all)) (keyed connection_key (connection % connection_lists) xs) ≡ None → oldest_of (is_of connection) xs ≡ None
+none-oldest : (all xs : List Placed) (connection : ℕ) → AreKept all xs → find (λ p. is_wanted_in Any connection (entry_at p all)) (places_with_key connection_key (connection % connection_lists) xs) ≡ None → oldest_of (is_of connection) xs ≡ None
 none-oldest all [] connection kept none = refl
 none-oldest all (x ∷ xs) connection kept none =
     let test : ℕ → Bool = λ p. is_wanted_in Any connection (entry_at p all) in
@@ -392,10 +392,10 @@ none-oldest all (x ∷ xs) connection kept none =
     let seen : test x.0 ≡ is_of connection x.1 = ap (is_wanted_in Any connection) kept.0 ∙ and-true (is_of connection x.1) in
     elim (cases_eq (connection_key x.1) k) [
       | inl is ↦ (
-          let found : cond (test x.0) (Some x.0) (find test (keyed connection_key k xs)) ≡ None = sym (ap (find test) (keyed-here connection_key k x xs is)) ∙ none in
-          let parts = neither x.0 (find test (keyed connection_key k xs)) (test x.0) found in
-          joined x (is_of connection x.1) (oldest_of (is_of connection) xs) (sym seen ∙ parts.0) (none-oldest all xs connection kept.1 parts.1))
-      | inr other ↦ joined x (is_of connection x.1) (oldest_of (is_of connection) xs) (sym (and-true (is_of connection x.1)) ∙ not_theirs Any connection x.1 other)
+          let found : cond (test x.0) (Some x.0) (find test (places_with_key connection_key k xs)) ≡ None = sym (ap (find test) (keyed-here connection_key k x xs is)) ∙ none in
+          let parts = neither x.0 (find test (places_with_key connection_key k xs)) (test x.0) found in
+          hash_of_texts x (is_of connection x.1) (oldest_of (is_of connection) xs) (sym seen ∙ parts.0) (none-oldest all xs connection kept.1 parts.1))
+      | inr other ↦ hash_of_texts x (is_of connection x.1) (oldest_of (is_of connection) xs) (sym (and-true (is_of connection x.1)) ∙ not_theirs Any connection x.1 other)
           (none-oldest all xs connection kept.1 (sym (ap (find test) (keyed-other connection_key k x xs other)) ∙ none))
     ]
   where
@@ -403,12 +403,12 @@ none-oldest all (x ∷ xs) connection kept none =
     neither p r true none = absurd cc
     neither p r false none = (refl, none)
 
-    joined : (x : Placed) (b : Bool) (r : Option Placed) → b ≡ false → r ≡ None → or_placed r (cond b (Some x) None) ≡ None
-    joined x true r fails none = absurd (false≢true (sym fails))
-    joined x false None fails none = refl
-    joined x false (Some y) fails none = absurd cc
+    hash_of_texts : (x : Placed) (b : Bool) (r : Option Placed) → b ≡ false → r ≡ None → or_placed r (cond b (Some x) None) ≡ None
+    hash_of_texts x true r fails none = absurd (false≢true (sym fails))
+    hash_of_texts x false None fails none = refl
+    hash_of_texts x false (Some y) fails none = absurd cc
 
-pub none-theirs : (held : List Placed) (connection : ℕ) (walk : List ℕ) → AreOnce (places_of held) → walk ≡ keyed connection_key (connection % connection_lists) held → None ≡ find (λ p. is_wanted_in Any connection (entry_at p held)) walk → find (is_of connection) (entries_of held) ≡ None
+pub none-theirs : (held : List Placed) (connection : ℕ) (walk : List ℕ) → AreOnce (places_of held) → walk ≡ places_with_key connection_key (connection % connection_lists) held → None ≡ find (λ p. is_wanted_in Any connection (entry_at p held)) walk → find (is_of connection) (entries_of held) ≡ None
 none-theirs held connection walk once over none =
     find-oldest (is_of connection) held
     ∙ ap (option_map {T = Placed} {U = Entry} (λ (y : Placed). y.1)) (none-oldest held held connection (AreKept-all held once) (ap (find (λ p. is_wanted_in Any connection (entry_at p held))) (sym over) ∙ sym none))

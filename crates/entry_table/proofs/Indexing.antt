@@ -14,7 +14,7 @@ use Rattle.entry_table.specs.OfferedEntries.{texts_fixed}
 use Rattle.entry_table.specs.PlacedEntries.{Placed, places_of, entry_at, but_at, room}
 use Rattle.entry_table.specs.ShapeCounts.{shape_count, is_in_use, AreShapes}
 use Rattle.entry_table.specs.TextKeys.{joined_hash, shape_of, hash_lists}
-use Rattle.entry_table.specs.IndexLists.{keyed, AreCounted, IsIndexed, CanStand, Stands, connection_key, connection_lists, texts_key, shape_key, standing_of, empty_index, with_place, without_place, taken_from}
+use Rattle.entry_table.specs.IndexLists.{places_with_key, AreCounted, IsIndexed, CanStand, Stands, connection_key, connection_lists, texts_key, shape_key, standing_of, empty_index, with_place, without_place, taken_from}
 use Rattle.entry_table.proofs.Shelving.{has_place-kept}
 use Rattle.entry_table.proofs.Placing.{has_place-gone, places_of-but}
 use Rattle.entry_table.proofs.Keying.{keyed-few, keyed-grown, keyed-same, keyed-shrunk, keyed-kept, IsKeyed-empty, IsKeyed-free, IsKeyed-stands, IsKeyed-put, IsKeyed-take}
@@ -42,7 +42,7 @@ AreCounted-put : (counts : List ℕ) (held : List Placed) (place : ℕ) (e : Ent
 AreCounted-put counts held place e h = record {
   long = length-set counts (shape_key e) (get_or counts (shape_key e) 0 + 1) ∙ h.long;
   each = λ shape low. elim (cases_eq shape (shape_key e)) [
-    | inl is ↦ subst (λ (k : ℕ). get_or (set counts (shape_key e) (get_or counts (shape_key e) 0 + 1)) k 0 ≡ length (keyed shape_key k ((place, e) ∷ held))) (sym is)
+    | inl is ↦ subst (λ (k : ℕ). get_or (set counts (shape_key e) (get_or counts (shape_key e) 0 + 1)) k 0 ≡ length (places_with_key shape_key k ((place, e) ∷ held))) (sym is)
         (get_or-set_same counts (shape_key e) (get_or counts (shape_key e) 0 + 1) 0 (omega (arith, shape-low e, h.long)) ∙ omega (arith, h.each (shape_key e) (shape-low e), keyed-grown shape_key place e held))
     | inr other ↦ get_or-set_other counts (shape_key e) shape (get_or counts (shape_key e) 0 + 1) 0 other ∙ h.each shape low ∙ sym (ap (λ (ys : List ℕ). length ys) (keyed-same shape_key shape place e held (λ same. other (sym same))))
   ];
@@ -52,7 +52,7 @@ AreCounted-take : (counts : List ℕ) (held : List Placed) (place : ℕ) (e : En
 AreCounted-take counts held place e once h at = record {
   long = length-set counts (shape_key e) (get_or counts (shape_key e) 0 - 1) ∙ h.long;
   each = λ shape low. elim (cases_eq shape (shape_key e)) [
-    | inl is ↦ subst (λ (k : ℕ). get_or (set counts (shape_key e) (get_or counts (shape_key e) 0 - 1)) k 0 ≡ length (keyed shape_key k (but_at place held))) (sym is)
+    | inl is ↦ subst (λ (k : ℕ). get_or (set counts (shape_key e) (get_or counts (shape_key e) 0 - 1)) k 0 ≡ length (places_with_key shape_key k (but_at place held))) (sym is)
         (get_or-set_same counts (shape_key e) (get_or counts (shape_key e) 0 - 1) 0 (omega (arith, shape-low e, h.long)) ∙ omega (arith, h.each (shape_key e) (shape-low e), keyed-shrunk shape_key place e held once at))
     | inr other ↦ get_or-set_other counts (shape_key e) shape (get_or counts (shape_key e) 0 - 1) 0 other ∙ h.each shape low ∙ sym (ap (λ (ys : List ℕ). length ys) (keyed-kept shape_key shape place e held once at (λ same. other (sym same))))
   ];

@@ -17,7 +17,7 @@ use Rattle.entry_table.specs.PlacedEntries.{Placed, places_of, entry_at}
 use Rattle.entry_table.specs.Searching.{entries_of, AreBelow, IdsFall}
 use Rattle.entry_table.specs.ShapeCounts.{is_in_use}
 use Rattle.entry_table.specs.TextKeys.{KeyedTexts, joined_hash, shape_of, in_shape, list_of, hash_lists}
-use Rattle.entry_table.specs.IndexLists.{keyed, IsKeyed, texts_key, shape_key, IsIndexed}
+use Rattle.entry_table.specs.IndexLists.{places_with_key, IsKeyed, texts_key, shape_key, IsIndexed}
 use Rattle.entry_table.proofs.Asking.{low_offered}
 use Rattle.entry_table.proofs.Finding.{AreKept-all}
 use Rattle.entry_table.proofs.Keying.{keyed-here, keyed-other}
@@ -81,7 +81,7 @@ to_shapes held found (shape ∷ shapes) e stands passes has =
     ]
 
 -- a shape that an entry has is counted
-counted : (held : List Placed) (e : Entry) → Contains (seen_in held) e → 0 < length (keyed shape_key (shape_key e) held)
+counted : (held : List Placed) (e : Entry) → Contains (seen_in held) e → 0 < length (places_with_key shape_key (shape_key e) held)
 counted [] e h = absurd (omega (arith, h.1))
 counted (x ∷ xs) e h =
     elim (contains-cons x.1 (seen_in xs) e h) [

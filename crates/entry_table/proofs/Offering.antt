@@ -8,26 +8,26 @@ use Rattle.std.proofs.lemmas.Slice.Eq.{bytes_eq-Decides}
 use Rattle.match_rule.specs.FixedTexts.{FixedTexts, AreFound}
 use Rattle.entry_table.specs.declared.entry.Entry.{Entry}
 use Rattle.entry_table.specs.FoundTexts.{is_text_found, are_found}
-use Rattle.entry_table.specs.IndexLists.{keyed}
+use Rattle.entry_table.specs.IndexLists.{places_with_key}
 use Rattle.entry_table.specs.TextKeys.{bit_of, shape_of, where_bit, in_shape}
 use Rattle.entry_table.specs.PlacedEntries.{Placed, entry_at}
 use Rattle.entry_table.specs.Searching.{entries_of}
 use Rattle.entry_table.proofs.Finding.{AreKept, entries_of-cons}
 use Rattle.entry_table.proofs.Keying.{keyed-here, keyed-other}
 
-abbrev consed : Option Entry → List Entry → List Entry
-consed None es = es
-consed (Some e) es = e ∷ es
+abbrev put_in_front : Option Entry → List Entry → List Entry
+put_in_front None es = es
+put_in_front (Some e) es = e ∷ es
 
 -- the entries in a list by a key that pass a test, where the test decides the key
-pub in_list : (key : Entry → ℕ) (k : ℕ) (q : Entry → Bool) → ((e : Entry) → q e ≡ true → key e ≡ k) → (all xs : List Placed) → AreKept all xs → filter q (filter_map (λ (place : ℕ). entry_at place all) (keyed key k xs)) ≡ filter q (map (λ (x : Placed). x.1) xs)
+pub in_list : (key : Entry → ℕ) (k : ℕ) (q : Entry → Bool) → ((e : Entry) → q e ≡ true → key e ≡ k) → (all xs : List Placed) → AreKept all xs → filter q (filter_map (λ (place : ℕ). entry_at place all) (places_with_key key k xs)) ≡ filter q (map (λ (x : Placed). x.1) xs)
 in_list key k q only all [] kept = refl
 in_list key k q only all (x ∷ xs) kept =
     let seen : List ℕ → List Entry = λ places. filter_map (λ (place : ℕ). entry_at place all) places in
     let rest = in_list key k q only all xs kept.1 in
     elim (cases_eq (key x.1) k) [
       | inl is ↦ ap (λ (places : List ℕ). filter q (seen places)) (keyed-here key k x xs is)
-          ∙ ap (λ (o : Option Entry). filter q (consed o (seen (keyed key k xs)))) kept.0
+          ∙ ap (λ (o : Option Entry). filter q (put_in_front o (seen (places_with_key key k xs)))) kept.0
           ∙ ap (λ (es : List Entry). cond (q x.1) (x.1 ∷ es) es) rest
       | inr other ↦ ap (λ (places : List ℕ). filter q (seen places)) (keyed-other key k x xs other) ∙ rest
           ∙ sym (skipped x.1 (filter q (map (λ (y : Placed). y.1) xs)) (q x.1) (λ passes. other (only x.1 passes)))

@@ -82,22 +82,22 @@ pub IsShelf-put : (cells : List (Option Entry)) (ages : PlaceLists) (place : ℕ
 IsShelf-put cells ages place e h apart stands out =
     let vacant : List ℕ = without place (places_in ages 1) in
     let between : PlaceLists = record ages { lists = set ages.lists 1 vacant } in
-    let wide : length between.lists ≡ 2 = length-set ages.lists 1 vacant ∙ h.two in
+    let wide : length between.lists ≡ 2 = length-set ages.lists 1 vacant ∙ h.two_lists in
     let first : places_in (moved ages place 1 0) 0 ≡ place ∷ places_in ages 0 =
     lists_at between 0 (place ∷ places_in between 0) (omega (arith, wide)) ∙ ap (λ (xs : List ℕ). place ∷ xs) (lists_other ages 1 0 vacant (λ e. omega arith)) in
     let second : places_in (moved ages place 1 0) 1 ≡ vacant =
-    lists_other between 0 1 (place ∷ places_in between 0) (λ e. omega arith) ∙ lists_at ages 1 vacant (omega (arith, h.two)) in
-    let low : place < room = omega (arith, apart.below 1 place (omega (arith, h.two)) stands, h.places) in
+    lists_other between 0 1 (place ∷ places_in between 0) (λ e. omega arith) ∙ lists_at ages 1 vacant (omega (arith, h.two_lists)) in
+    let low : place < room = omega (arith, apart.below 1 place (omega (arith, h.two_lists)) stands, h.places) in
     record {
       long = length-set cells place (Some e) ∙ h.long;
       places = h.places;
-      two = length-set between.lists 0 (place ∷ places_in between 0) ∙ wide;
+      two_lists = length-set between.lists 0 (place ∷ places_in between 0) ∙ wide;
       once = subst AreOnce (sym first) (out, h.once);
       same = λ p. elim (cases_eq p place) [
         | inl is ↦ ap (λ (c : Option Entry). is_some c) (ap (λ (k : ℕ). get_or (set cells place (Some e)) k None) is ∙ get_or-set_same cells place (Some e) None (omega (arith, low, h.long))) ∙ sym (ap (has_place p) first ∙ or_left (eqb p place) (has_place p (places_in ages 0)) (eq-eqb p place is))
         | inr ne ↦ ap (λ (c : Option Entry). is_some c) (get_or-set_other cells place p (Some e) None ne) ∙ h.same p ∙ sym (ap (has_place p) first ∙ ap (λ (b : Bool). b || has_place p (places_in ages 0)) (ne_eqb p place ne))
       ];
-      all = omega (arith, h.all, ap (λ (xs : List ℕ). length xs) first, ap (λ (xs : List ℕ). length xs) second, length-without place (places_in ages 1) (apart.once 1 (omega (arith, h.two))) stands);
+      all = omega (arith, h.all, ap (λ (xs : List ℕ). length xs) first, ap (λ (xs : List ℕ). length xs) second, length-without place (places_in ages 1) (apart.once 1 (omega (arith, h.two_lists))) stands);
     }
 
 pub held-put : (cells : List (Option Entry)) (ages : PlaceLists) (place : ℕ) (e : Entry) → IsShelf cells ages → AreApart ages → has_place place (places_in ages 1) ≡ true → has_place place (places_in ages 0) ≡ false
@@ -106,24 +106,24 @@ held-put cells ages place e h apart stands out =
     let vacant : List ℕ = without place (places_in ages 1) in
     let between : PlaceLists = record ages { lists = set ages.lists 1 vacant } in
     let first : places_in (moved ages place 1 0) 0 ≡ place ∷ places_in ages 0 =
-    lists_at between 0 (place ∷ places_in between 0) (omega (arith, length-set ages.lists 1 vacant, h.two)) ∙ ap (λ (xs : List ℕ). place ∷ xs) (lists_other ages 1 0 vacant (λ e. omega arith)) in
-    ap (placed_at (set cells place (Some e))) first ∙ placed_at-put cells place e (places_in ages 0) (omega (arith, apart.below 1 place (omega (arith, h.two)) stands, h.places, h.long)) out
+    lists_at between 0 (place ∷ places_in between 0) (omega (arith, length-set ages.lists 1 vacant, h.two_lists)) ∙ ap (λ (xs : List ℕ). place ∷ xs) (lists_other ages 1 0 vacant (λ e. omega arith)) in
+    ap (placed_at (set cells place (Some e))) first ∙ placed_at-put cells place e (places_in ages 0) (omega (arith, apart.below 1 place (omega (arith, h.two_lists)) stands, h.places, h.long)) out
 
 -- an entry is taken from its place
 pub IsShelf-take : (cells : List (Option Entry)) (ages : PlaceLists) (place : ℕ) → IsShelf cells ages → AreApart ages → has_place place (places_in ages 0) ≡ true → IsShelf (set cells place None) (moved ages place 0 1)
 IsShelf-take cells ages place h apart stands =
     let used : List ℕ = without place (places_in ages 0) in
     let between : PlaceLists = record ages { lists = set ages.lists 0 used } in
-    let wide : length between.lists ≡ 2 = length-set ages.lists 0 used ∙ h.two in
+    let wide : length between.lists ≡ 2 = length-set ages.lists 0 used ∙ h.two_lists in
     let first : places_in (moved ages place 0 1) 0 ≡ used =
-    lists_other between 1 0 (place ∷ places_in between 1) (λ e. omega arith) ∙ lists_at ages 0 used (omega (arith, h.two)) in
+    lists_other between 1 0 (place ∷ places_in between 1) (λ e. omega arith) ∙ lists_at ages 0 used (omega (arith, h.two_lists)) in
     let second : places_in (moved ages place 0 1) 1 ≡ place ∷ places_in ages 1 =
     lists_at between 1 (place ∷ places_in between 1) (omega (arith, wide)) ∙ ap (λ (xs : List ℕ). place ∷ xs) (lists_other ages 0 1 used (λ e. omega arith)) in
-    let low : place < room = omega (arith, apart.below 0 place (omega (arith, h.two)) stands, h.places) in
+    let low : place < room = omega (arith, apart.below 0 place (omega (arith, h.two_lists)) stands, h.places) in
     record {
       long = length-set cells place None ∙ h.long;
       places = h.places;
-      two = length-set between.lists 1 (place ∷ places_in between 1) ∙ wide;
+      two_lists = length-set between.lists 1 (place ∷ places_in between 1) ∙ wide;
       once = subst AreOnce (sym first) (AreOnce-without place (places_in ages 0) h.once);
       same = λ p. elim (cases_eq p place) [
         | inl is ↦ ap (λ (c : Option Entry). is_some c) (ap (λ (k : ℕ). get_or (set cells place None) k None) is ∙ get_or-set_same cells place None None (omega (arith, low, h.long))) ∙ sym (ap (has_place p) first ∙ ap (λ (k : ℕ). has_place p (without k (places_in ages 0))) (sym is) ∙ has_place-gone p (places_in ages 0))
@@ -137,13 +137,13 @@ held-take cells ages place h =
     let used : List ℕ = without place (places_in ages 0) in
     let between : PlaceLists = record ages { lists = set ages.lists 0 used } in
     let first : places_in (moved ages place 0 1) 0 ≡ used =
-    lists_other between 1 0 (place ∷ places_in between 1) (λ e. omega arith) ∙ lists_at ages 0 used (omega (arith, h.two)) in
+    lists_other between 1 0 (place ∷ places_in between 1) (λ e. omega arith) ∙ lists_at ages 0 used (omega (arith, h.two_lists)) in
     ap (placed_at (set cells place None)) first ∙ placed_at-take cells place (places_in ages 0)
 
 -- a vacant place isn't used
 pub unused : (cells : List (Option Entry)) (ages : PlaceLists) (place : ℕ) → IsShelf cells ages → AreApart ages → has_place place (places_in ages 1) ≡ true → (b : Bool) → has_place place (places_in ages 0) ≡ b → has_place place (places_in ages 0) ≡ false
 unused cells ages place h apart stands false is = is
-unused cells ages place h apart stands true is = absurd (zero-one (apart.apart 0 1 place (omega (arith, h.two)) (omega (arith, h.two)) is stands))
+unused cells ages place h apart stands true is = absurd (zero-one (apart.apart 0 1 place (omega (arith, h.two_lists)) (omega (arith, h.two_lists)) is stands))
   where
     zero-one : ◌≡◌ {A = ℕ} 0 1 → ⊥
     zero-one e = omega arith
@@ -161,7 +161,7 @@ pub record IsMade (cells : List (Option Entry)) (ages : PlaceLists) (n : ℕ) : 
   pub long : length cells ≡ n
   pub empty : (p : ℕ) → get_or cells p None ≡ None
   pub places : ages.places ≡ room
-  pub two : length ages.lists ≡ 2
+  pub two_lists : length ages.lists ≡ 2
   pub none : places_in ages 0 ≡ []
   pub many : length (places_in ages 1) ≡ n
   pub below : (p : ℕ) → has_place p (places_in ages 1) ≡ true → p < n
@@ -169,12 +169,12 @@ pub record IsMade (cells : List (Option Entry)) (ages : PlaceLists) (n : ℕ) : 
 pub IsMade-more : (cells cells' : List (Option Entry)) (ages ages' : PlaceLists) (n : ℕ) → IsMade cells ages n → cells' ≡ cells ++ None ∷ [] → ages' ≡ record ages { lists = set ages.lists 1 (n ∷ places_in ages 1) } → IsMade cells' ages' (n + 1)
 IsMade-more cells cells' ages ages' n h grown pushed =
     let first : places_in ages' 0 ≡ [] = ap (λ (s : PlaceLists). places_in s 0) pushed ∙ lists_other ages 1 0 (n ∷ places_in ages 1) (λ e. omega arith) ∙ h.none in
-    let second : places_in ages' 1 ≡ n ∷ places_in ages 1 = ap (λ (s : PlaceLists). places_in s 1) pushed ∙ lists_at ages 1 (n ∷ places_in ages 1) (omega (arith, h.two)) in
+    let second : places_in ages' 1 ≡ n ∷ places_in ages 1 = ap (λ (s : PlaceLists). places_in s 1) pushed ∙ lists_at ages 1 (n ∷ places_in ages 1) (omega (arith, h.two_lists)) in
     record {
       long = ap (λ (xs : List (Option Entry)). length xs) grown ∙ length_push cells None ∙ ap (λ (k : ℕ). k + 1) h.long;
       empty = λ p. ap (λ (xs : List (Option Entry)). get_or xs p None) grown ∙ empty_at p;
       places = ap (λ (s : PlaceLists). s.places) pushed ∙ h.places;
-      two = ap (λ (s : PlaceLists). length s.lists) pushed ∙ length-set ages.lists 1 (n ∷ places_in ages 1) ∙ h.two;
+      two_lists = ap (λ (s : PlaceLists). length s.lists) pushed ∙ length-set ages.lists 1 (n ∷ places_in ages 1) ∙ h.two_lists;
       none = first;
       many = omega (arith, ap (λ (xs : List ℕ). length xs) second, h.many);
       below = λ p stands. elim (or_cases (eqb p n) (has_place p (places_in ages 1)) (sym (ap (has_place p) second) ∙ stands)) [

@@ -1,4 +1,4 @@
--- An attached program.
+-- An attached program (own).
 use Rattle.std.specs.Prelude.{List}
 use Rattle.bpf_code.specs.declared.instruction.Ins.{Ins}
 use Rattle.summary.specs.declared.edition.Edition.{Edition}

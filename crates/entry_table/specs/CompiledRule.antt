@@ -1,4 +1,4 @@
--- A rule, its slot and its program.
+-- A rule, its slot and its program (own).
 use Rattle.std.specs.Prelude.{ℕ, List, Option}
 use Rattle.bpf_code.specs.declared.instruction.Ins.{Ins}
 use Rattle.match_rule.specs.RuleTree.{RuleTree}

@@ -1,4 +1,4 @@
--- Entries whose rules ask for another path namespace than that of a message's path.
+-- Entries whose rules ask for another path namespace than that of a message's path (own).
 use Rattle.std.specs.Prelude.{ℕ, List, Option}
 use Rattle.match_rule.specs.PathNamespaces.{IsElsewhere}
 use Rattle.entry_table.specs.declared.entry.Filter.{Filter}

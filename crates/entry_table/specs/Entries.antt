@@ -1,4 +1,4 @@
--- The entries of the bus.
+-- The entries of the bus (own).
 use Rattle.std.specs.Prelude.{ℕ, ◌≤◌, Bool, true, false, not, ◌&&◌, ◌||◌, List, [], filter, length, ◌==◌, nat_le, All, AllPairs, ◌<◌}
 use Rattle.match_rule.specs.RuleTree.{RuleTree, rule_eq}
 use Rattle.entry_table.specs.declared.entry.Entry.{Entry}
@@ -25,7 +25,7 @@ is_full all = nat_le 16384 (length all.entries) || all.last == max_id
 -- what is true of every table: ids rise, none is above the last that was given, and there is room for each entry
 pub record AreEntries (all : Entries) : Type 0 where
   pub rising : AllPairs (λ (e f : Entry). e.id < f.id) all.entries
-  pub given : All (λ (e : Entry). e.id ≤ all.last) all.entries
+  pub below_last : All (λ (e : Entry). e.id ≤ all.last) all.entries
   pub few : length all.entries ≤ 16384
 
 -- the connection has the entry

@@ -11,14 +11,14 @@ use Rattle.entry_table.specs.ShapeCounts.{shape_count}
 use Rattle.entry_table.specs.TextKeys.{joined_hash, shape_of, list_of, hash_lists}
 
 -- the places of the entries of a key, the entry that was put last first
-abbrev pub keyed : (Entry → ℕ) → ℕ → List Placed → List ℕ
-keyed key k held = places_of (filter (λ (x : Placed). key x.1 == k) held)
+abbrev pub places_with_key : (Entry → ℕ) → ℕ → List Placed → List ℕ
+places_with_key key k held = places_of (filter (λ (x : Placed). key x.1 == k) held)
 
 -- each list has the places of the entries of its key
 pub record IsKeyed (key : Entry → ℕ) (count : ℕ) (all : PlaceLists) (held : List Placed) : Type 0 where
   pub places : all.places ≡ room
   pub long : length all.lists ≡ count
-  pub each : (k : ℕ) → k < count → places_in all k ≡ keyed key k held
+  pub each : (k : ℕ) → k < count → places_in all k ≡ places_with_key key k held
 
 -- how many lists there are for connections
 abbrev pub connection_lists : ℕ
@@ -36,7 +36,7 @@ texts_key points e = list_of (shape_of (texts_fixed e.filter)) (joined_hash poin
 -- the entries of each shape are counted
 pub record AreCounted (counts : List ℕ) (held : List Placed) : Type 0 where
   pub long : length counts ≡ shape_count
-  pub each : (shape : ℕ) → shape < shape_count → slice_index counts shape ≡ length (keyed shape_key shape held)
+  pub each : (shape : ℕ) → shape < shape_count → slice_index counts shape ≡ length (places_with_key shape_key shape held)
 
 -- what an index keeps of the entries: each place has at most one, each list has those of its key, and shapes are
 -- counted

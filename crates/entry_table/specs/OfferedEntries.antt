@@ -1,4 +1,4 @@
--- The entries that a message is offered to.
+-- The entries that a message is offered to (own).
 use Rattle.std.specs.Prelude.{◌≢◌, ◌↔◌, List, Contains, AllPairs}
 use Rattle.message_view.specs.Message.{Message}
 use Rattle.match_rule.specs.FixedTexts.{FixedTexts, no_texts, fixed_texts, texts_of, AreFound}

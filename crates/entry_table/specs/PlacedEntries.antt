@@ -36,7 +36,7 @@ but_at place held = filter (λ (x : Placed). not (place == x.0)) held
 pub record IsShelf (cells : List (Option Entry)) (ages : PlaceLists) : Type 0 where
   pub long : length cells ≡ room
   pub places : ages.places ≡ room
-  pub two : length ages.lists ≡ 2
+  pub two_lists : length ages.lists ≡ 2
   pub once : AreOnce (places_in ages 0)
   pub same : (place : ℕ) → is_some (slice_index_or cells place None) ≡ has_place place (places_in ages 0)
   pub all : length (places_in ages 0) + length (places_in ages 1) ≡ room

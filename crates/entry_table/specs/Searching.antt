@@ -52,6 +52,6 @@ IdsFall (x ∷ xs) = AreBelow x.1.id xs × IdsFall xs
 -- what a table keeps of its entries
 pub record IsTable (held : List Placed) (last count : ℕ) : Type 0 where
   pub ids : IdsFall held
-  pub given : AreGiven last held
+  pub below_last : AreGiven last held
   pub few : length held ≤ 16384
   pub counted : count ≡ length held

@@ -20,11 +20,11 @@ text_hash point None = 0
 text_hash point (Some text) = hash_at point text
 
 -- the sum of four hashes
-abbrev pub joined : ℕ → ℕ → ℕ → ℕ → ℕ
-joined member interface path arg0 = (((member + interface) % 2 ^ 64 + path) % 2 ^ 64 + arg0) % 2 ^ 64
+abbrev pub hash_of_texts : ℕ → ℕ → ℕ → ℕ → ℕ
+hash_of_texts member interface path arg0 = (((member + interface) % 2 ^ 64 + path) % 2 ^ 64 + arg0) % 2 ^ 64
 
 abbrev pub joined_hash : TextPoints → FixedTexts → ℕ
-joined_hash points texts = joined (text_hash points.member texts.member) (text_hash points.interface texts.interface) (text_hash points.path texts.path) (text_hash points.arg0 texts.arg0)
+joined_hash points texts = hash_of_texts (text_hash points.member texts.member) (text_hash points.interface texts.interface) (text_hash points.path texts.path) (text_hash points.arg0 texts.arg0)
 
 abbrev pub bit_of : Option (List ℕ) → ℕ
 bit_of None = 0

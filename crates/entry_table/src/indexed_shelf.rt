@@ -37,7 +37,7 @@ impl IndexedShelf {
     ghost use Rattle.entry_table.specs.declared.entry.Entry.{Entry};
     ghost use Rattle.entry_table.specs.OfferedEntries.{AreOffered};
     ghost use Rattle.entry_table.specs.PlacedEntries.{places_of, entry_at, but_at};
-    ghost use Rattle.entry_table.specs.IndexLists.{keyed, connection_key, connection_lists};
+    ghost use Rattle.entry_table.specs.IndexLists.{places_with_key, connection_key, connection_lists};
     ghost use Rattle.entry_table.specs.Searching.{entries_of, IdsFall};
 
     /// A shelf without entries. Only this call takes memory.
@@ -80,7 +80,7 @@ impl IndexedShelf {
 
     /// The places of the entries of the connections that share a list with this one, the newest first.
     pub(crate) fn of_connection(&self, connection: u64) -> Walk<'_>
-        ensures value { result ≡ keyed connection_key (connection % connection_lists) self.now }
+        ensures value { result ≡ places_with_key connection_key (connection % connection_lists) self.now }
         // No place has two entries.
         ensures once { AreOnce (places_of self.now) }
     {
@@ -100,9 +100,9 @@ impl IndexedShelf {
     }
 
     /// The entries that a message is offered to.
-    pub(crate) fn offered<'a>(&'a self, view: &View<'a>) -> Offered<'a>
+    pub(crate) fn entries_for<'a>(&'a self, view: &View<'a>) -> Offered<'a>
         ensures { (m : Message) → Valid view.now m → IdsFall self.entry.now → AreOffered (entries_of self.entry.now) m result }
     {
-        self.index.offered(&self.shelf, view)
+        self.index.entries_for(&self.shelf, view)
     }
 }

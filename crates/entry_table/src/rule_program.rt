@@ -1,13 +1,13 @@
 // Rules with their programs.
 
-ghost use Rattle.std.specs.Prelude.{◌≡◌, ◌↔◌, length, IsTrue, IsSomeAnd, option_map};
+ghost use Rattle.std.specs.Prelude.{◌≡◌, ◌↔◌, IsTrue, IsSomeAnd, option_map};
 ghost use Rattle.match_rule.specs.FixedTexts.{fixed_texts};
-ghost use Rattle.match_rule.specs.PathNamespaces.{HasPathIn, IsElsewhere};
+ghost use Rattle.match_rule.specs.PathNamespaces.{end_of, HasPathIn, IsElsewhere};
 ghost use Rattle.entry_table.specs.TextKeys.{shape_of};
 
 use crate::texts::Texts;
 use bpf_verify::Verified;
-use match_rule::{Rule, has_path_in, may_have_path};
+use match_rule::{NamespaceEnd, Rule, has_path_in};
 use rule_compile::{CompileError, compile, compile_rest};
 use std::alloc::{AllocError, Global};
 use std::marker::Model;
@@ -24,13 +24,13 @@ struct Parts {
 
 /// A rule with the program that it was compiled to, for images of edition 2. Shares are of one value. A message that
 /// was looked up has the texts which the rule fixes, so a second program tests only what is left of the rule. Which
-/// texts the rule fixes and how long its path namespace is are asked of each entry of a list that a message is looked
+/// texts the rule fixes and how its path namespace ends are asked of each entry of a list that a message is looked
 /// up in, so they are kept here, where no share has to be followed.
 #[derive(Drop)]
 pub struct RuleProgram {
     parts: Arc<Parts>,
     shape: u16,
-    namespace_len: Option<usize>,
+    namespace_end: Option<NamespaceEnd>,
 }
 
 impl Model for RuleProgram {
@@ -42,16 +42,16 @@ impl Model for RuleProgram {
 
     ghost view = { λ p. record { rule = p.parts.value.rule; slot = p.parts.value.slot; program = p.parts.value.program } };
 
-    ghost invariant = { λ p. IsFit (record { rule = p.parts.value.rule; slot = p.parts.value.slot; program = p.parts.value.program }) × IsRest p.parts.value.rule p.parts.value.slot p.parts.value.rest × AreHints p.parts.value.rule p.shape p.namespace_len };
+    ghost invariant = { λ p. IsFit (record { rule = p.parts.value.rule; slot = p.parts.value.slot; program = p.parts.value.program }) × IsRest p.parts.value.rule p.parts.value.slot p.parts.value.rest × AreHints p.parts.value.rule p.shape p.namespace_end };
 }
 
-/// The length of a text in bytes.
-fn len_of(text: Option<&str>) -> Option<usize>
-    ensures { result ≡ option_map length (option_map (λ text. text.now) text.entry) }
+/// How the namespace ends that is asked for.
+fn end_asked(asked: Option<&str>) -> Option<NamespaceEnd>
+    ensures { result ≡ option_map end_of (option_map (λ text. text.now) asked.entry) }
 {
-    match text {
+    match asked {
         None => None,
-        Some(text) => Some(text.len()),
+        Some(namespace) => Some(NamespaceEnd::of(namespace)),
     }
 }
 
@@ -89,7 +89,7 @@ impl RuleProgram {
         let program = compile(alloc, &rule, slot)?;
         let rest = compile_rest(alloc, &rule, slot)?;
         let shape = Texts::of_rule(&rule).shape();
-        let namespace_len = len_of(rule.path_namespace());
+        let namespace_end = end_asked(rule.path_namespace());
         let parts = Parts {
             rule,
             slot,
@@ -99,7 +99,7 @@ impl RuleProgram {
         Ok(RuleProgram {
             parts: Arc::new(alloc, parts)?,
             shape,
-            namespace_len,
+            namespace_end,
         })
     }
 
@@ -110,7 +110,7 @@ impl RuleProgram {
         Ok(RuleProgram {
             parts: Arc::try_clone(&self.parts)?,
             shape: self.shape,
-            namespace_len: self.namespace_len,
+            namespace_end: self.namespace_end,
         })
     }
 
@@ -141,10 +141,10 @@ impl RuleProgram {
     pub fn is_elsewhere(&self, path: Option<&str>) -> bool
         ensures { IsTrue result ↔ IsElsewhere self.now.rule (option_map (λ text. text.now) path.entry) }
     {
-        let Some(len) = self.namespace_len else {
+        let Some(end) = self.namespace_end else {
             return false;
         };
-        if len > 1 && !may_have_path(path, len) {
+        if end.len > 1 && !end.may_have(path) {
             return true;
         }
         is_outside(path, self.parts.rule.path_namespace())

@@ -9,7 +9,7 @@ ghost use Rattle.match_rule.specs.Arguments.{text_in};
 ghost use Rattle.match_rule.specs.FixedTexts.{FixedTexts, arg0_of, fixed_texts, string_in, member_asked, interface_asked, path_asked, arg0_asked};
 ghost use Rattle.entry_table.specs.OfferedEntries.{texts_fixed};
 ghost use Rattle.entry_table.specs.FoundTexts.{is_text_found, are_found, texts_read};
-ghost use Rattle.entry_table.specs.TextKeys.{bit_of, shape_of, in_shape, where_bit, text_hash, joined, joined_hash, list_of, hash_lists};
+ghost use Rattle.entry_table.specs.TextKeys.{bit_of, shape_of, in_shape, where_bit, text_hash, hash_of_texts, joined_hash, list_of, hash_lists};
 
 use crate::entry::Filter;
 use crate::text_points::TextPoints;
@@ -135,7 +135,7 @@ fn bit_of(text: Option<&str>) -> u16
 /// The sum of the hashes of four texts, as one hash. If texts differ under one key, the sums differ by as much as the
 /// hashes of that key do, whatever the other texts are.
 fn join_hashes(member: u64, interface: u64, path: u64, arg0: u64) -> u64
-    ensures { result ≡ joined member interface path arg0 }
+    ensures { result ≡ hash_of_texts member interface path arg0 }
 {
     member
         .wrapping_add(interface)

@@ -1,4 +1,4 @@
--- The numbers and names of errors.
+-- The numbers and names of errors (own).
 use Rattle.std.specs.Prelude.{ℕ, List, codes}
 use Rattle.fan_out.specs.declared.error.FanError.{FanError}
 use Rattle.fan_out.specs.declared.error.FanError.TheVariants.{Workers, NotStarted}

@@ -1,4 +1,4 @@
--- Recipients in pieces. Connections are shared out by the remainders of their numbers.
+-- Recipients in pieces (own). Connections are shared out by the remainders of their numbers.
 use Rattle.std.specs.Prelude.{◌≡◌, ◌↔◌, ℕ, ◌-◌, ◌%◌, List, Option, Contains}
 use Rattle.std.specs.List.Sorted.{IsStrictlyIncreasing}
 use Rattle.message_view.specs.Message.{Message}

@@ -56,17 +56,21 @@ fn run_over_one<'a>(
 pub(crate) struct Programs<'v, 'a> {
     view: &'v View<'a>,
     owned: &'v Slots,
-    two: &'v Image<'a>,
+    edition_two: &'v Image<'a>,
     path: Option<&'a str>,
     tally: Tally,
-    ghost second: { IsImage Two view.now owned.now two.now },
+    ghost second: { IsImage Two view.now owned.now edition_two.now },
     ghost asked: { (m : Message) → Valid view.now m → option_map (λ text. text.now) path ≡ path_of m },
 }
 
 impl<'v, 'a> Programs<'v, 'a> {
     /// The programs for a message whose sender owns the names of these slots.
-    pub(crate) fn new(view: &'v View<'a>, owned: &'v Slots, two: &'v Image<'a>) -> Programs<'v, 'a>
-        requires { IsImage Two view.now owned.now two.now }
+    pub(crate) fn new(
+        view: &'v View<'a>,
+        owned: &'v Slots,
+        edition_two: &'v Image<'a>,
+    ) -> Programs<'v, 'a>
+        requires { IsImage Two view.now owned.now edition_two.now }
         ensures view { result.view.now ≡ view.entry.now }
         ensures owned { result.owned.now ≡ owned.entry.now }
         ensures none_run { result.tally.runs ≡ 0 }
@@ -74,7 +78,7 @@ impl<'v, 'a> Programs<'v, 'a> {
         Programs {
             view,
             owned,
-            two,
+            edition_two,
             path: view.path(),
             tally: Tally::new(),
         }
@@ -107,7 +111,7 @@ impl<'v, 'a> Programs<'v, 'a> {
     {
         match edition {
             Edition::One => run_over_one(one, self.view, self.owned, program, &mut self.tally),
-            Edition::Two => self.tally.run(program, self.two),
+            Edition::Two => self.tally.run(program, self.edition_two),
         }
     }
 

@@ -149,9 +149,9 @@ fn consider_offered<'a, M: Mailbox>(
     found_where_it_holds();
     let _ = view.raw();
     let owned = state.slots_of(sender);
-    let two = Image::new(view, &owned, Edition::Two);
+    let edition_two = Image::new(view, &owned, Edition::Two);
     let mut one = None;
-    let programs = Programs::new(view, &owned, &two);
+    let programs = Programs::new(view, &owned, &edition_two);
     consider_all(state, piece, first, others, programs, &mut one, marks)
 }
 
@@ -171,7 +171,7 @@ pub(crate) fn mark_recipients<'a, M: Mailbox>(
     ensures state { IsState state.entry.now }
 {
     found_where_it_holds();
-    let mut offered = state.offered(view);
+    let mut offered = state.entries_for(view);
     match offered.next() {
         None => 0,
         Some(first) => { consider_offered(state, sender, view, piece, first, &mut offered, marks) }

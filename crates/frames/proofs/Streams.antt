@@ -51,24 +51,24 @@ same_front a b x y (m, valid) (n, other) e =
 
 -- ---- messages that were cut off are the first ones
 
-pub record ComeFirst (given messages : List (List ℕ)) (unread rest : List ℕ) : Type 0 where
+pub record ComeFirst (first_messages messages : List (List ℕ)) (unread rest : List ℕ) : Type 0 where
   pub later : List (List ℕ)
-  pub messages_are : messages ≡ given ++ later
+  pub messages_are : messages ≡ first_messages ++ later
   pub unread_is : unread ≡ bytes_of later ++ rest
 
-pub come_first : (given messages : List (List ℕ)) (unread rest : List ℕ) (fault : Option MsgError) → AreMessages given → AreMessages messages → EndsIn rest fault → bytes_of given ++ unread ≡ bytes_of messages ++ rest → ComeFirst given messages unread rest
+pub come_first : (first_messages messages : List (List ℕ)) (unread rest : List ℕ) (fault : Option MsgError) → AreMessages first_messages → AreMessages messages → EndsIn rest fault → bytes_of first_messages ++ unread ≡ bytes_of messages ++ rest → ComeFirst first_messages messages unread rest
 come_first [] messages unread rest fault is are ends e = record { later = messages; messages_are = refl; unread_is = e }
-come_first (g ∷ given) [] unread rest fault is are ends e =
-    absurd (not_end g (bytes_of given ++ unread) fault is.0 (subst (λ (x : List ℕ). EndsIn x fault) (sym e ∙ append_assoc g (bytes_of given) unread) ends))
-come_first (g ∷ given) (m ∷ messages) unread rest fault is are ends e =
-    let same = same_front g m (bytes_of given ++ unread) (bytes_of messages ++ rest) is.0 are.0 (sym (append_assoc g (bytes_of given) unread) ∙ e ∙ append_assoc m (bytes_of messages) rest) in
-    let more = come_first given messages unread rest fault is.1 are.1 ends same.rest in
-    record { later = more.later; messages_are = ap (λ (x : List (List ℕ)). m ∷ x) more.messages_are ∙ ap (λ (x : List ℕ). x ∷ given ++ more.later) (sym same.front); unread_is = more.unread_is }
+come_first (g ∷ first_messages) [] unread rest fault is are ends e =
+    absurd (not_end g (bytes_of first_messages ++ unread) fault is.0 (subst (λ (x : List ℕ). EndsIn x fault) (sym e ∙ append_assoc g (bytes_of first_messages) unread) ends))
+come_first (g ∷ first_messages) (m ∷ messages) unread rest fault is are ends e =
+    let same = same_front g m (bytes_of first_messages ++ unread) (bytes_of messages ++ rest) is.0 are.0 (sym (append_assoc g (bytes_of first_messages) unread) ∙ e ∙ append_assoc m (bytes_of messages) rest) in
+    let more = come_first first_messages messages unread rest fault is.1 are.1 ends same.rest in
+    record { later = more.later; messages_are = ap (λ (x : List (List ℕ)). m ∷ x) more.messages_are ∙ ap (λ (x : List ℕ). x ∷ first_messages ++ more.later) (sym same.front); unread_is = more.unread_is }
 
-pub given_first : (front more unread rest : List ℕ) (given messages : List (List ℕ)) (fault : Option MsgError) → IsCut front given unread → FramesOf (front ++ more) messages rest fault → (later : List (List ℕ)) × (messages ≡ given ++ later)
-given_first front more unread rest given messages fault cut frames =
-    let whole : bytes_of given ++ (unread ++ more) ≡ bytes_of messages ++ rest = sym (append_assoc (bytes_of given) unread more) ∙ ap (λ (x : List ℕ). x ++ more) (sym cut.whole) ∙ frames.cut.whole in
-    let first = come_first given messages (unread ++ more) rest fault cut.each frames.cut.each frames.ends whole in
+pub given_first : (front more unread rest : List ℕ) (first_messages messages : List (List ℕ)) (fault : Option MsgError) → IsCut front first_messages unread → FramesOf (front ++ more) messages rest fault → (later : List (List ℕ)) × (messages ≡ first_messages ++ later)
+given_first front more unread rest first_messages messages fault cut frames =
+    let whole : bytes_of first_messages ++ (unread ++ more) ≡ bytes_of messages ++ rest = sym (append_assoc (bytes_of first_messages) unread more) ∙ ap (λ (x : List ℕ). x ++ more) (sym cut.whole) ∙ frames.cut.whole in
+    let first = come_first first_messages messages (unread ++ more) rest fault cut.each frames.cut.each frames.ends whole in
     (first.later, first.messages_are)
 
 -- ---- one end

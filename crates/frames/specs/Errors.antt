@@ -1,4 +1,4 @@
--- The names of the errors of a stream.
+-- The names of the errors of a stream (own).
 use Rattle.std.specs.Prelude.{ℕ, List, codes}
 use Rattle.message_value.specs.FaultName as faults
 use Rattle.frames.specs.declared.error.FrameError.{FrameError}

@@ -6,8 +6,8 @@ ghost use Rattle.frames.specs.Stream.{IsCut, FramesOf};
 
 /// Messages that were cut off a stream's front are the first ones of the stream, whatever comes after it.
 pub fn given_come_first()
-    ensures { (front more unread rest : List ℕ) (given messages : List (List ℕ)) (fault : Option MsgError) → IsCut front given unread → FramesOf (front ++ more) messages rest fault
-        → (later : List (List ℕ)) × (messages ≡ given ++ later) }
+    ensures { (front more unread rest : List ℕ) (first_messages messages : List (List ℕ)) (fault : Option MsgError) → IsCut front first_messages unread → FramesOf (front ++ more) messages rest fault
+        → (later : List (List ℕ)) × (messages ≡ first_messages ++ later) }
 {}
 
 /// A stream has one sequence of messages, one rest and at most one fault.

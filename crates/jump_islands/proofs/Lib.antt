@@ -3,6 +3,6 @@ pub mod TailFacts
 pub mod TailSteps
 pub mod NearPlaces
 pub mod TailLines
-pub mod DraftRuns
-pub mod DraftPaths
-pub mod DraftLines
+pub mod SourceRuns
+pub mod SourcePaths
+pub mod SourceTails

@@ -1,4 +1,4 @@
--- What holds of a tail: where each instruction of the draft stands in it, and where its islands lead.
+-- What holds of a tail: where each instruction of the source stands in it, and where its islands lead.
 use Rattle.std.proofs.Common.{◌≡◌, ℕ, zero, suc, ◌+◌, ◌-◌, ◌<◌, ◌≤◌, List, [], ◌∷◌, length, Option, Some, ◌⊎◌, inl, inr, refl, sym, ap, ◌∙◌, arith, subst}
 use Rattle.std.proofs.lemmas.Bool.{cases_lt}
 use Rattle.std.proofs.lemmas.List.{get_or_append_left}
@@ -9,7 +9,8 @@ use Rattle.bpf_code.specs.declared.operation.Op.{Op}
 use Rattle.bpf_code.specs.declared.operation.Op.TheVariants.{Jump, Branch}
 use Rattle.bpf_code.specs.Table.{op_of}
 use Rattle.jump_islands.specs.PlainLength.{span, sizes_of}
-use Rattle.jump_islands.specs.Tails.{TailTree, len, height, reach, jump_over, with_ins, with_place, with_island}
+use Rattle.jump_islands.specs.Source.{jump_over}
+use Rattle.jump_islands.specs.Tails.{TailTree, len, height, reach, with_ins, with_place, with_island}
 use Rattle.jump_islands.proofs.ListPlaces.{slice_get-front}
 
 -- ---- where an instruction stands
@@ -46,7 +47,7 @@ pub record BranchPut (t : TailTree) (ins : Ins) (i : ℕ) : Type 0 where
   pub miss_leads : Reached t (i - ins.jf) miss
   pub miss_at : miss + jf ≡ at
 
--- an instruction of the draft in front of i others, lowered
+-- an instruction of the source in front of i others, lowered
 abbrev pub IsPut : TailTree → Option Op → Ins → ℕ → Type 0
 IsPut t (Some Jump) ins i = JumpPut t ins i
 IsPut t (Some (Branch test operand)) ins i = BranchPut t ins i
@@ -56,26 +57,26 @@ abbrev pub AreLowered : TailTree → List Ins → Type 0
 AreLowered t [] = Unit {0}
 AreLowered t (ins ∷ more) = IsPut t (op_of ins.code) ins (length more) × AreLowered t more
 
--- an instruction of the tail is one of the draft, or an island, whose target is inside if the draft is well made
+-- an instruction of the tail is one of the source, or an island, whose target is inside if the source is well made
 abbrev pub From : Type 0 → List Ins → TailTree → ℕ → Type 0
-From W draft t j =
-    ((i : ℕ) × (i < length draft) × (height t (i + 1) ≡ j + 1)) ⊎ ((i : ℕ) × (k : ℕ) × (i ≤ length draft) × (slice_get t.program j ≡ Some (jump_over k)) × (height t i + k ≡ j) × (W → 0 < height t i))
+From W source t j =
+    ((i : ℕ) × (i < length source) × (height t (i + 1) ≡ j + 1)) ⊎ ((i : ℕ) × (k : ℕ) × (i ≤ length source) × (slice_get t.program j ≡ Some (jump_over k)) × (height t i + k ≡ j) × (W → 0 < height t i))
 
--- what holds also between two lines
-pub record Holds (W : Type 0) (draft : List Ins) (t : TailTree) : Type 0 where
-  pub long : length t.heights ≡ length draft + 1
-  pub reached : length t.reaches ≡ length draft + 1
+-- what holds also between two instructions of the source
+pub record Holds (W : Type 0) (source : List Ins) (t : TailTree) : Type 0 where
+  pub long : length t.heights ≡ length source + 1
+  pub reached : length t.reaches ≡ length source + 1
   pub last : height t 0 ≡ 0
-  pub below : (i : ℕ) → i ≤ length draft → height t i ≤ len t
-  pub lowered : AreLowered t draft
-  pub each : (j : ℕ) → j < len t → From W draft t j
-  pub reaches : (i : ℕ) → i ≤ length draft → Reached t i (reach t i)
+  pub below : (i : ℕ) → i ≤ length source → height t i ≤ len t
+  pub lowered : AreLowered t source
+  pub each : (j : ℕ) → j < len t → From W source t j
+  pub reaches : (i : ℕ) → i ≤ length source → Reached t i (reach t i)
 
--- the tail of the draft's last instructions
-pub record IsTail (W : Type 0) (draft : List Ins) (t : TailTree) : Type 0 where
-  pub holds : Holds W draft t
-  pub top : height t (length draft) ≡ len t
-  pub short : (d : ℕ) → len t ≤ span d (sizes_of draft) + height t (length draft - d)
+-- the tail of the source's last instructions
+pub record IsTail (W : Type 0) (source : List Ins) (t : TailTree) : Type 0 where
+  pub holds : Holds W source t
+  pub top : height t (length source) ≡ len t
+  pub short : (d : ℕ) → len t ≤ span d (sizes_of source) + height t (length source - d)
 
 -- ---- a tail that is extended
 
@@ -135,15 +136,15 @@ put_on t u e (Some Jump) ins i small p = jump_on t u e ins i small p
 put_on t u e (Some (Branch test operand)) ins i small p = branch_on t u e ins i small p
 put_on t u e _ ins i small p = plain_on t u e ins i small p
 
-pub lowered_on : (t u : TailTree) → Extends t u → (draft : List Ins) → length draft < length t.heights → AreLowered t draft → AreLowered u draft
+pub lowered_on : (t u : TailTree) → Extends t u → (source : List Ins) → length source < length t.heights → AreLowered t source → AreLowered u source
 lowered_on t u e [] small h = tt
 lowered_on t u e (ins ∷ more) small h =
     (put_on t u e (op_of ins.code) ins (length more) (omega arith) h.0, lowered_on t u e more (omega arith) h.1)
 
-pub from_on : (W : Type 0) (t u : TailTree) → Extends t u → (draft all : List Ins) (j : ℕ) → length draft < length t.heights → length draft ≤ length all → From W draft t j → From W all u j
-from_on W t u e draft all j small more (inl (i, inside, h)) =
+pub from_on : (W : Type 0) (t u : TailTree) → Extends t u → (source all : List Ins) (j : ℕ) → length source < length t.heights → length source ≤ length all → From W source t j → From W all u j
+from_on W t u e source all j small more (inl (i, inside, h)) =
     inl (i, omega arith, e.same (i + 1) (omega arith) ∙ h)
-from_on W t u e draft all j small more (inr (i, k, inside, is, at, well)) =
+from_on W t u e source all j small more (inr (i, k, inside, is, at, well)) =
     let s : height u i ≡ height t i = e.same i (omega arith) in
     inr (i, k, omega arith, e.programs _ _ is, ap (λ (h : ℕ). h + k) s ∙ at, λ w. let p : 0 < height t i = well w in omega arith)
 
@@ -154,7 +155,7 @@ put_positive t (Some Jump) ins i p = let a = p.above in omega arith
 put_positive t (Some (Branch test operand)) ins i p = let a = p.above in omega arith
 put_positive t _ ins i p = let a : height t (i + 1) ≡ height t i + 1 = p.above in omega arith
 
-lowered_positive : (t : TailTree) (draft : List Ins) (i : ℕ) → AreLowered t draft → i < length draft → 0 < height t (i + 1)
+lowered_positive : (t : TailTree) (source : List Ins) (i : ℕ) → AreLowered t source → i < length source → 0 < height t (i + 1)
 lowered_positive t [] i h inside = absurd (omega arith)
 lowered_positive t (ins ∷ more) i h inside =
     elim (cases_lt i (length more)) [
@@ -162,11 +163,11 @@ lowered_positive t (ins ∷ more) i h inside =
       | inr high ↦ (let e : i ≡ length more = omega arith in rw e (put_positive t (op_of ins.code) ins (length more) h.0))
     ]
 
-pub positive : (t : TailTree) (draft : List Ins) (i : ℕ) → AreLowered t draft → 0 < i → i ≤ length draft → 0 < height t i
-positive t draft zero h some inside = absurd (omega arith)
-positive t draft (suc i) h some inside =
+pub positive : (t : TailTree) (source : List Ins) (i : ℕ) → AreLowered t source → 0 < i → i ≤ length source → 0 < height t i
+positive t source zero h some inside = absurd (omega arith)
+positive t source (suc i) h some inside =
     let e : i + 1 ≡ suc i = omega arith in
-    subst (λ (m : ℕ). 0 < height t m) e (lowered_positive t draft i h (omega arith))
+    subst (λ (m : ℕ). 0 < height t m) e (lowered_positive t source i h (omega arith))
 
 pub reached_above : (t : TailTree) (i r : ℕ) → Reached t i r → height t i ≤ r
 reached_above t i r (inl h) = omega arith

@@ -1,5 +1,5 @@
--- What each line of a draft adds to a tail.
-use Rattle.std.proofs.Common.{◌≡◌, ℕ, zero, suc, ◌+◌, ◌-◌, ◌<◌, ◌≤◌, Bool, true, false, not, cond, List, ◌∷◌, length, take, get_or, Option, Some, refl, sym, ap, ◌∙◌, arith, subst}
+-- What each instruction of a source program adds to a tail.
+use Rattle.std.proofs.Common.{◌≡◌, ℕ, zero, suc, ◌+◌, ◌-◌, ◌<◌, ◌≤◌, Bool, true, false, not, cond, List, [], ◌∷◌, length, take, get_or, Option, Some, refl, sym, ap, ◌∙◌, arith, subst}
 use Rattle.std.proofs.lemmas.List.Sums.{sum_by-cons}
 use Rattle.std.proofs.lemmas.Bool.{not-true}
 use Rattle.bpf_code.specs.declared.instruction.Ins.{Ins}
@@ -10,9 +10,9 @@ use Rattle.bpf_code.specs.declared.operation.Test.TheVariants.{Equal, Above, AtL
 use Rattle.bpf_code.specs.declared.operation.Operand.{Operand}
 use Rattle.bpf_code.specs.declared.operation.Operand.TheVariants.{Constant, Index}
 use Rattle.bpf_code.specs.Table.{op_of, code_of}
-use Rattle.jump_islands.specs.Draft.{is_plain_op}
 use Rattle.jump_islands.specs.PlainLength.{is_far, count, span, size_of, sizes_of}
-use Rattle.jump_islands.specs.Tails.{TailTree, len, height, reach, jump_over, jump_to, branch_to, with_ins, with_place, with_island, is_near, is_first_far, with_first, with_islands, with_branch}
+use Rattle.jump_islands.specs.Source.{is_plain_op, jump_over}
+use Rattle.jump_islands.specs.Tails.{TailTree, len, height, reach, jump_to, branch_to, with_ins, with_place, with_island, is_near, is_first_far, with_first, with_islands, with_branch}
 use Rattle.jump_islands.proofs.ListPlaces.{slice_get-seam}
 use Rattle.jump_islands.proofs.TailFacts.{PlainPut, JumpPut, BranchPut, IsPut, Holds, IsTail, put_extends, reached_on, reached_above, reached_below}
 use Rattle.jump_islands.proofs.TailSteps.{island_holds, put_holds, put_top, put_after, len-put}
@@ -20,25 +20,25 @@ use Rattle.jump_islands.proofs.NearPlaces.{count-le, len-first, len-second, Span
 
 -- ---- the length
 
--- a line that is no longer than without sharing
-short_on : (W : Type 0) (draft : List Ins) (t m : TailTree) (ins x : Ins) → IsTail W draft t → Holds W draft m → m.heights ≡ t.heights → len m + 1 ≤ size_of (op_of ins.code) ins (sizes_of draft) + len t → (d i : ℕ) → i ≡ length draft + 1 - d → len (with_place (with_ins x m)) ≤ span d (sizes_of (ins ∷ draft)) + height (with_place (with_ins x m)) i
-short_on W draft t m ins x tail h same size zero i e =
-    let f : i ≡ length draft + 1 = omega arith in
-    let top : height (with_place (with_ins x m)) i ≡ len m + 1 = rw f (put_top W draft m h x) in
+-- what is added is no longer than without sharing
+short_on : (W : Type 0) (source : List Ins) (t m : TailTree) (ins x : Ins) → IsTail W source t → Holds W source m → m.heights ≡ t.heights → len m + 1 ≤ size_of (op_of ins.code) ins (sizes_of source) + len t → (d i : ℕ) → i ≡ length source + 1 - d → len (with_place (with_ins x m)) ≤ span d (sizes_of (ins ∷ source)) + height (with_place (with_ins x m)) i
+short_on W source t m ins x tail h same size zero i e =
+    let f : i ≡ length source + 1 = omega arith in
+    let top : height (with_place (with_ins x m)) i ≡ len m + 1 = rw f (put_top W source m h x) in
     omega (arith, len-put x m)
-short_on W draft t m ins x tail h same size (suc d) i e =
-    let f : i ≡ length draft - d = omega arith in
-    let below : height (with_place (with_ins x m)) i ≡ height m i = put_after W draft m h x i (omega arith) in
-    let back : height m i ≡ height t (length draft - d) = ap (λ (hs : List ℕ). get_or hs i 0) same ∙ ap (height t) f in
-    let more : span (suc d) (sizes_of (ins ∷ draft)) ≡ size_of (op_of ins.code) ins (sizes_of draft) + span d (sizes_of draft) = sum_by-cons (λ (size : ℕ). size) _ (take d (sizes_of draft)) in
+short_on W source t m ins x tail h same size (suc d) i e =
+    let f : i ≡ length source - d = omega arith in
+    let below : height (with_place (with_ins x m)) i ≡ height m i = put_after W source m h x i (omega arith) in
+    let back : height m i ≡ height t (length source - d) = ap (λ (hs : List ℕ). get_or hs i 0) same ∙ ap (height t) f in
+    let more : span (suc d) (sizes_of (ins ∷ source)) ≡ size_of (op_of ins.code) ins (sizes_of source) + span d (sizes_of source) = sum_by-cons (λ (size : ℕ). size) _ (take d (sizes_of source)) in
     let s = tail.short d in
     omega (arith, len-put x m)
 
-tail_with : (W : Type 0) (draft : List Ins) (t m : TailTree) (ins x : Ins) → IsTail W draft t → Holds W draft m → m.heights ≡ t.heights → len m + 1 ≤ size_of (op_of ins.code) ins (sizes_of draft) + len t → IsPut (with_place (with_ins x m)) (op_of ins.code) ins (length draft) → IsTail W (ins ∷ draft) (with_place (with_ins x m))
-tail_with W draft t m ins x tail h same size put = record {
-  holds = put_holds W draft m h ins x put;
-  top = (let e : length (ins ∷ draft) ≡ length draft + 1 = omega arith in rw e (put_top W draft m h x)) ∙ sym (len-put x m);
-  short = λ d. short_on W draft t m ins x tail h same size d (length (ins ∷ draft) - d) (omega arith);
+tail_with : (W : Type 0) (source : List Ins) (t m : TailTree) (ins x : Ins) → IsTail W source t → Holds W source m → m.heights ≡ t.heights → len m + 1 ≤ size_of (op_of ins.code) ins (sizes_of source) + len t → IsPut (with_place (with_ins x m)) (op_of ins.code) ins (length source) → IsTail W (ins ∷ source) (with_place (with_ins x m))
+tail_with W source t m ins x tail h same size put = record {
+  holds = put_holds W source m h ins x put;
+  top = (let e : length (ins ∷ source) ≡ length source + 1 = omega arith in rw e (put_top W source m h x)) ∙ sym (len-put x m);
+  short = λ d. short_on W source t m ins x tail h same size d (length (ins ∷ source) - d) (omega arith);
 }
 
 -- ---- an instruction that is no jump
@@ -52,31 +52,31 @@ size_some : (o : Option Op) (ins : Ins) (later : List ℕ) → 1 ≤ size_of o i
 size_some (Some (Branch test operand)) ins later = omega arith
 size_some _ ins later = omega arith
 
-pub plain_tail : (W : Type 0) (draft : List Ins) (t : TailTree) (ins : Ins) → IsTail W draft t → is_plain_op (op_of ins.code) ≡ true → IsTail W (ins ∷ draft) (with_place (with_ins ins t))
-plain_tail W draft t ins tail plain =
+pub plain_tail : (W : Type 0) (source : List Ins) (t : TailTree) (ins : Ins) → IsTail W source t → is_plain_op (op_of ins.code) ≡ true → IsTail W (ins ∷ source) (with_place (with_ins ins t))
+plain_tail W source t ins tail plain =
     let u = with_place (with_ins ins t) in
-    let bounded : height u (length draft) ≡ len t = put_after W draft t tail.holds ins (length draft) (omega arith) ∙ tail.top in
-    tail_with W draft t t ins ins tail tail.holds refl (let s = size_some (op_of ins.code) ins (sizes_of draft) in omega arith) (plain_put u (op_of ins.code) ins (length draft) plain (record {
-      above = put_top W draft t tail.holds ins ∙ ap (λ (h : ℕ). h + 1) (sym bounded);
-      is = rw bounded (slice_get-seam t.program ins);
+    let bounded : height u (length source) ≡ len t = put_after W source t tail.holds ins (length source) (omega arith) ∙ tail.top in
+    tail_with W source t t ins ins tail tail.holds refl (let s = size_some (op_of ins.code) ins (sizes_of source) in omega arith) (plain_put u (op_of ins.code) ins (length source) plain (record {
+      above = put_top W source t tail.holds ins ∙ ap (λ (h : ℕ). h + 1) (sym bounded);
+      is = rw bounded (slice_get-seam t.program [] ins);
     }))
 
 -- ---- a jump
 
-pub jump_tail : (W : Type 0) (draft : List Ins) (t : TailTree) (k : ℕ) → IsTail W draft t → IsTail W (jump_over k ∷ draft) (with_place (with_ins (jump_to (length draft - k) t) t))
-jump_tail W draft t k tail =
-    let x = jump_to (length draft - k) t in
+pub jump_tail : (W : Type 0) (source : List Ins) (t : TailTree) (k : ℕ) → IsTail W source t → IsTail W (jump_over k ∷ source) (with_place (with_ins (jump_to (length source - k) t) t))
+jump_tail W source t k tail =
+    let x = jump_to (length source - k) t in
     let u = with_place (with_ins x t) in
-    let small = tail.holds.below (length draft - k) (omega arith) in
-    let bounded = put_after W draft t tail.holds x (length draft - k) (omega arith) in
-    let put : JumpPut u (jump_over k) (length draft) = record {
+    let small = tail.holds.below (length source - k) (omega arith) in
+    let bounded = put_after W source t tail.holds x (length source - k) (omega arith) in
+    let put : JumpPut u (jump_over k) (length source) = record {
       at = len t;
-      above = put_top W draft t tail.holds x;
-      over = len t - height t (length draft - k);
-      is = slice_get-seam t.program x;
+      above = put_top W source t tail.holds x;
+      over = len t - height t (length source - k);
+      is = slice_get-seam t.program [] x;
       to = omega (arith, bounded, small);
     } in
-    tail_with W draft t t (jump_over k) x tail tail.holds refl (let s = size_some (op_of 5) (jump_over k) (sizes_of draft) in omega arith) put
+    tail_with W source t t (jump_over k) x tail tail.holds refl (let s = size_some (op_of 5) (jump_over k) (sizes_of source) in omega arith) put
 
 -- ---- a conditional jump
 
@@ -90,13 +90,13 @@ branch_op AtLeast Index = refl
 branch_op SharesBit Constant = refl
 branch_op SharesBit Index = refl
 
-first_holds : (W : Type 0) (draft : List Ins) (t : TailTree) (place : ℕ) (b : Bool) → Holds W draft t → place ≤ length draft → (W → 0 < place) → Holds W draft (cond b (with_island place t) t)
-first_holds W draft t place true h inside well = island_holds W draft t h place inside well
-first_holds W draft t place false h inside well = h
+first_holds : (W : Type 0) (source : List Ins) (t : TailTree) (place : ℕ) (b : Bool) → Holds W source t → place ≤ length source → (W → 0 < place) → Holds W source (cond b (with_island place t) t)
+first_holds W source t place true h inside well = island_holds W source t h place inside well
+first_holds W source t place false h inside well = h
 
-second_holds : (W : Type 0) (draft : List Ins) (t : TailTree) (place : ℕ) (b : Bool) → Holds W draft t → place ≤ length draft → (W → 0 < place) → Holds W draft (cond b t (with_island place t))
-second_holds W draft t place true h inside well = h
-second_holds W draft t place false h inside well = island_holds W draft t h place inside well
+second_holds : (W : Type 0) (source : List Ins) (t : TailTree) (place : ℕ) (b : Bool) → Holds W source t → place ≤ length source → (W → 0 < place) → Holds W source (cond b t (with_island place t))
+second_holds W source t place true h inside well = h
+second_holds W source t place false h inside well = island_holds W source t h place inside well
 
 first_heights : (t : TailTree) (place : ℕ) (b : Bool) → (cond b (with_island place t) t).heights ≡ t.heights
 first_heights t place true = refl
@@ -118,20 +118,20 @@ islands_few t hit miss to_hit to_miss s inside small =
     let b = count-le (not (is_near miss (len u) u)) (is_far to_miss to_hit) (λ e. second_far t hit miss to_hit to_miss s inside small (is_first_far hit miss t) refl (not-true _ e)) in
     omega arith
 
-pub branch_tail : (W : Type 0) (draft : List Ins) (t : TailTree) (test : Test) (operand : Operand) (k jt jf : ℕ) → IsTail W draft t → (W → 0 < length draft - jt) → (W → 0 < length draft - jf) → IsTail W (record { code = code_of (Branch test operand); jt = jt; jf = jf; k = k } ∷ draft) (with_place (with_branch test operand k (length draft - jt) (length draft - jf) (with_islands (length draft - jt) (length draft - jf) t)))
-branch_tail W draft t test operand k jt jf tail hit_well miss_well =
-    tail_with W draft t m ins x tail h heights size (subst (λ (o : Option Op). IsPut u o ins (length draft)) (sym (branch_op test operand)) put)
+pub branch_tail : (W : Type 0) (source : List Ins) (t : TailTree) (test : Test) (operand : Operand) (k jt jf : ℕ) → IsTail W source t → (W → 0 < length source - jt) → (W → 0 < length source - jf) → IsTail W (record { code = code_of (Branch test operand); jt = jt; jf = jf; k = k } ∷ source) (with_place (with_branch test operand k (length source - jt) (length source - jf) (with_islands (length source - jt) (length source - jf) t)))
+branch_tail W source t test operand k jt jf tail hit_well miss_well =
+    tail_with W source t m ins x tail h heights size (subst (λ (o : Option Op). IsPut u o ins (length source)) (sym (branch_op test operand)) put)
   where
     hit : ℕ
-    hit = length draft - jt
+    hit = length source - jt
 
     miss : ℕ
-    miss = length draft - jf
+    miss = length source - jf
 
-    hit_in : hit ≤ length draft
+    hit_in : hit ≤ length source
     hit_in = omega arith
 
-    miss_in : miss ≤ length draft
+    miss_in : miss ≤ length source
     miss_in = omega arith
 
     first : TailTree
@@ -140,11 +140,11 @@ branch_tail W draft t test operand k jt jf tail hit_well miss_well =
     m : TailTree
     m = with_islands hit miss t
 
-    first_h : Holds W draft first
-    first_h = first_holds W draft t hit (is_first_far hit miss t) tail.holds hit_in hit_well
+    first_h : Holds W source first
+    first_h = first_holds W source t hit (is_first_far hit miss t) tail.holds hit_in hit_well
 
-    h : Holds W draft m
-    h = second_holds W draft first miss (is_near miss (len first) first) first_h miss_in miss_well
+    h : Holds W source m
+    h = second_holds W source first miss (is_near miss (len first) first) first_h miss_in miss_well
 
     heights : m.heights ≡ t.heights
     heights = second_heights first miss (is_near miss (len first) first) ∙ first_heights t hit (is_first_far hit miss t)
@@ -158,7 +158,7 @@ branch_tail W draft t test operand k jt jf tail hit_well miss_well =
     u : TailTree
     u = with_place (with_ins x m)
 
-    spans : Spans t hit miss (span jt (sizes_of draft)) (span jf (sizes_of draft))
+    spans : Spans t hit miss (span jt (sizes_of source)) (span jf (sizes_of source))
     spans = record {
       hit_kept = reached_above t hit (reach t hit) (tail.holds.reaches hit hit_in);
       miss_kept = reached_above t miss (reach t miss) (tail.holds.reaches miss miss_in);
@@ -166,10 +166,10 @@ branch_tail W draft t test operand k jt jf tail hit_well miss_well =
       miss_far = tail.short jf;
     }
 
-    size : len m + 1 ≤ size_of (op_of ins.code) ins (sizes_of draft) + len t
+    size : len m + 1 ≤ size_of (op_of ins.code) ins (sizes_of source) + len t
     size =
-        let few = islands_few t hit miss (span jt (sizes_of draft)) (span jf (sizes_of draft)) spans (omega (arith, tail.holds.reached)) (reached_below t hit (reach t hit) (tail.holds.below hit hit_in) (tail.holds.reaches hit hit_in)) in
-        let e = branch_size (op_of ins.code) test operand ins (sizes_of draft) (branch_op test operand) in
+        let few = islands_few t hit miss (span jt (sizes_of source)) (span jf (sizes_of source)) spans (omega (arith, tail.holds.reached)) (reached_below t hit (reach t hit) (tail.holds.below hit hit_in) (tail.holds.reaches hit hit_in)) in
+        let e = branch_size (op_of ins.code) test operand ins (sizes_of source) (branch_op test operand) in
         omega arith
 
     hit_small : reach m hit ≤ len m
@@ -178,13 +178,13 @@ branch_tail W draft t test operand k jt jf tail hit_well miss_well =
     miss_small : reach m miss ≤ len m
     miss_small = reached_below m miss (reach m miss) (h.below miss miss_in) (h.reaches miss miss_in)
 
-    put : BranchPut u ins (length draft)
+    put : BranchPut u ins (length source)
     put = record {
       at = len m;
-      above = put_top W draft m h x;
+      above = put_top W source m h x;
       jt = len m - reach m hit;
       jf = len m - reach m miss;
-      is = slice_get-seam m.program x;
+      is = slice_get-seam m.program [] x;
       hit = reach m hit;
       hit_leads = reached_on m u (put_extends m x) hit (reach m hit) (omega (arith, h.long)) (h.reaches hit hit_in);
       hit_at = omega (arith, hit_small);

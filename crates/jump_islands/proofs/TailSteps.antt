@@ -10,7 +10,7 @@ use Rattle.jump_islands.specs.Tails.{TailTree, len, height, reach, no_tail, jump
 use Rattle.jump_islands.proofs.ListPlaces.{slice_get-seam}
 use Rattle.jump_islands.proofs.TailFacts.{Reached, IsPut, From, Holds, IsTail, island_extends, put_extends, reached_on, lowered_on, from_on, positive}
 
--- ---- no line
+-- ---- no instruction
 
 place_none : (i : ℕ) → i ≤ 0 → height no_tail i ≤ 0
 place_none zero h = omega arith
@@ -34,18 +34,18 @@ tail_start W = record {
 -- ---- an island
 
 at_seam : (xs : List Ins) (x : Ins) (j : ℕ) → j ≡ length xs → slice_get (xs ++ x ∷ []) j ≡ Some x
-at_seam xs x j e = rw e (slice_get-seam xs x)
+at_seam xs x j e = rw e (slice_get-seam xs [] x)
 
 pub len-island : (place : ℕ) (t : TailTree) → len (with_island place t) ≡ len t + 1
 len-island place t = length-append t.program (jump_to place t ∷ [])
 
-pub island_holds : (W : Type 0) (draft : List Ins) (t : TailTree) → Holds W draft t → (place : ℕ) → place ≤ length draft → (W → 0 < place) → Holds W draft (with_island place t)
-island_holds W draft t h place inside well = record {
+pub island_holds : (W : Type 0) (source : List Ins) (t : TailTree) → Holds W source t → (place : ℕ) → place ≤ length source → (W → 0 < place) → Holds W source (with_island place t)
+island_holds W source t h place inside well = record {
   long = h.long;
   reached = length-set t.reaches place (len t + 1) ∙ h.reached;
   last = h.last;
   below = λ i small. let b : height t i ≤ len t = h.below i small in omega (arith, len-island place t);
-  lowered = lowered_on t (with_island place t) (island_extends t place) draft (omega (arith, h.long)) h.lowered;
+  lowered = lowered_on t (with_island place t) (island_extends t place) source (omega (arith, h.long)) h.lowered;
   each = each;
   reaches = reaches;
 }
@@ -59,15 +59,15 @@ island_holds W draft t h place inside well = record {
     is : slice_get (with_island place t).program (height t place + (len t - height t place)) ≡ Some (jump_to place t)
     is = at_seam t.program (jump_to place t) _ over
 
-    each : (j : ℕ) → j < len (with_island place t) → From W draft (with_island place t) j
+    each : (j : ℕ) → j < len (with_island place t) → From W source (with_island place t) j
     each j small = elim (cases_lt j (len t)) [
-      | inl low ↦ from_on W t (with_island place t) (island_extends t place) draft draft j (omega (arith, h.long)) (omega arith) (h.each j low)
+      | inl low ↦ from_on W t (with_island place t) (island_extends t place) source source j (omega (arith, h.long)) (omega arith) (h.each j low)
       | inr high ↦ (
           let e : len t ≡ j = omega (arith, len-island place t) in
-          inr (place, len t - height t place, inside, subst (λ (m : ℕ). slice_get (with_island place t).program m ≡ Some (jump_to place t)) (over ∙ e) is, over ∙ e, λ w. positive t draft place h.lowered (well w) inside))
+          inr (place, len t - height t place, inside, subst (λ (m : ℕ). slice_get (with_island place t).program m ≡ Some (jump_to place t)) (over ∙ e) is, over ∙ e, λ w. positive t source place h.lowered (well w) inside))
     ]
 
-    reaches : (i : ℕ) → i ≤ length draft → Reached (with_island place t) i (reach (with_island place t) i)
+    reaches : (i : ℕ) → i ≤ length source → Reached (with_island place t) i (reach (with_island place t) i)
     reaches i small = elim (cases_eq i place) [
       | inl e ↦ rw e (rw (get_or-set_same t.reaches place (len t + 1) 0 (omega (arith, h.reached))) (inr (len t - height t place, is, omega (arith, over))))
       | inr ne ↦ rw (get_or-set_other t.reaches place i (len t + 1) 0 ne) (reached_on t (with_island place t) (island_extends t place) i (reach t i) (omega (arith, h.long)) (h.reaches i small))
@@ -78,13 +78,13 @@ island_holds W draft t h place inside well = record {
 pub len-put : (x : Ins) (t : TailTree) → len (with_place (with_ins x t)) ≡ len t + 1
 len-put x t = length-append t.program (x ∷ [])
 
-pub put_holds : (W : Type 0) (draft : List Ins) (t : TailTree) → Holds W draft t → (ins x : Ins) → IsPut (with_place (with_ins x t)) (op_of ins.code) ins (length draft) → Holds W (ins ∷ draft) (with_place (with_ins x t))
-put_holds W draft t h ins x put = record {
+pub put_holds : (W : Type 0) (source : List Ins) (t : TailTree) → Holds W source t → (ins x : Ins) → IsPut (with_place (with_ins x t)) (op_of ins.code) ins (length source) → Holds W (ins ∷ source) (with_place (with_ins x t))
+put_holds W source t h ins x put = record {
   long = omega (arith, h.long, length-append t.heights (len (with_ins x t) ∷ []));
   reached = omega (arith, h.reached, length-append t.reaches (len (with_ins x t) ∷ []));
   last = (put_extends t x).same 0 (omega (arith, h.long)) ∙ h.last;
   below = below;
-  lowered = (put, lowered_on t u (put_extends t x) draft (omega (arith, h.long)) h.lowered);
+  lowered = (put, lowered_on t u (put_extends t x) source (omega (arith, h.long)) h.lowered);
   each = each;
   reaches = reaches;
 }
@@ -92,35 +92,35 @@ put_holds W draft t h ins x put = record {
     u : TailTree
     u = with_place (with_ins x t)
 
-    top : (i : ℕ) → i ≡ length draft + 1 → height u i ≡ len u
+    top : (i : ℕ) → i ≡ length source + 1 → height u i ≡ len u
     top i e = get_or_push t.heights (len u) 0 i (omega (arith, h.long))
 
-    top_reach : (i : ℕ) → i ≡ length draft + 1 → reach u i ≡ len u
+    top_reach : (i : ℕ) → i ≡ length source + 1 → reach u i ≡ len u
     top_reach i e = get_or_push t.reaches (len u) 0 i (omega (arith, h.reached))
 
-    below : (i : ℕ) → i ≤ length (ins ∷ draft) → height u i ≤ len u
-    below i small = elim (cases_lt i (length draft + 1)) [
+    below : (i : ℕ) → i ≤ length (ins ∷ source) → height u i ≤ len u
+    below i small = elim (cases_lt i (length source + 1)) [
       | inl low ↦ (let s = (put_extends t x).same i (omega (arith, h.long)) in let b : height t i ≤ len t = h.below i (omega arith) in omega (arith, len-put x t))
       | inr high ↦ (let e = top i (omega arith) in omega arith)
     ]
 
-    each : (j : ℕ) → j < len u → From W (ins ∷ draft) u j
+    each : (j : ℕ) → j < len u → From W (ins ∷ source) u j
     each j small = elim (cases_lt j (len t)) [
-      | inl low ↦ from_on W t u (put_extends t x) draft (ins ∷ draft) j (omega (arith, h.long)) (omega arith) (h.each j low)
-      | inr high ↦ inl (length draft, omega arith, top (length draft + 1) refl ∙ (let e : len u ≡ j + 1 = omega (arith, len-put x t) in e))
+      | inl low ↦ from_on W t u (put_extends t x) source (ins ∷ source) j (omega (arith, h.long)) (omega arith) (h.each j low)
+      | inr high ↦ inl (length source, omega arith, top (length source + 1) refl ∙ (let e : len u ≡ j + 1 = omega (arith, len-put x t) in e))
     ]
 
-    reaches : (i : ℕ) → i ≤ length (ins ∷ draft) → Reached u i (reach u i)
-    reaches i small = elim (cases_lt i (length draft + 1)) [
+    reaches : (i : ℕ) → i ≤ length (ins ∷ source) → Reached u i (reach u i)
+    reaches i small = elim (cases_lt i (length source + 1)) [
       | inl low ↦ (
           let same : reach u i ≡ reach t i = get_or_append_left t.reaches _ 0 i (omega (arith, h.reached)) in
           rw same (reached_on t u (put_extends t x) i (reach t i) (omega (arith, h.long)) (h.reaches i (omega arith))))
-      | inr high ↦ (let e : i ≡ length draft + 1 = omega arith in inl (top_reach i e ∙ sym (top i e)))
+      | inr high ↦ (let e : i ≡ length source + 1 = omega arith in inl (top_reach i e ∙ sym (top i e)))
     ]
 
 -- the place in front of the instruction, and the one after it
-pub put_top : (W : Type 0) (draft : List Ins) (t : TailTree) → Holds W draft t → (x : Ins) → height (with_place (with_ins x t)) (length draft + 1) ≡ len t + 1
-put_top W draft t h x = get_or_push t.heights (len (with_ins x t)) 0 (length draft + 1) (omega (arith, h.long)) ∙ len-put x t
+pub put_top : (W : Type 0) (source : List Ins) (t : TailTree) → Holds W source t → (x : Ins) → height (with_place (with_ins x t)) (length source + 1) ≡ len t + 1
+put_top W source t h x = get_or_push t.heights (len (with_ins x t)) 0 (length source + 1) (omega (arith, h.long)) ∙ len-put x t
 
-pub put_after : (W : Type 0) (draft : List Ins) (t : TailTree) → Holds W draft t → (x : Ins) (i : ℕ) → i ≤ length draft → height (with_place (with_ins x t)) i ≡ height t i
-put_after W draft t h x i small = (put_extends t x).same i (omega (arith, h.long))
+pub put_after : (W : Type 0) (source : List Ins) (t : TailTree) → Holds W source t → (x : Ins) (i : ℕ) → i ≤ length source → height (with_place (with_ins x t)) i ≡ height t i
+put_after W source t h x i small = (put_extends t x).same i (omega (arith, h.long))

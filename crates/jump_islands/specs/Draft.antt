@@ -1,26 +1,18 @@
--- Drafts of programs, whose jumps name labels at any distance ahead.
-use Rattle.std.specs.Prelude.{ℕ, ◌+◌, ◌-◌, ◌<◌, Bool, true, false, List, [], ◌∷◌, Option, Some, slice_get, IfSome}
+-- Drafts: source programs whose jumps name labels, at any distance ahead.
+use Rattle.std.specs.Prelude.{ℕ, ◌+◌, ◌-◌, ◌<◌, Bool, true, List, [], ◌∷◌, Option, slice_get, IfSome}
 use Rattle.std.specs.Option.{IsSomeAnd, option_map_or, option_flatten}
 use Rattle.std.specs.List.{list_all}
 use Rattle.bpf_code.specs.declared.instruction.Ins.{Ins}
-use Rattle.bpf_code.specs.declared.operation.Op.{Op}
-use Rattle.bpf_code.specs.declared.operation.Op.TheVariants.{Jump, Branch}
-use Rattle.bpf_code.specs.Table.{op_of, code_of}
-use Rattle.bpf_code.specs.Steps.{Ends}
+use Rattle.bpf_code.specs.Table.{op_of}
 use Rattle.jump_islands.specs.declared.line.Line.{Line}
 use Rattle.jump_islands.specs.declared.line.Line.TheVariants.{Plain, Jumps, Goes}
 use Rattle.jump_islands.specs.declared.label.Label.{Label}
+use Rattle.jump_islands.specs.Source.{is_plain_op, branch_over, jump_over}
 
 -- a draft: its lines, and the place to which each of its labels is bound, if it is
 pub record DraftTree : Type 0 where
   pub lines : List Line
   pub bound : List (Option ℕ)
-
--- no jump
-abbrev pub is_plain_op : Option Op → Bool
-is_plain_op (Some Jump) = false
-is_plain_op (Some (Branch test operand)) = false
-is_plain_op _ = true
 
 -- the place to which a label is bound
 abbrev pub place_of : DraftTree → Label → Option ℕ
@@ -30,24 +22,20 @@ place_of draft label = option_flatten (slice_get draft.bound label.number)
 abbrev pub distance : DraftTree → ℕ → Label → ℕ
 distance draft place label = option_map_or (λ to. to - (place + 1)) (place_of draft label) 0
 
--- the instruction of a line, with its distances, however far
+-- the instruction of a line, with its distances
 abbrev pub ins_of : DraftTree → ℕ → Line → Ins
 ins_of draft place (Plain ins) = ins
 ins_of draft place (Jumps test operand k hit miss) =
-    record { code = code_of (Branch test operand); jt = distance draft place hit; jf = distance draft place miss; k = k }
-ins_of draft place (Goes to) = record { code = code_of Jump; jt = 0; jf = 0; k = distance draft place to }
+    branch_over test operand k (distance draft place hit) (distance draft place miss)
+ins_of draft place (Goes to) = jump_over (distance draft place to)
 
 abbrev pub instructions_from : DraftTree → ℕ → List Line → List Ins
 instructions_from draft place [] = []
 instructions_from draft place (line ∷ lines) = ins_of draft place line ∷ instructions_from draft (place + 1) lines
 
--- The draft as a program whose distances have no limit.
+-- The draft as a source program.
 abbrev pub instructions_of : DraftTree → List Ins
 instructions_of draft = instructions_from draft 0 draft.lines
-
--- the draft ends with a verdict, by the steps of programs
-abbrev pub DraftEnds : DraftTree → List ℕ → ℕ → Type 0
-DraftEnds draft image v = (n : ℕ) × Ends (instructions_of draft) image v n
 
 -- the label is bound ahead of a place
 abbrev pub IsAhead : DraftTree → ℕ → Label → Type 0

@@ -1,6 +1,7 @@
+pub mod Source
+pub mod SourceItems
 pub mod Draft
 pub mod Numbers
 pub mod PlainLength
-pub mod WellMade
 pub mod Lowering
 pub mod Tails

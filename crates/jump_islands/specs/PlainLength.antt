@@ -1,10 +1,9 @@
--- How long a lowered draft would be if no two jumps shared an island.
+-- How long a lowered program would be if no two jumps shared an island.
 use Rattle.std.specs.Prelude.{ℕ, ◌+◌, Bool, ◌&&◌, ◌||◌, List, [], ◌∷◌, take, Option, Some, nat_le, nat_lt, sum_by, if◌then◌else◌}
 use Rattle.bpf_code.specs.declared.instruction.Ins.{Ins}
 use Rattle.bpf_code.specs.declared.operation.Op.{Op}
 use Rattle.bpf_code.specs.declared.operation.Op.TheVariants.{Branch}
 use Rattle.bpf_code.specs.Table.{op_of}
-use Rattle.jump_islands.specs.Draft.{DraftTree, instructions_of}
 
 -- the farthest that a conditional jump goes
 abbrev pub max_distance : ℕ
@@ -32,5 +31,5 @@ abbrev pub sizes_of : List Ins → List ℕ
 sizes_of [] = []
 sizes_of (ins ∷ more) = size_of (op_of ins.code) ins (sizes_of more) ∷ sizes_of more
 
-abbrev pub plain_length : DraftTree → ℕ
-plain_length draft = sum_by (λ size. size) (sizes_of (instructions_of draft))
+abbrev pub plain_length : List Ins → ℕ
+plain_length source = sum_by (λ size. size) (sizes_of source)

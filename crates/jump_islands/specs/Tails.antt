@@ -1,17 +1,14 @@
--- The last lines of a draft, lowered: what each step of `lower` adds. Places count from the draft's end.
+-- Inner: the last instructions of a source program, lowered: what each step of `lower` adds. Places are those of the
+-- source program, from its end.
 use Rattle.std.specs.Prelude.{ℕ, ◌+◌, ◌-◌, ◌<◌, ◌≤◌, Bool, not, ◌&&◌, ◌||◌, List, [], ◌∷◌, ◌++◌, length, slice_index, slice_set, if◌then◌else◌, nat_le}
-use Rattle.std.specs.Option.{option_map_or}
 use Rattle.bpf_code.specs.declared.instruction.Ins.{Ins}
-use Rattle.bpf_code.specs.declared.operation.Op.TheVariants.{Jump, Branch}
 use Rattle.bpf_code.specs.declared.operation.Test.{Test}
 use Rattle.bpf_code.specs.declared.operation.Operand.{Operand}
-use Rattle.bpf_code.specs.Table.{code_of}
-use Rattle.jump_islands.specs.declared.line.Line.{Line}
-use Rattle.jump_islands.specs.declared.line.Line.TheVariants.{Plain, Jumps, Goes}
-use Rattle.jump_islands.specs.declared.label.Label.{Label}
-use Rattle.jump_islands.specs.Draft.{DraftTree, place_of}
+use Rattle.jump_islands.specs.declared.source_ins.SourceIns.{SourceIns}
+use Rattle.jump_islands.specs.declared.source_ins.SourceIns.TheVariants.{Plain, Branch, Jump}
+use Rattle.jump_islands.specs.Source.{branch_over, jump_over}
 
--- The program of the last lines, the last instruction first. For each place: how many instructions stand from it on
+-- The lowered instructions, the last one first. For each place: how many instructions stand from it on
 -- (`heights`), and from the nearest instruction on that leads to it, its own or its latest island's (`reaches`).
 pub record TailTree : Type 0 where
   pub program : List Ins
@@ -27,13 +24,9 @@ height t place = slice_index t.heights place
 abbrev pub reach : TailTree → ℕ → ℕ
 reach t place = slice_index t.reaches place
 
--- the tail of no line
+-- the tail of no instruction
 abbrev pub no_tail : TailTree
 no_tail = record { program = []; heights = 0 ∷ []; reaches = 0 ∷ [] }
-
--- a jump over k instructions
-abbrev pub jump_over : ℕ → Ins
-jump_over k = record { code = code_of Jump; jt = 0; jf = 0; k = k }
 
 -- one more instruction
 abbrev pub with_ins : Ins → TailTree → TailTree
@@ -42,6 +35,10 @@ with_ins ins t = record { program = t.program ++ ins ∷ []; heights = t.heights
 -- one more place, in front of the instructions
 abbrev pub with_place : TailTree → TailTree
 with_place t = record { program = t.program; heights = t.heights ++ len t ∷ []; reaches = t.reaches ++ len t ∷ [] }
+
+-- the place to which a jump over `over` instructions goes from in front of the tail
+abbrev pub place_after : ℕ → TailTree → ℕ
+place_after over t = length t.heights - 1 - over
 
 -- the jump to a place
 abbrev pub jump_to : ℕ → TailTree → Ins
@@ -71,25 +68,20 @@ with_islands hit miss t = with_second miss (with_first hit miss t)
 
 -- the conditional jump to two places that are near
 abbrev pub branch_to : Test → Operand → ℕ → ℕ → ℕ → TailTree → Ins
-branch_to test operand k hit miss t =
-    record { code = code_of (Branch test operand); jt = len t - reach t hit; jf = len t - reach t miss; k = k }
+branch_to test operand k hit miss t = branch_over test operand k (len t - reach t hit) (len t - reach t miss)
 
 abbrev pub with_branch : Test → Operand → ℕ → ℕ → ℕ → TailTree → TailTree
 with_branch test operand k hit miss t = with_ins (branch_to test operand k hit miss t) t
 
--- a label's place, from the end
-abbrev pub back_of : DraftTree → Label → ℕ
-back_of draft label = option_map_or (λ to. length draft.lines - to) (place_of draft label) 0
+abbrev pub with_source_ins : SourceIns → TailTree → TailTree
+with_source_ins (Plain ins) t = with_ins ins t
+with_source_ins (Branch test operand k hit miss) t =
+    with_branch test operand k (place_after hit t) (place_after miss t) (with_islands (place_after hit t) (place_after miss t) t)
+with_source_ins (Jump over) t = with_ins (jump_to (place_after over t) t) t
 
-abbrev pub with_line_ins : DraftTree → Line → TailTree → TailTree
-with_line_ins draft (Plain ins) t = with_ins ins t
-with_line_ins draft (Jumps test operand k hit miss) t =
-    with_branch test operand k (back_of draft hit) (back_of draft miss) (with_islands (back_of draft hit) (back_of draft miss) t)
-with_line_ins draft (Goes to) t = with_ins (jump_to (back_of draft to) t) t
-
--- one more line
-abbrev pub with_line : DraftTree → Line → TailTree → TailTree
-with_line draft line t = with_place (with_line_ins draft line t)
+-- one more instruction of the source program
+abbrev pub with_source : SourceIns → TailTree → TailTree
+with_source ins t = with_place (with_source_ins ins t)
 
 -- a place that the tail has
 pub record IsPlace (t : TailTree) (place : ℕ) : Type 0 where
@@ -98,8 +90,6 @@ pub record IsPlace (t : TailTree) (place : ℕ) : Type 0 where
   pub bounded : height t place ≤ len t
   pub kept : reach t place ≤ len t
 
--- the places of a line's labels are places of the tail
-abbrev pub FitsLine : DraftTree → Line → TailTree → Type 0
-FitsLine draft (Plain ins) t = Unit {0}
-FitsLine draft (Jumps test operand k hit miss) t = IsPlace t (back_of draft hit) × IsPlace t (back_of draft miss)
-FitsLine draft (Goes to) t = IsPlace t (back_of draft to)
+-- each place to which a jump goes is one
+pub record ArePlaces (t : TailTree) : Type 0 where
+  pub each : (over : ℕ) → IsPlace t (place_after over t)

@@ -1,13 +1,14 @@
 ghost use Rattle.std.specs.Prelude.{◌≡◌, ◌<◌, ◌++◌, ◌∷◌, [], ◌↔◌, None, Some, length, slice_set, IfOk, OnErr, OnOk, IsTrue, IfErr, true};
-ghost use Rattle.jump_islands.specs.Draft.{DraftTree, IsClosed, IsAhead, LabelsAhead, is_plain_op, is_plain_line, are_plain, place_of};
-ghost use Rattle.jump_islands.specs.Tails.{back_of};
+ghost use Rattle.jump_islands.specs.Draft.{DraftTree, IsClosed, IsAhead, LabelsAhead, is_plain_line, are_plain, place_of, distance, ins_of, instructions_of};
+ghost use Rattle.jump_islands.specs.Source.{is_plain_op};
 ghost use Rattle.bpf_code.specs.Table.{op_of};
 
 use crate::error::LowerError;
 use crate::label::Label;
 use crate::line::Line;
+use crate::source_program::SourceProgram;
 use bpf_code::{Ins, Operand, Test};
-use std::alloc::Global;
+use std::alloc::{AllocError, Global};
 use std::marker::Model;
 
 /// A program whose jumps name labels.
@@ -107,7 +108,7 @@ impl Draft {
     }
 
     /// The lines, in the order of the program.
-    pub(crate) fn lines(&self) -> &[Line]
+    fn lines(&self) -> &[Line]
         ensures value { result.now ≡ self.now.lines }
         ensures plain { are_plain self.now.lines ≡ true }
     {
@@ -124,14 +125,46 @@ impl Draft {
         }
     }
 
-    /// How many lines stand from a label's place on.
-    pub(crate) fn back_of(&self, label: Label) -> usize
-        ensures { result ≡ back_of self.now label }
+    /// How many lines a jump at a place goes over to a label that is bound ahead of it.
+    fn distance(&self, place: usize, label: Label) -> usize
+        ensures { result ≡ distance self.now place label }
     {
         match self.place_of(label) {
-            Some(to) => self.lines.len().saturating_sub(to),
+            Some(to) => to.saturating_sub(place).saturating_sub(1),
             None => 0,
         }
+    }
+
+    /// Puts the line of a place in front of a source program.
+    fn put_line(
+        &self,
+        place: usize,
+        line: Line,
+        source: &mut SourceProgram,
+    ) -> Result<(), AllocError>
+        requires { IsTrue (is_plain_line line) }
+        ensures { OnOk result (source.new ≡ ins_of self.now place line ∷ source.old) }
+    {
+        match line {
+            Line::Plain(ins) => source.put_plain(ins),
+            Line::Jumps(test, operand, k, yes, no) => {
+                let hit = self.distance(place, yes);
+                source.put_branch(test, operand, k, hit, self.distance(place, no))
+            }
+            Line::Goes(to) => source.put_jump(self.distance(place, to)),
+        }
+    }
+
+    /// The draft as a source program.
+    pub(crate) fn source(&self, alloc: Global) -> Result<SourceProgram, AllocError>
+        ensures { IfOk result (λ source. source ≡ instructions_of self.now) }
+    {
+        let lines = self.lines();
+        let mut source = SourceProgram::new(alloc);
+        for place in (0..lines.len()).rev() {
+            self.put_line(place, lines[place], &mut source)?;
+        }
+        Ok(source)
     }
 
     /// Whether a label is bound ahead of a place.

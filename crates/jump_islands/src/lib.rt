@@ -1,6 +1,6 @@
-//! Drafts of programs, whose jumps name labels at any distance ahead, and how they are lowered. A conditional
-//! jump that is too far goes to an island, a jump in between. What a draft means stands in `specs/`:
-//! `DraftEnds` for its runs, `IsLowered` for what `lower` gives.
+//! Source programs, whose jumps go over any number of instructions, and how they are lowered. A conditional jump that
+//! is too far goes to an island, a jump in between. A draft is a source program whose jumps name labels. What they mean
+//! stands in `specs/`: `IsTarget` says what lowering gives, `instructions_of` which source program a draft is.
 #![tactic(auto)]
 
 mod draft;
@@ -8,6 +8,8 @@ mod error;
 mod label;
 mod line;
 mod lowering;
+mod source_ins;
+mod source_program;
 mod tail;
 
 pub use draft::Draft;
@@ -15,3 +17,4 @@ pub use error::LowerError;
 pub use label::Label;
 pub use line::Line;
 pub use lowering::lower;
+pub use source_program::SourceProgram;

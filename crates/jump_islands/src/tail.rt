@@ -1,9 +1,8 @@
 ghost use Rattle.std.specs.Prelude.{◌≡◌, ◌<◌, ◌≤◌, ◌+◌, ◌-◌, Err, IfOk, IfErr, OnOk, IsTrue, length, reverse};
-ghost use Rattle.jump_islands.specs.Tails.{TailTree, no_tail, len, height, reach, with_ins, with_place, with_island, with_islands, with_first, with_second, with_branch, jump_to, is_near, with_line_ins, with_line, IsPlace, FitsLine};
+ghost use Rattle.jump_islands.specs.Tails.{TailTree, no_tail, len, height, reach, with_ins, with_place, with_island, with_islands, with_first, with_second, with_branch, place_after, jump_to, is_near, with_source_ins, with_source, IsPlace, ArePlaces};
 
-use crate::draft::Draft;
 use crate::error::LowerError;
-use crate::line::Line;
+use crate::source_ins::SourceIns;
 use bpf_code::{Ins, Op, Operand, Test};
 use std::alloc::Global;
 use std::marker::Model;
@@ -14,7 +13,7 @@ const MAX_LEN: usize = 4096;
 /// The farthest that a conditional jump goes.
 const MAX_DISTANCE: usize = 255;
 
-/// The last lines of a draft, lowered. Places count from the draft's end.
+/// The last instructions of a source program, lowered. Places are those of the source program, from its end.
 #[derive(Drop)]
 pub(crate) struct Tail {
     /// The instructions, the last one first.
@@ -34,7 +33,7 @@ impl Model for Tail {
 }
 
 impl Tail {
-    /// The tail of no line.
+    /// The tail of no instruction.
     pub(crate) fn new(alloc: Global) -> Result<Tail, LowerError>
         ensures found { IfOk result (λ t. t ≡ no_tail) }
         ensures only { IfErr result (λ e. e ≡ LowerError.NoMemory) }
@@ -70,15 +69,22 @@ impl Tail {
         Ok(())
     }
 
-    /// Ends a line: its place stands in front of the instructions.
-    fn end_line(&mut self) -> Result<(), LowerError>
-        ensures ended { OnOk result (self.new ≡ with_place self.old) }
+    /// Adds a place, in front of the instructions.
+    fn add_place(&mut self) -> Result<(), LowerError>
+        ensures added { OnOk result (self.new ≡ with_place self.old) }
         ensures only { IfErr result (λ e. e ≡ LowerError.NoMemory) }
     {
         let len = self.program.len();
         self.heights.push(len)?;
         self.reaches.push(len)?;
         Ok(())
+    }
+
+    /// The place to which a jump over `over` instructions goes from in front of the tail.
+    fn place_after(&self, over: usize) -> usize
+        ensures { result ≡ place_after over self.now }
+    {
+        self.heights.len().saturating_sub(1).saturating_sub(over)
     }
 
     /// The jump to a place.
@@ -215,33 +221,38 @@ impl Tail {
         self.put(jump)
     }
 
-    /// Adds the instructions of a line.
-    fn add_ins(&mut self, draft: &Draft, line: &Line) -> Result<(), LowerError>
-        requires fits { FitsLine draft.now line.now self.old }
+    /// Adds the instructions of an instruction of the source program.
+    fn add_ins(&mut self, ins: SourceIns) -> Result<(), LowerError>
+        requires places { ArePlaces self.old }
         requires few { len self.old ≤ 4096 }
-        ensures added { OnOk result (self.new ≡ with_line_ins draft.now line.now self.old) }
+        ensures added { OnOk result (self.new ≡ with_source_ins ins self.old) }
         ensures few { OnOk result (len self.new ≤ 4096) }
-        ensures many { result ≡ Err LowerError.TooMany → 4096 < len (with_line draft.now line.now self.old) }
+        ensures many { result ≡ Err LowerError.TooMany → 4096 < len (with_source ins self.old) }
     {
-        match *line {
-            Line::Plain(ins) => self.put(ins),
-            Line::Jumps(test, operand, k, yes, no) => {
-                self.add_branch(test, operand, k, draft.back_of(yes), draft.back_of(no))
+        match ins {
+            SourceIns::Plain(ins) => self.put(ins),
+            SourceIns::Branch(test, operand, k, hit, miss) => {
+                let yes = self.place_after(hit);
+                let no = self.place_after(miss);
+                self.add_branch(test, operand, k, yes, no)
             }
-            Line::Goes(to) => self.add_jump(draft.back_of(to)),
+            SourceIns::Jump(over) => {
+                let to = self.place_after(over);
+                self.add_jump(to)
+            }
         }
     }
 
-    /// Adds a line.
-    pub(crate) fn add_line(&mut self, draft: &Draft, line: &Line) -> Result<(), LowerError>
-        requires fits { FitsLine draft.now line.now self.old }
+    /// Adds an instruction of the source program.
+    pub(crate) fn add(&mut self, ins: SourceIns) -> Result<(), LowerError>
+        requires places { ArePlaces self.old }
         requires few { len self.old ≤ 4096 }
-        ensures added { OnOk result (self.new ≡ with_line draft.now line.now self.old) }
+        ensures added { OnOk result (self.new ≡ with_source ins self.old) }
         ensures few { OnOk result (len self.new ≤ 4096) }
-        ensures many { result ≡ Err LowerError.TooMany → 4096 < len (with_line draft.now line.now self.old) }
+        ensures many { result ≡ Err LowerError.TooMany → 4096 < len (with_source ins self.old) }
     {
-        self.add_ins(draft, line)?;
-        self.end_line()
+        self.add_ins(ins)?;
+        self.add_place()
     }
 
     /// The program.

@@ -1,5 +1,5 @@
 -- Owners of names, and the newcomer that an owner may be.
-use Rattle.std.proofs.Common.{◌≡◌, ◌⊎◌, inl, inr, ℕ, zero, suc, arith, ◌+◌, ◌<◌, ◌==◌, ◌||◌, Bool, true, false, List, [], ◌∷◌, ◌++◌, length, take, get_or, Option, Some, None, refl, sym, ap, ◌∙◌, eqb-true, eq-eqb}
+use Rattle.std.proofs.Common.{◌≡◌, ◌⊎◌, inl, inr, ℕ, zero, suc, arith, ◌+◌, ◌<◌, ◌==◌, ◌||◌, Bool, true, List, [], ◌∷◌, ◌++◌, length, take, get_or, Option, Some, None, refl, sym, ap, ◌∙◌, eqb-true, eq-eqb}
 use Rattle.std.specs.Prelude.{is_some, option_map, MatchOption}
 use Rattle.std.proofs.lemmas.List.{take_more, map-append}
 use Rattle.outbox.specs.Seated.{OutboxId}
@@ -10,8 +10,8 @@ use Rattle.routing.specs.SenderView.{RecipientView, StopView}
 use Rattle.routing.specs.Stops.{is_in}
 use Rattle.routing.proofs.Puts.{in_snoc}
 use Rattle.unique_name.specs.UniqueNames.{unique_name}
-use Rattle.lookups.specs.NameOwners.{NoneIsNamed}
-use Rattle.lookups.specs.Newcomers.{AreNewcomers, Adds}
+use Rattle.lookups.specs.Searching.{NoneIsNamed, Adds}
+use Rattle.lookups.specs.Newcomers.{AreNewcomers}
 use Rattle.lookups.proofs.Newcomers.{or_cases, or_right, is_in-connected, no_newcomers, adds_more}
 
 module _ {M : Type 0} where

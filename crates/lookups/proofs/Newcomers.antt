@@ -12,7 +12,8 @@ use Rattle.std.specs.List.{list_all}
 use Rattle.routing.specs.SenderView.{RecipientView, StopView}
 use Rattle.routing.specs.Stops.{is_in, number_of, HasStop, Lists}
 use Rattle.routing.proofs.Puts.{in_snoc}
-use Rattle.lookups.specs.Newcomers.{IsOutboxOf, HasEntry, Adds, AreNewcomers}
+use Rattle.lookups.specs.Newcomers.{IsOutboxOf, AreNewcomers}
+use Rattle.lookups.specs.Searching.{HasEntry, Adds}
 
 contains_here : {X : Type 0} (x : X) (xs : List X) → Contains (x ∷ xs) x
 contains_here x xs = (0, omega arith, refl)

@@ -1,4 +1,4 @@
--- What is found for a unicast message.
+-- What is found for a unicast message (own).
 use Rattle.std.specs.Prelude.{◌≡◌, ℕ, List, [], ◌∷◌, Option, Some, None}
 use Rattle.outbox.specs.Seated.{OutboxId}
 use Rattle.program_table.specs.Connections.{numbers_of}

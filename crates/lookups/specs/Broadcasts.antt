@@ -1,4 +1,4 @@
--- What is found for a broadcast.
+-- What is found for a broadcast (own).
 use Rattle.std.specs.Prelude.{◌≡◌, ℕ, List, Option, Some, None, Result, Ok, Err}
 use Rattle.arrayvec.specs.ArrayVec.{ArrayVec}
 use Rattle.outbox.specs.Seated.{OutboxId}

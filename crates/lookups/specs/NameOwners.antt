@@ -4,12 +4,7 @@ use Rattle.owners.specs.Queues.{owner_of}
 use Rattle.owners.specs.WellKnown.{is_unique}
 use Rattle.program_table.specs.Connections.{is_connected}
 use Rattle.program_table.specs.State.{State}
-use Rattle.routing.specs.Stops.{is_in}
 use Rattle.unique_name.specs.UniqueNames.{unique_name}
-
--- Inner: none of these connections has this unique name
-abbrev pub NoneIsNamed : List ℕ → List ℕ → Type 0
-NoneIsNamed name numbers = (n : ℕ) → is_in n numbers ≡ true → name ≡ unique_name n → ⊥
 
 module _ {M : Type 0} where
   -- whose the name is: a unique one the connection's of its number, another one the first's in its queue

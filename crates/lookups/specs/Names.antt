@@ -1,4 +1,4 @@
--- The names that are owned.
+-- The names that are owned (D-Bus Specification, "Message Bus Messages": ListNames).
 use Rattle.std.specs.Prelude.{◌≡◌, ℕ, List, [], ◌∷◌, Option, Some, None}
 use Rattle.owners.specs.Queues.{Claim}
 use Rattle.owners.specs.Registry.{next_name}

@@ -1,7 +1,6 @@
--- Those to whom a message goes and at whose outboxes its sender has no seat yet.
-use Rattle.std.specs.Prelude.{◌≡◌, ◌⊎◌, ℕ, true, List, [], ◌∷◌, ◌++◌, Some, Contains, map}
+-- Those to whom a message goes and at whose outboxes its sender has no seat yet (own).
+use Rattle.std.specs.Prelude.{◌≡◌, ◌⊎◌, ℕ, true, List, Some, map}
 use Rattle.outbox.specs.Seated.{OutboxId}
-use Rattle.entry_table.specs.declared.entry.Entry.{Entry}
 use Rattle.program_table.specs.Connections.{mailbox_of}
 use Rattle.program_table.specs.State.{State}
 use Rattle.routing.specs.SenderView.{RecipientView, StopView}
@@ -16,12 +15,3 @@ module _ {M : Type 0} where
   pub record AreNewcomers (outbox_of : M → OutboxId) (s : State M) (numbers : List ℕ) (stops : List StopView) (newcomers : List RecipientView) : Type 0 where
     pub all : (n : ℕ) → is_in n numbers ≡ true → HasStop n stops ⊎ (is_in n (map number_of newcomers) ≡ true)
     pub theirs : (n : ℕ) (outbox : OutboxId) → Lists newcomers n outbox → IsOutboxOf outbox_of s n outbox
-
-  -- Inner: some entry is this connection's
-  abbrev pub HasEntry : State M → ℕ → Type 0
-  HasEntry s n = (e : Entry) × Contains s.registrations.entries e × (e.connection ≡ n)
-
-  -- Inner: the connection has a seat already, or its newcomer was added
-  abbrev pub Adds : (M → OutboxId) → State M → ℕ → List StopView → List RecipientView → List RecipientView → Type 0
-  Adds outbox_of s n stops old new =
-      (HasStop n stops × (new ≡ old)) ⊎ ((r : RecipientView) × (r.number ≡ n) × IsOutboxOf outbox_of s n r.outbox × (new ≡ old ++ r ∷ []))

@@ -6,7 +6,8 @@ ghost use Rattle.message_view.specs.Message.{Message};
 ghost use Rattle.message_view.specs.Valid.{Valid};
 ghost use Rattle.program_table.specs.Connections.{numbers_of};
 ghost use Rattle.program_table.specs.History.{after};
-ghost use Rattle.lookups.specs.Newcomers.{IsOutboxOf, HasEntry, Adds, AreNewcomers};
+ghost use Rattle.lookups.specs.Newcomers.{IsOutboxOf, AreNewcomers};
+ghost use Rattle.lookups.specs.Searching.{HasEntry, Adds};
 ghost use Rattle.lookups.specs.Addressees.{AreListed};
 ghost use Rattle.lookups.specs.Broadcasts.{AreConnected, IsFound};
 
@@ -43,7 +44,7 @@ fn newcomer<'a, M: Mailbox + Carrier>(
         Some(mailbox) => Ok(Recipient::new(number, mailbox.share()?)),
         None => {
             // The contract of this call says that entries are of connections alone.
-            let _ = state.offered(view);
+            let _ = state.entries_for(view);
             unreachable!()
         }
     }
@@ -88,7 +89,7 @@ fn newcomers_of<'a, M: Mailbox + Carrier>(
 }
 
 // The numbers of the connections.
-fn connected<M: Mailbox>(alloc: Global, state: &BusState<M>) -> Result<Vec<u64>, AllocError>
+fn numbers_connected<M: Mailbox>(alloc: Global, state: &BusState<M>) -> Result<Vec<u64>, AllocError>
     ensures { IfOk result (λ numbers. numbers.items ≡ numbers_of state.now.connections) }
 {
     let mut numbers = Vec::new(alloc);
@@ -109,8 +110,8 @@ fn connected_if_many<'a, M: Mailbox + Carrier>(
 {
     if sender.seats() > MANY_SEATS {
         // The contract of this call says that the recipients are among the connections.
-        let _ = state.offered(view);
-        Ok(Some(connected(alloc, state)?))
+        let _ = state.entries_for(view);
+        Ok(Some(numbers_connected(alloc, state)?))
     } else {
         Ok(None)
     }
@@ -125,7 +126,7 @@ pub(crate) fn listed_if_many<M: Mailbox + Carrier>(
     ensures { IfOk result (λ numbers. AreListed state.now (option_map (λ v. v.items) numbers)) }
 {
     if sender.seats() > MANY_SEATS {
-        Ok(Some(connected(alloc, state)?))
+        Ok(Some(numbers_connected(alloc, state)?))
     } else {
         Ok(None)
     }

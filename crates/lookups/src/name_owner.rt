@@ -6,7 +6,8 @@ ghost use Rattle.owners.specs.Queues.{owner_of};
 ghost use Rattle.program_table.specs.Connections.{is_connected, numbers_of};
 ghost use Rattle.routing.specs.Stops.{is_in};
 ghost use Rattle.unique_name.specs.UniqueNames.{unique_name};
-ghost use Rattle.lookups.specs.NameOwners.{IsOwner, NoneIsNamed};
+ghost use Rattle.lookups.specs.NameOwners.{IsOwner};
+ghost use Rattle.lookups.specs.Searching.{NoneIsNamed};
 
 use program_table::{BusState, Connection, Mailbox};
 use unique_name::UniqueName;

@@ -1,7 +1,8 @@
 -- The numbers of keys tell them apart.
-use Rattle.std.proofs.Common.{◌≡◌, ◌<◌, ℕ, Bool, true, refl, sym, ap, ◌∙◌, arith}
+use Rattle.std.proofs.Common.{◌≡◌, ◌<◌, ℕ, true, refl, sym, ap, ◌∙◌, arith}
 use Rattle.std.specs.Prelude.{◌==◌, if◌then◌else◌}
-use Rattle.std.proofs.lemmas.Bool.{eqb-true}
+use Rattle.std.specs.Bool.{Decides}
+use Rattle.std.proofs.lemmas.Bool.{eqb-true, eq-eqb}
 use Rattle.match_key.specs.declared.source.Field.{Field}
 use Rattle.match_key.specs.declared.source.Field.TheVariants.{Interface, Member, Path, Destination}
 use Rattle.match_key.specs.declared.source.Source.{Source}
@@ -75,3 +76,6 @@ same_number _ _ e = absurd (omega arith)
 
 pub same_key : (a b : Key) → key_eq a b ≡ true → a ≡ b
 same_key a b e = same_number a b (eqb-true (key_number a) (key_number b) e)
+
+pub keys_decide : (a b : Key) → Decides (key_eq a b) (a ≡ b)
+keys_decide a b = (same_key a b, λ e. eq-eqb (key_number a) (key_number b) (ap key_number e))

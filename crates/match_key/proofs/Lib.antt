@@ -1,3 +1,4 @@
 pub mod Rows
 pub mod KeyNumbers
 pub mod ArgNames
+pub mod SameSets

@@ -1,4 +1,4 @@
--- The names and numbers of the faults of rule texts.
+-- The names and numbers of the faults of rule texts (own).
 use Rattle.std.specs.Prelude.{ℕ, List, codes}
 use Rattle.match_key.specs.declared.fault.RuleError.{RuleError}
 use Rattle.match_key.specs.declared.fault.RuleError.TheVariants.{TooLong, UnknownKey, KeyTwice, BadValue, Unquoted, PathTwice, ArgNumber, NoMemory}

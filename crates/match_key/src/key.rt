@@ -59,7 +59,7 @@ impl Key {
     }
 
     /// The key of a word.
-    pub fn named(word: &[u8]) -> Result<Self, RuleError>
+    pub fn of_word(word: &[u8]) -> Result<Self, RuleError>
         ensures { result ≡ key_named word.now }
     {
         if let Some(key) = key_of_word(word) {

@@ -16,7 +16,7 @@ pub enum KindName {
 
 impl KindName {
     /// The kind that a word names.
-    pub fn named(word: &[u8]) -> Option<Self>
+    pub fn of_word(word: &[u8]) -> Option<Self>
         ensures { result ≡ kind_named word.now }
     {
         if word == b"signal".as_slice() {

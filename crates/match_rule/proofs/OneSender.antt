@@ -94,6 +94,6 @@ more_hold {A = A} P xs i x lt is before here k d below = below_more (λ k. (d : 
 
 -- a rule with one sender holds where each condition does and the message is offered
 pub held : (rule : RuleTree) (m : Message) (owned : List ℕ → Bool) (owns r : Bool) → has_one_sender rule.conditions ≡ true → (All (λ c. IfSome (owned_name_in c) (λ name. owned name ≡ owns)) rule.conditions → IsTrue r ↔ All (λ c. ConditionHolds c m owned) rule.conditions) → destination_of m ≡ None ⊎ rule.eavesdrops ≡ true → Agrees rule owned owns → IsTrue r ↔ Holds rule m owned
-held rule m owned owns r one each offered agrees =
+held rule m owned owns r one each destination_fits agrees =
     let h = each (agreed_each (λ name. owned name ≡ owns) rule.conditions one agrees) in
-    (λ e. record { each = h.0 e; offered = offered }, λ w. h.1 w.each)
+    (λ e. record { each = h.0 e; destination_fits = destination_fits }, λ w. h.1 w.each)

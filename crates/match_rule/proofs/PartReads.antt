@@ -24,7 +24,7 @@ use Rattle.match_key.specs.Kinds.{kind_words, kind_named, kind_word}
 use Rattle.match_rule.specs.Condition.{term_key, term_of, term_with, is_value, asks_if, key_of, value_of, has_key, has_path, flag_named}
 use Rattle.match_rule.specs.Bytes.{begins_with}
 use Rattle.match_rule.specs.Grammar.{equals, comma, apostrophe}
-use Rattle.match_rule.specs.Reading.{◌>>=◌, step, after_step, value_from, with_byte, word_at, key_at, own_key, part_at, or_fault, ended}
+use Rattle.match_rule.specs.Reading.{◌>>=◌, step, after_step, value_from, with_byte, word_at, key_at, own_key, part_at, or_fault, value_ended}
 use Rattle.match_key.proofs.Rows.{row_found}
 
 pub bind_ok : {A B : Type 0} (r : Result A RuleError) (f : A → Result B RuleError) (y : B) → (r >>= f) ≡ Ok y → (x : A) × (r ≡ Ok x) × (f x ≡ Ok y)
@@ -192,7 +192,7 @@ term_is key value term e = text_is key value term (said_text key value term e).1
 
 -- ---- a value takes no more bytes than it has
 
-ended_len : (q : Quoting) (value rest : List ℕ) → ended q ≡ Ok (value, rest) → length value + length rest ≤ 0
+ended_len : (q : Quoting) (value rest : List ℕ) → value_ended q ≡ Ok (value, rest) → length value + length rest ≤ 0
 ended_len Outside value rest e = let h = pair_ok ([], []) (value, rest) e in rw (← h.0, ← h.1) (omega arith)
 ended_len Inside value rest e = absurd cc
 ended_len Escaped value rest e = let h = pair_ok ([], []) (value, rest) e in rw (← h.0, ← h.1) (omega arith)

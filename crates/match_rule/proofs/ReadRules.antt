@@ -1,12 +1,13 @@
 -- What holds of a rule that was read.
 use Rattle.std.proofs.Common.{◌≡◌, ℕ, ◌≤◌, true, List, [], length, sym, ap, ◌∙◌, subst}
 use Rattle.std.specs.Prelude.{Ok, All}
-use Rattle.message_value.specs.Words.{AreBytes}
+use Rattle.message_value.specs.Bytes.{AreBytes}
 use Rattle.match_rule.specs.Condition.{value_of}
 use Rattle.match_rule.specs.RuleTree.{RuleTree, weight_of}
 use Rattle.match_rule.specs.Grammar.{rule_with}
 use Rattle.match_rule.specs.Reading.{terms_at}
-use Rattle.match_rule.specs.Parts.{tree_at, has_one_sender, have_small_numbers, have_sender_names}
+use Rattle.match_rule.specs.Parts.{has_one_sender, have_small_numbers, have_sender_names}
+use Rattle.match_rule.specs.Gathering.{tree_at}
 use Rattle.match_rule.proofs.PartReads.{bind_ok}
 use Rattle.match_rule.proofs.Turns.{read_weight}
 use Rattle.match_rule.proofs.Spelled.{rule_at-tree}

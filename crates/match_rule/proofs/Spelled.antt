@@ -11,7 +11,7 @@ use Rattle.match_rule.specs.declared.quoting.Step.TheVariants.{End, Skip, Take}
 use Rattle.match_rule.specs.Bytes.{begins_with}
 use Rattle.match_rule.specs.Condition.{term_key, has_key, has_path}
 use Rattle.match_rule.specs.RuleTree.{RuleTree}
-use Rattle.match_rule.specs.Parts.{tree_at}
+use Rattle.match_rule.specs.Gathering.{tree_at}
 use Rattle.match_rule.specs.Grammar.{is_blank, apostrophe, comma, equals, Piece, quoted, escaped, plain, pieces_bytes, pieces_value, ArePieces, Part, part_bytes, IsPart, AreParts, HaveOwnKeys, further_bytes, parts_bytes, IsEnding, rule_with, ReadsAs}
 use Rattle.match_rule.specs.Reading.{◌>>=◌, after_blanks, step, after_step, value_from, with_byte, part_at, parts_from, terms_at, rule_at}
 use Rattle.match_rule.proofs.Steps.{with_front}

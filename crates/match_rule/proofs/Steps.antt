@@ -32,5 +32,5 @@ whole_rest bytes i = take_all (length bytes - i) (drop i bytes) (omega (arith, l
 
 -- an error that is passed on
 pub gives_err : {X Y : Type 0} (view : X → Y) (result : Result X RuleError) (read : Result Y RuleError) (fault : RuleError) → IsErrAnd result (λ f. f ≡ fault) → ((fault ≡ NoMemory → ⊥) → read ≡ Err fault) → Gives view result read
-gives_err view (Ok x) read fault is told = absurd is
-gives_err view (Err f) read fault is told = λ other. told (λ e. other (is ∙ e)) ∙ ap (λ x. Err x) (sym is)
+gives_err view (Ok x) read fault is evidence = absurd is
+gives_err view (Err f) read fault is evidence = λ other. evidence (λ e. other (is ∙ e)) ∙ ap (λ x. Err x) (sym is)

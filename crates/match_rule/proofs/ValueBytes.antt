@@ -7,7 +7,7 @@ use Rattle.std.proofs.lemmas.Bool.{and_parts, ltb-true}
 use Rattle.std.proofs.lemmas.List.Elements.{All-cons, All-nil}
 use Rattle.std.proofs.lemmas.Str.{IsUtf8-from_is_utf8}
 use lib.Utf8.{scalar, scalars, next, encode, encodes, scalar_cases}
-use Rattle.message_value.specs.Words.{AreBytes}
+use Rattle.message_value.specs.Bytes.{AreBytes}
 use Rattle.match_key.specs.declared.kind_name.KindName.{KindName}
 use Rattle.match_key.specs.declared.kind_name.KindName.TheVariants.{Signal, MethodCall, MethodReturn, Error}
 use Rattle.match_rule.specs.declared.condition.Condition.{Condition}

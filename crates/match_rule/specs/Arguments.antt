@@ -1,4 +1,4 @@
--- The arguments of a message that are texts.
+-- The arguments of a message that are texts (own).
 use Rattle.std.specs.Prelude.{ℕ, List, Option, Some, None, option_map}
 use Rattle.message_value.specs.Arguments.{Argument}
 

@@ -1,4 +1,4 @@
--- Beginnings and ends of texts.
+-- Beginnings and ends of texts (own).
 use Rattle.std.specs.Prelude.{ℕ, Bool, false, List, [], ◌∷◌, ◌==◌}
 
 abbrev pub begins_with : ℕ → List ℕ → Bool

@@ -1,4 +1,4 @@
--- The texts that a rule fixes by equality, which an index looks its entries up by.
+-- The texts that a rule fixes by equality, which an index looks its entries up by (own).
 use Rattle.std.specs.Prelude.{◌≡◌, ℕ, List, [], ◌∷◌, Option, Some, None, IfSome, slice_get, ◌==◌, if◌then◌else◌}
 use Rattle.message_view.specs.Message.{Message, path_of, interface_of, member_of}
 use Rattle.message_view.specs.Spelling.{arguments_of}

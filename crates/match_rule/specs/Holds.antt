@@ -73,7 +73,7 @@ ConditionHolds (Compares source relation value) m owned = IsSomeAnd (text_at sou
 -- each condition holds, and the message has no destination or the rule eavesdrops
 pub record Holds (rule : RuleTree) (m : Message) (owned : List ℕ → Bool) : Type 0 where
   pub each : All (λ c. ConditionHolds c m owned) rule.conditions
-  pub offered : (destination_of m ≡ None) ⊎ (rule.eavesdrops ≡ true)
+  pub destination_fits : (destination_of m ≡ None) ⊎ (rule.eavesdrops ≡ true)
 
 -- the test of names says so of the rule's sender name, where it has one
 abbrev pub Agrees : RuleTree → (List ℕ → Bool) → Bool → Type 0

@@ -4,6 +4,7 @@ pub mod RuleTree
 pub mod Grammar
 pub mod Reading
 pub mod Parts
+pub mod Gathering
 pub mod Arguments
 pub mod Holds
 pub mod Equality

@@ -1,4 +1,5 @@
--- Reading a rule's text from left to right, with the first fault that is met.
+-- Reading a rule's text from left to right, with the first fault that is met (own; which texts are rules is in
+-- Grammar.antt).
 use Rattle.std.specs.Prelude.{◌≡◌, ◌≢◌, ℕ, zero, suc, Bool, List, [], ◌∷◌, ◌++◌, length, Option, Some, None, option_map, Result, Ok, Err, nat_lt, ◌==◌, if◌then◌else◌}
 use Rattle.match_key.specs.declared.fault.RuleError.{RuleError}
 use Rattle.match_key.specs.declared.fault.RuleError.TheVariants.{TooLong, UnknownKey, KeyTwice, BadValue, Unquoted, PathTwice, NoMemory}
@@ -48,10 +49,10 @@ step Inside b follows = if b == apostrophe then Skip Outside else Take Inside
 step Escaped b follows = Take Outside
 
 -- the end of the text: a section has to be closed
-abbrev pub ended : Quoting → Result (List ℕ × List ℕ) RuleError
-ended Outside = Ok ([], [])
-ended Inside = Err Unquoted
-ended Escaped = Ok ([], [])
+abbrev pub value_ended : Quoting → Result (List ℕ × List ℕ) RuleError
+value_ended Outside = Ok ([], [])
+value_ended Inside = Err Unquoted
+value_ended Escaped = Ok ([], [])
 
 -- what comes of a step over a byte, with the bytes after it and what reading them gives
 abbrev pub after_step : Step → ℕ → List ℕ → (Quoting → Result (List ℕ × List ℕ) RuleError) → Result (List ℕ × List ℕ) RuleError
@@ -61,7 +62,7 @@ after_step (Take next) b bs rest = rest next >>= λ found. Ok (with_byte b found
 
 -- a value up to its comma or the end, and what follows
 abbrev pub value_from : Quoting → List ℕ → Result (List ℕ × List ℕ) RuleError
-value_from quoting [] = ended quoting
+value_from quoting [] = value_ended quoting
 value_from quoting (b ∷ bs) = after_step (step quoting b (begins_with apostrophe bs)) b bs (λ next. value_from next bs)
 
 abbrev pub or_fault : {A : Type 0} → RuleError → Option A → Result A RuleError

@@ -1,5 +1,5 @@
--- Rules, apart from their texts.
-use Rattle.std.specs.Prelude.{◌≡◌, ℕ, ◌+◌, ◌*◌, Bool, not, List, [], ◌∷◌, Option, Some, None, length, Contains, sum_by, codes, ◌==◌, ◌&&◌, if◌then◌else◌}
+-- Rules, apart from their texts (D-Bus Specification, "Match Rules"; the weight is our own).
+use Rattle.std.specs.Prelude.{◌≡◌, ℕ, ◌+◌, ◌*◌, Bool, not, List, [], ◌∷◌, Option, Some, None, length, Contains, sum_by, ◌==◌, ◌&&◌, if◌then◌else◌}
 use Rattle.std.specs.List.{list_all, list_any}
 use Rattle.std.specs.Bool.{beq}
 use Rattle.std.specs.Str.{bytes_eq}
@@ -9,6 +9,7 @@ use Rattle.match_key.specs.declared.relation.Relation.{Relation}
 use Rattle.match_key.specs.declared.relation.Relation.TheVariants.{NestedPath}
 use Rattle.match_rule.specs.Bytes.{begins_with}
 use Rattle.match_rule.specs.Condition.{value_of, condition_eq}
+use Rattle.signature.specs.Name.{bus_name}
 
 -- its conditions, in the order of the text, and whether it eavesdrops
 pub record RuleTree : Type 0 where
@@ -32,10 +33,6 @@ condition_weight c = 24 + length (value_of c)
 -- what a rule weighs: 8, and the weight of each condition
 abbrev pub weight_of : RuleTree → ℕ
 weight_of rule = 8 + sum_by condition_weight rule.conditions
-
--- `org.freedesktop.DBus`
-abbrev pub bus_name : List ℕ
-bus_name = codes "org.freedesktop.DBus"
 
 -- a name that a message's SENDER never is, since another connection may own it: neither a unique name nor
 -- that of the bus

@@ -22,7 +22,7 @@ mod word;
 pub use condition::Condition;
 pub use laws::{equal_as_sets, found_where_it_holds, one_reading};
 pub use match_key::{Field, Key, KindName, Relation, RuleError, Source};
-pub use path_namespace::{has_path_in, may_have_path, not_elsewhere_where_it_holds};
+pub use path_namespace::{NamespaceEnd, has_path_in, not_elsewhere_where_it_holds};
 pub use rule::Rule;
 pub use sender::is_owned_name;
 pub use text::Text;

@@ -3,7 +3,7 @@
 ghost use Rattle.std.specs.Prelude.{◌≡◌};
 ghost use Rattle.match_rule.specs.declared.quoting.Quoting.TheVariants.{Outside};
 ghost use Rattle.match_rule.specs.Reading.{Gives, key_at, part_at, value_from};
-ghost use Rattle.match_rule.specs.Parts.{terms_of, rule_of, tree_at};
+ghost use Rattle.match_rule.specs.Gathering.{terms_of, rule_of, tree_at};
 
 use crate::parts::Parts;
 use crate::quoting::{Quoting, Step};
@@ -18,7 +18,7 @@ fn key_at(bytes: &[u8]) -> Result<(Key, &[u8]), RuleError>
     ensures { Gives (λ x. (x.0, x.1.now)) result (key_at bytes.now) }
 {
     let (word, rest) = word_at(bytes).ok_or(RuleError::UnknownKey)?;
-    let key = Key::named(word)?;
+    let key = Key::of_word(word)?;
     Ok((key, rest))
 }
 

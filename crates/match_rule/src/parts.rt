@@ -6,7 +6,7 @@ ghost use Rattle.match_key.specs.declared.fault.RuleError.TheVariants.{NoMemory}
 ghost use Rattle.match_key.specs.Key.{is_twice, is_path_twice};
 ghost use Rattle.match_rule.specs.Condition.{key_of, has_key, has_path};
 ghost use Rattle.match_rule.specs.Reading.{own_key};
-ghost use Rattle.match_rule.specs.Parts.{terms_of, conditions_with, eavesdrop_with};
+ghost use Rattle.match_rule.specs.Gathering.{terms_of, conditions_with, eavesdrop_with};
 
 use crate::condition::Condition;
 use crate::term::Term;

@@ -4,7 +4,7 @@ ghost use Rattle.std.specs.Prelude.{◌≡◌, ◌↔◌, ◌<◌, ℕ, Bool, Li
 ghost use Rattle.message_view.specs.Message.{Message, path_of};
 ghost use Rattle.match_rule.specs.RuleTree.{RuleTree};
 ghost use Rattle.match_rule.specs.Holds.{Holds};
-ghost use Rattle.match_rule.specs.PathNamespaces.{namespace_asked, HasPathIn, IsElsewhere};
+ghost use Rattle.match_rule.specs.PathNamespaces.{namespace_asked, end_of, HasPathIn, IsElsewhere};
 
 use crate::fixed::first_value;
 use crate::namespace::is_in_path_namespace;
@@ -30,17 +30,50 @@ pub fn has_path_in(path: Option<&str>, namespace: &str) -> bool
     }
 }
 
-/// Whether a namespace of this length in bytes may have the path: the path is as long, or has a `/` there.
-pub fn may_have_path(path: Option<&str>, len: usize) -> bool
-    ensures { (namespace : List ℕ) → length namespace ≡ len → 1 < len → HasPathIn (option_map (λ text. text.now) path.entry) namespace → IsTrue result }
-{
-    let Some(path) = path else {
-        return false;
-    };
-    let bytes = path.as_bytes();
-    match bytes.get(len) {
-        Some(byte) => *byte == b'/',
-        None => bytes.len() == len,
+/// How a namespace ends, by which most that can't have a path are told without a look at their texts.
+#[derive(Clone, Copy, Debug, PartialEq, Eq)]
+pub struct NamespaceEnd {
+    /// The namespace's length in bytes.
+    pub len: usize,
+    /// Its last byte.
+    pub last: u8,
+}
+
+impl NamespaceEnd {
+    /// How this namespace ends.
+    pub fn of(namespace: &str) -> NamespaceEnd
+        ensures { result ≡ end_of namespace.now }
+    {
+        let bytes = namespace.as_bytes();
+        let last = match bytes.last() {
+            Some(byte) => *byte,
+            None => 0,
+        };
+        NamespaceEnd {
+            len: bytes.len(),
+            last,
+        }
+    }
+
+    /// Whether a namespace other than `/` that ends so may have the path: the path has the same byte there, and is as
+    /// long, or has a `/` after it.
+    pub fn may_have(self, path: Option<&str>) -> bool
+        ensures { (namespace : List ℕ) → self ≡ end_of namespace → 1 < self.len → HasPathIn (option_map (λ text. text.now) path.entry) namespace → IsTrue result }
+    {
+        let Some(path) = path else {
+            return false;
+        };
+        let bytes = path.as_bytes();
+        if self.len == 0 || self.len > bytes.len() {
+            return false;
+        }
+        if bytes[self.len - 1] != self.last {
+            return false;
+        }
+        match bytes.get(self.len) {
+            Some(byte) => *byte == b'/',
+            None => true,
+        }
     }
 }
 

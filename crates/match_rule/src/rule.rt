@@ -21,7 +21,7 @@ pub struct Rule {
 
 impl Model for Rule {
     ghost use Rattle.std.specs.Prelude.{◌≤◌, ◌≡◌, true, All};
-    ghost use Rattle.message_value.specs.Words.{AreBytes};
+    ghost use Rattle.message_value.specs.Bytes.{AreBytes};
     ghost use Rattle.match_rule.specs.Condition.{value_of};
     ghost use Rattle.match_rule.specs.RuleTree.{RuleTree, weight_of};
     ghost use Rattle.match_rule.specs.Parts.{has_one_sender, have_small_numbers, have_sender_names};
@@ -35,7 +35,7 @@ impl Model for Rule {
 
 impl Rule {
     ghost use Rattle.std.specs.Prelude.{◌≡◌, ◌≤◌, ◌⊎◌, ◌↔◌, ℕ, Bool, true, List, All, IfOk, IfErr, Ok, Err, IsTrue, option_map};
-    ghost use Rattle.message_value.specs.Words.{AreBytes};
+    ghost use Rattle.message_value.specs.Bytes.{AreBytes};
     ghost use Rattle.message_view.specs.Message.{Message};
     ghost use Rattle.message_view.specs.Valid.{Valid};
     ghost use Rattle.match_key.specs.declared.fault.RuleError.TheVariants.{NoMemory};

@@ -80,7 +80,7 @@ fn term_of(key: Key, text: String) -> Option<Term>
 {
     let text = Text::new(text);
     match key {
-        Key::Kind => KindName::named(text.as_str().as_bytes()).map(|kind| Term::Asks(
+        Key::Kind => KindName::of_word(text.as_str().as_bytes()).map(|kind| Term::Asks(
             Condition::Kind(kind),
         )),
         Key::Sender => asks_if(check_bus_name(text.as_str()), Condition::Sender(text)),

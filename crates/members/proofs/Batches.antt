@@ -1,5 +1,5 @@
 -- The bytes of a batch and of a long message after it.
-use Rattle.std.proofs.Common.{◌≡◌, ℕ, zero, suc, ◌+◌, ◌-◌, ◌<◌, ◌≤◌, ◌==◌, ◌&&◌, Bool, true, List, [], ◌∷◌, ◌++◌, Option, Some, None, is_none, unwrap_or, min, length, take, drop, slice_range, if◌then◌else◌, refl, ap, sym, ◌∙◌, append-nil, arith, length-take, drop-drop, drop_of_length-le}
+use Rattle.std.proofs.Common.{◌≡◌, ℕ, zero, suc, ◌+◌, ◌-◌, ◌<◌, ◌≤◌, ◌==◌, ◌&&◌, true, List, [], ◌∷◌, ◌++◌, Option, Some, None, is_none, unwrap_or, min, length, take, drop, slice_range, if◌then◌else◌, refl, ap, sym, ◌∙◌, append-nil, arith, length-take, drop-drop, drop_of_length-le}
 use Rattle.std.proofs.lemmas.Bool.{false≢true}
 use Rattle.std.proofs.lemmas.List.{drop-take, drop-append-le}
 use Rattle.std.proofs.lemmas.Slice.{between_from_start, take-put_mid}

@@ -1,4 +1,4 @@
--- Bytes that were taken from an outbox and aren't written yet.
+-- Inner: bytes that were taken from an outbox and aren't written yet.
 use Rattle.std.specs.Prelude.{ℕ, ◌==◌, Bool, List, ◌++◌, length, if◌then◌else◌}
 
 -- the bytes of short messages, those of a long one after them, and whether further messages may be added

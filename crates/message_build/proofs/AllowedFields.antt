@@ -16,7 +16,7 @@ use Rattle.message_view.specs.Spelling.{field_bytes}
 use Rattle.message_view.specs.Valid.{IsField, IsOnce, AreFields}
 use Rattle.message_build.specs.declared.field.HeaderField.{HeaderField}
 use Rattle.message_build.specs.declared.field.HeaderField.TheVariants.{Path, Interface, Member, ErrorName, ReplySerial, Destination, Sender, Signature}
-use Rattle.message_build.specs.Words.{field_of, fields_of, is_allowed, may_be, Holds, HoldEach}
+use Rattle.message_build.specs.HeaderFields.{field_of, fields_of, is_allowed, may_be, Holds, HoldEach}
 use Rattle.message_build.proofs.PlainNames.{interface_string, member_string, bus_name_string}
 
 -- ---- lengths

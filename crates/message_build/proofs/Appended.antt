@@ -8,7 +8,7 @@ use Rattle.message_value.specs.Spelling.{padding, zeros, signature_bytes, value_
 use Rattle.message_value.proofs.ReadItems.{length-zeros}
 use Rattle.message_view.specs.Message.{Field}
 use Rattle.message_view.specs.Spelling.{field_front, field_value_place, field_bytes}
-use Rattle.message_build.specs.Words.{Appends}
+use Rattle.message_build.specs.Growing.{Appends}
 
 front_then : (old mid new a : List ℕ) → mid ≡ old ++ a → take (length mid) new ≡ mid → take (length old) new ≡ old
 front_then old mid new a is front =

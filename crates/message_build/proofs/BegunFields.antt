@@ -3,7 +3,7 @@ use Rattle.std.proofs.Common.{◌≡◌, ℕ, ◌+◌, ◌-◌, ◌<◌, ◌≤�
 use Rattle.std.proofs.lemmas.List.{length-append, take_at, drop_at, drop-drop, length-drop}
 use Rattle.message_value.specs.declared.order.Order.{Order}
 use Rattle.message_value.specs.declared.fault.MsgError.{MsgError}
-use Rattle.message_value.specs.Spelling.{padding, aligned, zeros, signature_bytes, value_bytes}
+use Rattle.message_value.specs.Spelling.{padding, align_up, zeros, signature_bytes, value_bytes}
 use Rattle.message_value.specs.Fits.{ValueFits}
 use Rattle.message_value.specs.Reading.{◌>>=◌, At, aligned_at, byte_at, signature_at, value_at}
 use Rattle.message_value.proofs.OkSteps.{bind_ok, ok_is}
@@ -15,18 +15,18 @@ use Rattle.message_view.specs.Message.{Field}
 use Rattle.message_view.specs.Spelling.{field_value_place, field_bytes}
 use Rattle.message_view.specs.Valid.{IsField}
 use Rattle.message_build.specs.declared.kept_fields.Begun.{Begun}
-use Rattle.message_build.specs.StampWords.{IsAfter, LiesAt, begun_at}
+use Rattle.message_build.specs.StampedFields.{IsAfter, LiesAt, begun_at}
 use Rattle.message_build.proofs.MovedFields.{field_spelled}
 
 abbrev pub begun : ℕ → ℕ → Begun
 begun code place = record { code = code; place = place }
 
 again : (order : Order) (field : Field) (place : ℕ) (outside : MsgError) (rest : List ℕ) → IsField order place field
-    → begun_at order (at place (field_bytes order place field ++ rest) outside) ≡ Ok (begun field.code (aligned 8 place), at (place + length (field_bytes order place field)) rest outside)
+    → begun_at order (at place (field_bytes order place field ++ rest) outside) ≡ Ok (begun field.code (align_up 8 place), at (place + length (field_bytes order place field)) rest outside)
 unfolding begun_at
 again order field place outside rest is =
     let skipped = zeros (padding 8 place) in
-    let start = aligned 8 place + 1 in
+    let start = align_up 8 place + 1 in
     let sig = signature_bytes field.type in
     let at_value : start + length sig ≡ field_value_place place field = omega arith in
     let shaped : ValueFits order 63 (start + length sig) field.type field.value = rw at_value is.shaped in
@@ -35,10 +35,10 @@ again order field place outside rest is =
     let grouped : field_bytes order place field ++ rest ≡ skipped ++ (field.code ∷ (sig ++ (bytes ++ rest))) = ap (λ (x : List ℕ). x ++ rest) same ∙ append_assoc skipped (field.code ∷ (sig ++ bytes)) rest ∙ ap (λ (x : List ℕ). skipped ++ (field.code ∷ x)) (append_assoc sig bytes rest) in
     let end : start + length sig + length bytes ≡ place + length (field_bytes order place field) = omega (arith, ap (λ (x : List ℕ). length x) same, length-append skipped (field.code ∷ (sig ++ bytes)), length-append sig bytes, length-zeros (padding 8 place)) in
     ap (λ (x : List ℕ). begun_at order (at place x outside)) grouped
-    ∙ rw (aligned_again 8 place outside (field.code ∷ (sig ++ (bytes ++ rest))), byte_again (aligned 8 place) field.code outside (sig ++ (bytes ++ rest)), signature_again field.type start outside (bytes ++ rest) is.typed, value_again 63 order field.type (start + length sig) outside field.value rest shaped) (ap (λ (k : ℕ). Ok (begun field.code (aligned 8 place), at k rest outside)) end)
+    ∙ rw (aligned_again 8 place outside (field.code ∷ (sig ++ (bytes ++ rest))), byte_again (align_up 8 place) field.code outside (sig ++ (bytes ++ rest)), signature_again field.type start outside (bytes ++ rest) is.typed, value_again 63 order field.type (start + length sig) outside field.value rest shaped) (ap (λ (k : ℕ). Ok (begun field.code (align_up 8 place), at k rest outside)) end)
 
 pub begun_again : (order : Order) (array : List ℕ) (a : At) (field : Field) (more : List ℕ) → LiesAt order array a field more
-    → begun_at order a ≡ Ok (begun field.code (aligned 8 a.place), at (a.place + length (field_bytes order a.place field)) more a.outside)
+    → begun_at order a ≡ Ok (begun field.code (align_up 8 a.place), at (a.place + length (field_bytes order a.place field)) more a.outside)
 begun_again order array a field more l =
     ap (λ (x : List ℕ). begun_at order (at a.place x a.outside)) l.rest ∙ again order field a.place a.outside more l.is
 
@@ -59,22 +59,22 @@ begun_shorter order a found e =
 
 -- the bytes of a field in the array
 pub field_between : (order : Order) (array : List ℕ) (a : At) (field : Field) (more : List ℕ) → LiesAt order array a field more
-    → take (a.place + length (field_bytes order a.place field) - aligned 8 a.place) (drop (aligned 8 a.place) array) ≡ field_bytes order 0 field
+    → take (a.place + length (field_bytes order a.place field) - align_up 8 a.place) (drop (align_up 8 a.place) array) ≡ field_bytes order 0 field
 field_between order array a field more l =
     let pad = zeros (padding 8 a.place) in
     let bare = field_bytes order 0 field in
     let whole = field_spelled order a.place field in
-    let len : a.place + length (field_bytes order a.place field) - aligned 8 a.place ≡ length bare = omega (arith, ap (λ (x : List ℕ). length x) whole, length-append pad bare, length-zeros (padding 8 a.place)) in
+    let len : a.place + length (field_bytes order a.place field) - align_up 8 a.place ≡ length bare = omega (arith, ap (λ (x : List ℕ). length x) whole, length-append pad bare, length-zeros (padding 8 a.place)) in
     let rest : drop a.place array ≡ pad ++ (bare ++ more) = l.within ∙ l.rest ∙ ap (λ (x : List ℕ). x ++ more) whole ∙ append_assoc pad bare more in
-    let tail : drop (aligned 8 a.place) array ≡ bare ++ more = sym (dropped array a.place (padding 8 a.place)) ∙ ap (drop (padding 8 a.place)) rest ∙ drop_at pad (bare ++ more) (padding 8 a.place) (length-zeros (padding 8 a.place)) in
-    ap (λ (n : ℕ). take n (drop (aligned 8 a.place) array)) len ∙ ap (take (length bare)) tail ∙ take_at bare more (length bare) refl
+    let tail : drop (align_up 8 a.place) array ≡ bare ++ more = sym (dropped array a.place (padding 8 a.place)) ∙ ap (drop (padding 8 a.place)) rest ∙ drop_at pad (bare ++ more) (padding 8 a.place) (length-zeros (padding 8 a.place)) in
+    ap (λ (n : ℕ). take n (drop (align_up 8 a.place) array)) len ∙ ap (take (length bare)) tail ∙ take_at bare more (length bare) refl
   where
     dropped : (xs : List ℕ) (m n : ℕ) → drop n (drop m xs) ≡ drop (m + n) xs
     dropped xs m n = simp drop-drop
 
 -- it lies within the array
 pub field_within : (order : Order) (array : List ℕ) (a : At) (field : Field) (more : List ℕ) → LiesAt order array a field more
-    → (aligned 8 a.place ≤ a.place + length (field_bytes order a.place field)) × (a.place + length (field_bytes order a.place field) ≤ length array)
+    → (align_up 8 a.place ≤ a.place + length (field_bytes order a.place field)) × (a.place + length (field_bytes order a.place field) ≤ length array)
 field_within order array a field more l =
     let pad = zeros (padding 8 a.place) in
     let bytes = field_bytes order a.place field in
@@ -91,12 +91,12 @@ field_within order array a field more l =
 pub record Went (order : Order) (array : List ℕ) (a : At) (field : Field) (more : List ℕ) (x : Begun) (b : At) : Type 0 where
   pub lies : LiesAt order array a field more
   pub code : x.code ≡ field.code
-  pub start : x.place ≡ aligned 8 a.place
+  pub start : x.place ≡ align_up 8 a.place
   pub tail : IsAfter order a field more b
 
 pub went : (order : Order) (array : List ℕ) (a : At) (field : Field) (more : List ℕ) (x : Begun) (b : At) → LiesAt order array a field more → begun_at order a ≡ Ok (x, b) → Went order array a field more x b
 went order array a field more x b l e =
-    let y : Begun × At = (begun field.code (aligned 8 a.place), at (a.place + length (field_bytes order a.place field)) more a.outside) in
+    let y : Begun × At = (begun field.code (align_up 8 a.place), at (a.place + length (field_bytes order a.place field)) more a.outside) in
     let z : Begun × At = (x, b) in
     let same : z ≡ y = ok_is z y (sym e ∙ begun_again order array a field more l) in
     record {

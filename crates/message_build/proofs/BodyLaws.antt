@@ -12,7 +12,7 @@ use Rattle.message_value.proofs.WordBytes.{IsBytes}
 use Rattle.message_value.proofs.OkSteps.{ok_is}
 use Rattle.message_value.proofs.ReadItems.{at}
 use Rattle.message_value.proofs.ReadValues.{members_takes, members_again}
-use Rattle.message_build.specs.Words.{IsBody}
+use Rattle.message_build.specs.MessageBytes.{IsBody}
 
 append_nothing : (xs : List ℕ) → xs ++ [] ≡ xs
 append_nothing [] = refl

@@ -6,7 +6,7 @@ use Rattle.std.proofs.lemmas.List.{length-append}
 use Rattle.message_value.specs.declared.order.Order.TheVariants.{Little}
 use Rattle.message_view.specs.Spelling.{fields_bytes}
 use Rattle.message_build.specs.declared.field.HeaderField.{HeaderField}
-use Rattle.message_build.specs.Words.{fields_of, bytes_at, may_be, HoldEach}
+use Rattle.message_build.specs.HeaderFields.{fields_of, bytes_at, may_be, HoldEach}
 
 pub first_field : (place : ℕ) (x : Option HeaderField) (more : List (Option HeaderField)) → fields_bytes Little place (fields_of (x ∷ more)) ≡ bytes_at place x ++ fields_bytes Little (place + length (bytes_at place x)) (fields_of more)
 first_field place None more = let same : place ≡ place + 0 = omega arith in ap (λ (k : ℕ). fields_bytes Little k (fields_of more)) same

@@ -11,9 +11,9 @@ use Rattle.message_build.proofs.FourBytes.{four_bytes}
 -- the length of a valid message's fields, as its word says it
 pub fields_len_said : (raw : List ℕ) (m : Message) (order : Order) (word : List ℕ) (n : ℕ) → Valid raw m → order ≡ m.order → length word ≡ 4 → word ≡ take 4 (drop 12 raw)
     → n ≡ word_of order (get_or word 0 0 ∷ get_or word 1 0 ∷ get_or word 2 0 ∷ get_or word 3 0 ∷ []) → n ≡ length (header_bytes m)
-fields_len_said raw m order word n v order_is four is said =
+fields_len_said raw m order word n v order_is four is text_said =
     let l = valid_lies raw m v in
-    said
+    text_said
     ∙ ap (word_of order) (sym (four_bytes word four) ∙ is)
     ∙ ap (λ (o : Order). word_of o (take 4 (drop 12 raw))) (order_is ∙ sym l.is_order)
     ∙ l.is_len

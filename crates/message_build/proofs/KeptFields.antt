@@ -13,7 +13,7 @@ use Rattle.message_view.specs.Message.{Field, field_with, text_in, or_empty, sig
 use Rattle.message_view.specs.Spelling.{field_bytes, fields_bytes}
 use Rattle.message_view.specs.Valid.{IsField, IsOnce, AreFields}
 use Rattle.message_build.specs.Stamped.{sender_field, is_kept}
-use Rattle.message_build.specs.StampWords.{is_kept_code}
+use Rattle.message_build.specs.StampedFields.{is_kept_code}
 use Rattle.message_build.proofs.AllowedFields.{one_string}
 use Rattle.message_build.proofs.PlainNames.{bus_name_string}
 use Rattle.message_build.proofs.MovedFields.{field_moved}

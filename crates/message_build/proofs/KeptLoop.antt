@@ -11,7 +11,7 @@ use Rattle.message_view.specs.Spelling.{field_bytes, fields_bytes}
 use Rattle.message_view.specs.Valid.{AreFields}
 use Rattle.message_build.specs.declared.kept_fields.Found.{Found}
 use Rattle.message_build.specs.Stamped.{is_kept}
-use Rattle.message_build.specs.StampWords.{IsFound, IsAfter, LiesAt, is_kept_code, kept_bytes}
+use Rattle.message_build.specs.StampedFields.{IsFound, IsAfter, LiesAt, is_kept_code, kept_bytes}
 use Rattle.message_build.proofs.MovedFields.{field_spelled}
 
 -- the fields that are left lie in the array, and what is written with those of them that are kept is the whole

@@ -13,3 +13,4 @@ pub mod KeptLoop
 pub mod KeptFields
 pub mod StampedMessages
 pub mod HeaderArrays
+pub mod AllKept

@@ -20,13 +20,15 @@ use Rattle.message_view.specs.Message.{Field, Message}
 use Rattle.message_view.specs.Spelling.{fixed_len, fields_bytes, header_bytes, body_bytes, body_place, message_bytes}
 use Rattle.message_view.specs.Valid.{AreFields, Valid, max_message_len}
 use Rattle.message_build.specs.Asked.{Asked, Asks, is_spoiled}
-use Rattle.message_build.specs.Building.{IsValidButForSize, AreAsked, AsksTooMuch, AsksNone, Finishes}
+use Rattle.message_build.specs.Building.{IsValidButForSize, AreAsked, AsksTooMuch, AsksNone, Finishes, listed_bytes}
 use Rattle.message_build.specs.declared.error.BuildError.{BuildError}
 use Rattle.message_build.specs.declared.error.BuildError.TheVariants.{NoMemory}
 use Rattle.message_build.specs.declared.field.HeaderField.{HeaderField}
-use Rattle.message_build.specs.declared.given.Given.{Given}
+use Rattle.message_build.specs.declared.body_state.BodyState.{BodyState}
 use Rattle.message_build.specs.declared.header.Header.{Header}
-use Rattle.message_build.specs.Words.{HoldEach, InRange, asked, fields_of, fields_set, are_allowed, is_sound_header, kind_is_own, has_needed, IsBody, fixed_bytes, spelled, listed}
+use Rattle.message_build.specs.MessageBytes.{IsBody, fixed_bytes, spelled}
+use Rattle.message_build.specs.Headers.{InRange, request_of, fields_set, is_sound_header, kind_is_own, has_needed}
+use Rattle.message_build.specs.HeaderFields.{HoldEach, fields_of, are_allowed}
 use Rattle.message_build.proofs.AllowedFields.{AreOnce, fields_are, fields_were}
 use Rattle.message_build.proofs.SetFields.{set_once, required_set, signature_set}
 
@@ -46,8 +48,8 @@ same_message o p k l f g s t x y types arguments order kind flags serial fields 
     ∙ ap (λ (v : ℕ). made p l g v x types arguments) serial
     ∙ ap (λ (v : List Field). made p l g t v types arguments) fields
 
-is_the : (h : Header) (s body : List ℕ) (given : Given) (m : Message) → Asks (asked h s body given) m → m ≡ the h s m.types m.arguments
-is_the h s body given m asks =
+is_the : (h : Header) (s body : List ℕ) (body_state : BodyState) (m : Message) → Asks (request_of h s body body_state) m → m ≡ the h s m.types m.arguments
+is_the h s body body_state m asks =
     same_message m.order Little m.kind h.kind m.flags h.flags m.serial h.serial m.fields (fields_set h s) m.types m.arguments asks.order asks.kind asks.flags asks.serial asks.fields
 
 pub body_alike : (n : ℕ) → Alike (body_place n) 0
@@ -99,36 +101,36 @@ kind_is (kinds.Other byte) e =
 
 -- ---- what is not valid
 
-abbrev Refuses : Header → List ℕ → List ℕ → Given → Type 0
-Refuses h s body given = AsksNone (asked h s body given)
+abbrev Refuses : Header → List ℕ → List ℕ → BodyState → Type 0
+Refuses h s body body_state = AsksNone (request_of h s body body_state)
 
-the_valid : (h : Header) (s body : List ℕ) (given : Given) (m : Message) → Asks (asked h s body given) m → IsValidButForSize m → IsValidButForSize (the h s m.types m.arguments)
-the_valid h s body given m asks valid = subst IsValidButForSize (is_the h s body given m asks) valid
+the_valid : (h : Header) (s body : List ℕ) (body_state : BodyState) (m : Message) → Asks (request_of h s body body_state) m → IsValidButForSize m → IsValidButForSize (the h s m.types m.arguments)
+the_valid h s body body_state m asks valid = subst IsValidButForSize (is_the h s body body_state m asks) valid
 
-pub spoiled_refused : (h : Header) (s body : List ℕ) (given : Given) → is_spoiled given ≡ true → Refuses h s body given
-spoiled_refused h s body given e m asks valid = let whole : is_spoiled given ≡ false = asks.whole in absurd cc
+pub spoiled_refused : (h : Header) (s body : List ℕ) (body_state : BodyState) → is_spoiled body_state ≡ true → Refuses h s body body_state
+spoiled_refused h s body body_state e m asks valid = let whole : is_spoiled body_state ≡ false = asks.whole in absurd cc
 
 not_zero : (n : ℕ) → 0 < n → not (eqb n 0) ≡ true
 not_zero n lt = let e : eqb n 0 ≡ false = grind (arith, nat_tests) in rw e refl
 
-pub header_refused : (h : Header) (s body : List ℕ) (given : Given) → is_sound_header h ≡ false → Refuses h s body given
-header_refused h s body given e m asks valid =
-    let v = the_valid h s body given m asks valid in
+pub header_refused : (h : Header) (s body : List ℕ) (body_state : BodyState) → is_sound_header h ≡ false → Refuses h s body body_state
+header_refused h s body body_state e m asks valid =
+    let v = the_valid h s body body_state m asks valid in
     let kind : kind_is_own h.kind ≡ true = kind_was h.kind v.kind in
     let serial : not (eqb h.serial 0) ≡ true = not_zero h.serial v.serial in
     let needed : has_needed h ≡ true = sym (required_set h.kind h s) ∙ v.required in
     let sound : is_sound_header h ≡ true = rw (kind, serial, needed) refl in
     absurd cc
 
-pub fields_refused : (h : Header) (s body : List ℕ) (given : Given) (xs : List (Option HeaderField)) → fields_of xs ≡ fields_set h s → are_allowed xs ≡ false → Refuses h s body given
-fields_refused h s body given xs is e m asks valid =
-    let v = the_valid h s body given m asks valid in
+pub fields_refused : (h : Header) (s body : List ℕ) (body_state : BodyState) (xs : List (Option HeaderField)) → fields_of xs ≡ fields_set h s → are_allowed xs ≡ false → Refuses h s body body_state
+fields_refused h s body body_state xs is e m asks valid =
+    let v = the_valid h s body body_state m asks valid in
     let allowed : are_allowed xs ≡ true = fields_were fixed_len xs (subst (λ (fs : List Field). AreFields Little fixed_len fs) (sym is) v.fields) in
     absurd cc
 
-pub body_refused : (h : Header) (s body : List ℕ) (given : Given) → (IsBody s body → ⊥) → Refuses h s body given
-body_refused h s body given refute m asks valid =
-    let v = the_valid h s body given m asks valid in
+pub body_refused : (h : Header) (s body : List ℕ) (body_state : BodyState) → (IsBody s body → ⊥) → Refuses h s body body_state
+body_refused h s body body_state refute m asks valid =
+    let v = the_valid h s body body_state m asks valid in
     let len = length (fields_bytes Little fixed_len (fields_set h s)) in
     refute (
       m.types,
@@ -152,24 +154,24 @@ length-spelled h fs body =
     let pad = zeros (padding 8 (length all)) in
     omega (arith, length-append (fixed_bytes Little h (length all) (length body)) (all ++ (pad ++ body)), length-append all (pad ++ body), length-append pad body, length-zeros (padding 8 (length all)))
 
-asked_bytes : (h : Header) (s body : List ℕ) (given : Given) (m : Message) → Asks (asked h s body given) m → message_bytes m ≡ spelled h (fields_set h s) body
-asked_bytes h s body given m asks = ap (λ (x : Message). message_bytes x) (is_the h s body given m asks) ∙ bytes_are h s body m.types m.arguments asks.arguments
+asked_bytes : (h : Header) (s body : List ℕ) (body_state : BodyState) (m : Message) → Asks (request_of h s body body_state) m → message_bytes m ≡ spelled h (fields_set h s) body
+asked_bytes h s body body_state m asks = ap (λ (x : Message). message_bytes x) (is_the h s body body_state m asks) ∙ bytes_are h s body m.types m.arguments asks.arguments
 
 -- ---- what is asked for
 
 -- the message that was asked for, which is valid but for its size
-pub record Sound (h : Header) (s body : List ℕ) (given : Given) : Type 0 where
+pub record Sound (h : Header) (s body : List ℕ) (body_state : BodyState) : Type 0 where
   pub types : DataTypes
   pub arguments : Values
-  pub asks : Asks (asked h s body given) (the h s types arguments)
+  pub asks : Asks (request_of h s body body_state) (the h s types arguments)
   pub valid : IsValidButForSize (the h s types arguments)
 
 above_zero : (n : ℕ) → not (eqb n 0) ≡ true → 0 < n
 above_zero n e = grind (arith, nat_tests)
 
-pub asked_sound : (h : Header) (s body : List ℕ) (given : Given) (xs : List (Option HeaderField))
-    → fields_of xs ≡ fields_set h s → InRange h → HoldEach xs → is_spoiled given ≡ false → is_sound_header h ≡ true → are_allowed xs ≡ true → IsBody s body → Sound h s body given
-asked_sound h s body given xs is range hold whole sound allowed b =
+pub asked_sound : (h : Header) (s body : List ℕ) (body_state : BodyState) (xs : List (Option HeaderField))
+    → fields_of xs ≡ fields_set h s → InRange h → HoldEach xs → is_spoiled body_state ≡ false → is_sound_header h ≡ true → are_allowed xs ≡ true → IsBody s body → Sound h s body body_state
+asked_sound h s body body_state xs is range hold whole sound allowed b =
     let types = b.0 in
     let values = b.1 in
     let n = length (fields_bytes Little fixed_len (fields_set h s)) in
@@ -203,22 +205,22 @@ fields_end_is is end = end ∙ ap (λ (x : List Field). fixed_len + length (fiel
 pub fields_above : {xs fs : List Field} → xs ≡ fs → fixed_len + max_array_len < fixed_len + length (fields_bytes Little fixed_len xs) → max_array_len < length (fields_bytes Little fixed_len fs)
 fields_above is above = let same = ap (λ (x : List Field). length (fields_bytes Little fixed_len x)) is in omega arith
 
-pub fields_too_large : (h : Header) (s body : List ℕ) (given : Given) → Sound h s body given → max_array_len < length (fields_bytes Little fixed_len (fields_set h s)) → AsksTooMuch (asked h s body given)
-fields_too_large h s body given m long = (the h s m.types m.arguments, m.asks, m.valid, inl long)
+pub fields_too_large : (h : Header) (s body : List ℕ) (body_state : BodyState) → Sound h s body body_state → max_array_len < length (fields_bytes Little fixed_len (fields_set h s)) → AsksTooMuch (request_of h s body body_state)
+fields_too_large h s body body_state m long = (the h s m.types m.arguments, m.asks, m.valid, inl long)
 
 -- how long the message is
-asked_len : (h : Header) (s body : List ℕ) (given : Given) (m : Message) (end : ℕ) → Asks (asked h s body given) m → end ≡ fixed_len + length (fields_bytes Little fixed_len (fields_set h s)) → length (message_bytes m) ≡ end + padding 8 end + length body
-asked_len h s body given m end asks is =
+asked_len : (h : Header) (s body : List ℕ) (body_state : BodyState) (m : Message) (end : ℕ) → Asks (request_of h s body body_state) m → end ≡ fixed_len + length (fields_bytes Little fixed_len (fields_set h s)) → length (message_bytes m) ≡ end + padding 8 end + length body
+asked_len h s body body_state m end asks is =
     let n = length (fields_bytes Little fixed_len (fields_set h s)) in
     let same : padding 8 end ≡ padding 8 n = ap (λ (k : ℕ). padding 8 k) is ∙ same_padding n in
-    let len : length (message_bytes m) ≡ fixed_len + n + padding 8 n + length body = ap (λ (l : List ℕ). length l) (asked_bytes h s body given m asks) ∙ length-spelled h (fields_set h s) body in
+    let len : length (message_bytes m) ≡ fixed_len + n + padding 8 n + length body = ap (λ (l : List ℕ). length l) (asked_bytes h s body body_state m asks) ∙ length-spelled h (fields_set h s) body in
     omega arith
 
-pub message_too_large : (h : Header) (s body : List ℕ) (given : Given) (end : ℕ) → Sound h s body given → end ≡ fixed_len + length (fields_bytes Little fixed_len (fields_set h s)) → max_message_len - (end + padding 8 end) < length body
-    → AsksTooMuch (asked h s body given)
-message_too_large h s body given end m is above =
+pub message_too_large : (h : Header) (s body : List ℕ) (body_state : BodyState) (end : ℕ) → Sound h s body body_state → end ≡ fixed_len + length (fields_bytes Little fixed_len (fields_set h s)) → max_message_len - (end + padding 8 end) < length body
+    → AsksTooMuch (request_of h s body body_state)
+message_too_large h s body body_state end m is above =
     let message = the h s m.types m.arguments in
-    let len = asked_len h s body given message end m.asks is in
+    let len = asked_len h s body body_state message end m.asks is in
     let large : max_message_len < length (message_bytes message) = omega arith in
     (message, m.asks, m.valid, inr large)
 
@@ -241,19 +243,19 @@ sized m v short fits = record {
   spelled = refl;
 }
 
-pub built_valid : (h : Header) (s body : List ℕ) (given : Given) (end : ℕ) (bytes : List ℕ) → Sound h s body given
+pub built_valid : (h : Header) (s body : List ℕ) (body_state : BodyState) (end : ℕ) (bytes : List ℕ) → Sound h s body body_state
     → end ≡ fixed_len + length (fields_bytes Little fixed_len (fields_set h s)) → end ≤ fixed_len + max_array_len → length body ≤ max_message_len - (end + padding 8 end)
-    → bytes ≡ spelled h (fields_set h s) body → AreAsked (asked h s body given) bytes
-built_valid h s body given end bytes m is short fits spelt =
+    → bytes ≡ spelled h (fields_set h s) body → AreAsked (request_of h s body body_state) bytes
+built_valid h s body body_state end bytes m is short fits spelt =
     let message = the h s m.types m.arguments in
-    let len = asked_len h s body given message end m.asks is in
-    let now : bytes ≡ message_bytes message = spelt ∙ sym (asked_bytes h s body given message m.asks) in
+    let len = asked_len h s body body_state message end m.asks is in
+    let now : bytes ≡ message_bytes message = spelt ∙ sym (asked_bytes h s body body_state message m.asks) in
     (message, m.asks, subst (λ (b : List ℕ). Valid b message) (sym now) (sized message m.valid (omega arith) (omega arith)))
 
 -- memory is only wanted for a valid message
-pub no_memory : {A : Type 0} (a : Asked) (r : Result (Vec ℕ A) BuildError) → IsErrAnd r (λ e. e ≡ NoMemory) → (bytes : List ℕ) × AreAsked a bytes → Finishes a (listed r)
-no_memory a (Ok v) is asked = absurd is
-no_memory a (Err e) is asked = subst (λ (x : BuildError). Finishes a (Err x)) (sym is) asked
+pub no_memory : {A : Type 0} (a : Asked) (r : Result (Vec ℕ A) BuildError) → IsErrAnd r (λ e. e ≡ NoMemory) → (bytes : List ℕ) × AreAsked a bytes → Finishes a (listed_bytes r)
+no_memory a (Ok v) is request_of = absurd is
+no_memory a (Err e) is request_of = subst (λ (x : BuildError). Finishes a (Err x)) (sym is) request_of
 
 -- ---- what is written
 

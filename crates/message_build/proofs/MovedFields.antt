@@ -2,17 +2,17 @@
 use Rattle.std.proofs.Common.{◌≡◌, ℕ, ◌+◌, ◌-◌, ◌%◌, List, [], ◌∷◌, ◌++◌, length, refl, sym, ap, ◌∙◌, arith}
 use Rattle.signature.specs.Alignment.{alignment_of}
 use Rattle.message_value.specs.declared.order.Order.{Order}
-use Rattle.message_value.specs.Spelling.{padding, aligned, zeros}
+use Rattle.message_value.specs.Spelling.{padding, align_up, zeros}
 use Rattle.message_value.proofs.MovedValues.{Alike, Alike-plus, aligned_alike, after_alike, value_moved, bare_fits_moved}
 use Rattle.message_view.specs.Message.{Field}
 use Rattle.message_view.specs.Spelling.{field_front, field_value_place, field_bytes, fields_bytes}
 use Rattle.message_view.specs.Valid.{IsField}
 
-multiples_alike : (p q : ℕ) → Alike (aligned 8 p) (aligned 8 q)
+multiples_alike : (p q : ℕ) → Alike (align_up 8 p) (align_up 8 q)
 multiples_alike p q = record { is = omega arith }
 
 values_alike : (p q : ℕ) (f : Field) → Alike (field_value_place p f) (field_value_place q f)
-values_alike p q f = Alike-plus (aligned 8 p) (aligned 8 q) (length (field_front f)) (multiples_alike p q)
+values_alike p q f = Alike-plus (align_up 8 p) (align_up 8 q) (length (field_front f)) (multiples_alike p q)
 
 -- a field's bytes are its zeros, and those that it has at 0
 pub field_spelled : (order : Order) (place : ℕ) (f : Field) → field_bytes order place f ≡ zeros (padding 8 place) ++ field_bytes order 0 f
@@ -24,7 +24,7 @@ field_moved order p q f is = record {
   code_above = is.code_above;
   code_fits = is.code_fits;
   typed = is.typed;
-  shaped = bare_fits_moved order 63 (aligned (alignment_of f.type) (field_value_place p f)) (aligned (alignment_of f.type) (field_value_place q f)) (aligned_alike (field_value_place p f) (field_value_place q f) (values_alike p q f) f.type) f.type f.value is.shaped;
+  shaped = bare_fits_moved order 63 (align_up (alignment_of f.type) (field_value_place p f)) (align_up (alignment_of f.type) (field_value_place q f)) (aligned_alike (field_value_place p f) (field_value_place q f) (values_alike p q f) f.type) f.type f.value is.shaped;
   allowed = is.allowed;
 }
 

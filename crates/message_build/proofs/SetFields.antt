@@ -12,7 +12,8 @@ use Rattle.message_view.specs.Message.{Field, field_with, text_in, or_empty, sig
 use Rattle.message_view.specs.Valid.{IsOnce}
 use Rattle.message_build.specs.Asked.{text_field, number_field, signature_field}
 use Rattle.message_build.specs.declared.header.Header.{Header}
-use Rattle.message_build.specs.Words.{said, fields_set, has_needed_of}
+use Rattle.message_build.specs.Headers.{fields_set, has_needed_of}
+use Rattle.message_build.specs.HeaderFields.{text_said}
 use Rattle.message_build.proofs.AllowedFields.{AreOnce}
 
 -- each code is above
@@ -57,47 +58,47 @@ abbrev from_8 : List ℕ → List Field
 from_8 s = signature_field s
 
 abbrev from_7 : Header → List ℕ → List Field
-from_7 h s = text_field 7 115 (said h.sender) ++ from_8 s
+from_7 h s = text_field 7 115 (text_said h.sender) ++ from_8 s
 
 abbrev from_6 : Header → List ℕ → List Field
-from_6 h s = text_field 6 115 (said h.destination) ++ from_7 h s
+from_6 h s = text_field 6 115 (text_said h.destination) ++ from_7 h s
 
 abbrev from_5 : Header → List ℕ → List Field
 from_5 h s = number_field 5 h.reply_serial ++ from_6 h s
 
 abbrev from_4 : Header → List ℕ → List Field
-from_4 h s = text_field 4 115 (said h.error_name) ++ from_5 h s
+from_4 h s = text_field 4 115 (text_said h.error_name) ++ from_5 h s
 
 abbrev from_3 : Header → List ℕ → List Field
-from_3 h s = text_field 3 115 (said h.member) ++ from_4 h s
+from_3 h s = text_field 3 115 (text_said h.member) ++ from_4 h s
 
 abbrev from_2 : Header → List ℕ → List Field
-from_2 h s = text_field 2 115 (said h.interface) ++ from_3 h s
+from_2 h s = text_field 2 115 (text_said h.interface) ++ from_3 h s
 
 rising_7 : (s : List ℕ) → Rising 7 (from_8 s)
 rising_7 [] = record { above = tt; once = tt }
 rising_7 (b ∷ s) = one_field 7 (record { code = 8; type = basic 103; value = text (b ∷ s) }) [] (lit< tt) (record { above = tt; once = tt })
 
 rising_6 : (h : Header) (s : List ℕ) → Rising 6 (from_7 h s)
-rising_6 h s = text_rises 6 7 115 (said h.sender) (from_8 s) (lit< tt) (rising_7 s)
+rising_6 h s = text_rises 6 7 115 (text_said h.sender) (from_8 s) (lit< tt) (rising_7 s)
 
 rising_5 : (h : Header) (s : List ℕ) → Rising 5 (from_6 h s)
-rising_5 h s = text_rises 5 6 115 (said h.destination) (from_7 h s) (lit< tt) (rising_6 h s)
+rising_5 h s = text_rises 5 6 115 (text_said h.destination) (from_7 h s) (lit< tt) (rising_6 h s)
 
 rising_4 : (h : Header) (s : List ℕ) → Rising 4 (from_5 h s)
 rising_4 h s = number_rises 4 5 h.reply_serial (from_6 h s) (lit< tt) (rising_5 h s)
 
 rising_3 : (h : Header) (s : List ℕ) → Rising 3 (from_4 h s)
-rising_3 h s = text_rises 3 4 115 (said h.error_name) (from_5 h s) (lit< tt) (rising_4 h s)
+rising_3 h s = text_rises 3 4 115 (text_said h.error_name) (from_5 h s) (lit< tt) (rising_4 h s)
 
 rising_2 : (h : Header) (s : List ℕ) → Rising 2 (from_3 h s)
-rising_2 h s = text_rises 2 3 115 (said h.member) (from_4 h s) (lit< tt) (rising_3 h s)
+rising_2 h s = text_rises 2 3 115 (text_said h.member) (from_4 h s) (lit< tt) (rising_3 h s)
 
 rising_1 : (h : Header) (s : List ℕ) → Rising 1 (from_2 h s)
-rising_1 h s = text_rises 1 2 115 (said h.interface) (from_3 h s) (lit< tt) (rising_2 h s)
+rising_1 h s = text_rises 1 2 115 (text_said h.interface) (from_3 h s) (lit< tt) (rising_2 h s)
 
 pub set_once : (h : Header) (s : List ℕ) → AreOnce (fields_set h s)
-set_once h s = let r = text_rises 0 1 111 (said h.path) (from_2 h s) (lit< tt) (rising_1 h s) in r.once
+set_once h s = let r = text_rises 0 1 111 (text_said h.path) (from_2 h s) (lit< tt) (rising_1 h s) in r.once
 
 -- ---- by code
 
@@ -109,7 +110,7 @@ skip_number : (code c : ℕ) (o : Option ℕ) (fs : List Field) → eqb c code �
 skip_number code c None fs e = refl
 skip_number code c (Some n) fs e = rw e refl
 
-found_text : (c type : ℕ) (o : Option (Bor (List ℕ))) (fs : List Field) → eqb c c ≡ true → Above c fs → is_some (field_with c (text_field c type (said o) ++ fs)) ≡ is_some o
+found_text : (c type : ℕ) (o : Option (Bor (List ℕ))) (fs : List Field) → eqb c c ≡ true → Above c fs → is_some (field_with c (text_field c type (text_said o) ++ fs)) ≡ is_some o
 found_text c type None fs e above = rw (above_none c fs above) refl
 found_text c type (Some t) fs e above = rw e refl
 
@@ -126,22 +127,22 @@ has_1 h s = let r = rising_1 h s in found_text 1 111 h.path (from_2 h s) refl r.
 has_2 : (h : Header) (s : List ℕ) → has 2 h s ≡ is_some h.interface
 has_2 h s =
     let r = rising_2 h s in
-    ap (λ (v : Option Value). is_some v) (skip_text 2 1 111 (said h.path) (from_2 h s) refl) ∙ found_text 2 115 h.interface (from_3 h s) refl r.above
+    ap (λ (v : Option Value). is_some v) (skip_text 2 1 111 (text_said h.path) (from_2 h s) refl) ∙ found_text 2 115 h.interface (from_3 h s) refl r.above
 
 has_3 : (h : Header) (s : List ℕ) → has 3 h s ≡ is_some h.member
 has_3 h s =
     let r = rising_3 h s in
-    ap (λ (v : Option Value). is_some v) (skip_text 3 1 111 (said h.path) (from_2 h s) refl ∙ skip_text 3 2 115 (said h.interface) (from_3 h s) refl) ∙ found_text 3 115 h.member (from_4 h s) refl r.above
+    ap (λ (v : Option Value). is_some v) (skip_text 3 1 111 (text_said h.path) (from_2 h s) refl ∙ skip_text 3 2 115 (text_said h.interface) (from_3 h s) refl) ∙ found_text 3 115 h.member (from_4 h s) refl r.above
 
 has_4 : (h : Header) (s : List ℕ) → has 4 h s ≡ is_some h.error_name
 has_4 h s =
     let r = rising_4 h s in
-    ap (λ (v : Option Value). is_some v) (skip_text 4 1 111 (said h.path) (from_2 h s) refl ∙ skip_text 4 2 115 (said h.interface) (from_3 h s) refl ∙ skip_text 4 3 115 (said h.member) (from_4 h s) refl) ∙ found_text 4 115 h.error_name (from_5 h s) refl r.above
+    ap (λ (v : Option Value). is_some v) (skip_text 4 1 111 (text_said h.path) (from_2 h s) refl ∙ skip_text 4 2 115 (text_said h.interface) (from_3 h s) refl ∙ skip_text 4 3 115 (text_said h.member) (from_4 h s) refl) ∙ found_text 4 115 h.error_name (from_5 h s) refl r.above
 
 has_5 : (h : Header) (s : List ℕ) → has 5 h s ≡ is_some h.reply_serial
 has_5 h s =
     let r = rising_5 h s in
-    ap (λ (v : Option Value). is_some v) (skip_text 5 1 111 (said h.path) (from_2 h s) refl ∙ skip_text 5 2 115 (said h.interface) (from_3 h s) refl ∙ skip_text 5 3 115 (said h.member) (from_4 h s) refl ∙ skip_text 5 4 115 (said h.error_name) (from_5 h s) refl) ∙ found_number 5 h.reply_serial (from_6 h s) refl r.above
+    ap (λ (v : Option Value). is_some v) (skip_text 5 1 111 (text_said h.path) (from_2 h s) refl ∙ skip_text 5 2 115 (text_said h.interface) (from_3 h s) refl ∙ skip_text 5 3 115 (text_said h.member) (from_4 h s) refl ∙ skip_text 5 4 115 (text_said h.error_name) (from_5 h s) refl) ∙ found_number 5 h.reply_serial (from_6 h s) refl r.above
 
 and_true : (b : Bool) → (b && true) ≡ b
 and_true true = refl
@@ -166,5 +167,5 @@ signature_last (b ∷ s) = refl
 
 pub signature_set : (h : Header) (s : List ℕ) → signature_in (fields_set h s) ≡ s
 signature_set h s =
-    ap (λ (v : Option Value). or_empty (text_in v)) (skip_text 8 1 111 (said h.path) (from_2 h s) refl ∙ skip_text 8 2 115 (said h.interface) (from_3 h s) refl ∙ skip_text 8 3 115 (said h.member) (from_4 h s) refl ∙ skip_text 8 4 115 (said h.error_name) (from_5 h s) refl ∙ skip_number 8 5 h.reply_serial (from_6 h s) refl ∙ skip_text 8 6 115 (said h.destination) (from_7 h s) refl ∙ skip_text 8 7 115 (said h.sender) (from_8 s) refl)
+    ap (λ (v : Option Value). or_empty (text_in v)) (skip_text 8 1 111 (text_said h.path) (from_2 h s) refl ∙ skip_text 8 2 115 (text_said h.interface) (from_3 h s) refl ∙ skip_text 8 3 115 (text_said h.member) (from_4 h s) refl ∙ skip_text 8 4 115 (text_said h.error_name) (from_5 h s) refl ∙ skip_number 8 5 h.reply_serial (from_6 h s) refl ∙ skip_text 8 6 115 (text_said h.destination) (from_7 h s) refl ∙ skip_text 8 7 115 (text_said h.sender) (from_8 s) refl)
     ∙ signature_last s

@@ -18,9 +18,10 @@ use Rattle.message_build.specs.declared.header.Header.{Header}
 use Rattle.message_build.specs.Building.{IsTooLarge}
 use Rattle.message_build.specs.declared.stamping.StampError.{StampError}
 use Rattle.message_build.specs.declared.stamping.StampError.TheVariants.{TooLarge, NoMemory}
-use Rattle.message_build.specs.Stamped.{is_kept, sender_field, stamped, Stamps}
-use Rattle.message_build.specs.StampWords.{HeadsStamped, stamped_fields}
-use Rattle.message_build.specs.Words.{bare_header, fixed_bytes}
+use Rattle.message_build.specs.Stamped.{is_kept, sender_field, with_sender, Stamps}
+use Rattle.message_build.specs.StampedFields.{HeadsStamped, stamped_fields}
+use Rattle.message_build.specs.MessageBytes.{fixed_bytes}
+use Rattle.message_build.specs.Headers.{bare_header}
 use Rattle.message_build.proofs.KeptFields.{stamped_are, are_moved, required_same, signature_same, sender_last}
 use Rattle.message_build.proofs.MovedFields.{fields_moved}
 
@@ -109,9 +110,9 @@ header_written order h body_len fields sender b0 b1 b2 b3 b4 b5 w set padded =
 bodies_alike : (m n : ℕ) → Alike (body_place m) (body_place n)
 bodies_alike m n = record { is = omega arith }
 
-body_same : (m : Message) (sender : List ℕ) → body_bytes (stamped m sender) ≡ body_bytes m
+body_same : (m : Message) (sender : List ℕ) → body_bytes (with_sender m sender) ≡ body_bytes m
 body_same m sender =
-    let to = length (header_bytes (stamped m sender)) in
+    let to = length (header_bytes (with_sender m sender)) in
     let from = length (header_bytes m) in
     members_moved m.order (body_place to) (body_place from) (bodies_alike to from) m.types m.arguments
 
@@ -147,9 +148,9 @@ message_with order kind flags serial all body =
 abbrev pub heads : Order → Header → ℕ → List ℕ → List ℕ
 heads order h body_len all = fixed_bytes order h (length all) body_len ++ (all ++ zeros (padding 8 (length all)))
 
-pub stamped_spelled : (raw : List ℕ) (m : Message) (sender : List ℕ) (order : Order) (h : Header) (body head : List ℕ) → IsRead raw m sender order h body → head ≡ heads order h (length body) (stamped_fields order m.fields sender) → head ++ body ≡ message_bytes (stamped m sender)
+pub stamped_spelled : (raw : List ℕ) (m : Message) (sender : List ℕ) (order : Order) (h : Header) (body head : List ℕ) → IsRead raw m sender order h body → head ≡ heads order h (length body) (stamped_fields order m.fields sender) → head ++ body ≡ message_bytes (with_sender m sender)
 stamped_spelled raw m sender order h body head r is =
-    let all = header_bytes (stamped m sender) in
+    let all = header_bytes (with_sender m sender) in
     let here : head ≡ heads m.order h (length body) all = subst (λ (o : Order). head ≡ heads o h (length body) (stamped_fields o m.fields sender)) r.order_is is in
     ap (λ (l : List ℕ). l ++ body) here
     ∙ regroup (order_byte m.order ∷ kind_byte h.kind ∷ h.flags ∷ 1 ∷ []) (word_bytes m.order (length body)) (word_bytes m.order h.serial) (word_bytes m.order (length all)) all (zeros (padding 8 (length all))) body
@@ -162,15 +163,15 @@ stamped_spelled raw m sender order h body head r is =
     regroup a b c d e f g = simp append_assoc
 
 -- the fields in the message's own order
-pub fields_in_order : (raw : List ℕ) (m : Message) (sender : List ℕ) (order : Order) (h : Header) (body : List ℕ) → IsRead raw m sender order h body → stamped_fields order m.fields sender ≡ header_bytes (stamped m sender)
+pub fields_in_order : (raw : List ℕ) (m : Message) (sender : List ℕ) (order : Order) (h : Header) (body : List ℕ) → IsRead raw m sender order h body → stamped_fields order m.fields sender ≡ header_bytes (with_sender m sender)
 fields_in_order raw m sender order h body r = ap (λ (o : Order). stamped_fields o m.fields sender) r.order_is
 
 pub stamped_valid : (raw : List ℕ) (m : Message) (sender : List ℕ) (order : Order) (h : Header) (body head bytes : List ℕ) → IsRead raw m sender order h body → head ≡ heads order h (length body) (stamped_fields order m.fields sender)
-    → length (stamped_fields order m.fields sender) ≤ max_array_len → length head + length body ≤ max_message_len → bytes ≡ head ++ body → Valid bytes (stamped m sender)
+    → length (stamped_fields order m.fields sender) ≤ max_array_len → length head + length body ≤ max_message_len → bytes ≡ head ++ body → Valid bytes (with_sender m sender)
 stamped_valid raw m sender order h body head bytes r is short fits whole =
     let v = r.valid in
     let from = length (header_bytes m) in
-    let to = length (header_bytes (stamped m sender)) in
+    let to = length (header_bytes (with_sender m sender)) in
     let same : length (stamped_fields order m.fields sender) ≡ to = ap (λ (l : List ℕ). length l) (fields_in_order raw m sender order h body r) in
     let sum : length bytes ≡ length head + length body = ap (λ (l : List ℕ). length l) whole ∙ length-append head body in
     record {
@@ -188,28 +189,38 @@ stamped_valid raw m sender order h body head bytes r is short fits whole =
       spelled = whole ∙ stamped_spelled raw m sender order h body head r is;
     }
 
-pub fields_too_large : (raw : List ℕ) (m : Message) (sender : List ℕ) (order : Order) (h : Header) (body : List ℕ) → IsRead raw m sender order h body → max_array_len < length (stamped_fields order m.fields sender) → IsTooLarge (stamped m sender)
+pub fields_too_large : (raw : List ℕ) (m : Message) (sender : List ℕ) (order : Order) (h : Header) (body : List ℕ) → IsRead raw m sender order h body → max_array_len < length (stamped_fields order m.fields sender) → IsTooLarge (with_sender m sender)
 fields_too_large raw m sender order h body r long =
-    let same : length (stamped_fields order m.fields sender) ≡ length (header_bytes (stamped m sender)) = ap (λ (l : List ℕ). length l) (fields_in_order raw m sender order h body r) in
+    let same : length (stamped_fields order m.fields sender) ≡ length (header_bytes (with_sender m sender)) = ap (λ (l : List ℕ). length l) (fields_in_order raw m sender order h body r) in
     inl (subst (λ (n : ℕ). max_array_len < n) same long)
 
 pub message_too_large : (raw : List ℕ) (m : Message) (sender : List ℕ) (order : Order) (h : Header) (body head : List ℕ) → IsRead raw m sender order h body → head ≡ heads order h (length body) (stamped_fields order m.fields sender)
-    → max_message_len < length head + length body → IsTooLarge (stamped m sender)
+    → max_message_len < length head + length body → IsTooLarge (with_sender m sender)
 message_too_large raw m sender order h body head r is long =
-    let sum : length head + length body ≡ length (message_bytes (stamped m sender)) = sym (length-append head body) ∙ ap (λ (l : List ℕ). length l) (stamped_spelled raw m sender order h body head r is) in
+    let sum : length head + length body ≡ length (message_bytes (with_sender m sender)) = sym (length-append head body) ∙ ap (λ (l : List ℕ). length l) (stamped_spelled raw m sender order h body head r is) in
     inr (subst (λ (n : ℕ). max_message_len < n) sum long)
 
--- The header of a message's fields: they lie in an array, and are counted from its beginning.
+-- A message's fields lie in its array, and are counted from its beginning.
+pub record AreThere (order : Order) (m : Message) (array : List ℕ) : Type 0 where
+  pub are : AreFields order 0 m.fields
+  pub is : array ≡ fields_bytes order 0 m.fields
+
+pub fields_there : (raw : List ℕ) (m : Message) (order : Order) (array bytes : List ℕ) → Valid raw m → order ≡ m.order → bytes ≡ raw → (Valid bytes m → order ≡ m.order → array ≡ header_bytes m) → AreThere order m array
+fields_there raw m order array bytes v order_is same found =
+    let lies : array ≡ header_bytes m = found (subst (λ (l : List ℕ). Valid l m) (sym same) v) order_is in
+    record {
+      are = subst (λ (o : Order). AreFields o 0 m.fields) (sym order_is) (are_moved m.order 16 0 m.fields v.fields);
+      is = lies ∙ fields_moved m.order 16 0 (record { is = refl }) m.fields ∙ ap (λ (o : Order). fields_bytes o 0 m.fields) (sym order_is);
+    }
+
+-- The header of a message's fields.
 pub headed : (raw : List ℕ) (m : Message) (sender : List ℕ) (order : Order) (h : Header) (body array bytes : List ℕ) (answer : Result (List ℕ) StampError) → IsRead raw m sender order h body
     → bytes ≡ raw → (Valid bytes m → order ≡ m.order → array ≡ header_bytes m)
     → ((fields : List Field) → AreFields order 0 fields → array ≡ fields_bytes order 0 fields → HeadsStamped answer order h (length body) (stamped_fields order fields sender))
     → HeadsStamped answer order h (length body) (stamped_fields order m.fields sender)
 headed raw m sender order h body array bytes answer r same found heads =
-    let v = r.valid in
-    let lies : array ≡ header_bytes m = found (subst (λ (l : List ℕ). Valid l m) (sym same) v) r.order_is in
-    let are : AreFields order 0 m.fields = subst (λ (o : Order). AreFields o 0 m.fields) (sym r.order_is) (are_moved m.order 16 0 m.fields v.fields) in
-    let is : array ≡ fields_bytes order 0 m.fields = lies ∙ fields_moved m.order 16 0 (record { is = refl }) m.fields ∙ ap (λ (o : Order). fields_bytes o 0 m.fields) (sym r.order_is) in
-    heads m.fields are is
+    let there = fields_there raw m order array bytes r.valid r.order_is same found in
+    heads m.fields there.are there.is
 
 -- why there is no header
 pub refused : (e : StampError) (raw : List ℕ) (m : Message) (sender : List ℕ) (order : Order) (h : Header) (body : List ℕ) → IsRead raw m sender order h body → HeadsStamped (Err e) order h (length body) (stamped_fields order m.fields sender) → Stamps m sender (Err e)

@@ -6,11 +6,11 @@ use Rattle.message_value.specs.Value.{number, text}
 use Rattle.message_value.specs.Spelling.{members_bytes}
 use Rattle.message_view.specs.declared.kind.Kind.{Kind}
 use Rattle.message_view.specs.Message.{Field, Message}
-use Rattle.message_build.specs.declared.given.Given.{Given}
-use Rattle.message_build.specs.declared.given.Given.TheVariants.{Nothing, Arguments, Spoiled}
+use Rattle.message_build.specs.declared.body_state.BodyState.{BodyState}
+use Rattle.message_build.specs.declared.body_state.BodyState.TheVariants.{Nothing, Arguments, Spoiled}
 
 -- whether a body was given in a way that no message has
-abbrev pub is_spoiled : Given → Bool
+abbrev pub is_spoiled : BodyState → Bool
 is_spoiled Spoiled = true
 is_spoiled _ = false
 
@@ -29,15 +29,15 @@ pub record Asked : Type 0 where
   pub sender : Option (List ℕ)
   pub signature : List ℕ
   pub body : List ℕ
-  pub given : Given
+  pub body_state : BodyState
 
 -- whether arguments may follow
-abbrev pub takes_arguments : Given → Bool
+abbrev pub takes_arguments : BodyState → Bool
 takes_arguments Nothing = true
 takes_arguments Arguments = true
 takes_arguments _ = false
 
-abbrev pub is_nothing : Given → Bool
+abbrev pub is_nothing : BodyState → Bool
 is_nothing Nothing = true
 is_nothing _ = false
 
@@ -75,7 +75,7 @@ pub record Asks (a : Asked) (m : Message) : Type 0 where
   pub fields : m.fields ≡ fields_asked a
   pub types : a.signature ≡ spellings m.types
   pub arguments : a.body ≡ members_bytes Little 0 m.types m.arguments
-  pub whole : is_spoiled a.given ≡ false
+  pub whole : is_spoiled a.body_state ≡ false
 
 -- no fields and no body
 abbrev pub nothing_asked : Kind → ℕ → ℕ → Asked
@@ -92,5 +92,5 @@ nothing_asked kind flags serial = record {
   sender = None;
   signature = [];
   body = [];
-  given = Nothing;
+  body_state = Nothing;
 }

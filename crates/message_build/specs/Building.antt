@@ -1,14 +1,14 @@
--- What finishing answers.
-use Rattle.std.specs.Prelude.{◌≡◌, ◌⊎◌, ◌<◌, ◌^◌, ℕ, true, List, length, Some, Result, Ok, Err}
+-- What finishing answers (own).
+use Rattle.std.specs.Prelude.{◌≡◌, ◌⊎◌, ◌<◌, ◌^◌, ℕ, true, List, length, Some, Result, Ok, Err, Vec}
 use Rattle.signature.specs.DataType.{SigText}
 use Rattle.message_value.specs.Fits.{max_array_len, max_levels, MembersFit}
 use Rattle.message_view.specs.Header.{kind_byte, kind_of, has_required}
 use Rattle.message_view.specs.Message.{Message, signature_in}
 use Rattle.message_view.specs.Spelling.{fixed_len, body_place, header_bytes, body_bytes, message_bytes}
 use Rattle.message_view.specs.Valid.{AreFields, Valid, max_message_len}
-use Rattle.message_build.specs.Asked.{Asked, Asks}
 use Rattle.message_build.specs.declared.error.BuildError.{BuildError}
 use Rattle.message_build.specs.declared.error.BuildError.TheVariants.{Invalid, TooLarge, NoMemory}
+use Rattle.message_build.specs.Asked.{Asked, Asks}
 
 -- The message's spelling is above the limits: its array of fields, or all of it, is too long.
 abbrev pub IsTooLarge : Message → Type 0
@@ -47,3 +47,8 @@ Finishes a (Ok bytes) = AreAsked a bytes
 Finishes a (Err Invalid) = AsksNone a
 Finishes a (Err TooLarge) = AsksTooMuch a
 Finishes a (Err NoMemory) = (bytes : List ℕ) × AreAsked a bytes
+
+-- the bytes of a result
+abbrev pub listed_bytes : {A : Type 0} → Result (Vec ℕ A) BuildError → Result (List ℕ) BuildError
+listed_bytes (Ok v) = Ok v.items
+listed_bytes (Err e) = Err e

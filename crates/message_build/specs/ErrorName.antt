@@ -1,4 +1,4 @@
--- The numbers and the names of the errors.
+-- The numbers and the names of the errors (own).
 use Rattle.std.specs.Prelude.{ℕ, List, codes}
 use Rattle.message_build.specs.declared.error.BuildError.{BuildError}
 use Rattle.message_build.specs.declared.error.BuildError.TheVariants.{Invalid, TooLarge, NoMemory}

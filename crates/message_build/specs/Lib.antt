@@ -2,5 +2,9 @@ pub mod Asked
 pub mod Building
 pub mod ErrorName
 pub mod Stamped
-pub mod StampWords
-pub mod Words
+pub mod StampedFields
+pub mod Growing
+pub mod MessageBytes
+pub mod Headers
+pub mod HeaderFields
+pub mod Adding

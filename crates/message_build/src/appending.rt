@@ -6,7 +6,7 @@ ghost use Rattle.message_value.specs.Order.{word_bytes};
 ghost use Rattle.signature.specs.DataType.{basic};
 ghost use Rattle.message_value.specs.Value.{number, text};
 ghost use Rattle.message_value.specs.Spelling.{padding, zeros, text_bytes, value_bytes};
-ghost use Rattle.message_build.specs.Words.{Appends};
+ghost use Rattle.message_build.specs.Growing.{Appends};
 
 use message_value::{Order, padding};
 use std::alloc::AllocError;

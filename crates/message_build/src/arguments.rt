@@ -3,12 +3,12 @@
 ghost use Rattle.std.specs.Prelude.{◌≡◌, ◌++◌, ◌∷◌, [], length, take, Ok};
 ghost use Rattle.signature.specs.DataType.{basic};
 ghost use Rattle.message_value.specs.Value.{text, number};
-ghost use Rattle.message_build.specs.Words.{Completes};
+ghost use Rattle.message_build.specs.Growing.{Completes};
 
 use crate::appending::{push_number, push_string};
+use crate::body_state::BodyState;
 use crate::builder::Builder;
 use crate::error::BuildError;
-use crate::given::Given;
 use crate::strings::push_strings;
 use message_value::Order;
 use std::alloc::AllocError;
@@ -37,7 +37,7 @@ impl<'a> Builder<'a> {
     ghost use Rattle.std.specs.Prelude.{◌≡◌, if◌then◌else◌};
     ghost use Rattle.signature.specs.DataType.{basic, array};
     ghost use Rattle.message_value.specs.Value.{text, number, elements};
-    ghost use Rattle.message_build.specs.Words.{Adds, with_argument, with_raw, string_values};
+    ghost use Rattle.message_build.specs.Adding.{Adds, with_argument, with_raw, string_values};
 
     /// Adds a string.
     ///
@@ -47,14 +47,14 @@ impl<'a> Builder<'a> {
     pub fn arg_str(&mut self, string: &str) -> Result<(), BuildError>
         ensures { Adds result self.old self.new (with_argument self.old (basic 115) (text string.now)) }
     {
-        if !self.given.takes_arguments() {
-            self.given = Given::Spoiled;
+        if !self.body_state.takes_arguments() {
+            self.body_state = BodyState::Spoiled;
             return Ok(());
         }
         let len = self.body.len();
         let pushed = push_string(&mut self.body, Order::Little, string.as_bytes());
         complete(pushed, &mut self.body, len, &mut self.signature, b"s")?;
-        self.given = Given::Arguments;
+        self.body_state = BodyState::Arguments;
         Ok(())
     }
 
@@ -66,14 +66,14 @@ impl<'a> Builder<'a> {
     pub fn arg_u32(&mut self, n: u32) -> Result<(), BuildError>
         ensures { Adds result self.old self.new (with_argument self.old (basic 117) (number n)) }
     {
-        if !self.given.takes_arguments() {
-            self.given = Given::Spoiled;
+        if !self.body_state.takes_arguments() {
+            self.body_state = BodyState::Spoiled;
             return Ok(());
         }
         let len = self.body.len();
         let pushed = push_number(&mut self.body, n);
         complete(pushed, &mut self.body, len, &mut self.signature, b"u")?;
-        self.given = Given::Arguments;
+        self.body_state = BodyState::Arguments;
         Ok(())
     }
 
@@ -85,15 +85,15 @@ impl<'a> Builder<'a> {
     pub fn arg_bool(&mut self, b: bool) -> Result<(), BuildError>
         ensures { Adds result self.old self.new (with_argument self.old (basic 98) (number (if b then 1 else 0))) }
     {
-        if !self.given.takes_arguments() {
-            self.given = Given::Spoiled;
+        if !self.body_state.takes_arguments() {
+            self.body_state = BodyState::Spoiled;
             return Ok(());
         }
         let len = self.body.len();
         let bits = if b { 1 } else { 0 };
         let pushed = push_number(&mut self.body, bits);
         complete(pushed, &mut self.body, len, &mut self.signature, b"b")?;
-        self.given = Given::Arguments;
+        self.body_state = BodyState::Arguments;
         Ok(())
     }
 
@@ -105,14 +105,14 @@ impl<'a> Builder<'a> {
     pub fn arg_strs(&mut self, strings: &[&str]) -> Result<(), BuildError>
         ensures { Adds result self.old self.new (with_argument self.old (array (basic 115)) (elements (string_values strings.now))) }
     {
-        if !self.given.takes_arguments() {
-            self.given = Given::Spoiled;
+        if !self.body_state.takes_arguments() {
+            self.body_state = BodyState::Spoiled;
             return Ok(());
         }
         let len = self.body.len();
         let pushed = push_strings(&mut self.body, strings);
         complete(pushed, &mut self.body, len, &mut self.signature, b"as")?;
-        self.given = Given::Arguments;
+        self.body_state = BodyState::Arguments;
         Ok(())
     }
 
@@ -124,14 +124,14 @@ impl<'a> Builder<'a> {
     pub fn raw_body(&mut self, signature: &[u8], bytes: &[u8]) -> Result<(), BuildError>
         ensures { Adds result self.old self.new (with_raw self.old signature.now bytes.now) }
     {
-        if !self.given.is_nothing() {
-            self.given = Given::Spoiled;
+        if !self.body_state.is_nothing() {
+            self.body_state = BodyState::Spoiled;
             return Ok(());
         }
         let len = self.body.len();
         let pushed = self.body.extend_from_slice(bytes);
         complete(pushed, &mut self.body, len, &mut self.signature, signature)?;
-        self.given = Given::Raw;
+        self.body_state = BodyState::Raw;
         Ok(())
     }
 }

@@ -1,7 +1,7 @@
 // Whether bytes are a body.
 
 ghost use Rattle.std.specs.Prelude.{◌≡◌, true, false};
-ghost use Rattle.message_build.specs.Words.{IsBody};
+ghost use Rattle.message_build.specs.MessageBytes.{IsBody};
 
 use message_value::{Cursor, MsgError, Order, check_members};
 use signature::Signature;

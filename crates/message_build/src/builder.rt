@@ -1,9 +1,9 @@
 // A builder, and what it was told so far.
 
+use crate::body_state::BodyState;
 use crate::error::BuildError;
-use crate::given::Given;
 use crate::header::Header;
-use crate::message::built;
+use crate::message::build_message;
 use message_view::Kind;
 use std::alloc::Global;
 use std::marker::Model;
@@ -14,24 +14,23 @@ pub struct Builder<'a> {
     pub(crate) header: Header<'a>,
     pub(crate) signature: Vec<u8>,
     pub(crate) body: Vec<u8>,
-    pub(crate) given: Given,
+    pub(crate) body_state: BodyState,
 }
 
 impl<'a> Model for Builder<'a> {
     ghost use Rattle.message_build.specs.Asked.{Asked};
-    ghost use Rattle.message_build.specs.Words.{asked};
+    ghost use Rattle.message_build.specs.Headers.{request_of};
 
     ghost Value = { Asked };
 
-    ghost view = { λ b. asked b.header b.signature.items b.body.items b.given };
+    ghost view = { λ b. request_of b.header b.signature.items b.body.items b.body_state };
 }
 
 impl<'a> Builder<'a> {
     ghost use Rattle.std.specs.Prelude.{◌≡◌, ℕ, List, [], Some, None};
-    ghost use Rattle.message_build.specs.declared.given.Given.TheVariants.{Nothing};
+    ghost use Rattle.message_build.specs.declared.body_state.BodyState.TheVariants.{Nothing};
     ghost use Rattle.message_build.specs.Asked.{Asked, nothing_asked};
-    ghost use Rattle.message_build.specs.Building.{Finishes};
-    ghost use Rattle.message_build.specs.Words.{listed};
+    ghost use Rattle.message_build.specs.Building.{Finishes, listed_bytes};
 
     /// A builder of a message with no fields and no body. It takes no memory.
     pub fn new(alloc: Global, kind: Kind, flags: u8, serial: u32) -> Self
@@ -41,7 +40,7 @@ impl<'a> Builder<'a> {
             header: Header::new(kind, flags, serial),
             signature: Vec::new(alloc),
             body: Vec::new(alloc),
-            given: Given::Nothing,
+            body_state: BodyState::Nothing,
         }
     }
 
@@ -101,8 +100,14 @@ impl<'a> Builder<'a> {
     /// `Invalid` where no valid message is what was asked for, `TooLarge` where it would be above the
     /// limits, and `NoMemory`.
     pub fn finish(&self, alloc: Global) -> Result<Vec<u8>, BuildError>
-        ensures { Finishes self.now (listed result) }
+        ensures { Finishes self.now (listed_bytes result) }
     {
-        built(alloc, &self.header, &self.signature, &self.body, self.given)
+        build_message(
+            alloc,
+            &self.header,
+            &self.signature,
+            &self.body,
+            self.body_state,
+        )
     }
 }

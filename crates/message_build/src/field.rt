@@ -7,7 +7,8 @@ ghost use Rattle.message_value.specs.Spelling.{value_bytes};
 ghost use Rattle.message_value.specs.Value.{text};
 ghost use Rattle.signature.specs.DataType.{basic};
 ghost use Rattle.message_view.specs.Spelling.{field_bytes};
-ghost use Rattle.message_build.specs.Words.{Appends, Ends, field_of, is_open_path, is_allowed, may_be, are_allowed};
+ghost use Rattle.message_build.specs.Growing.{Appends, Ends};
+ghost use Rattle.message_build.specs.HeaderFields.{field_of, is_open_path, is_allowed, may_be, are_allowed};
 
 use crate::appending::{align, push_number, push_signature, push_string};
 use message_value::{Order, padding};

@@ -4,7 +4,8 @@ ghost use Rattle.std.specs.Prelude.{◌≡◌, ℕ, ◌+◌, ◌<◌, ◌≤◌,
 ghost use Rattle.message_value.specs.declared.order.Order.TheVariants.{Little};
 ghost use Rattle.message_value.specs.Fits.{max_array_len};
 ghost use Rattle.message_view.specs.Spelling.{fixed_len, fields_bytes};
-ghost use Rattle.message_build.specs.Words.{Appends, EndsWithin, bytes_at, fields_of, may_be, are_allowed};
+ghost use Rattle.message_build.specs.Growing.{Appends};
+ghost use Rattle.message_build.specs.HeaderFields.{EndsWithin, bytes_at, fields_of, may_be, are_allowed};
 
 use crate::field::{HeaderField, MAX_ARRAY_LEN};
 use std::alloc::AllocError;

@@ -17,5 +17,5 @@ pub fn valid_at_its_size()
 /// There is one answer to what was asked, but for want of memory: the two errors exclude one another, and each
 /// excludes a message.
 pub fn one_answer()
-    ensures { (asked : Asked) (first other : Result (List ℕ) BuildError) → Finishes asked first → Finishes asked other → first ≢ Err NoMemory → other ≢ Err NoMemory → first ≡ other }
+    ensures { (request_of : Asked) (first other : Result (List ℕ) BuildError) → Finishes request_of first → Finishes request_of other → first ≢ Err NoMemory → other ≢ Err NoMemory → first ≡ other }
 {}

@@ -3,7 +3,8 @@
 ghost use Rattle.std.specs.Prelude.{◌≡◌, ◌<◌, ℕ, List, ◌∷◌, []};
 ghost use Rattle.message_view.specs.Header.{kind_byte};
 ghost use Rattle.message_build.specs.Asked.{text_field, number_field, signature_field};
-ghost use Rattle.message_build.specs.Words.{HoldEach, InRange, bare_header, fields_of, fields_set, said, has_needed, is_sound_header, kind_is_own};
+ghost use Rattle.message_build.specs.Headers.{InRange, bare_header, fields_set, has_needed, is_sound_header, kind_is_own};
+ghost use Rattle.message_build.specs.HeaderFields.{HoldEach, fields_of, text_said};
 
 use crate::field::HeaderField;
 use message_view::Kind;
@@ -58,28 +59,28 @@ impl<'a> Header<'a> {
     }
 
     fn path_field(&self) -> Option<HeaderField<'a>>
-        ensures field { fields_of (result ∷ []) ≡ text_field 1 111 (said self.now.path) }
+        ensures field { fields_of (result ∷ []) ≡ text_field 1 111 (text_said self.now.path) }
         ensures holds { HoldEach (result ∷ []) }
     {
         Some(HeaderField::Path(self.path?))
     }
 
     fn interface_field(&self) -> Option<HeaderField<'a>>
-        ensures field { fields_of (result ∷ []) ≡ text_field 2 115 (said self.now.interface) }
+        ensures field { fields_of (result ∷ []) ≡ text_field 2 115 (text_said self.now.interface) }
         ensures holds { HoldEach (result ∷ []) }
     {
         Some(HeaderField::Interface(self.interface?))
     }
 
     fn member_field(&self) -> Option<HeaderField<'a>>
-        ensures field { fields_of (result ∷ []) ≡ text_field 3 115 (said self.now.member) }
+        ensures field { fields_of (result ∷ []) ≡ text_field 3 115 (text_said self.now.member) }
         ensures holds { HoldEach (result ∷ []) }
     {
         Some(HeaderField::Member(self.member?))
     }
 
     fn error_name_field(&self) -> Option<HeaderField<'a>>
-        ensures field { fields_of (result ∷ []) ≡ text_field 4 115 (said self.now.error_name) }
+        ensures field { fields_of (result ∷ []) ≡ text_field 4 115 (text_said self.now.error_name) }
         ensures holds { HoldEach (result ∷ []) }
     {
         Some(HeaderField::ErrorName(self.error_name?))
@@ -93,14 +94,14 @@ impl<'a> Header<'a> {
     }
 
     fn destination_field(&self) -> Option<HeaderField<'a>>
-        ensures field { fields_of (result ∷ []) ≡ text_field 6 115 (said self.now.destination) }
+        ensures field { fields_of (result ∷ []) ≡ text_field 6 115 (text_said self.now.destination) }
         ensures holds { HoldEach (result ∷ []) }
     {
         Some(HeaderField::Destination(self.destination?))
     }
 
     fn sender_field(&self) -> Option<HeaderField<'a>>
-        ensures field { fields_of (result ∷ []) ≡ text_field 7 115 (said self.now.sender) }
+        ensures field { fields_of (result ∷ []) ≡ text_field 7 115 (text_said self.now.sender) }
         ensures holds { HoldEach (result ∷ []) }
     {
         Some(HeaderField::Sender(self.sender?))

@@ -1,13 +1,14 @@
 // The header fields of a message that are copied.
 
 ghost use Rattle.std.specs.Prelude.{◌≡◌, ◌+◌, ◌-◌, ◌<◌, ◌≤◌, ◌++◌, ℕ, List, length, take, drop, filter, IfOk, IfSome, MatchOption};
-ghost use Rattle.message_value.specs.Words.{Reads};
+ghost use Rattle.message_value.specs.Answers.{Reads};
+ghost use Rattle.std.specs.List.{list_all};
 ghost use Rattle.message_view.specs.Message.{Field};
 ghost use Rattle.message_view.specs.Spelling.{fields_bytes};
 ghost use Rattle.message_view.specs.Valid.{AreFields};
 ghost use Rattle.message_build.specs.Stamped.{is_kept};
-ghost use Rattle.message_build.specs.StampWords.{begun_at, is_kept_code, kept_bytes, IsFound, IsAfter, LiesAt};
-ghost use Rattle.message_build.specs.Words.{Appends};
+ghost use Rattle.message_build.specs.StampedFields.{begun_at, is_kept_code, kept_bytes, IsFound, IsAfter, LiesAt};
+ghost use Rattle.message_build.specs.Growing.{Appends};
 
 use crate::appending::align;
 use message_value::{Cursor, MsgError, Order, check_value};
@@ -31,7 +32,7 @@ struct Found<'a> {
 }
 
 /// Goes over a field, with the zeros before it.
-#[tactic(auto, unfolding(crate::specs::StampWords::begun_at))]
+#[tactic(auto, unfolding(crate::specs::StampedFields::begun_at))]
 fn skip_field(cursor: &mut Cursor<'_>, order: Order) -> Result<Begun, MsgError>
     ensures { Reads (λ begun. begun) result cursor.new (begun_at order cursor.old) }
 {
@@ -92,7 +93,8 @@ fn push_found(bytes: &mut Vec<u8>, found: &Found<'_>) -> Result<(), AllocError>
 
 /// Appends the fields of an array that are copied, in their order. The array begins at a multiple of 8, so that places
 /// may be counted from there.
-pub(crate) fn push_kept(bytes: &mut Vec<u8>, order: Order, array: &[u8]) -> Result<(), AllocError>
+#[inline(never)]
+fn push_kept(bytes: &mut Vec<u8>, order: Order, array: &[u8]) -> Result<(), AllocError>
     requires { length array.now ≤ 67108864 }
     ensures front { take (length bytes.old.items) bytes.new.items ≡ bytes.old.items }
     ensures kept { (fields : List Field) → AreFields order 0 fields → array.now ≡ fields_bytes order 0 fields → IfOk result (λ _. bytes.new.items ≡ bytes.old.items ++ fields_bytes order (length bytes.old.items) (filter is_kept fields)) }
@@ -102,4 +104,40 @@ pub(crate) fn push_kept(bytes: &mut Vec<u8>, order: Order, array: &[u8]) -> Resu
         push_found(bytes, &found)?;
     }
     Ok(())
+}
+
+/// Whether all fields of an array are copied.
+fn are_all_kept(order: Order, array: &[u8]) -> bool
+    requires short { length array.now ≤ 67108864 }
+    requires valid { (fields : List Field) × AreFields order 0 fields × (array.now ≡ fields_bytes order 0 fields) }
+    ensures { (fields : List Field) → AreFields order 0 fields → array.now ≡ fields_bytes order 0 fields → result ≡ list_all is_kept fields }
+{
+    let mut cursor = Cursor::new(0, array, MsgError::ArrayLength);
+    while !cursor.is_empty() {
+        let code = message_view::skip_field(&mut cursor, order);
+        if !is_kept(code) {
+            return false;
+        }
+    }
+    true
+}
+
+/// Appends the fields of the array of a valid message that are copied, in their order. In most messages they are all, so
+/// that the array is copied as it is.
+pub(crate) fn push_kept_of(
+    bytes: &mut Vec<u8>,
+    order: Order,
+    array: &[u8],
+) -> Result<(), AllocError>
+    requires short { length array.now ≤ 67108864 }
+    requires valid { (fields : List Field) × AreFields order 0 fields × (array.now ≡ fields_bytes order 0 fields) }
+    requires begun { length bytes.old.items ≡ 16 }
+    ensures front { take (length bytes.old.items) bytes.new.items ≡ bytes.old.items }
+    ensures kept { (fields : List Field) → AreFields order 0 fields → array.now ≡ fields_bytes order 0 fields → IfOk result (λ _. bytes.new.items ≡ bytes.old.items ++ fields_bytes order (length bytes.old.items) (filter is_kept fields)) }
+{
+    if are_all_kept(order, array) {
+        bytes.extend_from_slice(array)
+    } else {
+        push_kept(bytes, order, array)
+    }
 }

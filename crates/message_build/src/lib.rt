@@ -5,12 +5,12 @@
 mod appending;
 mod arguments;
 mod body;
+mod body_state;
 mod builder;
 mod error;
 mod field;
 mod fields;
 mod finishing;
-mod given;
 mod header;
 mod kept_fields;
 mod message;

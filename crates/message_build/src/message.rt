@@ -5,15 +5,18 @@ ghost use Rattle.message_value.specs.declared.order.Order.TheVariants.{Little};
 ghost use Rattle.message_value.specs.Fits.{max_array_len};
 ghost use Rattle.message_value.specs.Order.{order_byte};
 ghost use Rattle.message_view.specs.Spelling.{fixed_len, fields_bytes};
-ghost use Rattle.message_build.specs.Building.{Finishes};
-ghost use Rattle.message_build.specs.Words.{Appends, fixed_bytes, spelled, listed, asked, fields_of, are_allowed};
+ghost use Rattle.message_build.specs.Building.{Finishes, listed_bytes};
+ghost use Rattle.message_build.specs.Growing.{Appends};
+ghost use Rattle.message_build.specs.MessageBytes.{fixed_bytes, spelled};
+ghost use Rattle.message_build.specs.Headers.{request_of};
+ghost use Rattle.message_build.specs.HeaderFields.{fields_of, are_allowed};
 
 use crate::appending::{align, push_word};
 use crate::body::is_body;
+use crate::body_state::BodyState;
 use crate::error::BuildError;
 use crate::field::{HeaderField, are_allowed};
 use crate::fields::{FIXED_LEN, fields_end, push_fields};
-use crate::given::Given;
 use crate::header::Header;
 use message_value::{Order, padding};
 use std::alloc::{AllocError, Global};
@@ -78,17 +81,17 @@ fn message(
 
 /// The message that was asked for, or why there is none. What a message may hold is looked at before its size,
 /// so that only a message that is valid otherwise is too large.
-pub(crate) fn built(
+pub(crate) fn build_message(
     alloc: Global,
     header: &Header<'_>,
     signature: &[u8],
     body: &[u8],
-    given: Given,
+    body_state: BodyState,
 ) -> Result<Vec<u8>, BuildError>
-    ensures { Finishes (asked header.now signature.now body.now given) (listed result) }
+    ensures { Finishes (request_of header.now signature.now body.now body_state) (listed_bytes result) }
 {
     let fields = header.fields(signature);
-    if given.is_spoiled() {
+    if body_state.is_spoiled() {
         return Err(BuildError::Invalid);
     }
     if !header.is_sound() {

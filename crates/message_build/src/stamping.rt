@@ -6,15 +6,15 @@ ghost use Rattle.message_view.specs.Message.{Field, Message};
 ghost use Rattle.message_view.specs.Spelling.{field_bytes, fields_bytes, header_bytes};
 ghost use Rattle.message_view.specs.Valid.{AreFields, Valid};
 ghost use Rattle.message_build.specs.ErrorName.{stamp_number_of, stamp_name_of};
-ghost use Rattle.message_build.specs.Stamped.{Stamps, sender_field};
-ghost use Rattle.message_build.specs.StampWords.{HeadsStamped, stamp_listed, stamped_fields};
-ghost use Rattle.message_build.specs.Words.{Appends};
+ghost use Rattle.message_build.specs.Stamped.{Stamps, sender_field, stamp_listed};
+ghost use Rattle.message_build.specs.StampedFields.{HeadsStamped, stamped_fields};
+ghost use Rattle.message_build.specs.Growing.{Appends};
 
 use crate::appending::{align, push_string};
 use crate::field::MAX_ARRAY_LEN;
 use crate::fields::FIXED_LEN;
 use crate::header::Header;
-use crate::kept_fields::{between, push_kept};
+use crate::kept_fields::{between, push_kept_of};
 use crate::message::{MAX_MESSAGE_LEN, push_fixed};
 use crate::strings::set_word;
 use message_value::Order;
@@ -140,11 +140,12 @@ fn stamped_header(
 ) -> Result<Vec<u8>, StampError>
     requires empty { bytes.items ≡ [] }
     requires short { length array.now ≤ 67108864 }
+    requires valid { (fields : List Field) × AreFields order 0 fields × (array.now ≡ fields_bytes order 0 fields) }
     ensures bound { IfOk result (λ v. length v.items ≤ 67108904) }
     ensures heads { (fields : List Field) → AreFields order 0 fields → array.now ≡ fields_bytes order 0 fields → HeadsStamped (stamp_listed result) order header.now body_len (stamped_fields order fields sender.now) }
 {
     push_fixed(&mut bytes, order, header, 0, body_len)?;
-    push_kept(&mut bytes, order, array)?;
+    push_kept_of(&mut bytes, order, array)?;
     push_sender(&mut bytes, order, sender)?;
     let fields_len = bytes.len() - FIXED_LEN;
     if fields_len > MAX_ARRAY_LEN {

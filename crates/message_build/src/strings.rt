@@ -6,7 +6,8 @@ ghost use Rattle.message_value.specs.declared.order.Order.TheVariants.{Little};
 ghost use Rattle.message_value.specs.Order.{word_bytes};
 ghost use Rattle.message_value.specs.Value.{elements};
 ghost use Rattle.message_value.specs.Spelling.{elements_bytes, value_bytes};
-ghost use Rattle.message_build.specs.Words.{Appends, string_values};
+ghost use Rattle.message_build.specs.Growing.{Appends};
+ghost use Rattle.message_build.specs.Adding.{string_values};
 
 use crate::appending::{align, push_string, push_word, word_of};
 use message_value::Order;

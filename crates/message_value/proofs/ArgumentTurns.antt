@@ -8,7 +8,7 @@ use Rattle.signature.specs.Alignment.{alignment_of}
 use Rattle.signature.proofs.TreesOfTexts.{type_of-TypeText}
 use Rattle.message_value.specs.declared.order.Order.{Order}
 use Rattle.message_value.specs.Value.{Value, Values, one_value}
-use Rattle.message_value.specs.Spelling.{aligned}
+use Rattle.message_value.specs.Spelling.{align_up}
 use Rattle.message_value.specs.Fits.{max_levels}
 use Rattle.message_value.specs.Reading.{At, ◌>>=◌, value_at, members_at}
 use Rattle.message_value.specs.Arguments.{Argument, argument_of, arguments_from}
@@ -57,7 +57,7 @@ pub record NextLeft (order : Order) (front : List ℕ) (more : List (List ℕ)) 
   pub found : Value × At
   pub read : value_at max_levels order type at ≡ Ok found
   pub left : AreLeft order more found.1
-  pub is : IsBytes at.rest → whole ≡ argument_of order (aligned (alignment_of type) at.place) type found.0 ∷ arguments_left order more found.1
+  pub is : IsBytes at.rest → whole ≡ argument_of order (align_up (alignment_of type) at.place) type found.0 ∷ arguments_left order more found.1
 
 pub next_left : (order : Order) (texts : List (List ℕ)) (front : List ℕ) (more : List (List ℕ)) (at : At) → AreLeft order texts at → texts ≡ front ∷ more → NextLeft order front more at (arguments_left order texts at)
 next_left order texts front more at left is = go left.types left.spelled left.fit left.found left.read
@@ -84,6 +84,6 @@ next_left order texts front more at left is = go left.types left.spelled left.fi
               let place = (value_takes max_levels order t at s.0 bytes s.1).0.place in
               left_is order texts at (one_more t ts) found e fit left.short read
               ∙ ap (arguments_from order at.place (one_more t ts)) (sym {a = one_value s.0.0 m.0.0} values)
-              ∙ ap (λ (p : ℕ). argument_of order (aligned (alignment_of t) at.place) t s.0.0 ∷ arguments_from order p ts m.0.0) (sym place)
-              ∙ ap (λ (x : List Argument). argument_of order (aligned (alignment_of t) at.place) t s.0.0 ∷ x) (sym (left_is order more s.0.1 ts m.0 others fit.1 rest m.1));
+              ∙ ap (λ (p : ℕ). argument_of order (align_up (alignment_of t) at.place) t s.0.0 ∷ arguments_from order p ts m.0.0) (sym place)
+              ∙ ap (λ (x : List Argument). argument_of order (align_up (alignment_of t) at.place) t s.0.0 ∷ x) (sym (left_is order more s.0.1 ts m.0 others fit.1 rest m.1));
         }

@@ -7,7 +7,7 @@ use Rattle.signature.specs.Alignment.{alignment_of}
 use Rattle.message_value.specs.declared.order.Order.{Order}
 use Rattle.message_value.specs.Order.{word_bytes}
 use Rattle.message_value.specs.Value.{Value, Values, Entries, number, text, elements, entries, members, of_type, no_values, one_value, no_entries, one_entry}
-use Rattle.message_value.specs.Spelling.{padding, aligned, zeros, padded, followed, signature_bytes, elements_place, array_bytes, entry_alignment, bare_bytes, elements_bytes, entries_bytes, members_bytes, value_bytes, entry_bytes}
+use Rattle.message_value.specs.Spelling.{padding, align_up, zeros, with_padding, bytes_then, signature_bytes, elements_place, array_bytes, entry_alignment, bare_bytes, elements_bytes, entries_bytes, members_bytes, value_bytes, entry_bytes}
 use Rattle.message_value.specs.Fits.{max_array_len, BareFits, ElementsFit, EntriesFit, MembersFit}
 
 -- ---- places
@@ -58,9 +58,9 @@ padding_4 p q e = let same : p % 4 ≡ q % 4 = omega arith in padding_by 4 p q s
 pub padding_alike : (p q : ℕ) → Alike p q → (type : DataType) → padding (alignment_of type) p ≡ padding (alignment_of type) q
 padding_alike p q s type = each_alignment (SamePadding p q) (padding_1 p q s.is) (padding_2 p q s.is) (padding_4 p q s.is) (padding_by 8 p q s.is) type
 
-pub aligned_alike : (p q : ℕ) → Alike p q → (type : DataType) → Alike (aligned (alignment_of type) p) (aligned (alignment_of type) q)
+pub aligned_alike : (p q : ℕ) → Alike p q → (type : DataType) → Alike (align_up (alignment_of type) p) (align_up (alignment_of type) q)
 aligned_alike p q s type =
-    subst (λ (n : ℕ). Alike (aligned (alignment_of type) p) (q + n)) (padding_alike p q s type) (Alike-plus p q (padding (alignment_of type) p) s)
+    subst (λ (n : ℕ). Alike (align_up (alignment_of type) p) (q + n)) (padding_alike p q s type) (Alike-plus p q (padding (alignment_of type) p) s)
 
 -- after the same bytes
 pub after_alike : (p q : ℕ) (a b : List ℕ) → Alike p q → a ≡ b → Alike (p + length a) (q + length b)
@@ -71,11 +71,11 @@ after_alike p q a b s e = subst (λ (x : List ℕ). Alike (p + length a) (q + le
 abbrev an_entry : DataType
 an_entry = struct variant no_types
 
-padded_alike : (p q : ℕ) → Alike p q → (type : DataType) (bytes : ℕ → List ℕ) → bytes (aligned (alignment_of type) p) ≡ bytes (aligned (alignment_of type) q) → padded (alignment_of type) p bytes ≡ padded (alignment_of type) q bytes
+padded_alike : (p q : ℕ) → Alike p q → (type : DataType) (bytes : ℕ → List ℕ) → bytes (align_up (alignment_of type) p) ≡ bytes (align_up (alignment_of type) q) → with_padding (alignment_of type) p bytes ≡ with_padding (alignment_of type) q bytes
 padded_alike p q s type bytes e =
-    ap (λ (n : ℕ). zeros n ++ bytes (aligned (alignment_of type) p)) (padding_alike p q s type) ∙ ap (λ (x : List ℕ). zeros (padding (alignment_of type) q) ++ x) e
+    ap (λ (n : ℕ). zeros n ++ bytes (align_up (alignment_of type) p)) (padding_alike p q s type) ∙ ap (λ (x : List ℕ). zeros (padding (alignment_of type) q) ++ x) e
 
-followed_alike : (p q : ℕ) (a b : List ℕ) (rest : ℕ → List ℕ) → a ≡ b → rest (p + length a) ≡ rest (q + length b) → followed p a rest ≡ followed q b rest
+followed_alike : (p q : ℕ) (a b : List ℕ) (rest : ℕ → List ℕ) → a ≡ b → rest (p + length a) ≡ rest (q + length b) → bytes_then p a rest ≡ bytes_then q b rest
 followed_alike p q a b rest e more = ap (λ (x : List ℕ). x ++ rest (p + length a)) e ∙ ap (λ (x : List ℕ). b ++ x) more
 
 array_alike : (order : Order) (p q : ℕ) → Alike p q → (type : DataType) (a b : List ℕ) → a ≡ b → array_bytes order (alignment_of type) p a ≡ array_bytes order (alignment_of type) q b
@@ -90,7 +90,7 @@ mutual
   bare_moved order p q s variant (of_type t v) =
       let n = length (signature_bytes t) in
       let start = Alike-plus p q n s in
-      ap (λ (x : List ℕ). signature_bytes t ++ x) (padded_alike (p + n) (q + n) start t (λ at. bare_bytes order at t v) (bare_moved order (aligned (alignment_of t) (p + n)) (aligned (alignment_of t) (q + n)) (aligned_alike (p + n) (q + n) start t) t v))
+      ap (λ (x : List ℕ). signature_bytes t ++ x) (padded_alike (p + n) (q + n) start t (λ at. bare_bytes order at t v) (bare_moved order (align_up (alignment_of t) (p + n)) (align_up (alignment_of t) (q + n)) (aligned_alike (p + n) (q + n) start t) t v))
   bare_moved order p q s (array t) (elements vs) =
       let start = Alike-plus p q 4 s in
       array_alike order p q s t (elements_bytes order (elements_place (alignment_of t) p) t vs) (elements_bytes order (elements_place (alignment_of t) q) t vs) (elements_moved order (elements_place (alignment_of t) p) (elements_place (alignment_of t) q) (aligned_alike (p + 4) (q + 4) start t) t vs)
@@ -103,43 +103,43 @@ mutual
   pub elements_moved : (order : Order) (p q : ℕ) → Alike p q → (t : DataType) (vs : Values) → elements_bytes order p t vs ≡ elements_bytes order q t vs
   elements_moved order p q s t no_values = refl
   elements_moved order p q s t (one_value v vs) =
-      let e = padded_alike p q s t (λ at. bare_bytes order at t v) (bare_moved order (aligned (alignment_of t) p) (aligned (alignment_of t) q) (aligned_alike p q s t) t v) in
+      let e = padded_alike p q s t (λ at. bare_bytes order at t v) (bare_moved order (align_up (alignment_of t) p) (align_up (alignment_of t) q) (aligned_alike p q s t) t v) in
       followed_alike p q (value_bytes order p t v) (value_bytes order q t v) (λ tail. elements_bytes order tail t vs) e (elements_moved order (p + length (value_bytes order p t v)) (q + length (value_bytes order q t v)) (after_alike p q (value_bytes order p t v) (value_bytes order q t v) s e) t vs)
 
   pub entries_moved : (order : Order) (p q : ℕ) → Alike p q → (k : ℕ) (v : DataType) (es : Entries) → entries_bytes order p k v es ≡ entries_bytes order q k v es
   entries_moved order p q s k v no_entries = refl
   entries_moved order p q s k v (one_entry key value es) =
-      let a = aligned entry_alignment p in
-      let b = aligned entry_alignment q in
+      let a = align_up entry_alignment p in
+      let b = align_up entry_alignment q in
       let start : Alike a b = aligned_alike p q s an_entry in
-      let first = padded_alike a b start (basic k) (λ at. bare_bytes order at (basic k) key) (bare_moved order (aligned (alignment_of (basic k)) a) (aligned (alignment_of (basic k)) b) (aligned_alike a b start (basic k)) (basic k) key) in
+      let first = padded_alike a b start (basic k) (λ at. bare_bytes order at (basic k) key) (bare_moved order (align_up (alignment_of (basic k)) a) (align_up (alignment_of (basic k)) b) (aligned_alike a b start (basic k)) (basic k) key) in
       let c = a + length (value_bytes order a (basic k) key) in
       let d = b + length (value_bytes order b (basic k) key) in
       let tail : Alike c d = after_alike a b (value_bytes order a (basic k) key) (value_bytes order b (basic k) key) start first in
-      let second = padded_alike c d tail v (λ at. bare_bytes order at v value) (bare_moved order (aligned (alignment_of v) c) (aligned (alignment_of v) d) (aligned_alike c d tail v) v value) in
+      let second = padded_alike c d tail v (λ at. bare_bytes order at v value) (bare_moved order (align_up (alignment_of v) c) (align_up (alignment_of v) d) (aligned_alike c d tail v) v value) in
       let both = followed_alike a b (value_bytes order a (basic k) key) (value_bytes order b (basic k) key) (λ at. value_bytes order at v value) first second in
-      let e = padded_alike p q s an_entry (λ at. followed at (value_bytes order at (basic k) key) (λ tail. value_bytes order tail v value)) both in
+      let e = padded_alike p q s an_entry (λ at. bytes_then at (value_bytes order at (basic k) key) (λ tail. value_bytes order tail v value)) both in
       followed_alike p q (entry_bytes order p k v key value) (entry_bytes order q k v key value) (λ at. entries_bytes order at k v es) e (entries_moved order (p + length (entry_bytes order p k v key value)) (q + length (entry_bytes order q k v key value)) (after_alike p q (entry_bytes order p k v key value) (entry_bytes order q k v key value) s e) k v es)
 
   pub members_moved : (order : Order) (p q : ℕ) → Alike p q → (types : DataTypes) (vs : Values) → members_bytes order p types vs ≡ members_bytes order q types vs
   members_moved order p q s (one_more t ts) (one_value v vs) =
-      let e = padded_alike p q s t (λ at. bare_bytes order at t v) (bare_moved order (aligned (alignment_of t) p) (aligned (alignment_of t) q) (aligned_alike p q s t) t v) in
+      let e = padded_alike p q s t (λ at. bare_bytes order at t v) (bare_moved order (align_up (alignment_of t) p) (align_up (alignment_of t) q) (aligned_alike p q s t) t v) in
       followed_alike p q (value_bytes order p t v) (value_bytes order q t v) (λ tail. members_bytes order tail ts vs) e (members_moved order (p + length (value_bytes order p t v)) (q + length (value_bytes order q t v)) (after_alike p q (value_bytes order p t v) (value_bytes order q t v) s e) ts vs)
   members_moved order p q s _ _ = refl
 
 pub value_moved : (order : Order) (p q : ℕ) → Alike p q → (t : DataType) (v : Value) → value_bytes order p t v ≡ value_bytes order q t v
 value_moved order p q s t v =
-    padded_alike p q s t (λ at. bare_bytes order at t v) (bare_moved order (aligned (alignment_of t) p) (aligned (alignment_of t) q) (aligned_alike p q s t) t v)
+    padded_alike p q s t (λ at. bare_bytes order at t v) (bare_moved order (align_up (alignment_of t) p) (align_up (alignment_of t) q) (aligned_alike p q s t) t v)
 
 entry_moved : (order : Order) (p q : ℕ) → Alike p q → (k : ℕ) (v : DataType) (key value : Value) → entry_bytes order p k v key value ≡ entry_bytes order q k v key value
 entry_moved order p q s k v key value =
-    let a = aligned entry_alignment p in
-    let b = aligned entry_alignment q in
+    let a = align_up entry_alignment p in
+    let b = align_up entry_alignment q in
     let start : Alike a b = aligned_alike p q s an_entry in
     let first = value_moved order a b start (basic k) key in
     let tail = after_alike a b (value_bytes order a (basic k) key) (value_bytes order b (basic k) key) start first in
     let second = value_moved order (a + length (value_bytes order a (basic k) key)) (b + length (value_bytes order b (basic k) key)) tail v value in
-    padded_alike p q s an_entry (λ at. followed at (value_bytes order at (basic k) key) (λ tail. value_bytes order tail v value)) (followed_alike a b (value_bytes order a (basic k) key) (value_bytes order b (basic k) key) (λ at. value_bytes order at v value) first second)
+    padded_alike p q s an_entry (λ at. bytes_then at (value_bytes order at (basic k) key) (λ tail. value_bytes order tail v value)) (followed_alike a b (value_bytes order a (basic k) key) (value_bytes order b (basic k) key) (λ at. value_bytes order at v value) first second)
 
 -- ---- what fits
 
@@ -150,7 +150,7 @@ mutual
   bare_fits_moved order (suc levels) p q s variant (of_type t v) has =
       let n = length (signature_bytes t) in
       let start = Alike-plus p q n s in
-      (has.0, bare_fits_moved order levels (aligned (alignment_of t) (p + n)) (aligned (alignment_of t) (q + n)) (aligned_alike (p + n) (q + n) start t) t v has.1)
+      (has.0, bare_fits_moved order levels (align_up (alignment_of t) (p + n)) (align_up (alignment_of t) (q + n)) (aligned_alike (p + n) (q + n) start t) t v has.1)
   bare_fits_moved order (suc levels) p q s (array t) (elements vs) has =
       let start = aligned_alike (p + 4) (q + 4) (Alike-plus p q 4 s) t in
       let a = elements_place (alignment_of t) p in
@@ -169,21 +169,21 @@ mutual
   elements_fit_moved order levels p q s t (one_value v vs) has =
       let first = value_bytes order p t v in
       let moved = value_bytes order q t v in
-      (bare_fits_moved order levels (aligned (alignment_of t) p) (aligned (alignment_of t) q) (aligned_alike p q s t) t v has.0, elements_fit_moved order levels (p + length first) (q + length moved) (after_alike p q first moved s (value_moved order p q s t v)) t vs has.1)
+      (bare_fits_moved order levels (align_up (alignment_of t) p) (align_up (alignment_of t) q) (aligned_alike p q s t) t v has.0, elements_fit_moved order levels (p + length first) (q + length moved) (after_alike p q first moved s (value_moved order p q s t v)) t vs has.1)
 
   pub entries_fit_moved : (order : Order) (levels p q : ℕ) → Alike p q → (k : ℕ) (v : DataType) (es : Entries) → EntriesFit order levels p k v es → EntriesFit order levels q k v es
   entries_fit_moved order levels p q s k v no_entries has = tt
   entries_fit_moved order levels p q s k v (one_entry key value es) has =
-      let a = aligned entry_alignment p in
-      let b = aligned entry_alignment q in
+      let a = align_up entry_alignment p in
+      let b = align_up entry_alignment q in
       let start : Alike a b = aligned_alike p q s an_entry in
       let first = value_bytes order a (basic k) key in
       let moved = value_bytes order b (basic k) key in
       let tail : Alike (a + length first) (b + length moved) = after_alike a b first moved start (value_moved order a b start (basic k) key) in
       let whole = entry_bytes order p k v key value in
       let other = entry_bytes order q k v key value in (
-        bare_fits_moved order levels (aligned (alignment_of (basic k)) a) (aligned (alignment_of (basic k)) b) (aligned_alike a b start (basic k)) (basic k) key has.0,
-        bare_fits_moved order levels (aligned (alignment_of v) (a + length first)) (aligned (alignment_of v) (b + length moved)) (aligned_alike (a + length first) (b + length moved) tail v) v value has.1,
+        bare_fits_moved order levels (align_up (alignment_of (basic k)) a) (align_up (alignment_of (basic k)) b) (aligned_alike a b start (basic k)) (basic k) key has.0,
+        bare_fits_moved order levels (align_up (alignment_of v) (a + length first)) (align_up (alignment_of v) (b + length moved)) (aligned_alike (a + length first) (b + length moved) tail v) v value has.1,
         entries_fit_moved order levels (p + length whole) (q + length other) (after_alike p q whole other s (entry_moved order p q s k v key value)) k v es has.2,
       )
 
@@ -192,7 +192,7 @@ mutual
   members_fit_moved order levels p q s (one_more t ts) (one_value v vs) has =
       let first = value_bytes order p t v in
       let moved = value_bytes order q t v in
-      (bare_fits_moved order levels (aligned (alignment_of t) p) (aligned (alignment_of t) q) (aligned_alike p q s t) t v has.0, members_fit_moved order levels (p + length first) (q + length moved) (after_alike p q first moved s (value_moved order p q s t v)) ts vs has.1)
+      (bare_fits_moved order levels (align_up (alignment_of t) p) (align_up (alignment_of t) q) (aligned_alike p q s t) t v has.0, members_fit_moved order levels (p + length first) (q + length moved) (after_alike p q first moved s (value_moved order p q s t v)) ts vs has.1)
   members_fit_moved order levels p q s _ _ has = has
 
 -- ---- the same at a multiple of eight more

@@ -16,7 +16,8 @@ use Rattle.message_value.specs.Value.{Value, number}
 use Rattle.message_value.specs.Spelling.{padding, number_len, width_of}
 use Rattle.message_value.specs.Fits.{is_text_code}
 use Rattle.message_value.specs.Reading.{At, ◌>>=◌, item_at, aligned_at, word_at, inside, within_limit, extent_at, each_at, number_value_at, value_at}
-use Rattle.message_value.specs.Words.{ChecksAll, AreNumbers, Divides, basic_at}
+use Rattle.message_value.specs.Steps.{ChecksAll, Divides}
+use Rattle.message_value.specs.Forms.{AreNumbers, basic_at}
 use Rattle.message_value.proofs.OkSteps.{bind_ok, ok_is, not_refused, passed_ok}
 use Rattle.message_value.proofs.ReadShorter.{number_some}
 use Rattle.message_value.proofs.ValueSteps.{basic_is}

@@ -14,7 +14,7 @@ use Rattle.memchr.specs.Find.{IsFirstByte, is_byte}
 use Rattle.signature.specs.Name.{is_path}
 use Rattle.signature.proofs.Ascii.{path_ascii}
 use Rattle.message_value.specs.Fits.{is_text_of}
-use Rattle.message_value.specs.Words.{is_plain}
+use Rattle.message_value.specs.Forms.{is_plain}
 
 -- a search for a zero tells whether there is one
 pub zero_found : (hay : List ℕ) (found : Option ℕ) → IsFirstByte (is_byte 0) hay found → is_some found ≡ list_any (λ byte. byte == 0) hay

@@ -6,7 +6,7 @@ use Rattle.message_value.specs.declared.order.Order.{Order}
 use Rattle.message_value.specs.declared.fault.MsgError.{MsgError}
 use Rattle.message_value.specs.declared.fault.MsgError.TheVariants as faults
 use Rattle.message_value.specs.Order.{word_bytes}
-use Rattle.message_value.specs.Spelling.{padding, aligned, zeros, followed, elements_place, array_bytes}
+use Rattle.message_value.specs.Spelling.{padding, align_up, zeros, bytes_then, elements_place, array_bytes}
 use Rattle.message_value.specs.Fits.{max_array_len}
 use Rattle.message_value.specs.Reading.{◌>>=◌, At, item_at, aligned_at, word_at, inside, within_limit, extent_at, each_at}
 use Rattle.message_value.proofs.OkSteps.{bind_ok, guard_ok, ok_is}
@@ -17,7 +17,7 @@ use Rattle.message_value.proofs.ReadItems.{at, Takes, Takes-then, Takes-as, Take
 
 abbrev pub each_bytes : {X : Type 0} → (ℕ → X → List ℕ) → ℕ → List X → List ℕ
 each_bytes bytes place [] = []
-each_bytes bytes place (x ∷ xs) = followed place (bytes place x) (λ tail. each_bytes bytes tail xs)
+each_bytes bytes place (x ∷ xs) = bytes_then place (bytes place x) (λ tail. each_bytes bytes tail xs)
 
 abbrev pub EachFits : {X : Type 0} → (ℕ → X → List ℕ) → (ℕ → X → Type 0) → ℕ → List X → Type 0
 EachFits bytes Fits place [] = Unit {0}
@@ -85,7 +85,7 @@ pub record Extends (order : Order) (alignment : ℕ) (a : At) (first tail : At) 
   pub short : length first.rest ≤ max_array_len
   pub fits : IsBytes first.rest
 
-extent_of : (order : Order) (alignment len : ℕ) (a w s : At) (bytes : List ℕ) (b : At) → Takes a (word_bytes order len) w → Takes w (zeros (padding alignment w.place)) s → s.place ≡ aligned alignment w.place → Takes s bytes b → length bytes ≡ len → len ≤ max_array_len → IsBytes bytes
+extent_of : (order : Order) (alignment len : ℕ) (a w s : At) (bytes : List ℕ) (b : At) → Takes a (word_bytes order len) w → Takes w (zeros (padding alignment w.place)) s → s.place ≡ align_up alignment w.place → Takes s bytes b → length bytes ≡ len → len ≤ max_array_len → IsBytes bytes
     → Extends order alignment a (inside s.place bytes) b
 extent_of order alignment len a w s bytes b first skipped start item is short are =
     let after : w.place ≡ a.place + 4 = first.place ∙ ap (λ (k : ℕ). a.place + k) (length-word_bytes order len) in
@@ -93,7 +93,7 @@ extent_of order alignment len a w s bytes b first skipped start item is short ar
     let two = Takes-then w (zeros (padding alignment (a.place + 4))) s bytes b here item in
     let three = Takes-then a (word_bytes order len) w (zeros (padding alignment (a.place + 4)) ++ bytes) b first two in
     let takes : Takes a (array_bytes order alignment a.place bytes) b = subst (λ (k : ℕ). Takes a (word_bytes order k ++ (zeros (padding alignment (a.place + 4)) ++ bytes)) b) (sym is) three in
-    record { takes = takes; place = start ∙ ap (λ (k : ℕ). aligned alignment k) after; short = omega (arith, is); fits = are }
+    record { takes = takes; place = start ∙ ap (λ (k : ℕ). align_up alignment k) after; short = omega (arith, is); fits = are }
 
 pub extent_takes : (order : Order) (alignment : ℕ) (a : At) (found : At × At) → IsBytes a.rest → extent_at order alignment a ≡ Ok found → Extends order alignment a found.0 found.1
 unfolding extent_at

@@ -7,7 +7,7 @@ use Rattle.message_value.specs.declared.order.Order.{Order}
 use Rattle.message_value.specs.declared.fault.MsgError.{MsgError}
 use Rattle.message_value.specs.declared.fault.MsgError.TheVariants as faults
 use Rattle.message_value.specs.Order.{word_bytes, word_of}
-use Rattle.message_value.specs.Spelling.{padding, aligned, zeros, padded}
+use Rattle.message_value.specs.Spelling.{padding, align_up, zeros, with_padding}
 use Rattle.message_value.specs.Reading.{At, item_at, aligned_at, byte_at, word_at}
 use Rattle.message_value.proofs.OkSteps.{bind_ok, guard_ok, passed_ok, ok_is}
 use Rattle.message_value.proofs.WordBytes.{IsBytes, IsBytes-drop, IsBytes-take, length-word_bytes, word_of-word_bytes, word_bytes-word_of, word_of-lt, one_byte}
@@ -75,7 +75,7 @@ zeros_are (b ∷ bytes) e =
     let others : bytes ≡ zeros (length bytes) = zeros_are bytes both.1 in
     cc
 
-pub aligned_takes : (alignment : ℕ) (a found : At) → aligned_at alignment a ≡ Ok found → Takes a (zeros (padding alignment a.place)) found × (found.place ≡ aligned alignment a.place)
+pub aligned_takes : (alignment : ℕ) (a found : At) → aligned_at alignment a ≡ Ok found → Takes a (zeros (padding alignment a.place)) found × (found.place ≡ align_up alignment a.place)
 unfolding aligned_at
 aligned_takes alignment a found e =
     let s = bind_ok (item_at (padding alignment a.place) a) (λ skipped. cond (list_all (λ byte. eqb byte 0) skipped.0) (Ok skipped.1) (Err faults.Padding)) found e in
@@ -85,14 +85,14 @@ aligned_takes alignment a found e =
     let takes = Takes-as a s.0.0 (zeros (padding alignment a.place)) s.0.1 found t.0 text p.1 in
     (takes, takes.place ∙ ap (λ (k : ℕ). a.place + k) (length-zeros (padding alignment a.place)))
 
-pub aligned_again : (alignment place : ℕ) (outside : MsgError) (rest : List ℕ) → aligned_at alignment (at place (zeros (padding alignment place) ++ rest) outside) ≡ Ok (at (aligned alignment place) rest outside)
+pub aligned_again : (alignment place : ℕ) (outside : MsgError) (rest : List ℕ) → aligned_at alignment (at place (zeros (padding alignment place) ++ rest) outside) ≡ Ok (at (align_up alignment place) rest outside)
 unfolding aligned_at
 aligned_again alignment place outside rest =
     rw (item_again (padding alignment place) place outside (zeros (padding alignment place)) rest (length-zeros (padding alignment place)), zeros_again (padding alignment place)) refl
 
 -- how many bytes they are with the zeros before them
-pub length-padded : (alignment place : ℕ) (bytes : ℕ → List ℕ) → place + length (padded alignment place bytes) ≡ aligned alignment place + length (bytes (aligned alignment place))
-length-padded alignment place bytes = omega (arith, length-append (zeros (padding alignment place)) (bytes (aligned alignment place)), length-zeros (padding alignment place))
+pub length-padded : (alignment place : ℕ) (bytes : ℕ → List ℕ) → place + length (with_padding alignment place bytes) ≡ align_up alignment place + length (bytes (align_up alignment place))
+length-padded alignment place bytes = omega (arith, length-append (zeros (padding alignment place)) (bytes (align_up alignment place)), length-zeros (padding alignment place))
 
 -- ---- a byte
 

@@ -14,7 +14,7 @@ use Rattle.message_value.specs.Order.{number_of, word_of}
 use Rattle.message_value.specs.Value.{Value, number, text, elements, entries, members, of_type, one_value, values_of, entries_of}
 use Rattle.message_value.specs.Spelling.{padding, number_len, width_of, entry_alignment}
 use Rattle.message_value.specs.Fits.{is_text_code, is_text_of, max_array_len}
-use Rattle.message_value.specs.Reading.{At, ◌>>=◌, item_at, aligned_at, byte_at, word_at, text_fault, ended, text_at, long_text_at, short_text_at, text_value_at, typed, signature_at, counted, number_value_at, inside, within_limit, extent_at, each_at, Reader, members_at, entry_at, variant_at, array_at, dict_at, struct_at, bare_at, value_by, value_at}
+use Rattle.message_value.specs.Reading.{At, ◌>>=◌, item_at, aligned_at, byte_at, word_at, text_fault, text_ended, text_at, long_text_at, short_text_at, text_value_at, value_typed, signature_at, count_at, number_value_at, inside, within_limit, extent_at, each_at, Reader, members_at, entry_at, variant_at, array_at, dict_at, struct_at, bare_at, value_by, value_at}
 
 -- an Ok leaves fewer bytes than before, by this number at least
 abbrev pub Takes_least : {A : Type 0} → ℕ → ℕ → Result (A × At) MsgError → Type 0
@@ -90,7 +90,7 @@ word_takes_four order at = then 4 0 (length at.rest) (item_at 4 at) (λ bytes. O
 
 text_takes : (code len : ℕ) (at : At) → Takes_least 0 (length at.rest) (text_at code len at)
 unfolding text_at
-text_takes code len at = tail 0 (length at.rest) (item_at (len + 1) at) (λ bytes. ended code len bytes.0 bytes.1) (item_takes (len + 1) at) (λ x. go (not (is_text_of code (take len x.0))) (not (slice_index x.0 len == 0)) (take len x.0) x.1)
+text_takes code len at = tail 0 (length at.rest) (item_at (len + 1) at) (λ bytes. text_ended code len bytes.0 bytes.1) (item_takes (len + 1) at) (λ x. go (not (is_text_of code (take len x.0))) (not (slice_index x.0 len == 0)) (take len x.0) x.1)
   where
     go : (form end : Bool) (bytes : List ℕ) (x : At) → Takes_least 0 (length x.rest) (cond form (Err (text_fault code)) (cond end (Err faults.BadText) (Ok (bytes, x))))
     go true end bytes x = tt
@@ -115,14 +115,14 @@ text_value_takes order code at = then 1 0 (length at.rest) (cond (code == 103) (
 
 signature_takes : (at : At) → Takes_least 1 (length at.rest) (signature_at at)
 unfolding signature_at
-signature_takes at = then 1 0 (length at.rest) (byte_at at) (λ len. item_at (len.0 + 1) len.1 >>= λ bytes. typed (type_of (take len.0 bytes.0)) (slice_index bytes.0 len.0) bytes.1) (byte_takes_one at)
-    (λ len. tail 0 (length len.1.rest) (item_at (len.0 + 1) len.1) (λ bytes. typed (type_of (take len.0 bytes.0)) (slice_index bytes.0 len.0) bytes.1) (item_takes (len.0 + 1) len.1) (λ x. go (type_of (take len.0 x.0)) (slice_index x.0 len.0) x.1))
+signature_takes at = then 1 0 (length at.rest) (byte_at at) (λ len. item_at (len.0 + 1) len.1 >>= λ bytes. value_typed (type_of (take len.0 bytes.0)) (slice_index bytes.0 len.0) bytes.1) (byte_takes_one at)
+    (λ len. tail 0 (length len.1.rest) (item_at (len.0 + 1) len.1) (λ bytes. value_typed (type_of (take len.0 bytes.0)) (slice_index bytes.0 len.0) bytes.1) (item_takes (len.0 + 1) len.1) (λ x. go (type_of (take len.0 x.0)) (slice_index x.0 len.0) x.1))
   where
     test : (b : Bool) (type : DataType) (x : At) → Takes_least 0 (length x.rest) (cond b (Ok (type, x)) (Err faults.BadText))
     test true type x = omega arith
     test false type x = tt
 
-    go : (found : Option DataType) (end : ℕ) (x : At) → Takes_least 0 (length x.rest) (typed found end x)
+    go : (found : Option DataType) (end : ℕ) (x : At) → Takes_least 0 (length x.rest) (value_typed found end x)
     go None end x = tt
     go (Some type) end x = test (end == 0) type x
 
@@ -139,7 +139,7 @@ number_some code = go (code == 121) (code == 110 || code == 113) (code == 120 ||
 
 number_value_takes : (order : Order) (code : ℕ) (at : At) → Takes_least 1 (length at.rest) (number_value_at order code at)
 unfolding number_value_at
-number_value_takes order code at = then 1 0 (length at.rest) (item_at (number_len code) at) (λ bytes. counted code (number_of order (width_of code) bytes.0) bytes.1)
+number_value_takes order code at = then 1 0 (length at.rest) (item_at (number_len code) at) (λ bytes. count_at code (number_of order (width_of code) bytes.0) bytes.1)
     (fewer (number_len code) 1 (length at.rest) (length at.rest) (item_at (number_len code) at) (number_some code) (omega arith) (item_takes_all (number_len code) at))
     (λ x. go (code == 98 && nat_lt 1 (number_of order (width_of code) x.0)) (number_of order (width_of code) x.0) x.1)
   where

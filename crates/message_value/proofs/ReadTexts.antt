@@ -16,7 +16,7 @@ use Rattle.message_value.specs.Value.{Value, number, text, elements, entries, me
 use Rattle.message_value.specs.Order.{word_bytes, number_bytes, number_of}
 use Rattle.message_value.specs.Spelling.{width_of, number_len, text_bytes, signature_bytes, bare_bytes}
 use Rattle.message_value.specs.Fits.{is_text_code, is_text_of, limit_of, IsOneType, BareFits}
-use Rattle.message_value.specs.Reading.{◌>>=◌, At, item_at, byte_at, word_at, text_fault, ended, text_at, long_text_at, short_text_at, text_value_at, typed, signature_at, counted, number_value_at}
+use Rattle.message_value.specs.Reading.{◌>>=◌, At, item_at, byte_at, word_at, text_fault, text_ended, text_at, long_text_at, short_text_at, text_value_at, value_typed, signature_at, count_at, number_value_at}
 use Rattle.message_value.proofs.OkSteps.{bind_ok, not_refused, guard_ok, passed_ok, ok_is}
 use Rattle.message_value.proofs.WordBytes.{IsBytes, length-word_bytes, length-number_bytes, number_of-number_bytes, number_bytes-number_of, number_of-lt}
 use Rattle.message_value.proofs.ReadItems.{at, Takes, Takes-then, Takes-as, item_takes, item_again, byte_takes, byte_again, word_takes, word_again}
@@ -28,20 +28,20 @@ whole_item len bytes is last =
     let lt : len < length bytes = omega arith in
     sym (take_all (len + 1) bytes (omega arith)) ∙ take_more bytes len 0 lt ∙ ap (λ (b : ℕ). take len bytes ++ b ∷ []) last
 
-ended_is : (code len : ℕ) (bytes : List ℕ) (tail : At) (found : List ℕ × At) → length bytes ≡ len + 1 → ended code len bytes tail ≡ Ok found → (bytes ≡ found.0 ++ 0 ∷ []) × (length found.0 ≡ len) × (is_text_of code found.0 ≡ true) × (found.1 ≡ tail)
+ended_is : (code len : ℕ) (bytes : List ℕ) (tail : At) (found : List ℕ × At) → length bytes ≡ len + 1 → text_ended code len bytes tail ≡ Ok found → (bytes ≡ found.0 ++ 0 ∷ []) × (length found.0 ≡ len) × (is_text_of code found.0 ≡ true) × (found.1 ≡ tail)
 ended_is code len bytes tail found is e =
     let g = not_refused (not (is_text_of code (take len bytes))) (text_fault code) (cond (not (eqb (get_or bytes len 0) 0)) (Err faults.BadText) (Ok (take len bytes, tail))) found e in
     let h = guard_ok (not (eqb (get_or bytes len 0) 0)) faults.BadText (take len bytes, tail) found g.1 in
     let last : get_or bytes len 0 ≡ 0 = eqb-true _ _ (not-false _ h.0) in
     subst (λ (f : List ℕ × At). (bytes ≡ f.0 ++ 0 ∷ []) × (length f.0 ≡ len) × (is_text_of code f.0 ≡ true) × (f.1 ≡ tail)) h.1 (whole_item len bytes is last, length-take-le len bytes (omega arith), not-false _ g.0, refl)
 
-ended_again : (code : ℕ) (bytes : List ℕ) (tail : At) → is_text_of code bytes ≡ true → ended code (length bytes) (bytes ++ 0 ∷ []) tail ≡ Ok (bytes, tail)
+ended_again : (code : ℕ) (bytes : List ℕ) (tail : At) → is_text_of code bytes ≡ true → text_ended code (length bytes) (bytes ++ 0 ∷ []) tail ≡ Ok (bytes, tail)
 ended_again code bytes tail is = rw (take_at bytes (0 ∷ []) (length bytes) refl, is, get_or_at bytes 0 [] 0 (length bytes) refl) refl
 
 pub text_takes : (code len : ℕ) (a : At) (found : List ℕ × At) → text_at code len a ≡ Ok found → Takes a (found.0 ++ 0 ∷ []) found.1 × (length found.0 ≡ len) × (is_text_of code found.0 ≡ true)
 unfolding text_at
 text_takes code len a found e =
-    let b = bind_ok (item_at (len + 1) a) (λ bytes. ended code len bytes.0 bytes.1) found e in
+    let b = bind_ok (item_at (len + 1) a) (λ bytes. text_ended code len bytes.0 bytes.1) found e in
     let t = item_takes (len + 1) a b.0 b.1 in
     let n = ended_is code len b.0.0 b.0.1 found t.1 b.2 in
     (Takes-as a b.0.0 (found.0 ++ 0 ∷ []) b.0.1 found.1 t.0 n.0 (sym n.3), n.1, n.2)
@@ -143,7 +143,7 @@ within_width code bits lt = go (eqb code 98) refl lt
     go true is lt = subst (λ (k : ℕ). bits < 2 ^ (8 * number_len k)) (sym (eqb-true code 98 is)) (omega arith)
     go false is lt = lt
 
-counted_is : (code bits : ℕ) (tail : At) (found : Value × At) → bits < 2 ^ (8 * number_len code) → counted code bits tail ≡ Ok found → ((number bits, tail) ≡ found) × (bits < limit_of code)
+counted_is : (code bits : ℕ) (tail : At) (found : Value × At) → bits < 2 ^ (8 * number_len code) → count_at code bits tail ≡ Ok found → ((number bits, tail) ≡ found) × (bits < limit_of code)
 counted_is code bits tail found lt e =
     let g = guard_ok (eqb code 98 && ltb 1 bits) faults.BadBool (number bits, tail) found e in
     (g.1, go (eqb code 98) g.0)
@@ -152,7 +152,7 @@ counted_is code bits tail found lt e =
     go true low = omega (arith, ltb-false 1 bits low)
     go false low = lt
 
-counted_again : (code bits : ℕ) (tail : At) → bits < limit_of code → counted code bits tail ≡ Ok (number bits, tail)
+counted_again : (code bits : ℕ) (tail : At) → bits < limit_of code → count_at code bits tail ≡ Ok (number bits, tail)
 counted_again code bits tail lt = go (eqb code 98) lt
   where
     go : (b : Bool) → bits < cond b 2 (2 ^ (8 * number_len code)) → cond {A = Result (Value × At) MsgError} (b && ltb 1 bits) (Err faults.BadBool) (Ok (number bits, tail)) ≡ Ok (number bits, tail)
@@ -162,7 +162,7 @@ counted_again code bits tail lt = go (eqb code 98) lt
 number_value_takes : (order : Order) (levels code : ℕ) (a : At) (found : Value × At) → is_text_code code ≡ false → IsBytes a.rest → number_value_at order code a ≡ Ok found → Takes a (bare_bytes order a.place (basic code) found.0) found.1 × BareFits order levels a.place (basic code) found.0
 unfolding number_value_at
 number_value_takes order levels code a found no_text fits e =
-    let b = bind_ok (item_at (number_len code) a) (λ bytes. counted code (number_of order (width_of code) bytes.0) bytes.1) found e in
+    let b = bind_ok (item_at (number_len code) a) (λ bytes. count_at code (number_of order (width_of code) bytes.0) bytes.1) found e in
     let t = item_takes (number_len code) a b.0 b.1 in
     let are = t.2 fits in
     let bits = number_of order (width_of code) b.0.0 in
@@ -198,7 +198,7 @@ basic_again order levels code place outside (of_type t v) rest has = absurd has
 
 -- ---- a variant's signature
 
-typed_is : (read : Option DataType) (end : ℕ) (tail : At) (found : DataType × At) → typed read end tail ≡ Ok found → (read ≡ Some found.0) × (end ≡ 0) × (tail ≡ found.1)
+typed_is : (read : Option DataType) (end : ℕ) (tail : At) (found : DataType × At) → value_typed read end tail ≡ Ok found → (read ≡ Some found.0) × (end ≡ 0) × (tail ≡ found.1)
 typed_is None end tail found e = absurd cc
 typed_is (Some type) end tail found e =
     let p = passed_ok (eqb end 0) faults.BadText (type, tail) found e in
@@ -208,8 +208,8 @@ typed_is (Some type) end tail found e =
 pub signature_takes : (a : At) (found : DataType × At) → signature_at a ≡ Ok found → Takes a (signature_bytes found.0) found.1 × IsOneType found.0
 unfolding signature_at
 signature_takes a found e =
-    let n = bind_ok (byte_at a) (λ len. item_at (len.0 + 1) len.1 >>= λ bytes. typed (type_of (take len.0 bytes.0)) (get_or bytes.0 len.0 0) bytes.1) found e in
-    let b = bind_ok (item_at (n.0.0 + 1) n.0.1) (λ bytes. typed (type_of (take n.0.0 bytes.0)) (get_or bytes.0 n.0.0 0) bytes.1) found n.2 in
+    let n = bind_ok (byte_at a) (λ len. item_at (len.0 + 1) len.1 >>= λ bytes. value_typed (type_of (take len.0 bytes.0)) (get_or bytes.0 len.0 0) bytes.1) found e in
+    let b = bind_ok (item_at (n.0.0 + 1) n.0.1) (λ bytes. value_typed (type_of (take n.0.0 bytes.0)) (get_or bytes.0 n.0.0 0) bytes.1) found n.2 in
     let t = item_takes (n.0.0 + 1) n.0.1 b.0 b.1 in
     let d = typed_is (type_of (take n.0.0 b.0.0)) (get_or b.0.0 n.0.0 0) b.0.1 found b.2 in
     let s = tree_spelled found.0 (take n.0.0 b.0.0) d.0 in

@@ -7,7 +7,7 @@ use Rattle.message_value.specs.declared.order.Order.{Order}
 use Rattle.message_value.specs.declared.fault.MsgError.{MsgError}
 use Rattle.message_value.specs.declared.fault.MsgError.TheVariants as faults
 use Rattle.message_value.specs.Value.{Value, Values, Entries, elements, entries, members, of_type, no_values, one_value, no_entries, one_entry, values_of, entries_of}
-use Rattle.message_value.specs.Spelling.{padding, aligned, zeros, followed, signature_bytes, elements_place, array_bytes, entry_alignment, bare_bytes, elements_bytes, entries_bytes, members_bytes, value_bytes, entry_bytes}
+use Rattle.message_value.specs.Spelling.{padding, align_up, zeros, bytes_then, signature_bytes, elements_place, array_bytes, entry_alignment, bare_bytes, elements_bytes, entries_bytes, members_bytes, value_bytes, entry_bytes}
 use Rattle.message_value.specs.Fits.{max_array_len, BareFits, ElementsFit, EntriesFit, MembersFit, ValueFits}
 use Rattle.message_value.specs.Reading.{◌>>=◌, At, Reader, aligned_at, inside, extent_at, each_at, signature_at, members_at, entry_at, variant_at, array_at, dict_at, struct_at, bare_at, value_by, value_at}
 use Rattle.message_value.proofs.OkSteps.{bind_ok, ok_is}
@@ -172,8 +172,8 @@ pair_bytes order k v place entry = entry_bytes order place k v entry.0 entry.1
 
 abbrev PairFits : Order → ℕ → ℕ → DataType → ℕ → Value × Value → Type 0
 PairFits order levels k v place entry =
-    ValueFits order levels (aligned entry_alignment place) (basic k) entry.0
-    × ValueFits order levels (aligned entry_alignment place + length (value_bytes order (aligned entry_alignment place) (basic k) entry.0)) v entry.1
+    ValueFits order levels (align_up entry_alignment place) (basic k) entry.0
+    × ValueFits order levels (align_up entry_alignment place + length (value_bytes order (align_up entry_alignment place) (basic k) entry.0)) v entry.1
 
 pair_pos : (order : Order) (levels k : ℕ) (v : DataType) (place : ℕ) (entry : Value × Value) → PairFits order levels k v place entry → 0 < length (pair_bytes order k v place entry)
 pair_pos order levels k v place entry has = entry_bytes_pos order levels place k v entry.0 entry.1 has.0
@@ -202,7 +202,7 @@ entry_takes levels order reader takes k v a found fits e =
     let first = aligned_takes entry_alignment a s.0 s.1 in
     let key = takes (basic k) s.0 x.0 (first.0.fits fits) x.1 in
     let value = takes v x.0.1 y.0 (key.0.fits (first.0.fits fits)) y.1 in
-    let start = aligned entry_alignment a.place in
+    let start = align_up entry_alignment a.place in
     let key_here : Takes s.0 (value_bytes order start (basic k) x.0.0) x.0.1 × ValueFits order levels start (basic k) x.0.0 = subst (λ (p : ℕ). Takes s.0 (value_bytes order p (basic k) x.0.0) x.0.1 × ValueFits order levels p (basic k) x.0.0) first.1 key in
     let key_bytes = value_bytes order start (basic k) x.0.0 in
     let tail : x.0.1.place ≡ start + length key_bytes = key_here.0.place ∙ ap (λ (p : ℕ). p + length key_bytes) first.1 in
@@ -216,12 +216,12 @@ entry_again : (levels : ℕ) (order : Order) (reader : Reader) → ReaderAgain l
     → entry_at reader k v (at place (pair_bytes order k v place entry ++ rest) outside) ≡ Ok (entry, at (place + length (pair_bytes order k v place entry)) rest outside)
 unfolding entry_at
 entry_again levels order reader again k v place outside entry rest has =
-    let start = aligned entry_alignment place in
+    let start = align_up entry_alignment place in
     let skipped = zeros (padding entry_alignment place) in
     let key = value_bytes order start (basic k) entry.0 in
     let value = value_bytes order (start + length key) v entry.1 in
     let grouped : (skipped ++ (key ++ value)) ++ rest ≡ skipped ++ (key ++ (value ++ rest)) = append_assoc skipped (key ++ value) rest ∙ ap (λ (l : List ℕ). skipped ++ l) (append_assoc key value rest) in
-    let end : start + length key + length value ≡ place + length (pair_bytes order k v place entry) = omega (arith, length-append key value, length-padded entry_alignment place (λ start. followed start (value_bytes order start (basic k) entry.0) (λ tail. value_bytes order tail v entry.1))) in
+    let end : start + length key + length value ≡ place + length (pair_bytes order k v place entry) = omega (arith, length-append key value, length-padded entry_alignment place (λ start. bytes_then start (value_bytes order start (basic k) entry.0) (λ tail. value_bytes order tail v entry.1))) in
     ap (λ (l : List ℕ). entry_at reader k v (at place l outside)) grouped
     ∙ rw (aligned_again entry_alignment place outside (key ++ (value ++ rest)), again (basic k) start outside entry.0 (value ++ rest) has.0, again v (start + length key) outside entry.1 rest has.1)
     (ap (λ (p : ℕ). Ok (entry, at p rest outside)) end)
@@ -277,7 +277,7 @@ by_takes levels order deeper type bare a found fits e =
     let s = bind_ok (aligned_at (alignment_of type) a) (λ start. bare_at deeper order type start) found e in
     let first = aligned_takes (alignment_of type) a s.0 s.1 in
     let second = bare s.0 found (first.0.fits fits) s.2 in
-    let start = aligned (alignment_of type) a.place in
+    let start = align_up (alignment_of type) a.place in
     let here : Takes s.0 (bare_bytes order start type found.0) found.1 × BareFits order levels start type found.0 = subst (λ (p : ℕ). Takes s.0 (bare_bytes order p type found.0) found.1 × BareFits order levels p type found.0) first.1 second in
     (Takes-then a (zeros (padding (alignment_of type) a.place)) s.0 (bare_bytes order start type found.0) found.1 first.0 here.0, here.1)
 
@@ -312,7 +312,7 @@ by_again : (levels : ℕ) (order : Order) (deeper : Result Reader MsgError) (typ
     → value_by deeper order type (at place (value_bytes order place type value ++ rest) outside) ≡ Ok (value, at (place + length (value_bytes order place type value)) rest outside)
 unfolding value_by
 by_again levels order deeper type bare place outside value rest has =
-    let start = aligned (alignment_of type) place in
+    let start = align_up (alignment_of type) place in
     let skipped = zeros (padding (alignment_of type) place) in
     let bytes = bare_bytes order start type value in
     ap (λ (l : List ℕ). value_by deeper order type (at place l outside)) (append_assoc skipped bytes rest)

@@ -10,10 +10,11 @@ use Rattle.message_value.specs.declared.text.TextType.{TextType}
 use Rattle.message_value.specs.declared.text.TextType.TheVariants as texts
 use Rattle.message_value.specs.Order.{number_of}
 use Rattle.message_value.specs.Value.{Value, number, text}
-use Rattle.message_value.specs.Spelling.{aligned, number_len, width_of, bare_bytes, value_bytes}
-use Rattle.message_value.specs.Reading.{At, item_at, aligned_at, long_text_at, short_text_at, text_value_at, counted, number_value_at, value_at}
+use Rattle.message_value.specs.Spelling.{align_up, number_len, width_of, bare_bytes, value_bytes}
+use Rattle.message_value.specs.Reading.{At, item_at, aligned_at, long_text_at, short_text_at, text_value_at, count_at, number_value_at, value_at}
 use Rattle.message_value.specs.Arguments.{Argument, text_start, argument_of}
-use Rattle.message_value.specs.Words.{IsNoText, text_code}
+use Rattle.message_value.specs.Forms.{IsNoText}
+use Rattle.message_value.specs.TextTypes.{text_code}
 use Rattle.message_value.proofs.OkSteps.{bind_ok, ok_is, not_refused}
 use Rattle.message_value.proofs.WordBytes.{IsBytes}
 use Rattle.message_value.proofs.ReadItems.{Takes-leaves, aligned_takes, length-padded}
@@ -25,7 +26,7 @@ use Rattle.message_value.proofs.SkipValues.{basic_same, basic_text, basic_number
 
 -- ---- where it begins
 
-pub start_place : (type : DataType) (at start : At) → aligned_at (alignment_of type) at ≡ Ok start → start.place ≡ aligned (alignment_of type) at.place
+pub start_place : (type : DataType) (at start : At) → aligned_at (alignment_of type) at ≡ Ok start → start.place ≡ align_up (alignment_of type) at.place
 start_place type at start gone = (aligned_takes (alignment_of type) at start gone).1
 
 pub start_aligned : (type : DataType) (at start : At) → aligned_at (alignment_of type) at ≡ Ok start → start.place % alignment_of type ≡ 0
@@ -54,7 +55,7 @@ start_within order texts.Signature at found e = let s = bind_ok (short_text_at a
 number_found : (order : Order) (code : ℕ) (at : At) (found : Value × At) → number_value_at order code at ≡ Ok found → (bits : ℕ) × (found.0 ≡ number bits)
 unfolding number_value_at
 number_found order code at found e =
-    let s = bind_ok (item_at (number_len code) at) (λ bytes. counted code (number_of order (width_of code) bytes.0) bytes.1) found e in
+    let s = bind_ok (item_at (number_len code) at) (λ bytes. count_at code (number_of order (width_of code) bytes.0) bytes.1) found e in
     let bits = number_of order (width_of code) s.0.0 in
     let made : Value × At = (number bits, s.0.1) in
     let t = not_refused (code == 98 && nat_lt 1 bits) faults.BadBool (Ok made) found s.2 in
@@ -75,7 +76,7 @@ no_text_argument levels order (array t) at found none here e = refl
 no_text_argument levels order (dict k v) at found none here e = refl
 no_text_argument levels order (struct t ts) at found none here e = refl
 
-aligned_same : (a p : ℕ) → p % a ≡ 0 → aligned a p ≡ p
+aligned_same : (a p : ℕ) → p % a ≡ 0 → align_up a p ≡ p
 aligned_same a p e =
     let none = padding_none a p e in
     omega arith
@@ -87,8 +88,8 @@ bare_len levels order type at found bytes here e =
     let taken = (value_takes levels order type at found bytes e).0 in
     let leaves = Takes-leaves at (value_bytes order at.place type found.0) found.1 taken in
     let same = aligned_same (alignment_of type) at.place here in
-    let padded = length-padded (alignment_of type) at.place (λ start. bare_bytes order start type found.0) in
-    let bare : length (bare_bytes order (aligned (alignment_of type) at.place) type found.0) ≡ length (bare_bytes order at.place type found.0) = ap (λ (p : ℕ). length (bare_bytes order p type found.0)) same in
+    let with_padding = length-padded (alignment_of type) at.place (λ start. bare_bytes order start type found.0) in
+    let bare : length (bare_bytes order (align_up (alignment_of type) at.place) type found.0) ≡ length (bare_bytes order at.place type found.0) = ap (λ (p : ℕ). length (bare_bytes order p type found.0)) same in
     omega arith
 
 pub spelled_code : (type : DataType) (bytes : List ℕ) → TypeText type bytes → slice_index bytes 0 ≡ slice_index (spelling type) 0

@@ -14,7 +14,7 @@ use Rattle.message_value.specs.declared.fault.MsgError.{MsgError}
 use Rattle.message_value.specs.declared.fault.MsgError.TheVariants as faults
 use Rattle.message_value.specs.Spelling.{padding}
 use Rattle.message_value.specs.Fits.{is_text_of}
-use Rattle.message_value.specs.Reading.{At, ◌>>=◌, item_at, aligned_at, byte_at, word_at, text_fault, ended, text_at, long_text_at, short_text_at}
+use Rattle.message_value.specs.Reading.{At, ◌>>=◌, item_at, aligned_at, byte_at, word_at, text_fault, text_ended, text_at, long_text_at, short_text_at}
 use Rattle.message_value.proofs.OkSteps.{bind_ok, ok_is, not_refused, passed_ok}
 use Rattle.message_value.proofs.ReadShorter.{item_fits, byte_fits, word_fits}
 use Rattle.message_value.proofs.SignatureTexts.{signature_utf8}
@@ -54,7 +54,7 @@ not_false false e = absurd cc
 pub text_parts : (code len : ℕ) (at : At) (found : List ℕ × At) → text_at code len at ≡ Ok found → TextParts code len at found
 unfolding text_at
 text_parts code len at found e =
-    let s = bind_ok (item_at (len + 1) at) (λ bytes. ended code len bytes.0 bytes.1) found e in
+    let s = bind_ok (item_at (len + 1) at) (λ bytes. text_ended code len bytes.0 bytes.1) found e in
     let made : List ℕ × At = (take len s.0.0, s.0.1) in
     let form = not_refused (not (is_text_of code (take len s.0.0))) (text_fault code) (cond (not (slice_index s.0.0 len == 0)) (Err faults.BadText) (Ok made)) found s.2 in
     let end = not_refused (not (slice_index s.0.0 len == 0)) faults.BadText (Ok made) found form.1 in

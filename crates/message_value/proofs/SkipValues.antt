@@ -13,8 +13,10 @@ use Rattle.message_value.specs.Order.{number_of}
 use Rattle.message_value.specs.Value.{Value, Values, number, text, elements, entries, members, of_type, no_values, one_value, values_of, entries_of}
 use Rattle.message_value.specs.Spelling.{number_len, width_of, entry_alignment}
 use Rattle.message_value.specs.Fits.{is_text_code, max_array_len}
-use Rattle.message_value.specs.Reading.{At, ◌>>=◌, item_at, aligned_at, word_at, inside, within_limit, extent_at, each_at, text_value_at, counted, number_value_at, signature_at, Reader, members_at, entry_at, variant_at, array_at, dict_at, struct_at, bare_at, value_by, value_at}
-use Rattle.message_value.specs.Words.{IsRead, IsGone, Reaches, basic_at, text_code}
+use Rattle.message_value.specs.Reading.{At, ◌>>=◌, item_at, aligned_at, word_at, inside, within_limit, extent_at, each_at, text_value_at, count_at, number_value_at, signature_at, Reader, members_at, entry_at, variant_at, array_at, dict_at, struct_at, bare_at, value_by, value_at}
+use Rattle.message_value.specs.Steps.{IsRead, IsGone, Reaches}
+use Rattle.message_value.specs.Forms.{basic_at}
+use Rattle.message_value.specs.TextTypes.{text_code}
 use Rattle.message_value.proofs.OkSteps.{bind_ok, ok_is, not_refused}
 use Rattle.message_value.proofs.ReadShorter.{item_fits, word_fits}
 use Rattle.message_value.proofs.ValueSteps.{deeper, begun, basic_is, is_container}
@@ -56,14 +58,14 @@ basic_number order code at start found is none e = rw none at (basic_bare order 
 pub number_fits : (order : Order) (code : ℕ) (at : At) (found : Value × At) → number_value_at order code at ≡ Ok found → number_len code ≤ length at.rest
 unfolding number_value_at
 number_fits order code at found e =
-    let s = bind_ok (item_at (number_len code) at) (λ bytes. counted code (number_of order (width_of code) bytes.0) bytes.1) found e in
+    let s = bind_ok (item_at (number_len code) at) (λ bytes. count_at code (number_of order (width_of code) bytes.0) bytes.1) found e in
     let h = item_fits (number_len code) at s.0 s.1 in
     omega arith
 
 pub number_end : (order : Order) (code : ℕ) (at : At) (item : List ℕ × At) (found : Value × At) → number_value_at order code at ≡ Ok found → item_at (number_len code) at ≡ Ok item → item.1 ≡ found.1
 unfolding number_value_at
 number_end order code at item found e is =
-    let h = after (item_at (number_len code) at) (λ bytes. counted code (number_of order (width_of code) bytes.0) bytes.1) item found e is in
+    let h = after (item_at (number_len code) at) (λ bytes. count_at code (number_of order (width_of code) bytes.0) bytes.1) item found e is in
     let bits = number_of order (width_of code) item.0 in
     let made : Value × At = (number bits, item.1) in
     let t = not_refused (code == 98 && nat_lt 1 bits) faults.BadBool (Ok made) found h in

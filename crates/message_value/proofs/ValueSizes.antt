@@ -9,9 +9,9 @@ use Rattle.message_value.specs.declared.fault.MsgError.{MsgError}
 use Rattle.message_value.specs.declared.fault.MsgError.TheVariants as faults
 use Rattle.message_value.specs.Order.{word_bytes, word_of, number_of}
 use Rattle.message_value.specs.Value.{Value, Values, number, text, elements, entries, members, of_type, no_values, one_value, values_of, entries_of}
-use Rattle.message_value.specs.Spelling.{padding, aligned, zeros, width_of, number_len, text_bytes, signature_bytes, entry_alignment, bare_bytes, members_bytes, value_bytes, entry_bytes}
+use Rattle.message_value.specs.Spelling.{padding, align_up, zeros, width_of, number_len, text_bytes, signature_bytes, entry_alignment, bare_bytes, members_bytes, value_bytes, entry_bytes}
 use Rattle.message_value.specs.Fits.{is_text_code, max_array_len, BareFits, ValueFits}
-use Rattle.message_value.specs.Reading.{◌>>=◌, At, Reader, item_at, aligned_at, byte_at, word_at, text_at, long_text_at, short_text_at, text_value_at, counted, number_value_at, signature_at, inside, within_limit, extent_at, each_at, members_at, entry_at, variant_at, array_at, dict_at, struct_at, bare_at, value_by, value_at}
+use Rattle.message_value.specs.Reading.{◌>>=◌, At, Reader, item_at, aligned_at, byte_at, word_at, text_at, long_text_at, short_text_at, text_value_at, count_at, number_value_at, signature_at, inside, within_limit, extent_at, each_at, members_at, entry_at, variant_at, array_at, dict_at, struct_at, bare_at, value_by, value_at}
 use Rattle.message_value.proofs.OkSteps.{bind_ok, guard_ok, ok_is}
 use Rattle.message_value.proofs.WordBytes.{number_len-pos, length-number_bytes, length-word_bytes}
 use Rattle.message_value.proofs.ReadItems.{Takes-leaves, item_takes, aligned_takes, byte_takes}
@@ -51,7 +51,7 @@ bare_bytes_pos order (suc levels) place (array t) (elements vs) has = word_pos o
 bare_bytes_pos order (suc levels) place (dict k v) (entries es) has = word_pos order _ _
 bare_bytes_pos order (suc levels) place (struct t ts) (members no_values) has = absurd has
 bare_bytes_pos order (suc levels) place (struct t ts) (members (one_value v vs)) has =
-    let start = aligned (alignment_of t) place in
+    let start = align_up (alignment_of t) place in
     front_pos (value_bytes order place t v) (members_bytes order (place + length (value_bytes order place t v)) ts vs) (tail_pos (zeros (padding (alignment_of t) place)) (bare_bytes order start t v) (bare_bytes_pos order levels start t v has.0))
 bare_bytes_pos order (suc levels) place variant (number bits) has = absurd has
 bare_bytes_pos order (suc levels) place variant (text bytes) has = absurd has
@@ -77,13 +77,13 @@ bare_bytes_pos order (suc levels) place (struct t ts) (of_type s v) has = absurd
 -- a value that fits has a byte
 pub value_bytes_pos : (order : Order) (levels place : ℕ) (type : DataType) (value : Value) → ValueFits order levels place type value → 0 < length (value_bytes order place type value)
 value_bytes_pos order levels place type value has =
-    let start = aligned (alignment_of type) place in
+    let start = align_up (alignment_of type) place in
     tail_pos (zeros (padding (alignment_of type) place)) (bare_bytes order start type value) (bare_bytes_pos order levels start type value has)
 
 -- an entry whose key fits has a byte
-pub entry_bytes_pos : (order : Order) (levels place k : ℕ) (v : DataType) (key value : Value) → ValueFits order levels (aligned entry_alignment place) (basic k) key → 0 < length (entry_bytes order place k v key value)
+pub entry_bytes_pos : (order : Order) (levels place k : ℕ) (v : DataType) (key value : Value) → ValueFits order levels (align_up entry_alignment place) (basic k) key → 0 < length (entry_bytes order place k v key value)
 entry_bytes_pos order levels place k v key value has =
-    let start = aligned entry_alignment place in
+    let start = align_up entry_alignment place in
     let first = value_bytes order start (basic k) key in
     let more = value_bytes order (start + length first) v value in
     tail_pos (zeros (padding entry_alignment place)) (first ++ more) (front_pos first more (value_bytes_pos order levels start (basic k) key has))
@@ -137,7 +137,7 @@ text_value_leaves order code a found e =
 number_value_leaves : (order : Order) (code : ℕ) (a : At) (found : Value × At) → number_value_at order code a ≡ Ok found → length found.1.rest < length a.rest
 unfolding number_value_at
 number_value_leaves order code a found e =
-    let b = bind_ok (item_at (number_len code) a) (λ bytes. counted code (number_of order (width_of code) bytes.0) bytes.1) found e in
+    let b = bind_ok (item_at (number_len code) a) (λ bytes. count_at code (number_of order (width_of code) bytes.0) bytes.1) found e in
     let bits = number_of order (width_of code) b.0.0 in
     let g = guard_ok (eqb code 98 && ltb 1 bits) faults.BadBool (number bits, b.0.1) found b.2 in
     let made : Value × At = (number bits, b.0.1) in

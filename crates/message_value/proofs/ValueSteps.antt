@@ -11,7 +11,9 @@ use Rattle.message_value.specs.declared.fault.MsgError.TheVariants as faults
 use Rattle.message_value.specs.Value.{Value, members, of_type, elements, entries, values_of, entries_of}
 use Rattle.message_value.specs.Spelling.{padding, entry_alignment}
 use Rattle.message_value.specs.Reading.{At, ◌>>=◌, item_at, aligned_at, signature_at, extent_at, each_at, Reader, members_at, entry_at, variant_at, array_at, dict_at, struct_at, bare_at, value_by, value_at}
-use Rattle.message_value.specs.Words.{Checks, ChecksAll, basic_at}
+use Rattle.message_value.specs.Steps.{ChecksAll}
+use Rattle.message_value.specs.Forms.{basic_at}
+use Rattle.message_value.specs.Answers.{Checks}
 
 -- what was read stands in another value
 pub Checks-map : {X Y Z : Type 0} (result : Result X MsgError) (tail : At) (read : Result (Y × At) MsgError) (f : Y → Z) → Checks result tail read

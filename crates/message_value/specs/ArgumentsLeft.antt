@@ -1,14 +1,16 @@
--- The arguments that are left of a body that was checked.
+-- Inner: the arguments that are left of a body that was checked.
 use Rattle.std.specs.Prelude.{◌≡◌, ℕ, ◌≤◌, List, [], ◌∷◌, length, Option, Some, None, Result, Ok, Err}
 use Rattle.std.specs.List.{All}
 use Rattle.signature.specs.DataType.{DataType, DataTypes, no_types, one_more, slices, AllFit}
 use Rattle.signature.specs.Trees.{type_of}
 use Rattle.message_value.specs.declared.order.Order.{Order}
 use Rattle.message_value.specs.declared.fault.MsgError.{MsgError}
-use Rattle.message_value.specs.Value.{Values}
+use Rattle.message_value.specs.declared.arg.Arg.{Arg}
+use Rattle.message_value.specs.Value.{Values, Value}
 use Rattle.message_value.specs.Fits.{max_levels}
 use Rattle.message_value.specs.Reading.{At, value_at, members_at}
-use Rattle.message_value.specs.Arguments.{Argument, arguments_from}
+use Rattle.message_value.specs.Arguments.{Argument, arguments_from, argument_of}
+use Rattle.message_value.specs.ShownArguments.{shown_arg}
 
 -- the types whose texts these are
 abbrev pub with_tree : Option DataType → DataTypes → DataTypes
@@ -35,3 +37,7 @@ pub record AreLeft (order : Order) (texts : List (List ℕ)) (at : At) : Type 0 
   pub short : All (λ text. length text ≤ 255) texts
   pub found : Values × At
   pub read : members_at (value_at max_levels order) types at ≡ Ok found
+
+-- It is the argument that reading gives, which ends at a place.
+abbrev pub ShowsArgument : Order → DataType → ℕ → Arg → At → Result (Value × At) MsgError → Type 0
+ShowsArgument order type place arg tail read = (found : Value × At) → read ≡ Ok found → (tail ≡ found.1) × (shown_arg arg ≡ argument_of order place type found.0)

@@ -1,4 +1,4 @@
--- The numbers and the names of the faults of messages.
+-- The numbers and the names of the faults of messages (own).
 use Rattle.std.specs.Prelude.{ℕ, List, codes}
 use Rattle.message_value.specs.declared.fault.MsgError.{MsgError}
 use Rattle.message_value.specs.declared.fault.MsgError.TheVariants as faults

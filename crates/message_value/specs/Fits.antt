@@ -8,7 +8,7 @@ use Rattle.signature.specs.Name.{is_path}
 use Rattle.signature.specs.Alignment.{alignment_of}
 use Rattle.message_value.specs.declared.order.Order.{Order}
 use Rattle.message_value.specs.Value.{Value, Values, Entries, number, text, elements, entries, members, of_type, no_values, one_value, no_entries, one_entry}
-use Rattle.message_value.specs.Spelling.{aligned, number_len, signature_bytes, elements_place, entry_alignment, elements_bytes, entries_bytes, value_bytes, entry_bytes}
+use Rattle.message_value.specs.Spelling.{align_up, number_len, signature_bytes, elements_place, entry_alignment, elements_bytes, entries_bytes, value_bytes, entry_bytes}
 
 -- s o g
 abbrev pub is_text_code : ℕ → Bool
@@ -44,7 +44,7 @@ abbrev mutual
   BareFits order levels place (basic code) (number bits) = (is_text_code code ≡ false) × (bits < limit_of code)
   BareFits order levels place (basic code) (text bytes) = (is_text_of code bytes ≡ true) × (length bytes < 2 ^ 32)
   BareFits order (suc levels) place variant (of_type type value) =
-      IsOneType type × BareFits order levels (aligned (alignment_of type) (place + length (signature_bytes type))) type value
+      IsOneType type × BareFits order levels (align_up (alignment_of type) (place + length (signature_bytes type))) type value
   BareFits order (suc levels) place (array t) (elements vs) =
       (length (elements_bytes order (elements_place (alignment_of t) place) t vs) ≤ max_array_len)
       × ElementsFit order levels (elements_place (alignment_of t) place) t vs
@@ -57,24 +57,24 @@ abbrev mutual
   pub ElementsFit : Order → ℕ → ℕ → DataType → Values → Type 0
   ElementsFit order levels place t no_values = Unit {0}
   ElementsFit order levels place t (one_value v vs) =
-      BareFits order levels (aligned (alignment_of t) place) t v
+      BareFits order levels (align_up (alignment_of t) place) t v
       × ElementsFit order levels (place + length (value_bytes order place t v)) t vs
 
   pub EntriesFit : Order → ℕ → ℕ → ℕ → DataType → Entries → Type 0
   EntriesFit order levels place k v no_entries = Unit {0}
   EntriesFit order levels place k v (one_entry key value es) =
-      let start = aligned entry_alignment place in
-      BareFits order levels (aligned (alignment_of (basic k)) start) (basic k) key
-      × BareFits order levels (aligned (alignment_of v) (start + length (value_bytes order start (basic k) key))) v value
+      let start = align_up entry_alignment place in
+      BareFits order levels (align_up (alignment_of (basic k)) start) (basic k) key
+      × BareFits order levels (align_up (alignment_of v) (start + length (value_bytes order start (basic k) key))) v value
       × EntriesFit order levels (place + length (entry_bytes order place k v key value)) k v es
 
   pub MembersFit : Order → ℕ → ℕ → DataTypes → Values → Type 0
   MembersFit order levels place no_types no_values = Unit {0}
   MembersFit order levels place (one_more t ts) (one_value v vs) =
-      BareFits order levels (aligned (alignment_of t) place) t v
+      BareFits order levels (align_up (alignment_of t) place) t v
       × MembersFit order levels (place + length (value_bytes order place t v)) ts vs
   MembersFit order levels place _ _ = ⊥
 
 -- a value of a type at any place
 abbrev pub ValueFits : Order → ℕ → ℕ → DataType → Value → Type 0
-ValueFits order levels place type value = BareFits order levels (aligned (alignment_of type) place) type value
+ValueFits order levels place type value = BareFits order levels (align_up (alignment_of type) place) type value

@@ -5,7 +5,11 @@ pub mod Spelled
 pub mod Fits
 pub mod FaultName
 pub mod Reading
-pub mod Words
+pub mod Steps
+pub mod Forms
+pub mod Answers
+pub mod TextTypes
+pub mod Bytes
 pub mod Arguments
 pub mod ArgumentsLeft
 pub mod ShownArguments

@@ -1,4 +1,5 @@
--- Reading values from left to right, with the first fault that is met.
+-- Reading values from left to right, with the first fault that is met (own; which bytes are values is in
+-- Spelling.antt and Fits.antt).
 use Rattle.std.specs.Prelude.{ℕ, zero, suc, ◌+◌, not, List, [], ◌∷◌, length, take, drop, slice_index, Option, Some, None, Result, Ok, Err, nat_lt, ◌==◌, ◌&&◌, if◌then◌else◌}
 use Rattle.std.specs.List.{list_all}
 use Rattle.signature.specs.DataType.{DataType, DataTypes, basic, variant, array, dict, struct, no_types, one_more}
@@ -56,8 +57,8 @@ abbrev pub text_fault : ℕ → MsgError
 text_fault code = if code == 111 then faults.BadName else if code == 103 then faults.BadSignature else faults.BadText
 
 -- the text of an item: its form, and then its end
-abbrev pub ended : ℕ → ℕ → List ℕ → At → Result (List ℕ × At) MsgError
-ended code len bytes tail =
+abbrev pub text_ended : ℕ → ℕ → List ℕ → At → Result (List ℕ × At) MsgError
+text_ended code len bytes tail =
     if not (is_text_of code (take len bytes)) then Err (text_fault code)
     else if not (slice_index bytes len == 0) then Err faults.BadText
     else Ok (take len bytes, tail)
@@ -66,7 +67,7 @@ ended code len bytes tail =
 unfoldable pub text_at : ℕ → ℕ → At → Result (List ℕ × At) MsgError
 text_at code len at = do
   bytes ← item_at (len + 1) at
-  ended code len bytes.0 bytes.1
+  text_ended code len bytes.0 bytes.1
 
 -- `s` and `o`, whose length is a number of four bytes
 unfoldable pub long_text_at : Order → ℕ → At → Result (List ℕ × At) MsgError
@@ -86,27 +87,27 @@ text_value_at order code at = do
   Ok (text found.0, found.1)
 
 -- the type of an item: one complete type, and then its end
-abbrev pub typed : Option DataType → ℕ → At → Result (DataType × At) MsgError
-typed None end tail = Err faults.BadSignature
-typed (Some type) end tail = if end == 0 then Ok (type, tail) else Err faults.BadText
+abbrev pub value_typed : Option DataType → ℕ → At → Result (DataType × At) MsgError
+value_typed None end tail = Err faults.BadSignature
+value_typed (Some type) end tail = if end == 0 then Ok (type, tail) else Err faults.BadText
 
 -- a variant's signature
 unfoldable pub signature_at : At → Result (DataType × At) MsgError
 signature_at at = do
   len ← byte_at at
   bytes ← item_at (len.0 + 1) len.1
-  typed (type_of (take len.0 bytes.0)) (slice_index bytes.0 len.0) bytes.1
+  value_typed (type_of (take len.0 bytes.0)) (slice_index bytes.0 len.0) bytes.1
 
 -- ---- numbers
 
 -- the value of a number's bits; a boolean is 0 or 1
-abbrev pub counted : ℕ → ℕ → At → Result (Value × At) MsgError
-counted code bits tail = if code == 98 && nat_lt 1 bits then Err faults.BadBool else Ok (number bits, tail)
+abbrev pub count_at : ℕ → ℕ → At → Result (Value × At) MsgError
+count_at code bits tail = if code == 98 && nat_lt 1 bits then Err faults.BadBool else Ok (number bits, tail)
 
 unfoldable pub number_value_at : Order → ℕ → At → Result (Value × At) MsgError
 number_value_at order code at = do
   bytes ← item_at (number_len code) at
-  counted code (number_of order (width_of code) bytes.0) bytes.1
+  count_at code (number_of order (width_of code) bytes.0) bytes.1
 
 -- ---- arrays
 

@@ -12,8 +12,8 @@ abbrev pub padding : ℕ → ℕ → ℕ
 padding alignment place = (alignment - place % alignment) % alignment
 
 -- the next multiple
-abbrev pub aligned : ℕ → ℕ → ℕ
-aligned alignment place = place + padding alignment place
+abbrev pub align_up : ℕ → ℕ → ℕ
+align_up alignment place = place + padding alignment place
 
 abbrev pub zeros : ℕ → List ℕ
 zeros n = replicate n 0
@@ -45,16 +45,16 @@ abbrev pub signature_bytes : DataType → List ℕ
 signature_bytes type = length (spelling type) ∷ (spelling type ++ 0 ∷ [])
 
 -- bytes that stand at the next multiple, with the zeros before them
-abbrev pub padded : ℕ → ℕ → (ℕ → List ℕ) → List ℕ
-padded alignment place bytes = zeros (padding alignment place) ++ bytes (aligned alignment place)
+abbrev pub with_padding : ℕ → ℕ → (ℕ → List ℕ) → List ℕ
+with_padding alignment place bytes = zeros (padding alignment place) ++ bytes (align_up alignment place)
 
 -- bytes, and those that follow where they end
-abbrev pub followed : ℕ → List ℕ → (ℕ → List ℕ) → List ℕ
-followed place first rest = first ++ rest (place + length first)
+abbrev pub bytes_then : ℕ → List ℕ → (ℕ → List ℕ) → List ℕ
+bytes_then place first rest = first ++ rest (place + length first)
 
 -- where the elements of an array stand whose length stands at a place
 abbrev pub elements_place : ℕ → ℕ → ℕ
-elements_place alignment place = aligned alignment (place + 4)
+elements_place alignment place = align_up alignment (place + 4)
 
 -- An array: the length of its elements, the zeros before the first, which aren't counted, and the elements.
 abbrev pub array_bytes : Order → ℕ → ℕ → List ℕ → List ℕ
@@ -71,7 +71,7 @@ abbrev mutual
   bare_bytes order place (basic code) (number bits) = number_bytes order (width_of code) bits
   bare_bytes order place (basic code) (text bytes) = text_bytes order code bytes
   bare_bytes order place variant (of_type type value) =
-      followed place (signature_bytes type) (λ tail. padded (alignment_of type) tail (λ start. bare_bytes order start type value))
+      bytes_then place (signature_bytes type) (λ tail. with_padding (alignment_of type) tail (λ start. bare_bytes order start type value))
   bare_bytes order place (array t) (elements vs) =
       array_bytes order (alignment_of t) place (elements_bytes order (elements_place (alignment_of t) place) t vs)
   bare_bytes order place (dict k v) (entries es) =
@@ -83,29 +83,29 @@ abbrev mutual
   pub elements_bytes : Order → ℕ → DataType → Values → List ℕ
   elements_bytes order place t no_values = []
   elements_bytes order place t (one_value v vs) =
-      followed place (padded (alignment_of t) place (λ start. bare_bytes order start t v)) (λ tail. elements_bytes order tail t vs)
+      bytes_then place (with_padding (alignment_of t) place (λ start. bare_bytes order start t v)) (λ tail. elements_bytes order tail t vs)
 
   -- one entry after the other: its key, and its value
   pub entries_bytes : Order → ℕ → ℕ → DataType → Entries → List ℕ
   entries_bytes order place k v no_entries = []
   entries_bytes order place k v (one_entry key value es) =
-      followed place
-      (padded entry_alignment place (λ start.
-      followed start (padded (alignment_of (basic k)) start (λ at. bare_bytes order at (basic k) key)) (λ tail.
-      padded (alignment_of v) tail (λ at. bare_bytes order at v value))))
+      bytes_then place
+      (with_padding entry_alignment place (λ start.
+      bytes_then start (with_padding (alignment_of (basic k)) start (λ at. bare_bytes order at (basic k) key)) (λ tail.
+      with_padding (alignment_of v) tail (λ at. bare_bytes order at v value))))
       (λ tail. entries_bytes order tail k v es)
 
   -- one member after the other
   pub members_bytes : Order → ℕ → DataTypes → Values → List ℕ
   members_bytes order place (one_more t ts) (one_value v vs) =
-      followed place (padded (alignment_of t) place (λ start. bare_bytes order start t v)) (λ tail. members_bytes order tail ts vs)
+      bytes_then place (with_padding (alignment_of t) place (λ start. bare_bytes order start t v)) (λ tail. members_bytes order tail ts vs)
   members_bytes order place _ _ = []
 
 -- a value with the zeros before it
 abbrev pub value_bytes : Order → ℕ → DataType → Value → List ℕ
-value_bytes order place type value = padded (alignment_of type) place (λ start. bare_bytes order start type value)
+value_bytes order place type value = with_padding (alignment_of type) place (λ start. bare_bytes order start type value)
 
 -- a dict entry with the zeros before it
 abbrev pub entry_bytes : Order → ℕ → ℕ → DataType → Value → Value → List ℕ
 entry_bytes order place k v key value =
-    padded entry_alignment place (λ start. followed start (value_bytes order start (basic k) key) (λ tail. value_bytes order tail v value))
+    with_padding entry_alignment place (λ start. bytes_then start (value_bytes order start (basic k) key) (λ tail. value_bytes order tail v value))

@@ -4,11 +4,14 @@ ghost use Rattle.std.specs.Prelude.{◌≡◌, Ok, MatchOption};
 ghost use Rattle.signature.specs.DataType.{DataType, TypeText, basic};
 ghost use Rattle.signature.specs.Alignment.{alignment_of};
 ghost use Rattle.message_value.specs.Value.{Value};
-ghost use Rattle.message_value.specs.Spelling.{aligned};
+ghost use Rattle.message_value.specs.Spelling.{align_up};
 ghost use Rattle.message_value.specs.Reading.{At, text_value_at, value_at};
 ghost use Rattle.message_value.specs.Arguments.{text_start};
-ghost use Rattle.message_value.specs.Words.{IsRead, IsNoText, IsAligned, AreBytes, text_code};
-ghost use Rattle.message_value.specs.ShownArguments.{ShowsArgument};
+ghost use Rattle.message_value.specs.Steps.{IsRead, IsAligned};
+ghost use Rattle.message_value.specs.Forms.{IsNoText};
+ghost use Rattle.message_value.specs.TextTypes.{text_code};
+ghost use Rattle.message_value.specs.Bytes.{AreBytes};
+ghost use Rattle.message_value.specs.ArgumentsLeft.{ShowsArgument};
 
 use crate::basic_form::BasicForm;
 use crate::cursor::Cursor;
@@ -98,7 +101,7 @@ pub(crate) fn read_arg<'a>(
 ) -> Arg<'a>
     requires { (type : DataType) × TypeText type value_type.now × IsRead (value_at levels order type cursor.old) }
     ensures bytes { AreBytes cursor.old.rest }
-    ensures shows { (type : DataType) → TypeText type value_type.now → ShowsArgument order type (aligned (alignment_of type) cursor.old.place) result cursor.new (value_at levels order type cursor.old) }
+    ensures shows { (type : DataType) → TypeText type value_type.now → ShowsArgument order type (align_up (alignment_of type) cursor.old.place) result cursor.new (value_at levels order type cursor.old) }
 {
     cursor.skip_padding(value_type.alignment());
     match TextType::of(value_type) {

@@ -2,7 +2,8 @@
 
 ghost use Rattle.signature.specs.BasicType.{byte_of};
 ghost use Rattle.message_value.specs.Reading.{number_value_at, text_value_at};
-ghost use Rattle.message_value.specs.Words.{Checks, IsFormOf, basic_at};
+ghost use Rattle.message_value.specs.Forms.{IsFormOf, basic_at};
+ghost use Rattle.message_value.specs.Answers.{Checks};
 
 use crate::cursor::Cursor;
 use crate::fault::MsgError;
@@ -50,7 +51,7 @@ fn check_boolean(cursor: &mut Cursor<'_>, order: Order) -> Result<(), MsgError>
 }
 
 /// A value of a basic type, with the zeros before it.
-#[tactic(auto, unfolding(crate::specs::Words::basic_at, crate::specs::Reading::number_value_at))]
+#[tactic(auto, unfolding(crate::specs::Forms::basic_at, crate::specs::Reading::number_value_at))]
 #[inline(always)]
 pub(crate) fn check_basic(
     cursor: &mut Cursor<'_>,

@@ -4,7 +4,9 @@ ghost use Rattle.std.specs.Prelude.{◌≡◌, ◌+◌, ◌^◌, ◌<◌, ◌≤
 ghost use Rattle.std.specs.List.{list_all};
 ghost use Rattle.message_value.specs.Reading.{At, item_at, aligned_at, byte_at, word_at, signature_at, extent_at};
 ghost use Rattle.message_value.specs.Spelling.{padding};
-ghost use Rattle.message_value.specs.Words.{Reads, Skips, ReadsType, IsGone, AreBytes};
+ghost use Rattle.message_value.specs.Steps.{IsGone};
+ghost use Rattle.message_value.specs.Answers.{Reads, Skips, ReadsType};
+ghost use Rattle.message_value.specs.Bytes.{AreBytes};
 
 use crate::fault::MsgError;
 use crate::order::Order;
@@ -26,7 +28,7 @@ pub struct Cursor<'a> {
 impl<'a> Model for Cursor<'a> {
     ghost use Rattle.std.specs.Prelude.{◌+◌, ◌<◌, ◌^◌, length};
     ghost use Rattle.message_value.specs.Reading.{At};
-    ghost use Rattle.message_value.specs.Words.{AreBytes};
+    ghost use Rattle.message_value.specs.Bytes.{AreBytes};
 
     ghost Value = { At };
 

@@ -2,7 +2,8 @@
 
 ghost use Rattle.std.specs.Prelude.{◌%◌, ◌<◌, ◌==◌, length, IfSome};
 ghost use Rattle.signature.specs.DataType.{DataType, TypeText};
-ghost use Rattle.message_value.specs.Words.{AreNumbers, Divides};
+ghost use Rattle.message_value.specs.Steps.{Divides};
+ghost use Rattle.message_value.specs.Forms.{AreNumbers};
 
 use crate::basic_form::BasicForm;
 use crate::cursor::Cursor;

@@ -6,7 +6,7 @@ ghost use Rattle.message_value.specs.declared.order.Order.{Order};
 ghost use Rattle.message_value.specs.Value.{Value, Values};
 ghost use Rattle.message_value.specs.Reading.{At, value_at, members_at};
 ghost use Rattle.message_value.specs.Spelled.{IsSpelled, AreSpelled};
-ghost use Rattle.message_value.specs.Words.{AreBytes};
+ghost use Rattle.message_value.specs.Bytes.{AreBytes};
 
 /// Reading gives a value exactly where bytes spell it.
 pub fn value_reading()

@@ -3,7 +3,8 @@
 ghost use Rattle.std.specs.Prelude.{◌≡◌, ◌<◌, ◌^◌, length, Ok};
 ghost use Rattle.message_value.specs.Value.{text};
 ghost use Rattle.message_value.specs.Reading.{text_at, long_text_at, short_text_at, text_value_at};
-ghost use Rattle.message_value.specs.Words.{IsRead, text_code};
+ghost use Rattle.message_value.specs.Steps.{IsRead};
+ghost use Rattle.message_value.specs.TextTypes.{text_code};
 
 use crate::cursor::Cursor;
 use crate::order::Order;
@@ -12,6 +13,7 @@ use std::str::from_utf8_unchecked;
 
 impl TextType {
     /// A text of `len` bytes with its zero byte.
+    #[inline(always)]
     fn skip<'a>(self, cursor: &mut Cursor<'a>, len: usize) -> &'a str
         requires fits { len < 2 ^ 32 }
         requires read { IsRead (text_at (text_code self) len cursor.old) }
@@ -24,6 +26,7 @@ impl TextType {
 
     /// A text whose length is a number of four bytes.
     #[tactic(auto, unfolding(crate::specs::Reading::long_text_at))]
+    #[inline(always)]
     fn skip_long<'a>(self, cursor: &mut Cursor<'a>, order: Order) -> &'a str
         requires { IsRead (long_text_at order (text_code self) cursor.old) }
         ensures read { long_text_at order (text_code self) cursor.old ≡ Ok (result.now, cursor.new) }
@@ -35,6 +38,7 @@ impl TextType {
 
     /// A signature, whose length is a byte.
     #[tactic(auto, unfolding(crate::specs::Reading::short_text_at))]
+    #[inline(always)]
     fn skip_short<'a>(cursor: &mut Cursor<'a>) -> &'a str
         requires { IsRead (short_text_at cursor.old) }
         ensures read { short_text_at cursor.old ≡ Ok (result.now, cursor.new) }
@@ -44,9 +48,11 @@ impl TextType {
         TextType::Signature.skip(cursor, usize::from(len))
     }
 
-    /// A value of this type after its padding.
+    /// A value of this type after its padding, which is known to be there: none of its bytes is looked at but its
+    /// length.
     #[tactic(auto, unfolding(crate::specs::Reading::text_value_at))]
-    pub(crate) fn skip_value<'a>(self, cursor: &mut Cursor<'a>, order: Order) -> &'a str
+    #[inline(always)]
+    pub fn skip_value<'a>(self, cursor: &mut Cursor<'a>, order: Order) -> &'a str
         requires { IsRead (text_value_at order (text_code self) cursor.old) }
         ensures read { text_value_at order (text_code self) cursor.old ≡ Ok (text result.now, cursor.new) }
         ensures short { length result.now < 2 ^ 32 }

@@ -4,7 +4,9 @@ ghost use Rattle.std.specs.Prelude.{◌≡◌, ◌<◌, ◌^◌, ◌==◌, optio
 ghost use Rattle.std.specs.List.{list_all, list_any};
 ghost use Rattle.message_value.specs.Fits.{is_text_of};
 ghost use Rattle.message_value.specs.Reading.{text_fault, text_at, long_text_at, short_text_at, text_value_at};
-ghost use Rattle.message_value.specs.Words.{Reads, LendsText, text_code, is_plain};
+ghost use Rattle.message_value.specs.Forms.{LendsText, is_plain};
+ghost use Rattle.message_value.specs.Answers.{Reads};
+ghost use Rattle.message_value.specs.TextTypes.{text_code};
 ghost use Rattle.message_value.specs.Value.{text};
 
 use crate::cursor::Cursor;

@@ -5,7 +5,8 @@ ghost use Rattle.signature.specs.BasicType.{byte_of};
 ghost use Rattle.signature.specs.DataType.{DataType, DataTypes, TypeText, AllFit, slices};
 ghost use Rattle.message_value.specs.declared.fault.MsgError.TheVariants.{Depth};
 ghost use Rattle.message_value.specs.Reading.{each_at, value_at, members_at, entry_at, variant_at, array_at, dict_at};
-ghost use Rattle.message_value.specs.Words.{Checks, ChecksAll};
+ghost use Rattle.message_value.specs.Steps.{ChecksAll};
+ghost use Rattle.message_value.specs.Answers.{Checks};
 
 use crate::basic_form::check_basic;
 use crate::cursor::Cursor;

@@ -11,12 +11,12 @@ use Rattle.message_value.specs.declared.order.Order.{Order}
 use Rattle.message_value.specs.Order.{order_byte, word_bytes}
 use Rattle.message_value.specs.Value.{Value, Values, one_value}
 use Rattle.message_value.specs.Value.{text as text_value}
-use Rattle.message_value.specs.Spelling.{padding, aligned, zeros, bare_bytes, value_bytes, members_bytes}
+use Rattle.message_value.specs.Spelling.{padding, align_up, zeros, bare_bytes, value_bytes, members_bytes}
 use Rattle.message_value.specs.Fits.{max_levels, BareFits, MembersFit}
 use Rattle.message_value.specs.Arguments.{Argument, argument_of, arguments_from}
 use Rattle.message_value.proofs.WordBytes.{length-word_bytes}
 use Rattle.message_value.proofs.ReadItems.{length-zeros}
-use Rattle.message_value.specs.Words.{AreBytes}
+use Rattle.message_value.specs.Bytes.{AreBytes}
 use Rattle.message_view.specs.Header.{kind_byte}
 use Rattle.message_view.specs.Message.{Message}
 use Rattle.message_view.specs.Places.{slice_at, LiesIn}
@@ -114,9 +114,9 @@ bare_has order start (basic code) (text_value text) typed fits = text_has (eqb c
 bare_has order start type value typed fits = whole_has (bare_bytes order start type value) start (get_or (spelling type) 0 0) (code_below type typed)
 
 -- after its padding
-value_has : (order : Order) (place : ℕ) (type : DataType) (value : Value) → Fits 0 0 type → BareFits order max_levels (aligned (alignment_of type) place) type value → HasPlace (value_bytes order place type value) place (argument_of order (aligned (alignment_of type) place) type value)
+value_has : (order : Order) (place : ℕ) (type : DataType) (value : Value) → Fits 0 0 type → BareFits order max_levels (align_up (alignment_of type) place) type value → HasPlace (value_bytes order place type value) place (argument_of order (align_up (alignment_of type) place) type value)
 value_has order place type value typed fits =
-    let start : ℕ = aligned (alignment_of type) place in
+    let start : ℕ = align_up (alignment_of type) place in
     place_after (zeros (padding (alignment_of type) place)) (bare_bytes order start type value) (padding (alignment_of type) place) place (argument_of order start type value) (length-zeros (padding (alignment_of type) place)) (bare_has order start type value typed fits)
 
 -- one value after the other
@@ -124,7 +124,7 @@ pub arguments_have : (order : Order) (place : ℕ) (types : DataTypes) (values :
 arguments_have order place (one_more t ts) (one_value v vs) typed fit =
     let first : List ℕ = value_bytes order place t v in
     let more : List ℕ = members_bytes order (place + length first) ts vs in (
-      place_before first more place (argument_of order (aligned (alignment_of t) place) t v) (value_has order place t v typed.0 fit.0),
+      place_before first more place (argument_of order (align_up (alignment_of t) place) t v) (value_has order place t v typed.0 fit.0),
       places_after first more (length first) place (arguments_from order (place + length first) ts vs) refl (arguments_have order (place + length first) ts vs typed.1 fit.1),
     )
 arguments_have order place _ _ typed fit = tt

@@ -127,10 +127,10 @@ fails turns front a fault lt e =
 abbrev three_bytes : List ℕ
 three_bytes = fields_bytes Little 16 three
 
-abbrev two : List Field
-two = path_field ∷ interface_field ∷ []
+abbrev two_fields : List Field
+two_fields = path_field ∷ interface_field ∷ []
 
-two_read : (turns : ℕ) (rest : List ℕ) → fields_from (suc (suc turns)) Little [] (inside 16 (take 28 three_bytes ++ rest)) ≡ fields_from turns Little two (inside 44 rest)
+two_read : (turns : ℕ) (rest : List ℕ) → fields_from (suc (suc turns)) Little [] (inside 16 (take 28 three_bytes ++ rest)) ≡ fields_from turns Little two_fields (inside 44 rest)
 two_read turns rest =
     let tail = drop 11 (take 28 three_bytes) ++ rest in
     one_turn (suc turns) [] (inside 16 (take 28 three_bytes ++ rest)) (path_field, inside 27 tail) (omega arith) (field_again Little [] path_field 16 faults.ArrayLength tail (path_is Little) refl)
@@ -140,7 +140,7 @@ three_read : (turns : ℕ) (rest : List ℕ) → fields_from (suc (suc (suc turn
 three_read turns rest =
     let tail = drop 28 three_bytes ++ rest in
     two_read (suc turns) tail
-    ∙ one_turn turns two (inside 44 tail) (member_field, inside 58 rest) (omega arith) (field_again Little two member_field 44 faults.ArrayLength rest (member_is Little) refl)
+    ∙ one_turn turns two_fields (inside 44 tail) (member_field, inside 58 rest) (omega arith) (field_again Little two_fields member_field 44 faults.ArrayLength rest (member_is Little) refl)
 
 fields_read : fields_from 42 Little [] (inside 16 three_bytes) ≡ Ok three
 fields_read = fields_again 42 Little [] three 16 faults.ArrayLength (path_is Little, refl, (interface_is Little, refl, (member_is Little, refl, tt))) (nothing_front three) (omega arith)
@@ -196,12 +196,12 @@ byte_32_1 : message_at (set little 32 1) ≡ Err faults.FieldTwice
 unfolding message_at framed_message field_at code_at content_at signature_at value_by text_value_at long_text_at short_text_at text_at number_value_at word_at byte_at aligned_at item_at
 byte_32_1 = refl
 
-code_zero : field_at Little two (inside 44 (set (drop 28 three_bytes) 4 0)) ≡ Err faults.FieldCode
+code_zero : field_at Little two_fields (inside 44 (set (drop 28 three_bytes) 4 0)) ≡ Err faults.FieldCode
 unfolding field_at code_at content_at signature_at value_by text_value_at long_text_at short_text_at text_at number_value_at word_at byte_at aligned_at item_at
 code_zero = refl
 
 fields_zero : fields_from 42 Little [] (inside 16 (set three_bytes 32 0)) ≡ Err faults.FieldCode
-fields_zero = two_read 40 (set (drop 28 three_bytes) 4 0) ∙ fails 39 two (inside 44 (set (drop 28 three_bytes) 4 0)) faults.FieldCode (omega arith) code_zero
+fields_zero = two_read 40 (set (drop 28 three_bytes) 4 0) ∙ fails 39 two_fields (inside 44 (set (drop 28 three_bytes) 4 0)) faults.FieldCode (omega arith) code_zero
 
 byte_48_0 : message_at (set little 48 0) ≡ Err faults.FieldCode
 unfolding message_at framed_message
@@ -214,8 +214,8 @@ unknown_field = record { code = 10; type = basic 115; value = text (99 ∷ []) }
 unknown_is : IsField Little 44 unknown_field
 unknown_is = record { code_above = omega arith; code_fits = omega arith; typed = tree_spelled (basic 115) (115 ∷ []) refl; shaped = (member_text, omega arith); allowed = tt }
 
-fields_unknown : fields_from 42 Little [] (inside 16 (set three_bytes 32 10)) ≡ Ok (two ++ unknown_field ∷ [])
-fields_unknown = fields_again 42 Little [] (two ++ unknown_field ∷ []) 16 faults.ArrayLength (path_is Little, refl, (interface_is Little, refl, (unknown_is, tt, tt))) (nothing_front (two ++ unknown_field ∷ [])) (omega arith)
+fields_unknown : fields_from 42 Little [] (inside 16 (set three_bytes 32 10)) ≡ Ok (two_fields ++ unknown_field ∷ [])
+fields_unknown = fields_again 42 Little [] (two_fields ++ unknown_field ∷ []) 16 faults.ArrayLength (path_is Little, refl, (interface_is Little, refl, (unknown_is, tt, tt))) (nothing_front (two_fields ++ unknown_field ∷ [])) (omega arith)
 
 byte_48_10 : message_at (set little 48 10) ≡ Err faults.FieldMissing
 unfolding message_at framed_message

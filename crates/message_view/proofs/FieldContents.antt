@@ -10,10 +10,10 @@ use Rattle.message_view.specs.declared.field.FieldCode.TheVariants.{Path, Interf
 use Rattle.message_view.specs.declared.field.FieldType.{FieldType}
 use Rattle.message_view.specs.Header.{type_code}
 use Rattle.message_view.specs.Reading.{content_fault, or_fault, is_basic_of, content_at}
-use Rattle.message_view.specs.Words.{type_of, type_code_of}
+use Rattle.message_view.specs.FieldAnswers.{type_of, type_code_of}
 use Rattle.message_view.proofs.ReadFields.{basic_is, basic_again}
 
-type_code-type_of : (code : FieldCode) → type_code_of (type_of code) ≡ type_code code
+pub type_code-type_of : (code : FieldCode) → type_code_of (type_of code) ≡ type_code code
 type_code-type_of Path = refl
 type_code-type_of Interface = refl
 type_code-type_of Member = refl

@@ -7,7 +7,7 @@ use Rattle.message_value.specs.declared.order.Order.{Order}
 use Rattle.message_value.specs.Order.{word_bytes, order_byte}
 use Rattle.message_value.specs.Value.{Value}
 use Rattle.message_value.specs.Value.{text as text_value}
-use Rattle.message_value.specs.Spelling.{padding, aligned, zeros, signature_bytes, value_bytes}
+use Rattle.message_value.specs.Spelling.{padding, align_up, zeros, signature_bytes, value_bytes}
 use Rattle.message_value.specs.Fits.{BareFits}
 use Rattle.message_value.proofs.WordBytes.{length-word_bytes}
 use Rattle.message_value.proofs.ReadItems.{length-zeros}
@@ -19,7 +19,7 @@ use Rattle.message_view.specs.Message.{Field, Message, field_with, text_in}
 use Rattle.message_view.specs.Spelling.{fixed_len, field_value_place, field_bytes, fields_bytes, header_bytes, body_bytes, message_bytes}
 use Rattle.message_view.specs.Places.{text_field_code, text_extent, extent_from, extent_of, text_of, IsSlice}
 use Rattle.message_view.specs.Valid.{Valid, IsAllowed, AreFields, levels_in_field}
-use Rattle.message_value.specs.Words.{AreBytes}
+use Rattle.message_value.specs.Bytes.{AreBytes}
 use Rattle.message_view.proofs.TextBytes.{text_bytes}
 use Rattle.message_view.proofs.TextStands.{Stands, stands_here, stands_before, stands_after, stands_within, stands_slice}
 
@@ -43,12 +43,12 @@ is_typed Destination field allowed = allowed.0
 is_typed Sender field allowed = allowed.0
 
 -- a text stands after its padding and its length
-long_text_stands : (order : Order) (place : ℕ) (text : List ℕ) → AreBytes text → Stands (zeros (padding 4 place) ++ (word_bytes order (length text) ++ (text ++ 0 ∷ []))) place (aligned 4 place + 4) text
+long_text_stands : (order : Order) (place : ℕ) (text : List ℕ) → AreBytes text → Stands (zeros (padding 4 place) ++ (word_bytes order (length text) ++ (text ++ 0 ∷ []))) place (align_up 4 place + 4) text
 long_text_stands order place text are =
-    stands_after (zeros (padding 4 place)) (word_bytes order (length text) ++ (text ++ 0 ∷ [])) text (padding 4 place) place (aligned 4 place + 4) (length-zeros (padding 4 place))
-    (stands_here (word_bytes order (length text)) text (0 ∷ []) (aligned 4 place) (aligned 4 place + 4) are (ap (λ (n : ℕ). aligned 4 place + n) (length-word_bytes order (length text))))
+    stands_after (zeros (padding 4 place)) (word_bytes order (length text) ++ (text ++ 0 ∷ [])) text (padding 4 place) place (align_up 4 place + 4) (length-zeros (padding 4 place))
+    (stands_here (word_bytes order (length text)) text (0 ∷ []) (align_up 4 place) (align_up 4 place + 4) are (ap (λ (n : ℕ). align_up 4 place + n) (length-word_bytes order (length text))))
 
-value_stands : (known : TextField) (order : Order) (place : ℕ) (text : List ℕ) → AreBytes text → Stands (value_bytes order place (basic (text_type known)) (text_value text)) place (aligned 4 place + 4) text
+value_stands : (known : TextField) (order : Order) (place : ℕ) (text : List ℕ) → AreBytes text → Stands (value_bytes order place (basic (text_type known)) (text_value text)) place (align_up 4 place + 4) text
 value_stands Path order place text are = long_text_stands order place text are
 value_stands Interface order place text are = long_text_stands order place text are
 value_stands Member order place text are = long_text_stands order place text are
@@ -78,13 +78,13 @@ said_after first bytes n start (Some extent) (Some text) is said = (said.0, stan
 -- ---- the fields
 
 field_stands : (known : TextField) (order : Order) (place code : ℕ) (type : DataType) (text : List ℕ) → AreBytes text → type ≡ basic (text_type known)
-    → Stands (field_bytes order place (record { code = code; type = type; value = text_value text })) place (aligned 4 (field_value_place place (record { code = code; type = type; value = text_value text })) + 4) text
+    → Stands (field_bytes order place (record { code = code; type = type; value = text_value text })) place (align_up 4 (field_value_place place (record { code = code; type = type; value = text_value text })) + 4) text
 field_stands known order place code type text are is =
     let front : List ℕ = code ∷ signature_bytes type in
-    let at : ℕ = aligned 8 place + length front in
-    let value : Stands (value_bytes order at type (text_value text)) at (aligned 4 at + 4) text = subst (λ (t : DataType). Stands (value_bytes order at t (text_value text)) at (aligned 4 at + 4) text) (sym is) (value_stands known order at text are) in
-    stands_after (zeros (padding 8 place)) (front ++ value_bytes order at type (text_value text)) text (padding 8 place) place (aligned 4 at + 4) (length-zeros (padding 8 place))
-    (stands_after front (value_bytes order at type (text_value text)) text (length front) (aligned 8 place) (aligned 4 at + 4) refl value)
+    let at : ℕ = align_up 8 place + length front in
+    let value : Stands (value_bytes order at type (text_value text)) at (align_up 4 at + 4) text = subst (λ (t : DataType). Stands (value_bytes order at t (text_value text)) at (align_up 4 at + 4) text) (sym is) (value_stands known order at text are) in
+    stands_after (zeros (padding 8 place)) (front ++ value_bytes order at type (text_value text)) text (padding 8 place) place (align_up 4 at + 4) (length-zeros (padding 8 place))
+    (stands_after front (value_bytes order at type (text_value text)) text (length front) (align_up 8 place) (align_up 4 at + 4) refl value)
 
 -- a text that fits its type
 fitting_bytes : (order : Order) (place code : ℕ) (type : DataType) (text : List ℕ) → type ≡ basic code → BareFits order levels_in_field place type (text_value text) → AreBytes text
@@ -112,7 +112,7 @@ fields_said known order place (field ∷ fields) are =
     either_said (eqb field.code code) (first ++ more) place (text_extent place field) (extent_from order (place + length first) code fields) field.value (field_with code fields)
     (λ e.
     let allowed : IsAllowed (code_of code) field = subst (λ (c : ℕ). IsAllowed (code_of c) field) (eqb-true field.code code e) are.0.allowed in
-    said_before first more place (text_extent place field) (text_in (Some field.value)) (field_said known order place (aligned (alignment_of field.type) (field_value_place place field)) field.code field.type field.value (is_typed known field allowed) are.0.shaped))
+    said_before first more place (text_extent place field) (text_in (Some field.value)) (field_said known order place (align_up (alignment_of field.type) (field_value_place place field)) field.code field.type field.value (is_typed known field allowed) are.0.shaped))
     (λ e. said_after first more (length first) place (extent_from order (place + length first) code fields) (text_in (field_with code fields)) refl (fields_said known order (place + length first) fields are.2))
 
 -- ---- the message

@@ -9,7 +9,7 @@ use Rattle.message_value.specs.Order.{order_of, word_of}
 use Rattle.message_view.specs.Header.{kind_of}
 use Rattle.message_value.specs.Spelling.{padding}
 use Rattle.message_view.specs.Fixed.{order_in, word_at, body_len, serial_in, fields_len, whole_len}
-use Rattle.message_view.specs.Words as words
+use Rattle.message_view.specs.FixedAnswers as answers
 use Rattle.message_value.proofs.OkSteps.{some_is}
 use Rattle.message_view.proofs.FixedPart.{framing_again}
 use Rattle.message_view.proofs.FixedPart as proved
@@ -47,7 +47,7 @@ long_of order bytes p = word_of order (get_or bytes p 0 ∷ get_or bytes (p + 1)
 -- a fixed part that passes each check
 pub fixed_found : (bytes : List ℕ) (fixed : Fixed) → 16 ≤ length bytes → order_of (slice_index bytes 0) ≡ Some fixed.order → kind_of (slice_index bytes 1) ≡ Some fixed.kind → fixed.flags ≡ slice_index bytes 2 → slice_index bytes 3 ≡ 1
     → fixed.body_len ≡ long_of fixed.order bytes 4 → fixed.serial ≡ long_of fixed.order bytes 8 → (fixed.serial ≡ 0 → ⊥) → fixed.fields_len ≡ long_of fixed.order bytes 12 → fixed.fields_len ≤ 67108864 → 16 + fixed.fields_len + padding 8 fixed.fields_len + fixed.body_len ≤ 134217728
-    → words.ReadsFixed (Ok (Some fixed)) bytes
+    → answers.ReadsFixed (Ok (Some fixed)) bytes
 fixed_found bytes fixed long order kind flags version body serial some fields few whole =
     let body_is : fixed.body_len ≡ body_len bytes = body ∙ word_read bytes fixed.order 4 (omega arith) order in
     let serial_is : fixed.serial ≡ serial_in bytes = serial ∙ word_read bytes fixed.order 8 (omega arith) order in

@@ -7,7 +7,8 @@ use Rattle.message_value.specs.declared.fault.MsgError.{MsgError}
 use Rattle.message_value.specs.Value.{Values}
 use Rattle.message_value.specs.Spelling.{padding}
 use Rattle.message_value.specs.Reading.{At, inside}
-use Rattle.message_value.specs.Words.{AreBytes, Gives}
+use Rattle.message_value.specs.Steps.{Gives}
+use Rattle.message_value.specs.Bytes.{AreBytes}
 use Rattle.message_view.specs.declared.fields.Fields.{Fields}
 use Rattle.message_view.specs.declared.fixed.Fixed.{Fixed}
 use Rattle.message_view.specs.declared.view.Sections.{Sections}
@@ -16,16 +17,18 @@ use Rattle.message_view.specs.Slots.{slots_of, AreExtents}
 use Rattle.message_view.specs.Spelling.{body_place}
 use Rattle.message_view.specs.Fixed.{order_in, fields_len, whole_len}
 use Rattle.message_view.specs.Reading.{header_fault, header_padding, types_in, arguments_at, in_body, body_at, message_of, fields_of, fields_from, framed_message}
-use Rattle.message_view.specs.Words.{body_of, IsFixed, HasHeader, shown, lying}
+use Rattle.message_view.specs.HeaderAnswers.{body_of, HasHeader}
+use Rattle.message_view.specs.FieldAnswers.{slots_shown, lying}
+use Rattle.message_view.specs.FixedAnswers.{IsFixed}
 use Rattle.message_view.proofs.BodyTypes.{types_spelled}
 use Rattle.message_view.proofs.OneMessage.{fields_are}
 
 -- what a reader of the fields was given, by what it answered
-gave_fault : (fault : MsgError) (whole : Result (List Field) MsgError) → Gives {X = Fields} shown slots_of (Err fault) whole → whole ≡ Err fault
+gave_fault : (fault : MsgError) (whole : Result (List Field) MsgError) → Gives {X = Fields} slots_shown slots_of (Err fault) whole → whole ≡ Err fault
 gave_fault fault (Ok front) never = absurd never
 gave_fault fault (Err other) is = ap (λ f. Err f) (sym is)
 
-gave_fields : (fields : Fields) (whole : Result (List Field) MsgError) → Gives shown slots_of (Ok fields) whole → (front : List Field) × (whole ≡ Ok front) × (shown fields ≡ slots_of front)
+gave_fields : (fields : Fields) (whole : Result (List Field) MsgError) → Gives slots_shown slots_of (Ok fields) whole → (front : List Field) × (whole ≡ Ok front) × (slots_shown fields ≡ slots_of front)
 gave_fields fields (Ok front) is = (front, refl, is)
 gave_fields fields (Err other) never = absurd never
 
@@ -54,14 +57,14 @@ cursor_is bytes body place cursor whole is left read_there =
     let same : place ≡ body_place (fields_len bytes) = omega (arith, left, len, whole) in
     read_there ∙ rw (same, is) refl
 
-pub fields_fail : (fixed : Fixed) (bytes : List ℕ) (whole : Result (List Field) MsgError) (fault : MsgError) → IsFixed fixed bytes → whole ≡ fields_of bytes → Gives {X = Fields} shown slots_of (Err fault) whole → framed_message bytes ≡ Err fault
+pub fields_fail : (fixed : Fixed) (bytes : List ℕ) (whole : Result (List Field) MsgError) (fault : MsgError) → IsFixed fixed bytes → whole ≡ fields_of bytes → Gives {X = Fields} slots_shown slots_of (Err fault) whole → framed_message bytes ≡ Err fault
 unfolding framed_message
 fields_fail fixed bytes whole fault is same gave =
     let failed : fields_of bytes ≡ Err fault = sym same ∙ gave_fault fault whole gave in
     rw (is.kind, failed) refl
 
-pub header_fails : (fixed : Fixed) (fields : Fields) (bytes skipped : List ℕ) (whole : Result (List Field) MsgError) (fault : MsgError) → IsFixed fixed bytes → whole ≡ fields_of bytes → Gives shown slots_of (Ok fields) whole → skipped ≡ header_padding bytes
-    → ((front : List Field) → shown fields ≡ slots_of front → Some fault ≡ header_fault fixed.kind skipped front) → framed_message bytes ≡ Err fault
+pub header_fails : (fixed : Fixed) (fields : Fields) (bytes skipped : List ℕ) (whole : Result (List Field) MsgError) (fault : MsgError) → IsFixed fixed bytes → whole ≡ fields_of bytes → Gives slots_shown slots_of (Ok fields) whole → skipped ≡ header_padding bytes
+    → ((front : List Field) → slots_shown fields ≡ slots_of front → Some fault ≡ header_fault fixed.kind skipped front) → framed_message bytes ≡ Err fault
 unfolding framed_message
 header_fails fixed fields bytes skipped whole fault is same gave skip found =
     let f = gave_fields fields whole gave in
@@ -73,11 +76,11 @@ header_fails fixed fields bytes skipped whole fault is same gave skip found =
 pub record IsHeader (fixed : Fixed) (fields : Fields) (bytes : List ℕ) : Type 0 where
   pub front : List Field
   pub read : fields_of bytes ≡ Ok front
-  pub shows : shown fields ≡ slots_of front
+  pub shows : slots_shown fields ≡ slots_of front
   pub passes : header_fault fixed.kind (header_padding bytes) front ≡ None
 
-pub header_passes : (fixed : Fixed) (fields : Fields) (bytes skipped : List ℕ) (whole : Result (List Field) MsgError) → whole ≡ fields_of bytes → Gives shown slots_of (Ok fields) whole → skipped ≡ header_padding bytes
-    → ((front : List Field) → shown fields ≡ slots_of front → None ≡ header_fault fixed.kind skipped front) → IsHeader fixed fields bytes
+pub header_passes : (fixed : Fixed) (fields : Fields) (bytes skipped : List ℕ) (whole : Result (List Field) MsgError) → whole ≡ fields_of bytes → Gives slots_shown slots_of (Ok fields) whole → skipped ≡ header_padding bytes
+    → ((front : List Field) → slots_shown fields ≡ slots_of front → None ≡ header_fault fixed.kind skipped front) → IsHeader fixed fields bytes
 header_passes fixed fields bytes skipped whole same gave skip found =
     let f = gave_fields fields whole gave in
     record { front = f.0; read = sym same ∙ f.1; shows = f.2; passes = rw (← skip) (sym (found f.0 f.2)) }

@@ -2,7 +2,7 @@
 use Rattle.std.proofs.Common.{◌≡◌, ℕ, ◌++◌, [], ◌∷◌, Bool, true, false, cond, eqb, List, Option, Some, None, Ok, Err, map, refl, sym, ap, ◌∙◌}
 use Rattle.std.specs.Prelude.{◌==◌, option_map, slice_set, slice_index_or}
 use Rattle.std.proofs.lemmas.Bool.{eq-eqb, ne_eqb}
-use Rattle.std.proofs.Math.ListN.{get_or-map, set}
+use Rattle.std.proofs.Math.ListN.{get_or-map}
 use Rattle.std.proofs.lemmas.List.{map-set}
 use Rattle.signature.specs.DataType.{DataType, basic}
 use Rattle.message_value.specs.declared.order.Order.{Order}
@@ -12,11 +12,11 @@ use Rattle.message_value.specs.Reading.{At}
 use Rattle.message_view.specs.declared.content.Content.{Content}
 use Rattle.message_view.specs.declared.field.FieldCode.{FieldCode}
 use Rattle.message_view.specs.declared.field.FieldCode.TheVariants as codes
-use Rattle.message_view.specs.Header.{code_byte, code_of, type_code}
+use Rattle.message_view.specs.Header.{code_of, type_code}
+use Rattle.message_view.specs.Slots.{code_byte, Slots, slot_of, slots_of}
 use Rattle.message_view.specs.Message.{Field, field_with}
 use Rattle.message_view.specs.Reading.{code_at, content_at, field_at}
-use Rattle.message_view.specs.Slots.{Slots, slot_of, slots_of}
-use Rattle.message_view.specs.Words.{value_of}
+use Rattle.message_view.specs.FieldAnswers.{value_of}
 use Rattle.message_view.proofs.ReadFields.{code_byte-code_of, once_at, field_of, code_takes}
 
 -- a slot shows its value

@@ -8,7 +8,8 @@ use Rattle.signature.specs.DataType.{basic}
 use Rattle.message_value.specs.declared.order.Order.{Order}
 use Rattle.message_value.specs.declared.fault.MsgError.{MsgError}
 use Rattle.message_value.specs.Reading.{At}
-use Rattle.message_value.specs.Words.{AreBytes, Checks}
+use Rattle.message_value.specs.Answers.{Checks}
+use Rattle.message_value.specs.Bytes.{AreBytes}
 use Rattle.message_view.specs.declared.content.Content.{Content}
 use Rattle.message_view.specs.declared.fields.Fields.{Fields}
 use Rattle.message_view.specs.declared.extent.Extent.{Extent}
@@ -16,13 +17,13 @@ use Rattle.message_view.specs.declared.extent.TextField.{TextField}
 use Rattle.message_view.specs.declared.extent.TextField.TheVariants as names
 use Rattle.message_view.specs.declared.field.FieldCode.{FieldCode}
 use Rattle.message_view.specs.declared.field.FieldCode.TheVariants as codes
-use Rattle.message_view.specs.Header.{code_byte, code_of, type_code}
+use Rattle.message_view.specs.Header.{code_of, type_code}
+use Rattle.message_view.specs.Slots.{code_byte, Slots, Extents, no_slots, no_extents, slot_of, slots_of, named_code, extent_in, AreExtents}
 use Rattle.message_view.specs.Message.{Field, field_with}
 use Rattle.message_view.specs.Spelling.{field_bytes, fields_bytes}
 use Rattle.message_view.specs.Places.{text_field_code, text_extent, extent_from}
 use Rattle.message_view.specs.Reading.{code_at, content_at, field_at}
-use Rattle.message_view.specs.Slots.{Slots, Extents, no_slots, no_extents, slot_of, slots_of, named_code, extent_in, AreExtents}
-use Rattle.message_view.specs.Words.{value_of, lies_in, extent_before, shown, lying, LiesBefore, IsFront, KeepsNext}
+use Rattle.message_view.specs.FieldAnswers.{value_of, lies_in, extent_before, slots_shown, lying, LiesBefore, IsFront, KeepsNext}
 use Rattle.message_view.proofs.ReadFields.{once_at, field_of, field_takes}
 use Rattle.message_view.proofs.TextPlaces.{fields_push, extent_other, extent_new, name_before}
 use Rattle.message_view.proofs.Kept.{kept_next, passed_next, passed_fault}
@@ -109,7 +110,7 @@ extents_same order start front extents field unknown are = λ name.
 
 -- what is kept with one more field
 front_push : (order : Order) (start : ℕ) (front : List Field) (fields kept : Fields) (old tail : At) (field : Field) → IsFront order start front fields old → field_at order front old ≡ Ok (field, tail)
-    → shown kept ≡ slots_of (front ++ field ∷ []) → AreExtents order start (front ++ field ∷ []) (lying kept) → IsFront order start (front ++ field ∷ []) kept tail
+    → slots_shown kept ≡ slots_of (front ++ field ∷ []) → AreExtents order start (front ++ field ∷ []) (lying kept) → IsFront order start (front ++ field ∷ []) kept tail
 front_push order start front fields kept old tail field is read shows lie =
     let r = field_takes order front old (field, tail) is.fits read in
     record { shows = shows; lie = lie; fits = r.takes.fits is.fits; place = r.takes.place ∙ sym (fields_push order start front field old.place is.place) }
@@ -118,12 +119,12 @@ front_push order start front fields kept old tail field is read shows lie =
 
 -- a known field that was read
 pub front_next : (order : Order) (start : ℕ) (front : List Field) (fields kept : Fields) (old middle tail : At) (byte : ℕ) (code : FieldCode) (content : Content) → IsFront order start front fields old
-    → shown kept ≡ slice_set (shown fields) (slot_of code) (Some (value_of content)) → lying kept ≡ slice_set (lying fields) (slot_of code) (lies_in (Some content)) → LiesBefore tail.place content
+    → slots_shown kept ≡ slice_set (slots_shown fields) (slot_of code) (Some (value_of content)) → lying kept ≡ slice_set (lying fields) (slot_of code) (lies_in (Some content)) → LiesBefore tail.place content
     → Some code ≡ code_of byte → code_at front old ≡ Ok (byte, middle) → content_at order (Some code) middle ≡ Ok ((basic (type_code code), value_of content), tail)
     → (field : Field) × (field_at order front old ≡ Ok (field, tail)) × IsFront order start (front ++ field ∷ []) kept tail
 front_next order start front fields kept old middle tail byte code content is shows lies before named coded valued =
     let field = field_of (code_byte code) (basic (type_code code)) (value_of content) in
-    let n = kept_next order front old middle tail byte code (value_of content) (shown fields) (shown kept) is.shows shows named coded valued in
+    let n = kept_next order front old middle tail byte code (value_of content) (slots_shown fields) (slots_shown kept) is.shows shows named coded valued in
     let r = field_takes order front old (field, tail) is.fits n.0 in
     let once : field_with (code_byte code) front ≡ None = once_at (code_of (code_byte code)) (code_byte code) front code r.once (code_again code) in
     let nine : length (lying fields) ≡ 9 = length-map fields.slots lies_in ∙ sym (length-map fields.slots (option_map value_of)) ∙ ap (λ (x : Slots). length x) is.shows in
@@ -137,14 +138,14 @@ pub front_passed : {X : Type 0} (order : Order) (start : ℕ) (front : List Fiel
     → None ≡ code_of byte → code_at front old ≡ Ok (byte, middle) → Checks result tail (content_at order None middle)
     → KeepsNext result order start front fields tail (field_at order front old)
 front_passed order start front fields old middle tail byte (Ok x) is unknown coded checks =
-    let n = passed_next order front old middle tail byte (shown fields) checks.0.0 checks.0.1 is.shows unknown coded checks.1 in
+    let n = passed_next order front old middle tail byte (slots_shown fields) checks.0.0 checks.0.1 is.shows unknown coded checks.1 in
     let field = field_of byte checks.0.0 checks.0.1 in
     (field, n.0, front_push order start front fields fields old tail field is n.0 n.1 (extents_same order start front (lying fields) field (sym unknown) is.lie))
 front_passed order start front fields old middle tail byte (Err fault) is unknown coded checks = passed_fault order front old middle byte fault unknown coded checks
 
 -- ---- before the first field
 
-pub front_none : (order : Order) (start : ℕ) (fields : Fields) (at : At) → shown fields ≡ no_slots → lying fields ≡ no_extents → AreBytes at.rest → at.place ≡ start → IsFront order start [] fields at
+pub front_none : (order : Order) (start : ℕ) (fields : Fields) (at : At) → slots_shown fields ≡ no_slots → lying fields ≡ no_extents → AreBytes at.rest → at.place ≡ start → IsFront order start [] fields at
 front_none order start fields at shows lie fits place = record { shows = shows; lie = λ name. rw lie (none name); fits = fits; place = place ∙ sym (add-zero start) }
   where
     none : (name : TextField) → extent_in no_extents name ≡ None

@@ -11,6 +11,7 @@ pub mod Kept
 pub mod TextPlaces
 pub mod KeptExtents
 pub mod FieldContents
+pub mod ValidFields
 pub mod Loop
 pub mod Framed
 pub mod Views

@@ -24,7 +24,7 @@ use Rattle.message_view.specs.Spelling.{fixed_len, body_place, fields_bytes, hea
 use Rattle.message_view.specs.Valid.{Valid, AreFields}
 use Rattle.message_view.specs.Fixed.{order_in, serial_in, fields_len, body_len, whole_len, framing}
 use Rattle.message_view.specs.Reading.{fields_from, fields_of, header_padding, header_fault, types_in, in_body, all_read, arguments_at, body_at, message_of, or_fault, or_kind, framed_message, or_short, of_len, message_at}
-use Rattle.message_view.specs.Words.{body_of}
+use Rattle.message_view.specs.HeaderAnswers.{body_of}
 use Rattle.message_view.proofs.ReadFields.{or_fault_ok}
 use Rattle.message_view.proofs.FieldArrays.{nothing_front, fields_again, fields_take}
 use Rattle.message_view.proofs.FixedPart.{IsFixed, order_of-order_byte, order_byte-order_of, kind_byte-kind_of, kind_again, framing_takes, framing_again}
@@ -277,7 +277,7 @@ pub record IsWhole (bytes : List ℕ) (m : Message) : Type 0 where
 pub message_whole : (bytes : List ℕ) (m : Message) → message_at bytes ≡ Ok m → IsWhole bytes m
 unfolding message_at
 message_whole bytes m e =
-    let a = bind_ok (framing bytes) (λ framed. or_short framed >>= λ len. of_len len bytes) m e in
+    let a = bind_ok (framing bytes) (λ sections_of_frame. or_short sections_of_frame >>= λ len. of_len len bytes) m e in
     let b = bind_ok (or_short a.0) (λ len. of_len len bytes) m a.2 in
     let is = or_short_ok a.0 b.0 b.1 in
     let f = framing_takes bytes b.0 (a.1 ∙ ap (λ (o : Option ℕ). Ok o) is) in

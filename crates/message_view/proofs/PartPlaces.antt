@@ -9,7 +9,7 @@ use Rattle.message_value.proofs.ReadItems.{length-zeros}
 use Rattle.message_view.specs.Spelling.{fixed_len, body_place}
 use Rattle.message_view.specs.Fixed.{order_in, word_at, body_len, serial_in, fields_len}
 use Rattle.message_view.specs.Reading.{header_padding}
-use Rattle.message_view.specs.Words.{body_of}
+use Rattle.message_view.specs.HeaderAnswers.{body_of}
 use Rattle.message_view.proofs.FixedPart.{order_in_of}
 
 -- the bytes of a message

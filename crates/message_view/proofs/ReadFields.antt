@@ -8,7 +8,7 @@ use Rattle.message_value.specs.declared.order.Order.{Order}
 use Rattle.message_value.specs.declared.fault.MsgError.{MsgError}
 use Rattle.message_value.specs.declared.fault.MsgError.TheVariants as faults
 use Rattle.message_value.specs.Value.{Value, number, text, elements, entries, members, of_type}
-use Rattle.message_value.specs.Spelling.{padding, aligned, zeros, signature_bytes, value_bytes}
+use Rattle.message_value.specs.Spelling.{padding, align_up, zeros, signature_bytes, value_bytes}
 use Rattle.message_value.specs.Fits.{IsOneType, BareFits, ValueFits}
 use Rattle.message_value.specs.Reading.{◌>>=◌, At, aligned_at, byte_at, signature_at, value_at}
 use Rattle.message_value.proofs.OkSteps.{bind_ok, found_none, nothing_is, ok_is, some_is}
@@ -18,7 +18,8 @@ use Rattle.message_value.proofs.ReadTexts.{signature_takes, signature_again}
 use Rattle.message_value.proofs.ReadValues.{value_takes, value_again}
 use Rattle.message_view.specs.declared.field.FieldCode.{FieldCode}
 use Rattle.message_view.specs.declared.field.FieldCode.TheVariants.{Path, Interface, Member, ErrorName, ReplySerial, Destination, Sender, Signature, UnixFds}
-use Rattle.message_view.specs.Header.{code_byte, code_of, type_code, is_named_well, is_reserved, is_number_allowed}
+use Rattle.message_view.specs.Header.{code_of, type_code, is_named_well, is_reserved, is_number_allowed}
+use Rattle.message_view.specs.Slots.{code_byte}
 use Rattle.message_view.specs.Message.{Field, field_with}
 use Rattle.message_view.specs.Spelling.{field_value_place, field_bytes}
 use Rattle.message_view.specs.Valid.{HasContent, IsAllowed, IsField, IsOnce}
@@ -90,10 +91,10 @@ code_takes front a found e =
     let passed = no_code_fault front b.0.0 g.0 in
     subst (λ (f : ℕ × At). Takes a (code_bytes a.place f.0) f.1 × (0 < f.0) × (IsBytes a.rest → f.0 < 256) × IsOnce (code_of f.0) f.0 front) {x = b.0} g.1 (both, passed.0, λ h. byte.1 (skipped.fits h), passed.1)
 
-pub code_again : (front : List Field) (code place : ℕ) (outside : MsgError) (rest : List ℕ) → 0 < code → IsOnce (code_of code) code front → code_at front (at place (zeros (padding 8 place) ++ (code ∷ rest)) outside) ≡ Ok (code, at (aligned 8 place + 1) rest outside)
+pub code_again : (front : List Field) (code place : ℕ) (outside : MsgError) (rest : List ℕ) → 0 < code → IsOnce (code_of code) code front → code_at front (at place (zeros (padding 8 place) ++ (code ∷ rest)) outside) ≡ Ok (code, at (align_up 8 place + 1) rest outside)
 unfolding code_at
 code_again front code place outside rest above once =
-    rw (aligned_again 8 place outside (code ∷ rest), byte_again (aligned 8 place) code outside rest, code_passes front code above once) refl
+    rw (aligned_again 8 place outside (code ∷ rest), byte_again (align_up 8 place) code outside rest, code_passes front code above once) refl
 
 -- ---- what a field holds
 
@@ -234,7 +235,7 @@ pub field_again : (order : Order) (front : List Field) (field : Field) (place : 
 unfolding field_at
 field_again order front field place outside rest is once =
     let skipped = zeros (padding 8 place) in
-    let start = aligned 8 place + 1 in
+    let start = align_up 8 place + 1 in
     let sig = signature_bytes field.type in
     let at_value : start + length sig ≡ field_value_place place field = omega arith in
     let shaped : ValueFits order 63 (start + length sig) field.type field.value = rw at_value is.shaped in

@@ -12,7 +12,7 @@ use Rattle.signature.specs.Trees.{types_of}
 use Rattle.signature.proofs.Ascii.{path_ascii}
 use Rattle.message_value.specs.Fits.{is_text_of}
 use Rattle.message_value.proofs.SignatureTexts.{signature_utf8}
-use Rattle.message_value.specs.Words.{AreBytes}
+use Rattle.message_value.specs.Bytes.{AreBytes}
 
 -- ---- bytes, one after the other
 
@@ -32,11 +32,11 @@ both_bytes (byte ∷ a) b first second = one_byte byte (a ++ b) (first 0) (both_
 follows : (n : ℕ) → 128 + n % 64 < 256
 follows n = omega arith
 
-two : (a b : ℕ) → a < 256 → AreBytes (a ∷ (128 + b % 64) ∷ [])
-two a b small = one_byte a ((128 + b % 64) ∷ []) small (one_byte (128 + b % 64) [] (follows b) no_bytes)
+two_fields : (a b : ℕ) → a < 256 → AreBytes (a ∷ (128 + b % 64) ∷ [])
+two_fields a b small = one_byte a ((128 + b % 64) ∷ []) small (one_byte (128 + b % 64) [] (follows b) no_bytes)
 
 three : (a b c : ℕ) → a < 256 → AreBytes (a ∷ (128 + b % 64) ∷ (128 + c % 64) ∷ [])
-three a b c small = one_byte a ((128 + b % 64) ∷ (128 + c % 64) ∷ []) small (two (128 + b % 64) c (follows b))
+three a b c small = one_byte a ((128 + b % 64) ∷ (128 + c % 64) ∷ []) small (two_fields (128 + b % 64) c (follows b))
 
 four : (a b c d : ℕ) → a < 256 → AreBytes (a ∷ (128 + b % 64) ∷ (128 + c % 64) ∷ (128 + d % 64) ∷ [])
 four a b c d small = one_byte a ((128 + b % 64) ∷ (128 + c % 64) ∷ (128 + d % 64) ∷ []) small (three (128 + b % 64) c d (follows b))
@@ -48,7 +48,7 @@ char_bytes c low =
     elim (cases_lt c 128) [
       | inl lt ↦ rw (lt-ltb c 128 lt) (one_byte c [] (omega arith) no_bytes)
       | inr le ↦ rw (le-ltb c 128 le) (elim (cases_lt c 2048) [
-        | inl lt ↦ rw (lt-ltb c 2048 lt) (two (192 + c / 64) c (omega arith))
+        | inl lt ↦ rw (lt-ltb c 2048 lt) (two_fields (192 + c / 64) c (omega arith))
         | inr le ↦ rw (le-ltb c 2048 le) (elim (cases_lt c 65536) [
           | inl lt ↦ rw (lt-ltb c 65536 lt) (three (224 + c / 4096) (c / 64) c (omega arith))
           | inr le ↦ rw (le-ltb c 65536 le) (four (240 + c / 262144) (c / 4096) (c / 64) c (omega arith))

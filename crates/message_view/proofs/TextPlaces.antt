@@ -6,7 +6,7 @@ use Rattle.signature.specs.Alignment.{alignment_of}
 use Rattle.message_value.specs.declared.order.Order.{Order}
 use Rattle.message_value.specs.Order.{word_bytes}
 use Rattle.message_value.specs.Value.{Value, number, text, elements, entries, members, of_type}
-use Rattle.message_value.specs.Spelling.{padding, aligned, zeros, text_bytes, value_bytes, bare_bytes}
+use Rattle.message_value.specs.Spelling.{padding, align_up, zeros, text_bytes, value_bytes, bare_bytes}
 use Rattle.message_value.specs.Reading.{At, byte_at, word_at, text_at, short_text_at, long_text_at, text_value_at}
 use Rattle.message_value.proofs.OkSteps.{bind_ok, found_none, ok_is}
 use Rattle.message_value.proofs.WordBytes.{length-word_bytes}
@@ -19,7 +19,7 @@ use Rattle.message_view.specs.Message.{Field, field_with}
 use Rattle.message_view.specs.Spelling.{field_front, field_value_place, field_bytes, fields_bytes}
 use Rattle.message_view.specs.Places.{text_extent, extent_from}
 use Rattle.message_view.specs.Slots.{named_code}
-use Rattle.message_view.specs.Words.{extent_before}
+use Rattle.message_view.specs.FieldAnswers.{extent_before}
 use Rattle.message_view.proofs.ReadFields.{field_of}
 
 -- ---- a text that was read
@@ -86,15 +86,15 @@ extent_new order start code (first ∷ front) field end none own is =
 
 -- how far it reaches
 text_reaches : (order : Order) (place code t : ℕ) (bytes : List ℕ) → eqb t 103 ≡ false → alignment_of (basic t) ≡ 4
-    → place + length (field_bytes order place (field_of code (basic t) (text bytes))) ≡ aligned 4 (field_value_place place (field_of code (basic t) (text bytes))) + 4 + length bytes + 1
+    → place + length (field_bytes order place (field_of code (basic t) (text bytes))) ≡ align_up 4 (field_value_place place (field_of code (basic t) (text bytes))) + 4 + length bytes + 1
 text_reaches order place code t bytes long four =
     let field = field_of code (basic t) (text bytes) in
     let at_value = field_value_place place field in
     let value = value_bytes order at_value (basic t) (text bytes) in
     let own : text_bytes order t bytes ≡ word_bytes order (length bytes) ++ (bytes ++ 0 ∷ []) = rw long refl in
     let len : length (text_bytes order t bytes) ≡ 4 + length bytes + 1 = ap (λ (x : List ℕ). length x) own ∙ omega (arith, length-append (word_bytes order (length bytes)) (bytes ++ 0 ∷ []), length-word_bytes order (length bytes), length-append bytes (0 ∷ [])) in
-    let padded : at_value + length value ≡ aligned (alignment_of (basic t)) at_value + length (text_bytes order t bytes) = length-padded (alignment_of (basic t)) at_value (λ start. bare_bytes order start (basic t) (text bytes)) in
-    let by_four : aligned (alignment_of (basic t)) at_value ≡ aligned 4 at_value = ap (λ (k : ℕ). aligned k at_value) four in
+    let padded : at_value + length value ≡ align_up (alignment_of (basic t)) at_value + length (text_bytes order t bytes) = length-padded (alignment_of (basic t)) at_value (λ start. bare_bytes order start (basic t) (text bytes)) in
+    let by_four : align_up (alignment_of (basic t)) at_value ≡ align_up 4 at_value = ap (λ (k : ℕ). align_up k at_value) four in
     let front = field_front field in
     let skipped = zeros (padding 8 place) in
     omega (arith, padded, by_four, len, length-append skipped (front ++ value), length-append front value, length-zeros (padding 8 place))
@@ -105,7 +105,7 @@ text_before : (order : Order) (place code t tail : ℕ) (value : Value) → eqb 
 text_before order place code t tail (number bits) long four is = refl
 text_before order place code t tail (text bytes) long four is =
     let reach = text_reaches order place code t bytes long four in
-    let begins : tail - 1 - length bytes ≡ aligned 4 (field_value_place place (field_of code (basic t) (text bytes))) + 4 = omega (arith, reach, is) in
+    let begins : tail - 1 - length bytes ≡ align_up 4 (field_value_place place (field_of code (basic t) (text bytes))) + 4 = omega (arith, reach, is) in
     rw begins refl
 text_before order place code t tail (elements vs) long four is = refl
 text_before order place code t tail (entries es) long four is = refl

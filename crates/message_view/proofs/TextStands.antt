@@ -1,7 +1,7 @@
 -- Texts among bytes of which the first has a place.
 use Rattle.std.proofs.Common.{◌≡◌, ℕ, ◌+◌, ◌≤◌, List, ◌++◌, length, take, refl, sym, ap, ◌∙◌, append_assoc, arith}
 use Rattle.std.proofs.lemmas.List.{length-append, take_at, drop_at}
-use Rattle.message_value.specs.Words.{AreBytes}
+use Rattle.message_value.specs.Bytes.{AreBytes}
 use Rattle.message_view.specs.Places.{slice_at}
 
 -- The text, which is made of bytes, stands at a place among bytes that begin at another.

@@ -1,5 +1,5 @@
 -- What a view keeps is its message's.
-use Rattle.std.proofs.Common.{◌≡◌, ℕ, ◌+◌, ◌-◌, ◌<◌, ◌≤◌, List, length, map, get_or, Option, Some, None, Result, Ok, Err, false, ltb, refl, sym, ap, subst, ◌∙◌, arith}
+use Rattle.std.proofs.Common.{◌≡◌, ℕ, ◌+◌, ◌-◌, ◌<◌, ◌≤◌, List, length, map, get_or, Option, Some, None, Result, Ok, Err, true, false, ltb, refl, sym, ap, subst, ◌∙◌, arith}
 use Rattle.std.specs.Prelude.{slice_index_or, IfOk, IsOk}
 use Rattle.std.proofs.Math.ListN.{get_or-map}
 use Rattle.std.proofs.lemmas.Bool.{lt-ltb, le-ltb}
@@ -18,15 +18,18 @@ use Rattle.signature.specs.DataType.{DataTypes, SigText}
 use Rattle.message_value.proofs.OkSteps.{ok_is, some_is}
 use Rattle.message_value.specs.Arguments.{Argument, arguments_from}
 use Rattle.message_view.specs.Spelling.{body_place, header_bytes, body_bytes, arguments_of}
+use Rattle.message_view.specs.Header.{has_required}
 use Rattle.message_view.specs.Fixed.{fields_len, whole_len, framing}
-use Rattle.message_view.specs.Reading.{in_body, body_at, message_of, framed_message, message_at}
+use Rattle.message_view.specs.Reading.{fields_of, header_padding, header_fault, in_body, body_at, message_of, framed_message, message_at}
 use Rattle.message_view.specs.Slots.{Slots, Extents, text_fields, extent_in, extents_in, AreExtents, Kept, kept_of, slots_of}
 use Rattle.message_view.specs.Places.{extent_of}
 use Rattle.message_view.specs.declared.kind.Kind.{Kind}
 use Rattle.message_view.specs.declared.extent.Extent.{Extent}
 use Rattle.message_view.specs.declared.extent.TextField.{TextField}
 use Rattle.message_view.specs.declared.extent.TextField.TheVariants as names
-use Rattle.message_view.specs.Words.{body_of, IsFixed, IsKept, HasHeader, ReadsFramed, ReadsView, kept_by, shown, lying}
+use Rattle.message_view.specs.HeaderAnswers.{body_of, IsKept, HasHeader, ReadsFramed, ReadsView, kept_by}
+use Rattle.message_view.specs.FieldAnswers.{slots_shown, lying}
+use Rattle.message_view.specs.FixedAnswers.{IsFixed}
 use Rattle.message_view.proofs.FixedPart.{framing_again}
 use Rattle.message_view.proofs.Framed.{cursor_is}
 use Rattle.message_view.proofs.OneMessage.{valid_lies, valid_fixed, valid_reads, reads_valid, message_whole, members_read, fault_invalid}
@@ -78,7 +81,7 @@ kept_first fixed sections bytes read is same found =
     record {
       message = m;
       read = same ∙ found.2;
-      is = ap (kept_like fixed.order fixed.kind fixed.flags fixed.serial (shown sections.fields)) (extents_are m (lying sections.fields) found.6) ∙ rw (is.order, is.flags, is.serial, found.3) refl;
+      is = ap (kept_like fixed.order fixed.kind fixed.flags fixed.serial (slots_shown sections.fields)) (extents_are m (lying sections.fields) found.6) ∙ rw (is.order, is.flags, is.serial, found.3) refl;
       typed = found.4;
       tail = found.5;
     }
@@ -92,11 +95,18 @@ known_framing bytes m valid = framing_again bytes (valid_fixed bytes m valid)
 pub known_whole : (bytes : List ℕ) (m : Message) → Valid bytes m → length bytes ≡ whole_len bytes
 known_whole bytes m valid = (message_whole bytes m (valid_reads bytes m valid)).whole
 
--- nothing after the fixed part has a fault
-pub known_sound : (bytes : List ℕ) (m : Message) (fault : MsgError) → Valid bytes m → framed_message bytes ≡ Err fault → ⊥
-known_sound bytes m fault valid failed =
-    let whole = known_whole bytes m valid in
-    fault_invalid bytes fault m (whole_framed bytes (length bytes) (known_framing bytes m valid) whole (omega arith) (omega arith) ∙ failed) valid
+-- its fields are read, and nothing between them and the body has a fault
+pub record KnownHeader (fixed : Fixed) (bytes : List ℕ) : Type 0 where
+  pub front : List Field
+  pub read : fields_of bytes ≡ Ok front
+  pub passes : header_fault fixed.kind (header_padding bytes) front ≡ None
+
+pub known_header : (fixed : Fixed) (bytes : List ℕ) (m : Message) → Valid bytes m → IsFixed fixed bytes → KnownHeader fixed bytes
+known_header fixed bytes m valid is =
+    let parts = (message_whole bytes m (valid_reads bytes m valid)).parts in
+    let kind : parts.kind ≡ fixed.kind = some_is parts.kind fixed.kind (sym parts.is_kind ∙ is.kind) in
+    let required : has_required fixed.kind parts.front ≡ true = ap (λ (k : Kind). has_required k parts.front) (sym kind) ∙ parts.required in
+    record { front = parts.front; read = parts.fields; passes = rw (required, parts.padded) refl }
 
 -- the message is that of the fixed part and of the fields that were found
 pub known_first : (fixed : Fixed) (sections : Sections) (bytes : List ℕ) (m : Message) → Valid bytes m → IsFixed fixed bytes → HasHeader sections fixed.kind bytes
@@ -126,10 +136,10 @@ pub body_kept : (bytes now body signature : List ℕ) (m : Message) (kept : Kept
 body_kept bytes now body signature m kept keeps same valid = keeps.tail ∙ ap body_of same ∙ (valid_lies now m valid).is_body
 
 -- and the signature is that of its arguments
-pub signature_kept : (bytes now body signature given : List ℕ) (m : Message) (kept : Kept) → IsKept bytes body signature kept → bytes ≡ now → Valid now m → given ≡ signature → SigText m.types given
-signature_kept bytes now body signature given m kept keeps same valid is =
-    let typed : SigText keeps.message.types given = rw is keeps.typed in
-    subst (λ (x : Message). SigText x.types given) (message_is bytes now body signature m kept keeps same valid) typed
+pub signature_kept : (bytes now body signature given_signature : List ℕ) (m : Message) (kept : Kept) → IsKept bytes body signature kept → bytes ≡ now → Valid now m → given_signature ≡ signature → SigText m.types given_signature
+signature_kept bytes now body signature given_signature m kept keeps same valid is =
+    let typed : SigText keeps.message.types given_signature = rw is keeps.typed in
+    subst (λ (x : Message). SigText x.types given_signature) (message_is bytes now body signature m kept keeps same valid) typed
 
 pub text_kept : (xs ys : Slots) (i : ℕ) → map text_in xs ≡ map text_in ys → text_in (slice_index_or xs i None) ≡ text_in (slice_index_or ys i None)
 text_kept xs ys i same = sym (get_or-map text_in xs i None) ∙ ap (λ texts. get_or texts i None) same ∙ get_or-map text_in ys i None
@@ -169,9 +179,9 @@ body_fits bytes body signature kept keeps =
     (omega (arith, len), omega (arith, w.whole, w.fixed.whole))
 
 -- what the arguments are read from
-pub args_found : (bytes now body signature given : List ℕ) (kept : Kept) (cursor : At) → IsKept bytes body signature kept → bytes ≡ now → given ≡ signature → cursor ≡ body_at now
-    → (types : DataTypes) × SigText types given × ((values : Values) × (tail : At) × (members_at (value_at 64 kept.order) types cursor ≡ Ok (values, tail)))
-args_found bytes now body signature given kept cursor keeps same is place =
+pub args_found : (bytes now body signature given_signature : List ℕ) (kept : Kept) (cursor : At) → IsKept bytes body signature kept → bytes ≡ now → given_signature ≡ signature → cursor ≡ body_at now
+    → (types : DataTypes) × SigText types given_signature × ((values : Values) × (tail : At) × (members_at (value_at 64 kept.order) types cursor ≡ Ok (values, tail)))
+args_found bytes now body signature given_signature kept cursor keeps same is place =
     let m = keeps.message in
     let found = members_read bytes m (message_whole bytes m keeps.read).parts in
     let order : kept.order ≡ m.order = ap (λ (k : Kept). k.order) keeps.is in
@@ -180,11 +190,11 @@ args_found bytes now body signature given kept cursor keeps same is place =
     (m.types, rw is keeps.typed, (m.arguments, found.0, read))
 
 -- they are those of the message that the bytes spell
-pub args_are : (bytes now body signature given : List ℕ) (m : Message) (kept : Kept) (cursor : At) (args : List Argument) → IsKept bytes body signature kept → bytes ≡ now → Valid now m → given ≡ signature → cursor ≡ body_at now
-    → ((types : DataTypes) (values : Values) (tail : At) → SigText types given → members_at (value_at 64 kept.order) types cursor ≡ Ok (values, tail) → args ≡ arguments_from kept.order cursor.place types values) → args ≡ arguments_of m
+pub args_are : (bytes now body signature given_signature : List ℕ) (m : Message) (kept : Kept) (cursor : At) (args : List Argument) → IsKept bytes body signature kept → bytes ≡ now → Valid now m → given_signature ≡ signature → cursor ≡ body_at now
+    → ((types : DataTypes) (values : Values) (tail : At) → SigText types given_signature → members_at (value_at 64 kept.order) types cursor ≡ Ok (values, tail) → args ≡ arguments_from kept.order cursor.place types values) → args ≡ arguments_of m
 unfolding args_found
-args_are bytes now body signature given m kept cursor args keeps same valid is place given_by =
-    let found = args_found bytes now body signature given kept cursor keeps same is place in
+args_are bytes now body signature given_signature m kept cursor args keeps same valid is place given_by =
+    let found = args_found bytes now body signature given_signature kept cursor keeps same is place in
     let message : keeps.message ≡ m = message_is bytes now body signature m kept keeps same valid in
     let order : kept.order ≡ m.order = ap (λ (k : Kept). k.order) keeps.is ∙ ap (λ (x : Message). x.order) message in
     let start : cursor.place ≡ body_place (length (header_bytes m)) = ap (λ (a : At). a.place) place ∙ ap body_place (valid_lies now m valid).is_len in

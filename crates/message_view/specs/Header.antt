@@ -26,17 +26,6 @@ kind_of byte =
     else if byte == 4 then Some Signal
     else Some (Other byte)
 
-abbrev pub code_byte : FieldCode → ℕ
-code_byte Path = 1
-code_byte Interface = 2
-code_byte Member = 3
-code_byte ErrorName = 4
-code_byte ReplySerial = 5
-code_byte Destination = 6
-code_byte Sender = 7
-code_byte Signature = 8
-code_byte UnixFds = 9
-
 -- The fields that have a meaning; of others nothing is known.
 abbrev pub code_of : ℕ → Option FieldCode
 code_of byte =

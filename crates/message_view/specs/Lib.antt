@@ -4,6 +4,8 @@ pub mod Spelling
 pub mod Valid
 pub mod Fixed
 pub mod Reading
-pub mod Words
+pub mod HeaderAnswers
+pub mod FieldAnswers
+pub mod FixedAnswers
 pub mod Slots
 pub mod Places

@@ -2,7 +2,7 @@
 use Rattle.std.specs.Prelude.{◌≡◌, ℕ, ◌+◌, ◌≤◌, List, [], ◌∷◌, length, take, drop, Option, Some, None, IfSome, option_map, ◌==◌, if◌then◌else◌}
 use Rattle.message_value.specs.Arguments.{Argument}
 use Rattle.message_value.specs.declared.order.Order.{Order}
-use Rattle.message_value.specs.Spelling.{aligned}
+use Rattle.message_value.specs.Spelling.{align_up}
 use Rattle.message_view.specs.declared.extent.Extent.{Extent}
 use Rattle.message_view.specs.declared.extent.TextField.{TextField}
 use Rattle.message_view.specs.declared.extent.TextField.TheVariants.{Path, Interface, Member, ErrorName, Destination, Sender}
@@ -21,7 +21,7 @@ text_field_code Sender = 7
 -- the text of a field at a place: it stands after its length, which is a word
 abbrev pub text_extent : ℕ → Field → Option Extent
 text_extent place field =
-    option_map (λ bytes. record { place = aligned 4 (field_value_place place field) + 4; len = length bytes }) (text_in (Some field.value))
+    option_map (λ bytes. record { place = align_up 4 (field_value_place place field) + 4; len = length bytes }) (text_in (Some field.value))
 
 -- the text of the first field of a code, among fields from a place on
 abbrev pub extent_from : Order → ℕ → ℕ → List Field → Option Extent

@@ -1,4 +1,5 @@
--- Reading a message from left to right, with the first fault that is met.
+-- Reading a message from left to right, with the first fault that is met (own; which bytes are messages is in
+-- Valid.antt).
 use Rattle.std.specs.Prelude.{ℕ, zero, suc, ◌+◌, Bool, false, not, List, [], ◌∷◌, ◌++◌, length, take, drop, slice_index, Option, Some, None, is_some, Result, Ok, Err, nat_lt, ◌==◌, ◌&&◌, if◌then◌else◌}
 use Rattle.std.specs.List.{list_all}
 use Rattle.signature.specs.DataType.{DataType, DataTypes, basic, no_types}
@@ -163,6 +164,6 @@ of_len len bytes =
 -- the message, or the first fault
 unfoldable pub message_at : List ℕ → Result Message MsgError
 message_at bytes = do
-  framed ← framing bytes
-  len ← or_short framed
+  sections_of_frame ← framing bytes
+  len ← or_short sections_of_frame
   of_len len bytes

@@ -1,15 +1,26 @@
--- The known fields in the order of their codes.
+-- Inner: the known fields in the order of their codes.
 use Rattle.std.specs.Prelude.{◌≡◌, ℕ, List, [], ◌∷◌, map, slice_index_or, Option, None}
 use Rattle.message_value.specs.declared.order.Order.{Order}
+use Rattle.message_value.specs.Value.{Value}
 use Rattle.message_view.specs.declared.kind.Kind.{Kind}
 use Rattle.message_view.specs.declared.field.FieldCode.{FieldCode}
 use Rattle.message_view.specs.declared.field.FieldCode.TheVariants.{Path, Interface, Member, ErrorName, ReplySerial, Destination, Sender, Signature, UnixFds}
-use Rattle.message_value.specs.Value.{Value}
-use Rattle.message_view.specs.Message.{Field, field_with, text_in, number_in, Message}
 use Rattle.message_view.specs.declared.extent.Extent.{Extent}
 use Rattle.message_view.specs.declared.extent.TextField.{TextField}
 use Rattle.message_view.specs.declared.extent.TextField.TheVariants as names
+use Rattle.message_view.specs.Message.{Field, field_with, text_in, number_in, Message}
 use Rattle.message_view.specs.Places.{text_field_code, extent_from, extent_of}
+
+abbrev pub code_byte : FieldCode → ℕ
+code_byte Path = 1
+code_byte Interface = 2
+code_byte Member = 3
+code_byte ErrorName = 4
+code_byte ReplySerial = 5
+code_byte Destination = 6
+code_byte Sender = 7
+code_byte Signature = 8
+code_byte UnixFds = 9
 
 -- where a field's value is kept
 abbrev pub slot_of : FieldCode → ℕ

@@ -2,7 +2,7 @@
 use Rattle.std.specs.Prelude.{ℕ, ◌+◌, List, [], ◌∷◌, ◌++◌, length}
 use Rattle.message_value.specs.declared.order.Order.{Order}
 use Rattle.message_value.specs.Order.{order_byte, word_bytes}
-use Rattle.message_value.specs.Spelling.{padding, aligned, zeros, signature_bytes, value_bytes, members_bytes}
+use Rattle.message_value.specs.Spelling.{padding, align_up, zeros, signature_bytes, value_bytes, members_bytes}
 use Rattle.message_value.specs.Arguments.{Argument, arguments_from}
 use Rattle.message_view.specs.Header.{kind_byte}
 use Rattle.message_view.specs.Message.{Field, Message}
@@ -17,7 +17,7 @@ field_front field = field.code ∷ signature_bytes field.type
 
 -- where the value of a field's variant stands, its padding before it
 abbrev pub field_value_place : ℕ → Field → ℕ
-field_value_place place field = aligned field_alignment place + length (field_front field)
+field_value_place place field = align_up field_alignment place + length (field_front field)
 
 -- a field: the padding of a struct, its code, and its variant
 abbrev pub field_bytes : Order → ℕ → Field → List ℕ

@@ -3,7 +3,7 @@
 ghost use Rattle.std.specs.Prelude.{◌≡◌, ◌<◌, length, Some};
 ghost use Rattle.message_value.specs.Value.{text};
 ghost use Rattle.message_view.specs.Slots.{named_code};
-ghost use Rattle.message_view.specs.Words.{extent_before};
+ghost use Rattle.message_view.specs.FieldAnswers.{extent_before};
 
 use crate::field::FieldCode;
 

@@ -4,7 +4,7 @@ ghost use Rattle.std.specs.Prelude.{◌≡◌};
 ghost use Rattle.message_view.specs.Header.{code_of, is_named_well, is_reserved, is_number_allowed};
 ghost use Rattle.message_view.specs.Reading.{number_fault, content_fault};
 ghost use Rattle.message_view.specs.Slots.{slot_of};
-ghost use Rattle.message_view.specs.Words.{type_of, value_of};
+ghost use Rattle.message_view.specs.FieldAnswers.{type_of, value_of};
 
 use crate::content::Content;
 use message_value::{MsgError, TextType};

@@ -4,13 +4,15 @@ ghost use Rattle.std.specs.Prelude.{◌≡◌, ℕ, ◌+◌, ◌<◌, ◌≤◌,
 ghost use Rattle.signature.specs.DataType.{DataType, TypeText, SigText, basic};
 ghost use Rattle.signature.specs.Alignment.{alignment_of};
 ghost use Rattle.message_value.specs.Reading.{At, inside, text_value_at, value_at};
-ghost use Rattle.message_value.specs.Words.{Reads, Checks, Gives, text_code};
+ghost use Rattle.message_value.specs.Steps.{Gives};
+ghost use Rattle.message_value.specs.Answers.{Reads, Checks};
+ghost use Rattle.message_value.specs.TextTypes.{text_code};
 ghost use Rattle.message_view.specs.Message.{Field, text_in, number_in, signature_in};
-ghost use Rattle.message_view.specs.Header.{code_byte, type_code, has_required};
+ghost use Rattle.message_view.specs.Header.{type_code, has_required};
+ghost use Rattle.message_view.specs.Slots.{code_byte, slot_of, slots_of, no_slots, no_extents, AreExtents};
 ghost use Rattle.message_view.specs.Valid.{levels_in_field};
-ghost use Rattle.message_view.specs.Slots.{slot_of, slots_of, no_slots, no_extents, AreExtents};
 ghost use Rattle.message_view.specs.Reading.{is_basic_of, content_at, code_fault, code_at, field_at, fields_from, types_in};
-ghost use Rattle.message_view.specs.Words.{value_of, type_code_of, shown, lies_in, lying, LiesBefore, IsFront, KeepsNext};
+ghost use Rattle.message_view.specs.FieldAnswers.{value_of, type_code_of, slots_shown, lies_in, lying, LiesBefore, IsFront, KeepsNext};
 
 use crate::content::Content;
 use crate::extent::Extent;
@@ -60,7 +62,7 @@ impl FieldType {
     }
 
     /// What the place of a value of it is a multiple of, in bytes.
-    fn alignment(self) -> usize
+    pub(crate) fn alignment(self) -> usize
         ensures { result ≡ alignment_of (basic (type_code_of self)) }
     {
         match self {
@@ -112,7 +114,7 @@ impl FieldCode {
 
 /// Goes over the variant of a field of which nothing is known.
 #[tactic(auto, unfolding(crate::specs::Reading::content_at))]
-fn skip_content(cursor: &mut Cursor<'_>, order: Order) -> Result<(), MsgError>
+pub(crate) fn skip_content(cursor: &mut Cursor<'_>, order: Order) -> Result<(), MsgError>
     ensures { Checks result cursor.new (content_at order None cursor.old) }
 {
     let value_type = cursor.signature()?;
@@ -120,8 +122,8 @@ fn skip_content(cursor: &mut Cursor<'_>, order: Order) -> Result<(), MsgError>
 }
 
 impl<'a> Fields<'a> {
-    fn new() -> Self
-        ensures shows { shown result ≡ no_slots }
+    pub(crate) fn new() -> Self
+        ensures shows { slots_shown result ≡ no_slots }
         ensures lie { lying result ≡ no_extents }
     {
         Fields { slots: [None; 9] }
@@ -129,14 +131,14 @@ impl<'a> Fields<'a> {
 
     /// What a field holds.
     fn get(&self, code: FieldCode) -> Option<Content<'a>>
-        ensures value { option_map value_of result ≡ slice_index_or (shown self.now) (slot_of code) None }
+        ensures value { option_map value_of result ≡ slice_index_or (slots_shown self.now) (slot_of code) None }
         ensures extent { lies_in result ≡ slice_index_or (lying self.now) (slot_of code) None }
     {
         self.slots[code.slot()]
     }
 
-    fn put(&mut self, code: FieldCode, content: Content<'a>)
-        ensures shows { shown self.new ≡ slice_set (shown self.old) (slot_of code) (Some (value_of content.entry)) }
+    pub(crate) fn put(&mut self, code: FieldCode, content: Content<'a>)
+        ensures shows { slots_shown self.new ≡ slice_set (slots_shown self.old) (slot_of code) (Some (value_of content.entry)) }
         ensures lie { lying self.new ≡ slice_set (lying self.old) (slot_of code) (lies_in (Some content.entry)) }
     {
         self.slots[code.slot()] = Some(content);
@@ -144,7 +146,7 @@ impl<'a> Fields<'a> {
 
     /// Whether the field is there.
     pub(crate) fn has(&self, code: FieldCode) -> bool
-        ensures { result ≡ is_some (slice_index_or (shown self.now) (slot_of code) None) }
+        ensures { result ≡ is_some (slice_index_or (slots_shown self.now) (slot_of code) None) }
     {
         match self.get(code) {
             Some(_) => true,
@@ -154,7 +156,7 @@ impl<'a> Fields<'a> {
 
     /// The text that a field holds.
     pub(crate) fn text(&self, code: FieldCode) -> Option<&'a str>
-        ensures { option_map (λ text. text.now) result ≡ text_in (slice_index_or (shown self.now) (slot_of code) None) }
+        ensures { option_map (λ text. text.now) result ≡ text_in (slice_index_or (slots_shown self.now) (slot_of code) None) }
     {
         match self.get(code) {
             Some(Content::Text(text, _)) => Some(text),
@@ -164,7 +166,7 @@ impl<'a> Fields<'a> {
 
     /// The number that a field holds.
     pub(crate) fn number(&self, code: FieldCode) -> Option<u32>
-        ensures { result ≡ number_in (slice_index_or (shown self.now) (slot_of code) None) }
+        ensures { result ≡ number_in (slice_index_or (slots_shown self.now) (slot_of code) None) }
     {
         match self.get(code) {
             Some(Content::Number(number)) => Some(number),
@@ -184,7 +186,7 @@ impl<'a> Fields<'a> {
 
     /// Whether all fields are there that a message of this kind needs.
     pub(crate) fn has_required(&self, kind: Kind) -> bool
-        ensures { (front : List Field) → shown self.now ≡ slots_of front → result ≡ has_required kind front }
+        ensures { (front : List Field) → slots_shown self.now ≡ slots_of front → result ≡ has_required kind front }
     {
         match kind {
             Kind::MethodCall => self.has(FieldCode::Path) && self.has(FieldCode::Member),
@@ -201,7 +203,7 @@ impl<'a> Fields<'a> {
 
     /// The fault of a field's code, if it has one: the code is 0, or a known field comes a second time.
     fn code_fault(&self, byte: u8) -> Option<MsgError>
-        ensures { (front : List Field) → shown self.now ≡ slots_of front → result ≡ code_fault front byte }
+        ensures { (front : List Field) → slots_shown self.now ≡ slots_of front → result ≡ code_fault front byte }
     {
         if byte == 0 {
             return Some(MsgError::FieldCode);
@@ -215,7 +217,7 @@ impl<'a> Fields<'a> {
     /// The code of the next field, after its padding.
     #[tactic(auto, unfolding(crate::specs::Reading::code_at))]
     fn next_code(&self, cursor: &mut Cursor<'a>) -> Result<u8, MsgError>
-        ensures { (front : List Field) → shown self.now ≡ slots_of front → Reads (λ code. code) result cursor.new (code_at front cursor.old) }
+        ensures { (front : List Field) → slots_shown self.now ≡ slots_of front → Reads (λ code. code) result cursor.new (code_at front cursor.old) }
     {
         cursor.align(8)?;
         let code = cursor.byte()?;
@@ -241,7 +243,7 @@ impl<'a> Fields<'a> {
     /// Reads the fields of an array that begins at a place of the message.
     pub(crate) fn read(order: Order, place: usize, bytes: &'a [u8]) -> Result<Fields<'a>, MsgError>
         requires { place + length bytes.now ≤ 134217728 }
-        ensures read { Gives shown slots_of result (fields_from (length bytes.entry.now) order [] (inside place bytes.entry.now)) }
+        ensures read { Gives slots_shown slots_of result (fields_from (length bytes.entry.now) order [] (inside place bytes.entry.now)) }
         ensures lie { (front : List Field) → fields_from (length bytes.entry.now) order [] (inside place bytes.entry.now) ≡ Ok front → IfOk result (λ fields. AreExtents order place front (lying fields)) }
     {
         let mut fields = Fields::new();
@@ -254,7 +256,7 @@ impl<'a> Fields<'a> {
 
     /// The text of the body's signature; absent means empty.
     fn signature_text(&self) -> &'a str
-        ensures { (front : List Field) → shown self.now ≡ slots_of front → result.now ≡ signature_in front }
+        ensures { (front : List Field) → slots_shown self.now ≡ slots_of front → result.now ≡ signature_in front }
     {
         match self.text(FieldCode::Signature) {
             Some(text) => text,
@@ -264,9 +266,9 @@ impl<'a> Fields<'a> {
 
     /// The signature of the body, which was found to be one when its field was read.
     pub(crate) fn signature(&self) -> Signature<'a>
-        requires { (front : List Field) × (shown self.now ≡ slots_of front) × SigText (types_in front) (signature_in front) }
-        ensures { (front : List Field) → shown self.now ≡ slots_of front → SigText (types_in front) result }
+        requires { (front : List Field) × (slots_shown self.now ≡ slots_of front) × SigText (types_in front) (signature_in front) }
+        ensures { (front : List Field) → slots_shown self.now ≡ slots_of front → SigText (types_in front) result }
     {
-        Signature::checked(self.signature_text().as_bytes())
+        Signature::of_checked_text(self.signature_text().as_bytes())
     }
 }

@@ -2,7 +2,7 @@
 
 ghost use Rattle.std.specs.Prelude.{◌≡◌, ◌+◌, ◌<◌, ◌≤◌};
 ghost use Rattle.message_value.specs.Spelling.{padding};
-ghost use Rattle.message_view.specs.Words.{ReadsFixed};
+ghost use Rattle.message_view.specs.FixedAnswers.{ReadsFixed};
 
 use crate::kind::Kind;
 use message_value::{MsgError, Order, padding};

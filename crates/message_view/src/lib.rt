@@ -10,6 +10,7 @@ mod fixed;
 mod frame;
 mod kind;
 mod texts;
+mod valid_fields;
 mod view;
 
 pub use extent::{Extent, TextField};
@@ -17,4 +18,5 @@ pub use frame::frame_len;
 pub use kind::Kind;
 pub use message_value::{Arg, Args, MsgError, Order};
 pub use texts::{texts_of_arguments, texts_of_fields};
+pub use valid_fields::skip_field;
 pub use view::{View, one_message};

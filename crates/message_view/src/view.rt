@@ -2,13 +2,15 @@
 
 ghost use Rattle.std.specs.Prelude.{◌≡◌, ℕ, List, length, Some, Ok};
 ghost use Rattle.signature.specs.DataType.{DataTypes, SigText};
-ghost use Rattle.message_value.specs.Words.{AreBytes};
+ghost use Rattle.message_value.specs.Bytes.{AreBytes};
 ghost use Rattle.message_view.specs.Message.{Message, Field};
 ghost use Rattle.message_view.specs.Valid.{Valid};
 ghost use Rattle.message_view.specs.Fixed.{whole_len};
 ghost use Rattle.message_view.specs.Reading.{framed_message, header_fault, arguments_at};
 ghost use Rattle.message_view.specs.Slots.{slots_of};
-ghost use Rattle.message_view.specs.Words.{ReadsFixed, ReadsHeader, ReadsFramed, Passes, shown};
+ghost use Rattle.message_view.specs.HeaderAnswers.{HasHeader, ReadsHeader, ReadsFramed, Passes};
+ghost use Rattle.message_view.specs.FieldAnswers.{slots_shown};
+ghost use Rattle.message_view.specs.FixedAnswers.{ReadsFixed};
 
 use crate::extent::{Extent, TextField};
 use crate::field::FieldCode;
@@ -29,7 +31,7 @@ pub(crate) struct Sections<'a> {
 
 /// The fault of what lies between the fields and the body, if there is one.
 fn header_fault(kind: Kind, fields: &Fields<'_>, skipped: &[u8]) -> Option<MsgError>
-    ensures { (front : List Field) → shown fields.now ≡ slots_of front → result ≡ header_fault kind skipped.now front }
+    ensures { (front : List Field) → slots_shown fields.now ≡ slots_of front → result ≡ header_fault kind skipped.now front }
 {
     if !fields.has_required(kind) {
         Some(MsgError::FieldMissing)
@@ -81,8 +83,29 @@ fn split_sections<'a>(fixed: &Fixed, bytes: &'a [u8]) -> Result<Sections<'a>, Ms
     })
 }
 
+/// The fields and the body of a valid message whose fixed part was read. What was checked isn't looked at again.
+#[inline(always)]
+fn valid_sections<'a>(fixed: &Fixed, bytes: &'a [u8]) -> Sections<'a>
+    requires fixed { ReadsFixed (Ok (Some fixed.now)) bytes.now }
+    requires whole { length bytes.now ≡ whole_len bytes.now }
+    requires valid { (m : Message) × Valid bytes.now m }
+    ensures { HasHeader result fixed.now.kind bytes.entry.now }
+{
+    let fields_len = fixed.fields_len as usize;
+    let (_, after_fixed) = bytes.split_at(FIXED_LEN);
+    let (array, after_fields) = after_fixed.split_at(fields_len);
+    let (_, body) = after_fields.split_at(padding(8, fields_len));
+    let fields = Fields::of_valid(fixed.order, FIXED_LEN, array);
+    let signature = fields.signature();
+    Sections {
+        fields,
+        signature,
+        body,
+    }
+}
+
 /// The fields and the body of a message whose fixed part was read, and whose length is the one that it says.
-fn framed<'a>(fixed: &Fixed, bytes: &'a [u8]) -> Result<Sections<'a>, MsgError>
+fn sections_of_frame<'a>(fixed: &Fixed, bytes: &'a [u8]) -> Result<Sections<'a>, MsgError>
     requires fixed { ReadsFixed (Ok (Some fixed.now)) bytes.now }
     requires whole { length bytes.now ≡ whole_len bytes.now }
     ensures { ReadsFramed result fixed.now.kind bytes.entry.now (framed_message bytes.entry.now) }
@@ -120,13 +143,14 @@ impl<'a> Model for View<'a> {
     ghost use Rattle.std.specs.Prelude.{ℕ, List, map};
     ghost use Rattle.message_view.specs.Message.{text_in, number_in};
     ghost use Rattle.message_view.specs.Slots.{extents_in};
-    ghost use Rattle.message_view.specs.Words.{IsKept, shown, lying};
+    ghost use Rattle.message_view.specs.HeaderAnswers.{IsKept};
+    ghost use Rattle.message_view.specs.FieldAnswers.{slots_shown, lying};
 
     ghost Value = { List ℕ };
 
     ghost view = { λ v. v.bytes.now };
 
-    ghost invariant = { λ v. IsKept v.bytes.now v.body.now v.signature (record { order = v.order; kind = v.kind; flags = v.flags; serial = v.serial; texts = map text_in (shown v.fields); numbers = map number_in (shown v.fields); extents = extents_in (lying v.fields) }) };
+    ghost invariant = { λ v. IsKept v.bytes.now v.body.now v.signature (record { order = v.order; kind = v.kind; flags = v.flags; serial = v.serial; texts = map text_in (slots_shown v.fields); numbers = map number_in (slots_shown v.fields); extents = extents_in (lying v.fields) }) };
 }
 
 impl<'a> View<'a> {
@@ -137,7 +161,7 @@ impl<'a> View<'a> {
     ghost use Rattle.message_view.specs.Slots.{slot_of, slots_of};
     ghost use Rattle.message_view.specs.Spelling.{body_bytes, arguments_of};
     ghost use Rattle.message_view.specs.Places.{extent_of};
-    ghost use Rattle.message_view.specs.Words.{IsKept, ReadsView, kept_by};
+    ghost use Rattle.message_view.specs.HeaderAnswers.{IsKept, ReadsView, kept_by};
 
     /// The view of bytes whose parts these are.
     #[inline(always)]
@@ -171,7 +195,7 @@ impl<'a> View<'a> {
         if bytes.len() > len {
             return Err(MsgError::Trailing);
         }
-        let sections = framed(&fixed, bytes)?;
+        let sections = sections_of_frame(&fixed, bytes)?;
         Ok(View::of_sections(bytes, &fixed, sections))
     }
 
@@ -192,8 +216,8 @@ impl<'a> View<'a> {
         View::read_exactly(bytes)
     }
 
-    /// The view of bytes that are known to be one message, as those that were built or stamped here. Its header is read
-    /// again, and its body isn't: it takes the time of the header alone, whatever the body's length.
+    /// The view of bytes that are known to be one message, as those that were built or stamped here. It finds the header's
+    /// fields by their lengths, and looks neither at their texts again nor at the body.
     pub fn of_message(bytes: &'a [u8]) -> View<'a>
         requires { (m : Message) × Valid bytes.now m }
         ensures { result ≡ bytes.entry.now }
@@ -201,9 +225,7 @@ impl<'a> View<'a> {
         let Ok(Some(fixed)) = Fixed::read(bytes) else {
             unreachable!()
         };
-        let Ok(sections) = split_sections(&fixed, bytes) else {
-            unreachable!()
-        };
+        let sections = valid_sections(&fixed, bytes);
         View::of_sections(bytes, &fixed, sections)
     }
 

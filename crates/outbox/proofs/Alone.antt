@@ -5,7 +5,7 @@ use Rattle.std.proofs.lemmas.List.{map-append}
 use Rattle.outbox.specs.declared.rule.Item.{Item}
 use Rattle.outbox.specs.declared.rule.SeatView.{SeatView}
 use Rattle.outbox.specs.Counts.{Put, Rises, last_of, count_of, counts_by, count_from, counts_from, Names, PutAlone, InOrder}
-use Rattle.outbox.specs.Views.{item_of, known, Ordered, NamedAlone}
+use Rattle.outbox.specs.Views.{item_of, seat_known, Ordered, NamedAlone}
 use Rattle.outbox.proofs.Rising.{rises_lower}
 
 -- one more put, by cases on its mark, on whether it is the origin's, and on whether it is the seat's
@@ -62,13 +62,13 @@ same_counts origin seat [] alone names = refl
 same_counts origin seat (x ∷ xs) alone names = same_mark origin seat x.0 x.1.mark (counts_by seat xs) (counts_from origin (map item_of xs)) (same_counts origin seat xs alone.1 names.1) alone.0 names.0
 
 pub named_alone : (items : List Item) (views : List SeatView) (origin seat : ℕ) (h : Ordered items views) → NamedAlone origin seat views
-    → Rises 0 (counts_from origin (map item_of h.gone ++ items)) × (last_of 0 (counts_from origin (map item_of h.gone ++ items)) ≡ (known views seat).last)
+    → Rises 0 (counts_from origin (map item_of h.gone ++ items)) × (last_of 0 (counts_from origin (map item_of h.gone ++ items)) ≡ (seat_known views seat).last)
 named_alone items views origin seat h alone =
     let puts : List Put = h.gone ++ h.line in
     let whole : map item_of puts ≡ map item_of h.gone ++ items = map-append item_of h.gone h.line ∙ ap (λ l. map item_of h.gone ++ l) h.stands in
     let mine = h.fits seat in
-    let only : PutAlone origin seat puts = put_alone (λ q. (known views q).origin) origin seat puts (λ q. (h.fits q).names) alone.1 in
+    let only : PutAlone origin seat puts = put_alone (λ q. (seat_known views q).origin) origin seat puts (λ q. (h.fits q).names) alone.1 in
     let names : Names seat (Some origin) puts = let P : Option ℕ → Type 0 = λ o. Names seat o puts in subst P alone.0 mine.names in
     let same : counts_by seat puts ≡ counts_from origin (map item_of h.gone ++ items) = same_counts origin seat puts only names ∙ ap (counts_from origin) whole in
-    let P : List ℕ → Type 0 = λ l. Rises 0 l × (last_of 0 l ≡ (known views seat).last) in
+    let P : List ℕ → Type 0 = λ l. Rises 0 l × (last_of 0 l ≡ (seat_known views seat).last) in
     subst P same (mine.rises, mine.last_is)

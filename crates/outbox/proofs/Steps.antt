@@ -7,17 +7,18 @@ use Rattle.crossbeam_queue.specs.Fifo.{Pushes, Pops, Learns, Admits, Held}
 use Rattle.outbox.specs.declared.rule.Item.{Item}
 use Rattle.outbox.specs.declared.rule.SeatView.{SeatView}
 use Rattle.outbox.specs.Counts.{Put, Rises, last_of, count_of, counts_by, Names, InOrder, Among}
-use Rattle.outbox.specs.Views.{blank, item_of, known, Fits, Ordered, Follows, after_put, TakesNext}
+use Rattle.outbox.specs.Views.{blank, item_of, seat_known, Fits, Ordered, Follows, after_put}
+use Rattle.outbox.specs.Taking.{TakesNext}
 use Rattle.outbox.proofs.Rising.{rises_snoc, last_snoc, rises_front, counts_append, names_append, names_any, among_snoc, among_more, among_rises}
 
 -- what a seat in the list knows
-known_at : (views : List SeatView) (p : ℕ) (v : SeatView) → get_elem? views p ≡ some v → known views p ≡ v
+known_at : (views : List SeatView) (p : ℕ) (v : SeatView) → get_elem? views p ≡ some v → seat_known views p ≡ v
 known_at [] p v at = absurd (some-ne-none v (sym at))
 known_at (x ∷ xs) zero v at = some-injective x v at
 known_at (x ∷ xs) (suc p) v at = known_at xs p v at
 
 -- a fact of each seat, after one has changed
-each_set : (Q : ℕ → SeatView → Type 0) (views : List SeatView) (p : ℕ) (v w : SeatView) → get_elem? views p ≡ some v → Q p w → ((q : ℕ) → q ≢ p → Q q (known views q)) → (q : ℕ) → Q q (known (set views p w) q)
+each_set : (Q : ℕ → SeatView → Type 0) (views : List SeatView) (p : ℕ) (v w : SeatView) → get_elem? views p ≡ some v → Q p w → ((q : ℕ) → q ≢ p → Q q (seat_known views q)) → (q : ℕ) → Q q (seat_known (set views p w) q)
 each_set Q [] p v w at mine others q = absurd (some-ne-none v (sym at))
 each_set Q (x ∷ xs) zero v w at mine others zero = mine
 each_set Q (x ∷ xs) zero v w at mine others (suc q) = others (suc q) (λ e. omega (arith, e))
@@ -25,7 +26,7 @@ each_set Q (x ∷ xs) (suc p) v w at mine others zero = others zero (λ e. omega
 each_set Q (x ∷ xs) (suc p) v w at mine others (suc q) =
     let P : ℕ → SeatView → Type 0 = λ j u. Q (suc j) u in each_set P xs p v w at mine (λ j n. others (suc j) (λ e. n (omega (arith, e)))) q
 
-known_snoc : (views : List SeatView) (q : ℕ) → known (views ++ blank ∷ []) q ≡ known views q
+known_snoc : (views : List SeatView) (q : ℕ) → seat_known (views ++ blank ∷ []) q ≡ seat_known views q
 known_snoc [] zero = refl
 known_snoc [] (suc q) = refl
 known_snoc (x ∷ xs) zero = refl
@@ -92,13 +93,13 @@ puts n p v x may items views room h at =
     let mine : Fits p v all = let P : SeatView → Type 0 = λ u. Fits p u all in subst P (known_at views p v at) (h.fits p) in
     let took : Among v.taken h.gone = let P : SeatView → Type 0 = λ u. Among u.taken h.gone in subst P (known_at views p v at) (h.among p) in
     let took' : Among w.taken h.gone = let P : List Put → Type 0 = λ l. Among l h.gone in subst P (sym (taken_after v x.mark)) took in
-    let each = each_set Q views p v w at (fits_put p v x all x.mark refl may mine) (λ q n. fits_else q p (known views q) x all n (h.fits q)) in (
+    let each = each_set Q views p v w at (fits_put p v x all x.mark refl may mine) (λ q n. fits_else q p (seat_known views q) x all n (h.fits q)) in (
       w,
       record {
         gone = h.gone;
         line = h.line ++ (p, x) ∷ [];
         stands = map-append item_of h.line ((p, x) ∷ []) ∙ ap (λ l. l ++ x ∷ []) h.stands;
-        fits = λ q. let P : List Put → Type 0 = λ l. Fits q (known (set views p w) q) l in subst P (append_assoc h.gone h.line ((p, x) ∷ [])) (each q);
+        fits = λ q. let P : List Put → Type 0 = λ l. Fits q (seat_known (set views p w) q) l in subst P (append_assoc h.gone h.line ((p, x) ∷ [])) (each q);
         among = each_set A views p v w at took' (λ q n. h.among q);
       },
       refl,
@@ -107,11 +108,11 @@ puts n p v x may items views room h at =
 pub begins : Ordered [] (blank ∷ [])
 begins = record { gone = []; line = []; stands = refl; fits = λ q. begin_fits q; among = λ q. begin_among q }
   where
-    begin_fits : (q : ℕ) → Fits q (known (blank ∷ []) q) []
+    begin_fits : (q : ℕ) → Fits q (seat_known (blank ∷ []) q) []
     begin_fits zero = record { names = tt; rises = tt; last_is = refl }
     begin_fits (suc q) = record { names = tt; rises = tt; last_is = refl }
 
-    begin_among : (q : ℕ) → Among (known (blank ∷ []) q).taken []
+    begin_among : (q : ℕ) → Among (seat_known (blank ∷ []) q).taken []
     begin_among zero = tt
     begin_among (suc q) = tt
 
@@ -125,7 +126,7 @@ admits items views h = record {
 }
 
 -- the first of what stands is taken
-takes_first : (p : ℕ) (v : SeatView) (x : Item) (items : List Item) (views : List SeatView) (gone line : List Put) → get_elem? views p ≡ some v → map item_of line ≡ x ∷ items → ((q : ℕ) → Fits q (known views q) (gone ++ line)) → ((q : ℕ) → Among (known views q).taken gone)
+takes_first : (p : ℕ) (v : SeatView) (x : Item) (items : List Item) (views : List SeatView) (gone line : List Put) → get_elem? views p ≡ some v → map item_of line ≡ x ∷ items → ((q : ℕ) → Fits q (seat_known views q) (gone ++ line)) → ((q : ℕ) → Among (seat_known views q).taken gone)
     → (w : SeatView) × Ordered items (set views p w) × TakesNext v x w
 takes_first p v x items views gone [] at stands fits among = absurd (cc)
 takes_first p v x items views gone (y ∷ rest) at stands fits among =
@@ -135,7 +136,7 @@ takes_first p v x items views gone (y ∷ rest) at stands fits among =
     let taken : List Put = v.taken ++ z ∷ [] in
     let w : SeatView = record { origin = v.origin; last = v.last; taken = taken } in
     let whole : gone ++ y ∷ rest ≡ (gone ++ z ∷ []) ++ rest = ap (λ i. gone ++ (y.0, i) ∷ rest) first ∙ sym (append_assoc gone (z ∷ []) rest) in
-    let fits' : (q : ℕ) → Fits q (known views q) ((gone ++ z ∷ []) ++ rest) = λ q. let P : List Put → Type 0 = λ l. Fits q (known views q) l in subst P whole (fits q) in
+    let fits' : (q : ℕ) → Fits q (seat_known views q) ((gone ++ z ∷ []) ++ rest) = λ q. let P : List Put → Type 0 = λ l. Fits q (seat_known views q) l in subst P whole (fits q) in
     let Q : ℕ → SeatView → Type 0 = λ q u. Fits q u ((gone ++ z ∷ []) ++ rest) in
     let A : ℕ → SeatView → Type 0 = λ q u. Among u.taken (gone ++ z ∷ []) in
     let before : Fits p v ((gone ++ z ∷ []) ++ rest) = let P : SeatView → Type 0 = λ u. Fits p u ((gone ++ z ∷ []) ++ rest) in subst P (known_at views p v at) (fits' p) in
@@ -148,7 +149,7 @@ takes_first p v x items views gone (y ∷ rest) at stands fits among =
         line = rest;
         stands = others;
         fits = each_set Q views p v w at mine (λ q n. fits' q);
-        among = each_set A views p v w at took' (λ q n. among_more (known views q).taken gone z (among q));
+        among = each_set A views p v w at took' (λ q n. among_more (seat_known views q).taken gone z (among q));
       },
       (
         y.0,
@@ -166,8 +167,8 @@ learns p v items views h at = tt
 
 -- the list taken stays in order, whatever a take answers
 pub stays_in_order : (result : Option Item) (v w : SeatView) → MatchOption result ((w ≡ v) × Held 0 (λ (items : List Item). Unit {0})) (λ x. TakesNext v x w) → InOrder v.taken → InOrder w.taken
-stays_in_order None v w told order = let P : SeatView → Type 0 = λ u. InOrder u.taken in subst P (sym told.0) order
-stays_in_order (Some x) v w told order = told.2
+stays_in_order None v w evidence order = let P : SeatView → Type 0 = λ u. InOrder u.taken in subst P (sym evidence.0) order
+stays_in_order (Some x) v w evidence order = evidence.2
 
 -- a put takes nothing
 pub put_stays_in_order : (v w : SeatView) (mark : Option (ℕ × ℕ)) → w ≡ after_put v mark → InOrder v.taken → InOrder w.taken

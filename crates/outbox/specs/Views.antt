@@ -1,8 +1,8 @@
--- The rule of an outbox, over what stands in it and what each seat knows.
-use Rattle.std.specs.Prelude.{ℕ, ◌≡◌, ◌<◌, Option, Some, None, IfSome, List, [], ◌∷◌, ◌++◌, map, slice_index_or}
+-- The rule of an outbox, over what stands in it and what each seat knows (own).
+use Rattle.std.specs.Prelude.{ℕ, ◌≡◌, ◌<◌, Option, Some, None, IfSome, List, [], ◌++◌, map, slice_index_or}
 use Rattle.outbox.specs.declared.rule.Item.{Item}
 use Rattle.outbox.specs.declared.rule.SeatView.{SeatView}
-use Rattle.outbox.specs.Counts.{Put, Rises, last_of, counts_by, Names, InOrder, Among}
+use Rattle.outbox.specs.Counts.{Put, Rises, last_of, counts_by, Names, Among}
 
 -- a new seat's view: it names no origin and has put and taken nothing
 abbrev pub blank : SeatView
@@ -12,8 +12,8 @@ abbrev pub item_of : Put → Item
 item_of x = x.1
 
 -- what the seat with this number knows
-abbrev pub known : List SeatView → ℕ → SeatView
-known views seat = slice_index_or views seat blank
+abbrev pub seat_known : List SeatView → ℕ → SeatView
+seat_known views seat = slice_index_or views seat blank
 
 -- the seat's broadcasts are of the origin that it names, their counts rise strictly, and the last of them is the view's
 pub record Fits (seat : ℕ) (v : SeatView) (puts : List Put) : Type 0 where
@@ -26,8 +26,8 @@ pub record Ordered (items : List Item) (views : List SeatView) : Type 0 where
   pub gone : List Put
   pub line : List Put
   pub stands : map item_of line ≡ items
-  pub fits : (seat : ℕ) → Fits seat (known views seat) (gone ++ line)
-  pub among : (seat : ℕ) → Among (known views seat).taken gone
+  pub fits : (seat : ℕ) → Fits seat (seat_known views seat) (gone ++ line)
+  pub among : (seat : ℕ) → Among (seat_known views seat).taken gone
 
 -- the mark is of the origin that the seat names, if it names one, and its count is above the seat's last
 abbrev pub Follows : SeatView → Option (ℕ × ℕ) → Type 0
@@ -39,10 +39,6 @@ abbrev pub after_put : SeatView → Option (ℕ × ℕ) → SeatView
 after_put v None = v
 after_put v (Some m) = record { origin = Some m.0; last = m.1; taken = v.taken }
 
--- the list taken is longer by this item, which some seat put, and in order
-abbrev pub TakesNext : SeatView → Item → SeatView → Type 0
-TakesNext v x w = (seat : ℕ) × (w ≡ record { origin = v.origin; last = v.last; taken = v.taken ++ (seat, x) ∷ [] }) × InOrder w.taken
-
 -- this seat, and no other, names the origin
 abbrev pub NamedAlone : ℕ → ℕ → List SeatView → Type 0
-NamedAlone origin seat views = ((known views seat).origin ≡ Some origin) × ((other : ℕ) → (known views other).origin ≡ Some origin → other ≡ seat)
+NamedAlone origin seat views = ((seat_known views seat).origin ≡ Some origin) × ((other : ℕ) → (seat_known views other).origin ≡ Some origin → other ≡ seat)

@@ -4,7 +4,7 @@ ghost use Rattle.std.specs.Prelude.{ℕ, ◌≡◌, ◌++◌, List, map};
 ghost use Rattle.outbox.specs.declared.rule.Item.{Item};
 ghost use Rattle.outbox.specs.declared.rule.SeatView.{SeatView};
 ghost use Rattle.outbox.specs.Counts.{Put, Rises, last_of, counts_from, InOrder, PutAlone};
-ghost use Rattle.outbox.specs.Views.{Ordered, NamedAlone, known, item_of};
+ghost use Rattle.outbox.specs.Views.{Ordered, NamedAlone, seat_known, item_of};
 
 /// Where one seat alone put an origin's broadcasts, their counts rise strictly in the list taken: none is there twice.
 pub fn in_order_of_each_origin()
@@ -15,5 +15,5 @@ pub fn in_order_of_each_origin()
 /// and the last is that seat's.
 pub fn one_seat_alone()
     ensures { (items : List Item) (views : List SeatView) (origin seat : ℕ) (h : Ordered items views) → NamedAlone origin seat views
-        → Rises 0 (counts_from origin (map item_of h.gone ++ items)) × (last_of 0 (counts_from origin (map item_of h.gone ++ items)) ≡ (known views seat).last) }
+        → Rises 0 (counts_from origin (map item_of h.gone ++ items)) × (last_of 0 (counts_from origin (map item_of h.gone ++ items)) ≡ (seat_known views seat).last) }
 {}

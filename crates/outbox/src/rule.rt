@@ -49,7 +49,7 @@ impl Lesson<Item, SeatView> for Puts {
 pub struct Takes;
 
 impl Outcome<Item, SeatView> for Takes {
-    ghost use Rattle.outbox.specs.Views.{TakesNext};
+    ghost use Rattle.outbox.specs.Taking.{TakesNext};
 
     ghost then = { TakesNext };
 }

@@ -7,15 +7,15 @@ use Rattle.std.proofs.lemmas.Slice.Eq.{bytes_eq-Decides}
 use Rattle.owners.specs.declared.holding.Holding.{Holding}
 use Rattle.owners.specs.declared.claim.SlotClaim.{SlotClaim}
 use Rattle.owners.specs.Queues.{Claim}
-use Rattle.owners.specs.Kept.{name_at, shown, is_name, IsPlaced}
+use Rattle.owners.specs.Kept.{name_at, named_claim, is_name, IsPlaced}
 use Rattle.owners.proofs.Lists.{Each, Each-weaker, all-from_Each, map-same}
 use Rattle.owners.proofs.Placed.{Tells, same_name, held_slots, read_held, HeldAt, each_held}
 
 pub is_at : (slots : List (Option Holding)) (slot : ℕ) (name : List ℕ) → Tells slots slot name → (k : ℕ) (g : Holding) → slice_get slots k ≡ Some (Some g) → g.name ≡ name → k ≡ slot
 is_at slots slot name t k g f n =
-    let told = t.at k (ap is_name f) in
+    let evidence = t.at k (ap is_name f) in
     let named : bytes_eq (name_at (slice_get slots k)) name ≡ true = ap (λ o. bytes_eq (name_at o) name) f ∙ (bytes_eq-Decides g.name name).1 n in
-    eqb-true k slot (sym told ∙ named)
+    eqb-true k slot (sym evidence ∙ named)
 
 abbrev AtOrElse : List (Option Holding) → List (Option Holding) → ℕ → List ℕ → ℕ → ℕ → Type 0
 AtOrElse slots after slot name rules k =
@@ -38,8 +38,8 @@ unique_by claims slots after p slot name rules t i j h g (inr a) (inr b) e f n =
 
 named_by : (slots after : List (Option Holding)) (slot : ℕ) (name : List ℕ) (rules : ℕ) → Tells slots slot name → (k : ℕ) → AtOrElse slots after slot name rules k → is_name (slice_get slots k) ≡ true → (is_name (slice_get after k) ≡ true) × (name_at (slice_get after k) ≡ name_at (slice_get slots k))
 named_by slots after slot name rules t k (inl a) e =
-    let told = t.at k e in
-    let here : bytes_eq (name_at (slice_get slots k)) name ≡ true = told ∙ eq-eqb k slot a.0 in
+    let evidence = t.at k e in
+    let here : bytes_eq (name_at (slice_get slots k)) name ≡ true = evidence ∙ eq-eqb k slot a.0 in
     (ap is_name a.1, ap name_at a.1 ∙ sym (same_name (name_at (slice_get slots k)) name here))
 named_by slots after slot name rules t k (inr b) e = (ap is_name b.1 ∙ e, ap name_at b.1)
 
@@ -52,10 +52,10 @@ each_held_still slots slot name rules fits t claims e =
     Each-weaker (HeldAt slots) (HeldAt (held_slots slots slot name rules)) (λ (c : SlotClaim) (h : HeldAt slots c). (named_still slots slot name rules fits t c.slot h).0) claims e
 
 -- the claims are on the same names
-pub shown_still : (slots : List (Option Holding)) (slot : ℕ) (name : List ℕ) (rules : ℕ) → slot < length slots → Tells slots slot name → (claims : List SlotClaim) → Each (HeldAt slots) claims → map (shown (held_slots slots slot name rules)) claims ≡ map (shown slots) claims
+pub shown_still : (slots : List (Option Holding)) (slot : ℕ) (name : List ℕ) (rules : ℕ) → slot < length slots → Tells slots slot name → (claims : List SlotClaim) → Each (HeldAt slots) claims → map (named_claim (held_slots slots slot name rules)) claims ≡ map (named_claim slots) claims
 shown_still slots slot name rules fits t claims e =
     let after = held_slots slots slot name rules in
-    map-same (shown after) (shown slots) claims (Each-weaker (HeldAt slots) (λ (c : SlotClaim). shown after c ≡ shown slots c) (λ (c : SlotClaim) (h : HeldAt slots c). ap (λ (n : List ℕ). let x : Claim = record { name = n; connection = c.connection; flags = c.flags } in x) (named_still slots slot name rules fits t c.slot h).1) claims e)
+    map-same (named_claim after) (named_claim slots) claims (Each-weaker (HeldAt slots) (λ (c : SlotClaim). named_claim after c ≡ named_claim slots c) (λ (c : SlotClaim) (h : HeldAt slots c). ap (λ (n : List ℕ). let x : Claim = record { name = n; connection = c.connection; flags = c.flags } in x) (named_still slots slot name rules fits t c.slot h).1) claims e)
 
 pub placed_still : (claims : List SlotClaim) (slots : List (Option Holding)) → IsPlaced claims slots → (slot : ℕ) (name : List ℕ) (rules : ℕ) → slot < length slots → Tells slots slot name → IsPlaced claims (held_slots slots slot name rules)
 placed_still claims slots p slot name rules fits t = record {

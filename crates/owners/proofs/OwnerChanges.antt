@@ -5,7 +5,7 @@ use Rattle.std.proofs.Common.{refl, ap, ◌∙◌}
 use Rattle.std.proofs.lemmas.Bool.{eq-eqb}
 use Rattle.owners.specs.declared.answer.Change.{Change}
 use Rattle.owners.specs.declared.answer.NameReply.TheVariants.{PrimaryOwner, InQueue, Exists, AlreadyOwner}
-use Rattle.owners.specs.Queues.{Claim, is_on, is_claim, owner_of, has_flag, may_replace, do_not_queue, has_claim, with_flags, with_last, without, replaced, requested, requested_by, request_reply, first_claim}
+use Rattle.owners.specs.Queues.{Claim, is_on, is_claim, owner_of, has_flag, may_replace, do_not_queue, has_claim, with_flags, with_last, without, after_replacement, after_requesting, requested_by, request_reply, first_claim}
 use Rattle.owners.specs.Registry.{change_of, change_between}
 use Rattle.owners.specs.Kept.{change_for}
 use Rattle.owners.proofs.Lists.{Each-always, and_false, find-map, find-filter, find-append_none, find-append_some}
@@ -69,7 +69,7 @@ a_change name m n e = by (nat_eq m n) e
 -- the cases of a request to a name that has an owner
 by_tests : (name : List ℕ) (connection flags : ℕ) (claims : List Claim) (owner : Claim) → find (is_on name) claims ≡ Some owner → (same replaces leaves waits : Bool) → (owner.connection == connection) ≡ same → change_of name (Some owner.connection) (owner_of name (
     if same then with_flags name connection flags claims
-    else if replaces then replaced owner name connection flags claims
+    else if replaces then after_replacement owner name connection flags claims
     else if leaves then without name connection claims
     else if waits then with_flags name connection flags claims
     else with_last name connection flags claims))
@@ -92,5 +92,5 @@ by_first name connection flags claims (Some owner) e =
     by_tests name connection flags claims owner e (owner.connection == connection) (may_replace owner flags) (has_flag flags do_not_queue) (has_claim name connection claims) refl
 
 -- the change that a request makes is told by its reply
-pub request_changes : (name : List ℕ) (connection flags : ℕ) (claims : List Claim) → change_between name claims (requested name connection flags claims) ≡ change_for name (request_reply (first_claim name claims) connection flags) (owner_of name claims) connection
+pub request_changes : (name : List ℕ) (connection flags : ℕ) (claims : List Claim) → change_between name claims (after_requesting name connection flags claims) ≡ change_for name (request_reply (first_claim name claims) connection flags) (owner_of name claims) connection
 request_changes name connection flags claims = by_first name connection flags claims (find (is_on name) claims) refl

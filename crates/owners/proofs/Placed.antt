@@ -10,7 +10,7 @@ use Rattle.owners.specs.declared.holding.Holding.{Holding}
 use Rattle.owners.specs.declared.claim.SlotClaim.{SlotClaim}
 use Rattle.owners.specs.Queues.{is_on, is_claim}
 use Rattle.owners.specs.Registry.{is_held_by, slot_of, slot_next, first_free, or_else, rules_at, rules_in, rules_of}
-use Rattle.owners.specs.Kept.{name_at, shown, is_name, is_on_slot, is_slot_claim, are_held, IsPlaced}
+use Rattle.owners.specs.Kept.{name_at, named_claim, is_name, is_on_slot, is_slot_claim, are_held, IsPlaced}
 use Rattle.owners.proofs.Lists.{Each, Each-from_all, Each-weaker, found, finds, slice_get-set_same, slice_get-set_other}
 
 pub same_name : (a b : List ℕ) → bytes_eq a b ≡ true → a ≡ b
@@ -119,13 +119,13 @@ pub each_held : (claims : List SlotClaim) (slots : List (Option Holding)) → ar
 each_held claims slots e = Each-from_all (λ (c : SlotClaim). is_name (slice_get slots c.slot)) (HeldAt slots) (λ c h. h) claims e
 
 -- the tests of claims by name and by slot agree
-pub on_agrees : (slots : List (Option Holding)) (slot : ℕ) (name : List ℕ) → Tells slots slot name → (claims : List SlotClaim) → Each (HeldAt slots) claims → Each (λ c. is_on name (shown slots c) ≡ is_on_slot slot c) claims
+pub on_agrees : (slots : List (Option Holding)) (slot : ℕ) (name : List ℕ) → Tells slots slot name → (claims : List SlotClaim) → Each (HeldAt slots) claims → Each (λ c. is_on name (named_claim slots c) ≡ is_on_slot slot c) claims
 on_agrees slots slot name t claims e =
-    Each-weaker (HeldAt slots) (λ (c : SlotClaim). is_on name (shown slots c) ≡ is_on_slot slot c) (λ c h. t.at c.slot h) claims e
+    Each-weaker (HeldAt slots) (λ (c : SlotClaim). is_on name (named_claim slots c) ≡ is_on_slot slot c) (λ c h. t.at c.slot h) claims e
 
-pub claim_agrees : (slots : List (Option Holding)) (slot connection : ℕ) (name : List ℕ) → Tells slots slot name → (claims : List SlotClaim) → Each (HeldAt slots) claims → Each (λ c. is_claim name connection (shown slots c) ≡ is_slot_claim slot connection c) claims
+pub claim_agrees : (slots : List (Option Holding)) (slot connection : ℕ) (name : List ℕ) → Tells slots slot name → (claims : List SlotClaim) → Each (HeldAt slots) claims → Each (λ c. is_claim name connection (named_claim slots c) ≡ is_slot_claim slot connection c) claims
 claim_agrees slots slot connection name t claims e =
-    Each-weaker (HeldAt slots) (λ (c : SlotClaim). is_claim name connection (shown slots c) ≡ is_slot_claim slot connection c) (λ c h. ap (λ b. b && (c.connection == connection)) (t.at c.slot h)) claims e
+    Each-weaker (HeldAt slots) (λ (c : SlotClaim). is_claim name connection (named_claim slots c) ≡ is_slot_claim slot connection c) (λ c h. ap (λ b. b && (c.connection == connection)) (t.at c.slot h)) claims e
 
 -- ---- a slot is given to a name, or its rules are counted anew
 

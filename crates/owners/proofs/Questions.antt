@@ -9,7 +9,7 @@ use Rattle.owners.specs.declared.holding.Holding.{Holding}
 use Rattle.owners.specs.declared.claim.SlotClaim.{SlotClaim}
 use Rattle.owners.specs.Queues.{queue_of, is_on, Claim, is_of}
 use Rattle.owners.specs.Registry.{lesser, least, least_of, next_name, is_after, is_owned_slot, is_owned_holding, max_names, slot_of, rules_at, rules_in, rules_of, slot_next, first_free, or_else}
-use Rattle.owners.specs.Kept.{slot_queue, shown, registry, is_name, is_on_slot, is_by, slot_owner, claim_name, are_slots, IsKept}
+use Rattle.owners.specs.Kept.{slot_queue, named_claim, registry, is_name, is_on_slot, is_by, slot_owner, claim_name, are_slots, IsKept}
 use Rattle.owners.proofs.Lists.{Each, Each-weaker, Each-always, all-from_Each, filter-map, map-map}
 use Rattle.owners.proofs.Placed.{Tells, on_agrees, tells_own, HeldAt, each_held, no_slot_number}
 use Rattle.owners.proofs.Steps.{owner_shown}
@@ -35,7 +35,7 @@ no_owner : (k connection : ℕ) (slots : List (Option Holding)) (claims : List S
 no_owner k connection slots claims held n =
     sym (ap (λ (o : Option SlotClaim). option_eq nat_eq (option_map (λ (c : SlotClaim). c.connection) o) (Some connection)) (find_none k claims (Each-weaker (HeldAt slots) (λ (c : SlotClaim). is_on_slot k c ≡ false) (no_claim_on k slots n) claims held)))
 
-owned_by : (claims : List SlotClaim) (slots : List (Option Holding)) → IsKept claims slots → (connection k : ℕ) (o : Option (Option Holding)) → slice_get slots k ≡ o → is_owned_holding connection (map (shown slots) claims) o ≡ option_eq nat_eq (slot_owner k claims) (Some connection)
+owned_by : (claims : List SlotClaim) (slots : List (Option Holding)) → IsKept claims slots → (connection k : ℕ) (o : Option (Option Holding)) → slice_get slots k ≡ o → is_owned_holding connection (map (named_claim slots) claims) o ≡ option_eq nat_eq (slot_owner k claims) (Some connection)
 owned_by claims slots p connection k None e = no_owner k connection slots claims (each_held claims slots p.placed.held) (ap is_name e)
 owned_by claims slots p connection k (Some None) e = no_owner k connection slots claims (each_held claims slots p.placed.held) (ap is_name e)
 owned_by claims slots p connection k (Some (Some h)) e =
@@ -58,10 +58,10 @@ slots_fit slots size claims e =
 
 -- ---- the queue of a name
 
-pub queue_shown : (slots : List (Option Holding)) (slot : ℕ) (name : List ℕ) → Tells slots slot name → (claims : List SlotClaim) → Each (HeldAt slots) claims → slot_queue slot claims ≡ queue_of name (map (shown slots) claims)
+pub queue_shown : (slots : List (Option Holding)) (slot : ℕ) (name : List ℕ) → Tells slots slot name → (claims : List SlotClaim) → Each (HeldAt slots) claims → slot_queue slot claims ≡ queue_of name (map (named_claim slots) claims)
 queue_shown slots slot name t claims e =
-    sym (ap (map (λ (c : Claim). c.connection)) (filter-map (is_on name) (is_on_slot slot) (shown slots) claims (on_agrees slots slot name t claims e))
-    ∙ map-map (λ (c : Claim). c.connection) (shown slots) (filter (is_on_slot slot) claims))
+    sym (ap (map (λ (c : Claim). c.connection)) (filter-map (is_on name) (is_on_slot slot) (named_claim slots) claims (on_agrees slots slot name t claims e))
+    ∙ map-map (λ (c : Claim). c.connection) (named_claim slots) (filter (is_on_slot slot) claims))
 
 -- ---- the rules of a name
 
@@ -84,14 +84,14 @@ known_is_next slots name slot e h = known_by slots name slot (slot_of name slots
 
 -- ---- the least name
 
-pub least_shown : (claims : List SlotClaim) (slots : List (Option Holding)) (connection : ℕ) → least (map (claim_name slots) (filter (is_by connection) claims)) ≡ least_of connection (map (shown slots) claims)
+pub least_shown : (claims : List SlotClaim) (slots : List (Option Holding)) (connection : ℕ) → least (map (claim_name slots) (filter (is_by connection) claims)) ≡ least_of connection (map (named_claim slots) claims)
 least_shown claims slots connection =
-    ap least (sym (ap (map (λ (c : Claim). c.name)) (filter-map (is_of connection) (is_by connection) (shown slots) claims (Each-always (λ (c : SlotClaim). is_of connection (shown slots c) ≡ is_by connection c) (λ c. refl) claims))
-    ∙ map-map (λ (c : Claim). c.name) (shown slots) (filter (is_by connection) claims)))
+    ap least (sym (ap (map (λ (c : Claim). c.name)) (filter-map (is_of connection) (is_by connection) (named_claim slots) claims (Each-always (λ (c : SlotClaim). is_of connection (named_claim slots c) ≡ is_by connection c) (λ c. refl) claims))
+    ∙ map-map (λ (c : Claim). c.name) (named_claim slots) (filter (is_by connection) claims)))
 
-pub next_shown : (claims : List SlotClaim) (slots : List (Option Holding)) (other : Option (List ℕ)) → least (map (claim_name slots) (filter (λ c. is_after other (claim_name slots c)) claims)) ≡ next_name other (map (shown slots) claims)
+pub next_shown : (claims : List SlotClaim) (slots : List (Option Holding)) (other : Option (List ℕ)) → least (map (claim_name slots) (filter (λ c. is_after other (claim_name slots c)) claims)) ≡ next_name other (map (named_claim slots) claims)
 next_shown claims slots other =
-    ap least (sym (ap (filter (is_after other)) (map-map (λ (c : Claim). c.name) (shown slots) claims)
+    ap least (sym (ap (filter (is_after other)) (map-map (λ (c : Claim). c.name) (named_claim slots) claims)
     ∙ filter-map (is_after other) (λ (c : SlotClaim). is_after other (claim_name slots c)) (claim_name slots) claims (Each-always (λ (c : SlotClaim). is_after other (claim_name slots c) ≡ is_after other (claim_name slots c)) (λ c. refl) claims)))
 
 least_by : (b : Bool) (f : SlotClaim → List ℕ) (x : SlotClaim) (xs : List SlotClaim) → least (map f (cond b (x ∷ xs) xs)) ≡ (if b then lesser (f x) (least (map f xs)) else least (map f xs))

@@ -9,29 +9,29 @@ use Rattle.owners.specs.declared.holding.Holding.{Holding}
 use Rattle.owners.specs.declared.claim.SlotClaim.{SlotClaim}
 use Rattle.owners.specs.declared.step.Step.{Step}
 use Rattle.owners.specs.declared.step.Step.TheVariants as steps
-use Rattle.owners.specs.Queues.{Claim, is_on, is_claim, has_flag, may_replace, do_not_queue, with_flags, with_last, without, requested, requested_by}
+use Rattle.owners.specs.Queues.{Claim, is_on, is_claim, has_flag, may_replace, do_not_queue, with_flags, with_last, without, after_requesting, requested_by}
 use Rattle.owners.specs.Registry.{max_claims}
-use Rattle.owners.specs.Kept.{shown, name_at, is_on_slot, is_slot_claim, slot_without, slot_with_flags, without_owner, step_of, step_done, is_over}
+use Rattle.owners.specs.Kept.{named_claim, name_at, is_on_slot, is_slot_claim, slot_without, slot_with_flags, without_owner, step_of, step_done, is_over}
 use Rattle.owners.proofs.Lists.{Each, Each-weaker, Each-filter, or_right, filter-map, find-map, any-map, map-map_same, length-filter-le, length-without, without_none, length-map}
 use Rattle.owners.proofs.Placed.{Tells, HeldAt, on_agrees, claim_agrees}
 
 -- ---- each change, before and after the names are shown
 
-pub without_shown : (slots : List (Option Holding)) (slot connection : ℕ) (name : List ℕ) → Tells slots slot name → (claims : List SlotClaim) → Each (HeldAt slots) claims → map (shown slots) (slot_without slot connection claims) ≡ without name connection (map (shown slots) claims)
+pub without_shown : (slots : List (Option Holding)) (slot connection : ℕ) (name : List ℕ) → Tells slots slot name → (claims : List SlotClaim) → Each (HeldAt slots) claims → map (named_claim slots) (slot_without slot connection claims) ≡ without name connection (map (named_claim slots) claims)
 without_shown slots slot connection name t claims e =
-    sym (filter-map (λ (c : Claim). not (is_claim name connection c)) (λ (c : SlotClaim). not (is_slot_claim slot connection c)) (shown slots) claims
-    (Each-weaker (λ (c : SlotClaim). is_claim name connection (shown slots c) ≡ is_slot_claim slot connection c) (λ (c : SlotClaim). not (is_claim name connection (shown slots c)) ≡ not (is_slot_claim slot connection c)) (λ c h. ap not h) claims (claim_agrees slots slot connection name t claims e)))
+    sym (filter-map (λ (c : Claim). not (is_claim name connection c)) (λ (c : SlotClaim). not (is_slot_claim slot connection c)) (named_claim slots) claims
+    (Each-weaker (λ (c : SlotClaim). is_claim name connection (named_claim slots c) ≡ is_slot_claim slot connection c) (λ (c : SlotClaim). not (is_claim name connection (named_claim slots c)) ≡ not (is_slot_claim slot connection c)) (λ c h. ap not h) claims (claim_agrees slots slot connection name t claims e)))
 
-flagged_shown : (slots : List (Option Holding)) (flags : ℕ) (c : SlotClaim) (b : Bool) → shown slots (if b then record c { flags = flags } else c) ≡ (if b then record (shown slots c) { flags = flags } else shown slots c)
+flagged_shown : (slots : List (Option Holding)) (flags : ℕ) (c : SlotClaim) (b : Bool) → named_claim slots (if b then record c { flags = flags } else c) ≡ (if b then record (named_claim slots c) { flags = flags } else named_claim slots c)
 flagged_shown slots flags c true = refl
 flagged_shown slots flags c false = refl
 
-flags_shown : (slots : List (Option Holding)) (slot connection flags : ℕ) (name : List ℕ) → Tells slots slot name → (claims : List SlotClaim) → Each (HeldAt slots) claims → map (shown slots) (slot_with_flags slot connection flags claims) ≡ with_flags name connection flags (map (shown slots) claims)
+flags_shown : (slots : List (Option Holding)) (slot connection flags : ℕ) (name : List ℕ) → Tells slots slot name → (claims : List SlotClaim) → Each (HeldAt slots) claims → map (named_claim slots) (slot_with_flags slot connection flags claims) ≡ with_flags name connection flags (map (named_claim slots) claims)
 flags_shown slots slot connection flags name t claims e =
-    map-map_same (shown slots) (λ (c : SlotClaim). if is_slot_claim slot connection c then record c { flags = flags } else c) (λ (c : Claim). if is_claim name connection c then record c { flags = flags } else c) claims
-    (Each-weaker (λ (c : SlotClaim). is_claim name connection (shown slots c) ≡ is_slot_claim slot connection c) (λ (c : SlotClaim). shown slots (if is_slot_claim slot connection c then record c { flags = flags } else c) ≡ (if is_claim name connection (shown slots c) then record (shown slots c) { flags = flags } else shown slots c)) (λ c h. flagged_shown slots flags c (is_slot_claim slot connection c) ∙ ap (λ b. if b then record (shown slots c) { flags = flags } else shown slots c) (sym h)) claims (claim_agrees slots slot connection name t claims e))
+    map-map_same (named_claim slots) (λ (c : SlotClaim). if is_slot_claim slot connection c then record c { flags = flags } else c) (λ (c : Claim). if is_claim name connection c then record c { flags = flags } else c) claims
+    (Each-weaker (λ (c : SlotClaim). is_claim name connection (named_claim slots c) ≡ is_slot_claim slot connection c) (λ (c : SlotClaim). named_claim slots (if is_slot_claim slot connection c then record c { flags = flags } else c) ≡ (if is_claim name connection (named_claim slots c) then record (named_claim slots c) { flags = flags } else named_claim slots c)) (λ c h. flagged_shown slots flags c (is_slot_claim slot connection c) ∙ ap (λ b. if b then record (named_claim slots c) { flags = flags } else named_claim slots c) (sym h)) claims (claim_agrees slots slot connection name t claims e))
 
-leaving_shown : (slots : List (Option Holding)) (slot owner : ℕ) (name : List ℕ) → Tells slots slot name → (claims : List SlotClaim) → Each (HeldAt slots) claims → (b : Bool) → map (shown slots) (without_owner (if b then Some owner else None) slot claims) ≡ (if b then without name owner (map (shown slots) claims) else map (shown slots) claims)
+leaving_shown : (slots : List (Option Holding)) (slot owner : ℕ) (name : List ℕ) → Tells slots slot name → (claims : List SlotClaim) → Each (HeldAt slots) claims → (b : Bool) → map (named_claim slots) (without_owner (if b then Some owner else None) slot claims) ≡ (if b then without name owner (map (named_claim slots) claims) else map (named_claim slots) claims)
 leaving_shown slots slot owner name t claims e true = without_shown slots slot owner name t claims e
 leaving_shown slots slot owner name t claims e false = refl
 
@@ -46,45 +46,45 @@ IsShownAs slots claim name = name_at (slice_get slots claim.slot) ≡ name
 abbrev named : List ℕ → SlotClaim → Claim
 named name claim = record { name = name; connection = claim.connection; flags = claim.flags }
 
-claim_shown : (slots : List (Option Holding)) (claim : SlotClaim) (name : List ℕ) → IsShownAs slots claim name → shown slots claim ≡ named name claim
+claim_shown : (slots : List (Option Holding)) (claim : SlotClaim) (name : List ℕ) → IsShownAs slots claim name → named_claim slots claim ≡ named name claim
 claim_shown slots claim name s = ap (λ (n : List ℕ). named n claim) s
 
-last_shown : (slots : List (Option Holding)) (claim : SlotClaim) (name : List ℕ) → IsShownAs slots claim name → (claims : List SlotClaim) → map (shown slots) (claims ++ claim ∷ []) ≡ map (shown slots) claims ++ named name claim ∷ []
+last_shown : (slots : List (Option Holding)) (claim : SlotClaim) (name : List ℕ) → IsShownAs slots claim name → (claims : List SlotClaim) → map (named_claim slots) (claims ++ claim ∷ []) ≡ map (named_claim slots) claims ++ named name claim ∷ []
 last_shown slots claim name s claims =
-    map-append (shown slots) claims (claim ∷ []) ∙ ap (λ (c : Claim). map (shown slots) claims ++ c ∷ []) (claim_shown slots claim name s)
+    map-append (named_claim slots) claims (claim ∷ []) ∙ ap (λ (c : Claim). map (named_claim slots) claims ++ c ∷ []) (claim_shown slots claim name s)
 
 by_tests : (slots : List (Option Holding)) (claim : SlotClaim) (name : List ℕ) → Tells slots claim.slot name → IsShownAs slots claim name → (claims : List SlotClaim) → Each (HeldAt slots) claims → (owner : ℕ) → (same replaces leaves quits waits : Bool) →
-    map (shown slots) (step_done (if same then steps.SetFlags else if replaces then steps.Replace (if quits then Some owner else None) else if leaves then steps.Remove else if waits then steps.SetFlags else steps.PutLast) claim claims)
-    ≡ (if same then with_flags name claim.connection claim.flags (map (shown slots) claims)
-    else if replaces then named name claim ∷ without name claim.connection (if quits then without name owner (map (shown slots) claims) else map (shown slots) claims)
-    else if leaves then without name claim.connection (map (shown slots) claims)
-    else if waits then with_flags name claim.connection claim.flags (map (shown slots) claims)
-    else with_last name claim.connection claim.flags (map (shown slots) claims))
+    map (named_claim slots) (step_done (if same then steps.SetFlags else if replaces then steps.Replace (if quits then Some owner else None) else if leaves then steps.Remove else if waits then steps.SetFlags else steps.PutLast) claim claims)
+    ≡ (if same then with_flags name claim.connection claim.flags (map (named_claim slots) claims)
+    else if replaces then named name claim ∷ without name claim.connection (if quits then without name owner (map (named_claim slots) claims) else map (named_claim slots) claims)
+    else if leaves then without name claim.connection (map (named_claim slots) claims)
+    else if waits then with_flags name claim.connection claim.flags (map (named_claim slots) claims)
+    else with_last name claim.connection claim.flags (map (named_claim slots) claims))
 by_tests slots claim name t s claims e owner true replaces leaves quits waits = flags_shown slots claim.slot claim.connection claim.flags name t claims e
 by_tests slots claim name t s claims e owner false true leaves quits waits =
     let left = without_owner (if quits then Some owner else None) claim.slot claims in
-    ap (λ (c : Claim). c ∷ map (shown slots) (slot_without claim.slot claim.connection left)) (claim_shown slots claim name s)
+    ap (λ (c : Claim). c ∷ map (named_claim slots) (slot_without claim.slot claim.connection left)) (claim_shown slots claim name s)
     ∙ ap (λ (l : List Claim). named name claim ∷ l) (without_shown slots claim.slot claim.connection name t left (leaving_held slots claim.slot owner claims e quits) ∙ ap (without name claim.connection) (leaving_shown slots claim.slot owner name t claims e quits))
 by_tests slots claim name t s claims e owner false false true quits waits = without_shown slots claim.slot claim.connection name t claims e
 by_tests slots claim name t s claims e owner false false false quits true = flags_shown slots claim.slot claim.connection claim.flags name t claims e
 by_tests slots claim name t s claims e owner false false false quits false = last_shown slots claim name s claims
 
 by_first : (slots : List (Option Holding)) (claim : SlotClaim) (name : List ℕ) → Tells slots claim.slot name → IsShownAs slots claim name → (claims : List SlotClaim) → Each (HeldAt slots) claims → (o : Option SlotClaim) →
-    map (shown slots) (step_done (step_of o (list_any (is_slot_claim claim.slot claim.connection) claims) claim.connection claim.flags) claim claims) ≡ requested_by (option_map (shown slots) o) name claim.connection claim.flags (map (shown slots) claims)
+    map (named_claim slots) (step_done (step_of o (list_any (is_slot_claim claim.slot claim.connection) claims) claim.connection claim.flags) claim claims) ≡ requested_by (option_map (named_claim slots) o) name claim.connection claim.flags (map (named_claim slots) claims)
 by_first slots claim name t s claims e None = last_shown slots claim name s claims
 by_first slots claim name t s claims e (Some owner) =
-    rw (any-map (is_claim name claim.connection) (is_slot_claim claim.slot claim.connection) (shown slots) claims (claim_agrees slots claim.slot claim.connection name t claims e))
-    (by_tests slots claim name t s claims e owner.connection (owner.connection == claim.connection) (may_replace (shown slots owner) claim.flags) (has_flag claim.flags do_not_queue) (has_flag owner.flags do_not_queue) (list_any (is_slot_claim claim.slot claim.connection) claims))
+    rw (any-map (is_claim name claim.connection) (is_slot_claim claim.slot claim.connection) (named_claim slots) claims (claim_agrees slots claim.slot claim.connection name t claims e))
+    (by_tests slots claim name t s claims e owner.connection (owner.connection == claim.connection) (may_replace (named_claim slots owner) claim.flags) (has_flag claim.flags do_not_queue) (has_flag owner.flags do_not_queue) (list_any (is_slot_claim claim.slot claim.connection) claims))
 
 -- the step that is done for a claim on the slot
 abbrev pub step_for : SlotClaim → List SlotClaim → Step
 step_for claim claims =
     step_of (find (is_on_slot claim.slot) claims) (list_any (is_slot_claim claim.slot claim.connection) claims) claim.connection claim.flags
 
-pub step_shown : (slots : List (Option Holding)) (claim : SlotClaim) (name : List ℕ) → Tells slots claim.slot name → IsShownAs slots claim name → (claims : List SlotClaim) → Each (HeldAt slots) claims → map (shown slots) (step_done (step_for claim claims) claim claims) ≡ requested name claim.connection claim.flags (map (shown slots) claims)
+pub step_shown : (slots : List (Option Holding)) (claim : SlotClaim) (name : List ℕ) → Tells slots claim.slot name → IsShownAs slots claim name → (claims : List SlotClaim) → Each (HeldAt slots) claims → map (named_claim slots) (step_done (step_for claim claims) claim claims) ≡ after_requesting name claim.connection claim.flags (map (named_claim slots) claims)
 step_shown slots claim name t s claims e =
     by_first slots claim name t s claims e (find (is_on_slot claim.slot) claims)
-    ∙ ap (λ o. requested_by o name claim.connection claim.flags (map (shown slots) claims)) (sym (find-map (is_on name) (is_on_slot claim.slot) (shown slots) claims (on_agrees slots claim.slot name t claims e)))
+    ∙ ap (λ o. requested_by o name claim.connection claim.flags (map (named_claim slots) claims)) (sym (find-map (is_on name) (is_on_slot claim.slot) (named_claim slots) claims (on_agrees slots claim.slot name t claims e)))
 
 -- ---- how many claims there are after it
 

@@ -7,8 +7,8 @@ use Rattle.std.proofs.lemmas.Option.{slice_get-map}
 use Rattle.owners.specs.declared.holding.Holding.{Holding}
 use Rattle.owners.specs.declared.claim.SlotClaim.{SlotClaim}
 use Rattle.owners.specs.Queues.{Claim, is_on}
-use Rattle.owners.specs.Registry.{Registry, IsRegistry, is_held_by, is_unused, kept, settled, slot_of, max_claims}
-use Rattle.owners.specs.Kept.{name_at, shown, registry, is_name, is_on_slot, kept_at, IsPlaced, IsKept}
+use Rattle.owners.specs.Registry.{Registry, IsRegistry, is_held_by, is_unused, kept_slot, settle_slots, slot_of, max_claims}
+use Rattle.owners.specs.Kept.{name_at, named_claim, registry, is_name, is_on_slot, kept_at, IsPlaced, IsKept}
 use Rattle.owners.proofs.Lists.{Each, Each-weaker, Each-both, Each-any, Each-map, all-from_Each, and_false, any-map, map-same, finds, length-map, same_elements}
 use Rattle.owners.proofs.Placed.{tells_own, HeldAt, each_held, holds_name, name_same, slot_holds, on_agrees}
 
@@ -24,19 +24,19 @@ let_go_by claims slots after claimed size marks at = record {
 }
 
 -- a claim on a name is one on its slot
-claimed_as : (placed claims : List SlotClaim) (slots : List (Option Holding)) → IsPlaced placed slots → Each (HeldAt slots) claims → (k : ℕ) (h : Holding) → slice_get slots k ≡ Some (Some h) → list_any (is_on h.name) (map (shown slots) claims) ≡ list_any (is_on_slot k) claims
+claimed_as : (placed claims : List SlotClaim) (slots : List (Option Holding)) → IsPlaced placed slots → Each (HeldAt slots) claims → (k : ℕ) (h : Holding) → slice_get slots k ≡ Some (Some h) → list_any (is_on h.name) (map (named_claim slots) claims) ≡ list_any (is_on_slot k) claims
 claimed_as placed claims slots p held k h e =
-    any-map (is_on h.name) (is_on_slot k) (shown slots) claims (on_agrees slots k h.name (tells_own placed slots p k h h.name e refl) claims held)
+    any-map (is_on h.name) (is_on_slot k) (named_claim slots) claims (on_agrees slots k h.name (tells_own placed slots p k h h.name e refl) claims held)
 
-kept_by : (placed claims : List SlotClaim) (slots : List (Option Holding)) → IsPlaced placed slots → Each (HeldAt slots) claims → (k : ℕ) (o : Option (Option Holding)) → slice_get slots k ≡ o → option_map (kept (map (shown slots) claims)) o ≡ kept_at (list_any (is_on_slot k) claims) o
+kept_by : (placed claims : List SlotClaim) (slots : List (Option Holding)) → IsPlaced placed slots → Each (HeldAt slots) claims → (k : ℕ) (o : Option (Option Holding)) → slice_get slots k ≡ o → option_map (kept_slot (map (named_claim slots) claims)) o ≡ kept_at (list_any (is_on_slot k) claims) o
 kept_by placed claims slots p held k None e = refl
 kept_by placed claims slots p held k (Some None) e = refl
 kept_by placed claims slots p held k (Some (Some h)) e =
     ap (λ (b : Bool). Some (if is_unused b (Some h) then None else Some h)) (claimed_as placed claims slots p held k h e)
 
-let_go_kept : (placed claims : List SlotClaim) (slots after : List (Option Holding)) → IsPlaced placed slots → Each (HeldAt slots) claims → AreLetGo claims slots after → map (kept (map (shown slots) claims)) slots ≡ after
+let_go_kept : (placed claims : List SlotClaim) (slots after : List (Option Holding)) → IsPlaced placed slots → Each (HeldAt slots) claims → AreLetGo claims slots after → map (kept_slot (map (named_claim slots) claims)) slots ≡ after
 let_go_kept placed claims slots after p held g =
-    same_elements (map (kept (map (shown slots) claims)) slots) after (λ k. slice_get-map (kept (map (shown slots) claims)) slots k ∙ kept_by placed claims slots p held k (slice_get slots k) refl ∙ sym (g.at k))
+    same_elements (map (kept_slot (map (named_claim slots) claims)) slots) after (λ k. slice_get-map (kept_slot (map (named_claim slots) claims)) slots k ∙ kept_by placed claims slots p held k (slice_get slots k) refl ∙ sym (g.at k))
 
 claimed_stays : (c : Bool) (h : Holding) (o : Option (Option Holding)) → c ≡ true → o ≡ Some (Some h) → kept_at c o ≡ o
 claimed_stays c h o t e =
@@ -80,11 +80,11 @@ let_go_is_kept placed claims slots after p fits held g = record {
   used = λ k h e. (held_before claims slots after g k h e).1;
 }
 
-pub let_go_registry : (placed claims : List SlotClaim) (slots after : List (Option Holding)) → IsPlaced placed slots → Each (HeldAt slots) claims → AreLetGo claims slots after → registry claims after ≡ settled (map (shown slots) claims) slots
+pub let_go_registry : (placed claims : List SlotClaim) (slots after : List (Option Holding)) → IsPlaced placed slots → Each (HeldAt slots) claims → AreLetGo claims slots after → registry claims after ≡ settle_slots (map (named_claim slots) claims) slots
 let_go_registry placed claims slots after p held g =
-    let same_claims = map-same (shown after) (shown slots) claims (Each-weaker (λ (c : SlotClaim). slice_get after c.slot ≡ slice_get slots c.slot) (λ (c : SlotClaim). shown after c ≡ shown slots c) (λ (c : SlotClaim) (h : slice_get after c.slot ≡ slice_get slots c.slot). ap (λ (o : Option (Option Holding)). let x : Claim = record { name = name_at o; connection = c.connection; flags = c.flags } in x) h) claims (each_stays claims slots after held g)) in
+    let same_claims = map-same (named_claim after) (named_claim slots) claims (Each-weaker (λ (c : SlotClaim). slice_get after c.slot ≡ slice_get slots c.slot) (λ (c : SlotClaim). named_claim after c ≡ named_claim slots c) (λ (c : SlotClaim) (h : slice_get after c.slot ≡ slice_get slots c.slot). ap (λ (o : Option (Option Holding)). let x : Claim = record { name = name_at o; connection = c.connection; flags = c.flags } in x) h) claims (each_stays claims slots after held g)) in
     ap (λ (l : List Claim). let r : Registry = record { claims = l; slots = after } in r) same_claims
-    ∙ ap (λ (l : List (Option Holding)). let r : Registry = record { claims = map (shown slots) claims; slots = l } in r) (sym (let_go_kept placed claims slots after p held g))
+    ∙ ap (λ (l : List (Option Holding)). let r : Registry = record { claims = map (named_claim slots) claims; slots = l } in r) (sym (let_go_kept placed claims slots after p held g))
 
 -- ---- what holds of kept claims holds of those on names
 
@@ -99,7 +99,7 @@ has_slot_of claims slots p c e =
     let r = holds_name (slice_get slots c.slot) e in
     ap (λ (o : Option (Option Holding)). is_some (slot_of (name_at o) slots)) r.1 ∙ ap is_some (own_slot claims slots p c.slot r.0 r.1)
 
-used_by : (claims : List SlotClaim) (slots : List (Option Holding)) → IsKept claims slots → (k : ℕ) (o : Option (Option Holding)) → slice_get slots k ≡ o → option_map (kept (map (shown slots) claims)) o ≡ o
+used_by : (claims : List SlotClaim) (slots : List (Option Holding)) → IsKept claims slots → (k : ℕ) (o : Option (Option Holding)) → slice_get slots k ≡ o → option_map (kept_slot (map (named_claim slots) claims)) o ≡ o
 used_by claims slots p k None e = refl
 used_by claims slots p k (Some None) e = refl
 used_by claims slots p k (Some (Some h)) e =
@@ -111,8 +111,8 @@ kept_is_registry claims slots p =
     let held = each_held claims slots p.placed.held in
     record {
       slots = p.placed.count;
-      claims = omega (arith, p.placed.fits, length-map (shown slots) claims);
+      claims = omega (arith, p.placed.fits, length-map (named_claim slots) claims);
       own_slot = own_slot claims slots p.placed;
-      claimed = all-from_Each (λ (c : Claim). is_some (slot_of c.name slots)) (map (shown slots) claims) (Each-map (λ (c : Claim). is_some (slot_of c.name slots) ≡ true) (shown slots) claims (Each-weaker (HeldAt slots) (λ (c : SlotClaim). is_some (slot_of (name_at (slice_get slots c.slot)) slots) ≡ true) (has_slot_of claims slots p.placed) claims held));
-      used = same_elements (map (kept (map (shown slots) claims)) slots) slots (λ k. slice_get-map (kept (map (shown slots) claims)) slots k ∙ used_by claims slots p k (slice_get slots k) refl);
+      claimed = all-from_Each (λ (c : Claim). is_some (slot_of c.name slots)) (map (named_claim slots) claims) (Each-map (λ (c : Claim). is_some (slot_of c.name slots) ≡ true) (named_claim slots) claims (Each-weaker (HeldAt slots) (λ (c : SlotClaim). is_some (slot_of (name_at (slice_get slots c.slot)) slots) ≡ true) (has_slot_of claims slots p.placed) claims held));
+      used = same_elements (map (kept_slot (map (named_claim slots) claims)) slots) slots (λ k. slice_get-map (kept_slot (map (named_claim slots) claims)) slots k ∙ used_by claims slots p k (slice_get slots k) refl);
     }

@@ -12,9 +12,9 @@ use Rattle.owners.specs.declared.error.ClaimError.TheVariants.{NamesFull, QueueF
 use Rattle.owners.specs.declared.answer.Named.{Named}
 use Rattle.owners.specs.declared.answer.NameReply.{NameReply}
 use Rattle.owners.specs.declared.answer.NameReply.TheVariants.{Released, NonExistent, NotOwner}
-use Rattle.owners.specs.Queues.{Claim, is_on, is_of, is_claim, owner_of, requested, request_reply, release_reply, first_claim, without, has_claim}
-use Rattle.owners.specs.Registry.{Registry, settled, slot_next, with_rules, put_at, rules_of, rules_at, is_unused, max_claims, request_answer, after_request, release_answer, after_release, after_drop_all, after_slot_for, after_slot_free, change_of, change_between}
-use Rattle.owners.specs.Kept.{name_at, shown, registry, is_name, is_on_slot, is_by, is_slot_claim, slot_without, without_owner, step_done, is_over, reply_of, change_for, slot_owner, slot_release_answer, AreUsed, IsKept}
+use Rattle.owners.specs.Queues.{Claim, is_on, is_of, is_claim, owner_of, after_requesting, request_reply, release_reply, first_claim, without, has_claim}
+use Rattle.owners.specs.Registry.{Registry, settle_slots, slot_next, with_rules, put_at, rules_of, rules_at, is_unused, max_claims, request_answer, after_request, release_answer, after_release, after_drop_all, after_slot_for, after_slot_free, change_of, change_between}
+use Rattle.owners.specs.Kept.{name_at, named_claim, registry, is_name, is_on_slot, is_by, is_slot_claim, slot_without, without_owner, step_done, is_over, reply_of, change_for, slot_owner, slot_release_answer, AreUsed, IsKept}
 use Rattle.owners.proofs.Lists.{Each, Each-weaker, Each-always, Each-filter, Each-append, Each-map, all-from_Each, filter-map, find-map, any-map, length-map, length-filter-le, slice_get-set_same}
 use Rattle.owners.proofs.Placed.{Tells, tells_own, next_tells, HeldAt, each_held, on_agrees, claim_agrees, held_slots, read_held}
 use Rattle.owners.proofs.HeldSlots.{placed_still, each_held_still, shown_still}
@@ -44,18 +44,18 @@ done_held slots (steps.Replace leaving) claim claims h e =
 
 pub request_done : (claims : List SlotClaim) (slots : List (Option Holding)) → IsKept claims slots → (claim : SlotClaim) (name : List ℕ) (rules : ℕ) → slot_next name slots ≡ Some claim.slot → length (step_done (step_for claim claims) claim claims) ≤ max_claims →
     IsKept (step_done (step_for claim claims) claim claims) (held_slots slots claim.slot name rules)
-    × (registry (step_done (step_for claim claims) claim claims) (held_slots slots claim.slot name rules) ≡ record { claims = requested name claim.connection claim.flags (map (shown slots) claims); slots = with_rules name rules slots })
+    × (registry (step_done (step_for claim claims) claim claims) (held_slots slots claim.slot name rules) ≡ record { claims = after_requesting name claim.connection claim.flags (map (named_claim slots) claims); slots = with_rules name rules slots })
 request_done claims slots p claim name rules n fits =
-    let told = next_tells claims slots p.placed name claim.slot n in
+    let evidence = next_tells claims slots p.placed name claim.slot n in
     let after = held_slots slots claim.slot name rules in
     let done = step_done (step_for claim claims) claim claims in
     let new : Holding = record { name = name; rules = rules } in
-    let at : slice_get after claim.slot ≡ Some (Some new) = slice_get-set_same slots claim.slot (Some new) told.1 in
+    let at : slice_get after claim.slot ≡ Some (Some new) = slice_get-set_same slots claim.slot (Some new) evidence.1 in
     let held = each_held claims slots p.placed.held in
-    let held_after = each_held_still slots claim.slot name rules told.1 told.0 claims held in
-    let placed_after = placed_still claims slots p.placed claim.slot name rules told.1 told.0 in
+    let held_after = each_held_still slots claim.slot name rules evidence.1 evidence.0 claims held in
+    let placed_after = placed_still claims slots p.placed claim.slot name rules evidence.1 evidence.0 in
     let told_after = tells_own claims after placed_after claim.slot new name at refl in
-    let same = step_shown after claim name told_after (ap name_at at) claims held_after ∙ ap (requested name claim.connection claim.flags) (shown_still slots claim.slot name rules told.1 told.0 claims held) in
+    let same = step_shown after claim name told_after (ap name_at at) claims held_after ∙ ap (after_requesting name claim.connection claim.flags) (shown_still slots claim.slot name rules evidence.1 evidence.0 claims held) in
     let same_slots : after ≡ with_rules name rules slots = ap (λ (o : Option ℕ). put_at o name rules slots) (sym n) in (
       record {
         placed = record {
@@ -64,21 +64,21 @@ request_done claims slots p claim name rules n fits =
           unique = placed_after.unique;
           held = all-from_Each (λ (c : SlotClaim). is_name (slice_get after c.slot)) done (done_held after (step_for claim claims) claim claims (ap is_name at) held_after);
         };
-        used = used_after claims slots p.used claim name rules told.1;
+        used = used_after claims slots p.used claim name rules evidence.1;
       },
       ap (λ (l : List Claim). let r : Registry = record { claims = l; slots = after } in r) same
-          ∙ ap (λ (l : List (Option Holding)). let r : Registry = record { claims = requested name claim.connection claim.flags (map (shown slots) claims); slots = l } in r) same_slots,
+          ∙ ap (λ (l : List (Option Holding)). let r : Registry = record { claims = after_requesting name claim.connection claim.flags (map (named_claim slots) claims); slots = l } in r) same_slots,
     )
 
-pub owner_shown : (slots : List (Option Holding)) (slot : ℕ) (name : List ℕ) → Tells slots slot name → (claims : List SlotClaim) → Each (HeldAt slots) claims → owner_of name (map (shown slots) claims) ≡ slot_owner slot claims
+pub owner_shown : (slots : List (Option Holding)) (slot : ℕ) (name : List ℕ) → Tells slots slot name → (claims : List SlotClaim) → Each (HeldAt slots) claims → owner_of name (map (named_claim slots) claims) ≡ slot_owner slot claims
 owner_shown slots slot name t claims e =
-    ap (option_map (λ (c : Claim). c.connection)) (find-map (is_on name) (is_on_slot slot) (shown slots) claims (on_agrees slots slot name t claims e)) ∙ by (find (is_on_slot slot) claims)
+    ap (option_map (λ (c : Claim). c.connection)) (find-map (is_on name) (is_on_slot slot) (named_claim slots) claims (on_agrees slots slot name t claims e)) ∙ by (find (is_on_slot slot) claims)
   where
-    by : (o : Option SlotClaim) → option_map (λ (c : Claim). c.connection) (option_map (shown slots) o) ≡ option_map (λ (c : SlotClaim). c.connection) o
+    by : (o : Option SlotClaim) → option_map (λ (c : Claim). c.connection) (option_map (named_claim slots) o) ≡ option_map (λ (c : SlotClaim). c.connection) o
     by None = refl
     by (Some c) = refl
 
-reply_shown : (slots : List (Option Holding)) (o : Option SlotClaim) (connection flags : ℕ) → request_reply (option_map (shown slots) o) connection flags ≡ reply_of o connection flags
+reply_shown : (slots : List (Option Holding)) (o : Option SlotClaim) (connection flags : ℕ) → request_reply (option_map (named_claim slots) o) connection flags ≡ reply_of o connection flags
 reply_shown slots None connection flags = refl
 reply_shown slots (Some owner) connection flags = refl
 
@@ -89,47 +89,47 @@ answer_by n slot e over named = rw e refl
 pub request_answered : (claims : List SlotClaim) (slots : List (Option Holding)) → IsKept claims slots → (claim : SlotClaim) (name : List ℕ) → slot_next name slots ≡ Some claim.slot → (over : Bool) → is_over (step_for claim claims) (list_any (is_slot_claim claim.slot claim.connection) claims) (length claims) ≡ over →
     request_answer name claim.connection claim.flags (registry claims slots) ≡ (if over then Err QueueFull else Ok (record { answer = reply_of (find (is_on_slot claim.slot) claims) claim.connection claim.flags; change = change_for name (reply_of (find (is_on_slot claim.slot) claims) claim.connection claim.flags) (slot_owner claim.slot claims) claim.connection }))
 request_answered claims slots p claim name n over o =
-    let told = next_tells claims slots p.placed name claim.slot n in
+    let evidence = next_tells claims slots p.placed name claim.slot n in
     let after = held_slots slots claim.slot name 0 in
     let new : Holding = record { name = name; rules = 0 } in
-    let at : slice_get after claim.slot ≡ Some (Some new) = slice_get-set_same slots claim.slot (Some new) told.1 in
+    let at : slice_get after claim.slot ≡ Some (Some new) = slice_get-set_same slots claim.slot (Some new) evidence.1 in
     let held = each_held claims slots p.placed.held in
-    let names = map (shown slots) claims in
+    let names = map (named_claim slots) claims in
     let connection = claim.connection in
     let flags = claim.flags in
-    let held_after = each_held_still slots claim.slot name 0 told.1 told.0 claims held in
-    let placed_after = placed_still claims slots p.placed claim.slot name 0 told.1 told.0 in
+    let held_after = each_held_still slots claim.slot name 0 evidence.1 evidence.0 claims held in
+    let placed_after = placed_still claims slots p.placed claim.slot name 0 evidence.1 evidence.0 in
     let told_after = tells_own claims after placed_after claim.slot new name at refl in
-    let same = step_shown after claim name told_after (ap name_at at) claims held_after ∙ ap (requested name connection flags) (shown_still slots claim.slot name 0 told.1 told.0 claims held) in
-    let length_is : length (requested name connection flags names) ≡ length (step_done (step_for claim claims) claim claims) = ap length (sym same) ∙ length-map (shown after) (step_done (step_for claim claims) claim claims) in
-    let over_is : nat_lt max_claims (length (requested name connection flags names)) ≡ over = ap (nat_lt max_claims) length_is ∙ step_fits claim claims p.placed.fits ∙ o in
+    let same = step_shown after claim name told_after (ap name_at at) claims held_after ∙ ap (after_requesting name connection flags) (shown_still slots claim.slot name 0 evidence.1 evidence.0 claims held) in
+    let length_is : length (after_requesting name connection flags names) ≡ length (step_done (step_for claim claims) claim claims) = ap length (sym same) ∙ length-map (named_claim after) (step_done (step_for claim claims) claim claims) in
+    let over_is : nat_lt max_claims (length (after_requesting name connection flags names)) ≡ over = ap (nat_lt max_claims) length_is ∙ step_fits claim claims p.placed.fits ∙ o in
     let reply_is : request_reply (first_claim name names) connection flags ≡ reply_of (find (is_on_slot claim.slot) claims) connection flags =
-    ap (λ (f : Option Claim). request_reply f connection flags) (find-map (is_on name) (is_on_slot claim.slot) (shown slots) claims (on_agrees slots claim.slot name told.0 claims held)) ∙ reply_shown slots (find (is_on_slot claim.slot) claims) connection flags in
-    let change_is : change_between name names (requested name connection flags names) ≡ change_for name (reply_of (find (is_on_slot claim.slot) claims) connection flags) (slot_owner claim.slot claims) connection =
+    ap (λ (f : Option Claim). request_reply f connection flags) (find-map (is_on name) (is_on_slot claim.slot) (named_claim slots) claims (on_agrees slots claim.slot name evidence.0 claims held)) ∙ reply_shown slots (find (is_on_slot claim.slot) claims) connection flags in
+    let change_is : change_between name names (after_requesting name connection flags names) ≡ change_for name (reply_of (find (is_on_slot claim.slot) claims) connection flags) (slot_owner claim.slot claims) connection =
     request_changes name connection flags names
     ∙ ap (λ (r : NameReply). change_for name r (owner_of name names) connection) reply_is
-    ∙ ap (λ (old : Option ℕ). change_for name (reply_of (find (is_on_slot claim.slot) claims) connection flags) old connection) (owner_shown slots claim.slot name told.0 claims held) in
-    let named_is : _ = ap (λ (r : NameReply). let x : Named = record { answer = r; change = change_between name names (requested name connection flags names) } in x) reply_is in
-    answer_by (slot_next name slots) claim.slot n (nat_lt max_claims (length (requested name connection flags names))) (record { answer = request_reply (first_claim name names) connection flags; change = change_between name names (requested name connection flags names) })
-    ∙ ap (λ (b : Bool). if b then Err QueueFull else Ok (let x : Named = record { answer = request_reply (first_claim name names) connection flags; change = change_between name names (requested name connection flags names) } in x)) over_is
-    ∙ ap (λ (r : NameReply). if over then Err QueueFull else Ok (let x : Named = record { answer = r; change = change_between name names (requested name connection flags names) } in x)) reply_is
+    ∙ ap (λ (old : Option ℕ). change_for name (reply_of (find (is_on_slot claim.slot) claims) connection flags) old connection) (owner_shown slots claim.slot name evidence.0 claims held) in
+    let named_is : _ = ap (λ (r : NameReply). let x : Named = record { answer = r; change = change_between name names (after_requesting name connection flags names) } in x) reply_is in
+    answer_by (slot_next name slots) claim.slot n (nat_lt max_claims (length (after_requesting name connection flags names))) (record { answer = request_reply (first_claim name names) connection flags; change = change_between name names (after_requesting name connection flags names) })
+    ∙ ap (λ (b : Bool). if b then Err QueueFull else Ok (let x : Named = record { answer = request_reply (first_claim name names) connection flags; change = change_between name names (after_requesting name connection flags names) } in x)) over_is
+    ∙ ap (λ (r : NameReply). if over then Err QueueFull else Ok (let x : Named = record { answer = r; change = change_between name names (after_requesting name connection flags names) } in x)) reply_is
     ∙ ap (λ c. if over then Err QueueFull else Ok (let x : Named = record { answer = reply_of (find (is_on_slot claim.slot) claims) connection flags; change = c } in x)) change_is
 
 pub request_refused : (claims : List SlotClaim) (slots : List (Option Holding)) (name : List ℕ) (connection flags : ℕ) → slot_next name slots ≡ None → request_answer name connection flags (registry claims slots) ≡ Err NamesFull
 request_refused claims slots name connection flags n = rw n refl
 
 -- the names after a request that is accepted
-pub request_after : (name : List ℕ) (connection flags : ℕ) (names : Registry) (named : Named) → request_answer name connection flags names ≡ Ok named → after_request name connection flags names ≡ record { claims = requested name connection flags names.claims; slots = with_rules name (rules_of name names.slots) names.slots }
+pub request_after : (name : List ℕ) (connection flags : ℕ) (names : Registry) (named : Named) → request_answer name connection flags names ≡ Ok named → after_request name connection flags names ≡ record { claims = after_requesting name connection flags names.claims; slots = with_rules name (rules_of name names.slots) names.slots }
 request_after name connection flags names named e = by (request_answer name connection flags names) e
   where
-    by : (r : Result Named ClaimError) → r ≡ Ok named → (if is_ok r then (let x : Registry = record { claims = requested name connection flags names.claims; slots = with_rules name (rules_of name names.slots) names.slots } in x) else names) ≡ record { claims = requested name connection flags names.claims; slots = with_rules name (rules_of name names.slots) names.slots }
+    by : (r : Result Named ClaimError) → r ≡ Ok named → (if is_ok r then (let x : Registry = record { claims = after_requesting name connection flags names.claims; slots = with_rules name (rules_of name names.slots) names.slots } in x) else names) ≡ record { claims = after_requesting name connection flags names.claims; slots = with_rules name (rules_of name names.slots) names.slots }
     by (Ok n) f = refl
     by (Err n) f = absurd cc
 
 pub refused_after : (name : List ℕ) (connection flags : ℕ) (names : Registry) (error : ClaimError) → request_answer name connection flags names ≡ Err error → after_request name connection flags names ≡ names
 refused_after name connection flags names error e = by (request_answer name connection flags names) e
   where
-    by : (r : Result Named ClaimError) → r ≡ Err error → (if is_ok r then (let x : Registry = record { claims = requested name connection flags names.claims; slots = with_rules name (rules_of name names.slots) names.slots } in x) else names) ≡ names
+    by : (r : Result Named ClaimError) → r ≡ Err error → (if is_ok r then (let x : Registry = record { claims = after_requesting name connection flags names.claims; slots = with_rules name (rules_of name names.slots) names.slots } in x) else names) ≡ names
     by (Ok n) f = absurd cc
     by (Err n) f = refl
 
@@ -138,9 +138,9 @@ refused_after name connection flags names error e = by (request_answer name conn
 pub release_shown : (claims : List SlotClaim) (slots : List (Option Holding)) → IsKept claims slots → (slot connection : ℕ) (name : List ℕ) → Tells slots slot name → slot_release_answer slot name connection claims ≡ release_answer name connection (registry claims slots)
 release_shown claims slots p slot connection name t =
     let held = each_held claims slots p.placed.held in
-    let names = map (shown slots) claims in
-    let has_is : has_claim name connection names ≡ list_any (is_slot_claim slot connection) claims = any-map (is_claim name connection) (is_slot_claim slot connection) (shown slots) claims (claim_agrees slots slot connection name t claims held) in
-    let some_is : is_some (first_claim name names) ≡ is_some (find (is_on_slot slot) claims) = ap is_some (find-map (is_on name) (is_on_slot slot) (shown slots) claims (on_agrees slots slot name t claims held)) ∙ some_map (find (is_on_slot slot) claims) in
+    let names = map (named_claim slots) claims in
+    let has_is : has_claim name connection names ≡ list_any (is_slot_claim slot connection) claims = any-map (is_claim name connection) (is_slot_claim slot connection) (named_claim slots) claims (claim_agrees slots slot connection name t claims held) in
+    let some_is : is_some (first_claim name names) ≡ is_some (find (is_on_slot slot) claims) = ap is_some (find-map (is_on name) (is_on_slot slot) (named_claim slots) claims (on_agrees slots slot name t claims held)) ∙ some_map (find (is_on_slot slot) claims) in
     let old_is = owner_shown slots slot name t claims held in
     let without_is = without_shown slots slot connection name t claims held in
     let new_is : owner_of name (without name connection names) ≡ slot_owner slot (slot_without slot connection claims) =
@@ -150,7 +150,7 @@ release_shown claims slots p slot connection name t =
     ∙ ap (λ (o : Option ℕ). let x : Named = record { answer = release_reply name connection names; change = change_of name o (slot_owner slot (slot_without slot connection claims)) } in x) (sym old_is)
     ∙ ap (λ (o : Option ℕ). let x : Named = record { answer = release_reply name connection names; change = change_of name (owner_of name names) o } in x) (sym new_is)
   where
-    some_map : (o : Option SlotClaim) → is_some (option_map (shown slots) o) ≡ is_some o
+    some_map : (o : Option SlotClaim) → is_some (option_map (named_claim slots) o) ≡ is_some o
     some_map None = refl
     some_map (Some c) = refl
 
@@ -162,7 +162,7 @@ release_done claims slots after p slot connection name t g =
     let fewer = length-filter-le (λ (c : SlotClaim). not (is_slot_claim slot connection c)) claims in (
       let_go_is_kept claims (slot_without slot connection claims) slots after p.placed (omega (arith, fewer, p.placed.fits)) left g,
       let_go_registry claims (slot_without slot connection claims) slots after p.placed left g
-          ∙ ap (λ (l : List Claim). settled l slots) (without_shown slots slot connection name t claims held),
+          ∙ ap (λ (l : List Claim). settle_slots l slots) (without_shown slots slot connection name t claims held),
     )
 
 pub drop_all_done : (claims : List SlotClaim) (slots after : List (Option Holding)) → IsKept claims slots → (connection : ℕ) → AreLetGo (filter (λ c. not (is_by connection c)) claims) slots after →
@@ -171,10 +171,10 @@ drop_all_done claims slots after p connection g =
     let held = each_held claims slots p.placed.held in
     let left = Each-filter (HeldAt slots) (λ (c : SlotClaim). not (is_by connection c)) claims held in
     let fewer = length-filter-le (λ (c : SlotClaim). not (is_by connection c)) claims in
-    let same = filter-map (λ (c : Claim). not (is_of connection c)) (λ (c : SlotClaim). not (is_by connection c)) (shown slots) claims (Each-always (λ (c : SlotClaim). not (is_of connection (shown slots c)) ≡ not (is_by connection c)) (λ c. refl) claims) in (
+    let same = filter-map (λ (c : Claim). not (is_of connection c)) (λ (c : SlotClaim). not (is_by connection c)) (named_claim slots) claims (Each-always (λ (c : SlotClaim). not (is_of connection (named_claim slots c)) ≡ not (is_by connection c)) (λ c. refl) claims) in (
       let_go_is_kept claims (filter (λ c. not (is_by connection c)) claims) slots after p.placed (omega (arith, fewer, p.placed.fits)) left g,
       let_go_registry claims (filter (λ c. not (is_by connection c)) claims) slots after p.placed left g
-          ∙ ap (λ (l : List Claim). settled l slots) (sym same),
+          ∙ ap (λ (l : List Claim). settle_slots l slots) (sym same),
     )
 
 -- ---- rules
@@ -197,31 +197,31 @@ used_counted claims slots after u slot name rules k h (inr b) e = u k h (sym b.1
 pub slot_for_done : (claims : List SlotClaim) (slots : List (Option Holding)) → IsKept claims slots → (slot : ℕ) (name : List ℕ) → slot_next name slots ≡ Some slot →
     IsKept claims (held_slots slots slot name (rules_at (slice_get slots slot) + 1)) × (registry claims (held_slots slots slot name (rules_at (slice_get slots slot) + 1)) ≡ after_slot_for name (registry claims slots))
 slot_for_done claims slots p slot name n =
-    let told = next_tells claims slots p.placed name slot n in
+    let evidence = next_tells claims slots p.placed name slot n in
     let rules = rules_at (slice_get slots slot) in
     let after = held_slots slots slot name (rules + 1) in
     let held = each_held claims slots p.placed.held in
-    let same_slots : after ≡ with_rules name (rules_of name slots + 1) slots = ap (λ (r : ℕ). held_slots slots slot name (r + 1)) (sym told.2) ∙ ap (λ (o : Option ℕ). put_at o name (rules_of name slots + 1) slots) (sym n) in (
+    let same_slots : after ≡ with_rules name (rules_of name slots + 1) slots = ap (λ (r : ℕ). held_slots slots slot name (r + 1)) (sym evidence.2) ∙ ap (λ (o : Option ℕ). put_at o name (rules_of name slots + 1) slots) (sym n) in (
       record {
-        placed = placed_still claims slots p.placed slot name (rules + 1) told.1 told.0;
-        used = λ k h e. used_counted claims slots after p.used slot name rules k h (read_held slots slot name (rules + 1) told.1 k) e;
+        placed = placed_still claims slots p.placed slot name (rules + 1) evidence.1 evidence.0;
+        used = λ k h e. used_counted claims slots after p.used slot name rules k h (read_held slots slot name (rules + 1) evidence.1 k) e;
       },
-      ap (λ (l : List Claim). let r : Registry = record { claims = l; slots = after } in r) (shown_still slots slot name (rules + 1) told.1 told.0 claims held)
-          ∙ ap (λ (l : List (Option Holding)). let r : Registry = record { claims = map (shown slots) claims; slots = l } in r) same_slots,
+      ap (λ (l : List Claim). let r : Registry = record { claims = l; slots = after } in r) (shown_still slots slot name (rules + 1) evidence.1 evidence.0 claims held)
+          ∙ ap (λ (l : List (Option Holding)). let r : Registry = record { claims = map (named_claim slots) claims; slots = l } in r) same_slots,
     )
 
 pub slot_free_done : (claims : List SlotClaim) (slots after : List (Option Holding)) → IsKept claims slots → (slot : ℕ) (name : List ℕ) → slot_next name slots ≡ Some slot → AreLetGo claims (held_slots slots slot name (rules_at (slice_get slots slot) - 1)) after →
     IsKept claims after × (registry claims after ≡ after_slot_free name (registry claims slots))
 slot_free_done claims slots after p slot name n g =
-    let told = next_tells claims slots p.placed name slot n in
+    let evidence = next_tells claims slots p.placed name slot n in
     let rules = rules_at (slice_get slots slot) in
     let between = held_slots slots slot name (rules - 1) in
     let held = each_held claims slots p.placed.held in
-    let placed_between = placed_still claims slots p.placed slot name (rules - 1) told.1 told.0 in
-    let held_between = each_held_still slots slot name (rules - 1) told.1 told.0 claims held in
-    let same_slots : between ≡ with_rules name (rules_of name slots - 1) slots = ap (λ (r : ℕ). held_slots slots slot name (r - 1)) (sym told.2) ∙ ap (λ (o : Option ℕ). put_at o name (rules_of name slots - 1) slots) (sym n) in (
+    let placed_between = placed_still claims slots p.placed slot name (rules - 1) evidence.1 evidence.0 in
+    let held_between = each_held_still slots slot name (rules - 1) evidence.1 evidence.0 claims held in
+    let same_slots : between ≡ with_rules name (rules_of name slots - 1) slots = ap (λ (r : ℕ). held_slots slots slot name (r - 1)) (sym evidence.2) ∙ ap (λ (o : Option ℕ). put_at o name (rules_of name slots - 1) slots) (sym n) in (
       let_go_is_kept claims claims between after placed_between p.placed.fits held_between g,
       let_go_registry claims claims between after placed_between held_between g
-          ∙ ap (λ (l : List Claim). settled l between) (shown_still slots slot name (rules - 1) told.1 told.0 claims held)
-          ∙ ap (settled (map (shown slots) claims)) same_slots,
+          ∙ ap (λ (l : List Claim). settle_slots l between) (shown_still slots slot name (rules - 1) evidence.1 evidence.0 claims held)
+          ∙ ap (settle_slots (map (named_claim slots) claims)) same_slots,
     )

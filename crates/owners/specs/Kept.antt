@@ -17,11 +17,11 @@ name_at (Some (Some holding)) = holding.name
 name_at _ = []
 
 -- the claim that a kept one stands for
-abbrev pub shown : List (Option Holding) → SlotClaim → Claim
-shown slots claim = record { name = name_at (slice_get slots claim.slot); connection = claim.connection; flags = claim.flags }
+abbrev pub named_claim : List (Option Holding) → SlotClaim → Claim
+named_claim slots claim = record { name = name_at (slice_get slots claim.slot); connection = claim.connection; flags = claim.flags }
 
 abbrev pub registry : List SlotClaim → List (Option Holding) → Registry
-registry claims slots = record { claims = map (shown slots) claims; slots = slots }
+registry claims slots = record { claims = map (named_claim slots) claims; slots = slots }
 
 abbrev pub is_name : Option (Option Holding) → Bool
 is_name (Some (Some holding)) = true

@@ -68,8 +68,8 @@ with_last name connection flags claims =
     claims ++ (record { name = name; connection = connection; flags = flags }) ∷ []
 
 -- the owner, whose claim allows it, is replaced: it keeps the second place, or leaves where it doesn't queue
-abbrev pub replaced : Claim → List ℕ → ℕ → ℕ → List Claim → List Claim
-replaced owner name connection flags claims =
+abbrev pub after_replacement : Claim → List ℕ → ℕ → ℕ → List Claim → List Claim
+after_replacement owner name connection flags claims =
     (record { name = name; connection = connection; flags = flags })
     ∷ without name connection (if has_flag owner.flags do_not_queue then without name owner.connection claims else claims)
 
@@ -90,14 +90,14 @@ abbrev pub requested_by : Option Claim → List ℕ → ℕ → ℕ → List Cla
 requested_by None name connection flags claims = with_last name connection flags claims
 requested_by (Some owner) name connection flags claims =
     if owner.connection == connection then with_flags name connection flags claims
-    else if may_replace owner flags then replaced owner name connection flags claims
+    else if may_replace owner flags then after_replacement owner name connection flags claims
     else if has_flag flags do_not_queue then without name connection claims
     else if has_claim name connection claims then with_flags name connection flags claims
     else with_last name connection flags claims
 
 -- the claims after a RequestName
-abbrev pub requested : List ℕ → ℕ → ℕ → List Claim → List Claim
-requested name connection flags claims = requested_by (first_claim name claims) name connection flags claims
+abbrev pub after_requesting : List ℕ → ℕ → ℕ → List Claim → List Claim
+after_requesting name connection flags claims = requested_by (first_claim name claims) name connection flags claims
 
 -- ReleaseName
 abbrev pub release_reply : List ℕ → ℕ → List Claim → NameReply

@@ -12,7 +12,7 @@ use Rattle.owners.specs.declared.answer.Change.{Change}
 use Rattle.owners.specs.declared.answer.Named.{Named}
 use Rattle.owners.specs.declared.answer.Dropped.{Dropped}
 use Rattle.owners.specs.declared.answer.Dropped.TheVariants.{Nothing, Waiting, Changed}
-use Rattle.owners.specs.Queues.{Claim, is_on, is_of, owner_of, first_claim, without, without_all, requested, request_reply, release_reply}
+use Rattle.owners.specs.Queues.{Claim, is_on, is_of, owner_of, first_claim, without, without_all, after_requesting, request_reply, release_reply}
 
 -- how many names can have a slot
 abbrev pub max_names : ℕ
@@ -80,12 +80,12 @@ abbrev pub is_claimed : List Claim → Option Holding → Bool
 is_claimed claims None = false
 is_claimed claims (Some holding) = list_any (is_on holding.name) claims
 
-abbrev pub kept : List Claim → Option Holding → Option Holding
-kept claims slot = if is_unused (is_claimed claims slot) slot then None else slot
+abbrev pub kept_slot : List Claim → Option Holding → Option Holding
+kept_slot claims slot = if is_unused (is_claimed claims slot) slot then None else slot
 
 -- the names with these claims left, where some are gone
-abbrev pub settled : List Claim → List (Option Holding) → Registry
-settled claims slots = record { claims = claims; slots = map (kept claims) slots }
+abbrev pub settle_slots : List Claim → List (Option Holding) → Registry
+settle_slots claims slots = record { claims = claims; slots = map (kept_slot claims) slots }
 
 -- the change of a name's owner, if there is one
 abbrev pub change_of : List ℕ → Option ℕ → Option ℕ → Option Change
@@ -99,17 +99,17 @@ change_between name before after = change_of name (owner_of name before) (owner_
 abbrev pub request_answer : List ℕ → ℕ → ℕ → Registry → Result Named ClaimError
 request_answer name connection flags names =
     if is_none (slot_next name names.slots) then Err NamesFull
-    else if nat_lt max_claims (length (requested name connection flags names.claims)) then Err QueueFull
+    else if nat_lt max_claims (length (after_requesting name connection flags names.claims)) then Err QueueFull
     else Ok (record {
       answer = request_reply (first_claim name names.claims) connection flags;
-      change = change_between name names.claims (requested name connection flags names.claims);
+      change = change_between name names.claims (after_requesting name connection flags names.claims);
     })
 
 -- RequestName: the names after it
 abbrev pub after_request : List ℕ → ℕ → ℕ → Registry → Registry
 after_request name connection flags names =
     if is_ok (request_answer name connection flags names) then record {
-      claims = requested name connection flags names.claims;
+      claims = after_requesting name connection flags names.claims;
       slots = with_rules name (rules_of name names.slots) names.slots;
     }
     else names
@@ -122,7 +122,7 @@ release_answer name connection names = record {
 }
 
 abbrev pub after_release : List ℕ → ℕ → Registry → Registry
-after_release name connection names = settled (without name connection names.claims) names.slots
+after_release name connection names = settle_slots (without name connection names.claims) names.slots
 
 -- the lesser text in the order of bytes
 abbrev pub lesser : List ℕ → Option (List ℕ) → Option (List ℕ)
@@ -162,7 +162,7 @@ after_drop_one connection names = after_drop_one_at (least_of connection names.c
 
 -- a connection gives up all its claims
 abbrev pub after_drop_all : ℕ → Registry → Registry
-after_drop_all connection names = settled (without_all connection names.claims) names.slots
+after_drop_all connection names = settle_slots (without_all connection names.claims) names.slots
 
 -- a rule with the name as its sender is added
 abbrev pub after_slot_for : List ℕ → Registry → Registry
@@ -176,7 +176,7 @@ slot_for_answer name names = ok_or (slot_next name names.slots) NamesFull
 -- such a rule is removed
 abbrev pub after_slot_free : List ℕ → Registry → Registry
 after_slot_free name names =
-    settled names.claims (with_rules name (rules_of name names.slots - 1) names.slots)
+    settle_slots names.claims (with_rules name (rules_of name names.slots - 1) names.slots)
 
 -- the slot is that of a name whose primary owner is the connection
 abbrev pub is_owned_holding : ℕ → List Claim → Option (Option Holding) → Bool
@@ -204,4 +204,4 @@ pub record IsRegistry (names : Registry) : Type 0 where
   -- a name with a claim has a slot
   pub claimed : list_all (λ (c : Claim). is_some (slot_of c.name names.slots)) names.claims ≡ true
   -- a name without a claim or a rule has none
-  pub used : map (kept names.claims) names.slots ≡ names.slots
+  pub used : map (kept_slot names.claims) names.slots ≡ names.slots

@@ -1,13 +1,9 @@
 -- Names that a connection may ask for (D-Bus Specification, "Valid Names", "Bus names").
-use Rattle.std.specs.Prelude.{ℕ, Bool, false, not, List, [], ◌∷◌, Result, Ok, Err, codes, ◌==◌, ◌&&◌, if◌then◌else◌}
+use Rattle.std.specs.Prelude.{ℕ, Bool, false, not, List, [], ◌∷◌, Result, Ok, Err, ◌==◌, ◌&&◌, if◌then◌else◌}
 use Rattle.std.specs.Str.{bytes_eq}
-use Rattle.signature.specs.Name.{is_bus_name}
+use Rattle.signature.specs.Name.{is_bus_name, bus_name}
 use Rattle.owners.specs.declared.error.ClaimError.{ClaimError}
 use Rattle.owners.specs.declared.error.ClaimError.TheVariants.{BadName, Reserved}
-
--- `org.freedesktop.DBus`, the name of the bus itself ("Message Bus Messages")
-abbrev pub bus_name : List ℕ
-bus_name = codes "org.freedesktop.DBus"
 
 -- a name that begins with a colon is a unique connection name
 abbrev pub is_unique : List ℕ → Bool
@@ -16,10 +12,6 @@ is_unique (b ∷ rest) = b == 58
 
 abbrev pub is_well_known : List ℕ → Bool
 is_well_known name = is_bus_name name && not (is_unique name)
-
--- a well-known name that connections may own
-abbrev pub is_claimable : List ℕ → Bool
-is_claimable name = is_well_known name && not (bytes_eq name bus_name)
 
 -- what a text is as a name that a connection asks for
 abbrev pub name_in : List ℕ → Result (List ℕ) ClaimError

@@ -123,7 +123,7 @@ fn is_unused(slot: &Option<Holding>, claimed: bool) -> bool
 pub(crate) fn let_go(slots: &mut Vec<Option<Holding>>, claimed: &Slots)
     requires { length slots.old.items ≤ 1024 }
     ensures size { length slots.new.items ≡ length slots.old.items }
-    ensures kept { (slot : ℕ) → slice_get slots.new.items slot ≡ kept_at (has_slot claimed.now slot) (slice_get slots.old.items slot) }
+    ensures kept_slot { (slot : ℕ) → slice_get slots.new.items slot ≡ kept_at (has_slot claimed.now slot) (slice_get slots.old.items slot) }
 {
     for i in 0..slots.len() {
         if is_unused(&slots[i], claimed.contains(i as u16)) {

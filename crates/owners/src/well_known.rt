@@ -28,7 +28,7 @@ pub struct WellKnown {
 
 impl Model for WellKnown {
     ghost use Rattle.std.specs.Prelude.{◌≡◌, ℕ, List, true};
-    ghost use Rattle.owners.specs.WellKnown.{is_claimable};
+    ghost use Rattle.owners.specs.Claimable.{is_claimable};
 
     ghost Value = { List ℕ };
 

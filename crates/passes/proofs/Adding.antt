@@ -27,18 +27,18 @@ where_ok (Err error) P h = tt
 
 module _ {M : Type 0} where
   -- the compiled rule was to be published
-  pub added : (v u w : PassState M) (before next : Publication M) (connection : ℕ) (rule : RuleTree) (compiled : CompiledRule) (result : Result Reply BusError) → HasTaken v
+  pub added : (v u w : PassState M) (before next : Publication M) (connection : ℕ) (rule : RuleTree) (compile_for : CompiledRule) (result : Result Reply BusError) → HasTaken v
       → IsHistory before.history → IsAdmitted v before → u ≡ record v { seen = before.history } → connection ≡ u.connection
-      → compiled ≡ compiled_in (after before.history) rule compiled.program → IsFit compiled → Answers false u before (AddRule connection compiled) result w next
+      → compile_for ≡ compiled_in (after before.history) rule compile_for.program → IsFit compile_for → Answers false u before (AddRule connection compile_for) result w next
       → AddsRule rule v before result w next
-  added v u w before next connection rule compiled result taken legal a is at same fit h =
+  added v u w before next connection rule compile_for result taken legal a is at same fit h =
       let s = after before.history in
-      let P = compiled_in s rule compiled.program in
+      let P = compiled_in s rule compile_for.program in
       let here : connection ≡ v.connection = at ∙ ap (λ (p : PassState M). p.connection) is in
-      let e : AddRule connection compiled ≡ AddRule v.connection P =
-      ap (λ (n : ℕ). let x : Command M = AddRule n compiled in x) here ∙ ap (λ (r : CompiledRule). let x : Command M = AddRule v.connection r in x) same in
+      let e : AddRule connection compile_for ≡ AddRule v.connection P =
+      ap (λ (n : ℕ). let x : Command M = AddRule n compile_for in x) here ∙ ap (λ (r : CompiledRule). let x : Command M = AddRule v.connection r in x) same in
       let k : Answers false u before (AddRule v.connection P) result w next = subst (λ (x : Command M). Answers false u before x result w next) e h in
-      inl (compiled.program, answers_admitted v u w before next (AddRule v.connection P) result taken legal a is k, where_ok result (IsFit P) (subst (λ (r : CompiledRule). IsFit r) same fit))
+      inl (compile_for.program, answers_admitted v u w before next (AddRule v.connection P) result taken legal a is k, where_ok result (IsFit P) (subst (λ (r : CompiledRule). IsFit r) same fit))
 
   stopped : (v : PassState M) (before : Publication M) → IsAdmitted v before → IsStopped v before (record v { seen = before.history }) before
   stopped v before a = record { begins = a.begins; same = refl; published = refl }
@@ -49,7 +49,7 @@ module _ {M : Type 0} where
       let l = before.history in
       let x = add_of (after l) v.connection rule [] in
       let w : PassState M = record v { seen = l } in
-      let told : IsTold v w l before = record { told_is = refl; begins = a.begins; same = refl } in
+      let told_history : IsTold v w l before = record { told_is = refl; begins = a.begins; same = refl } in
       let count : IsCounted v before v.connection v.took = record {
         legal = legal;
         taken = taken;
@@ -61,7 +61,7 @@ module _ {M : Type 0} where
       let said : reply_to (after l) x ≡ Refused k.refusal = k.replies [] in
       let off : is_accepted (after l) x ≡ false = refused (after l) x k.refusal said in
       let more : l ≡ with_next l x = ap (λ (b : Bool). if b then l ++ x ∷ [] else l) (sym off) in
-      inl ([], inl (turned_down v w l before before v.connection v.took x k.refusal error told count said more k.error_is), tt)
+      inl ([], inl (turned_down v w l before before v.connection v.took x k.refusal error told_history count said more k.error_is), tt)
   turned v before rule error taken legal a (inr (inl k)) = inr (record {
     weight = k.weight;
     answers = ap (λ (e : BusError). let r : Result Reply BusError = Err e in r) k.error_is;

@@ -9,7 +9,8 @@ use Rattle.published.specs.Publication.{Publication}
 use Rattle.passes.specs.declared.error.BusError.{BusError}
 use Rattle.passes.specs.Passes.{PassState, HasTaken}
 use Rattle.passes.specs.Calls.{IsShutOut, unconnected, closed, ended, others, fewer, Answers}
-use Rattle.passes.specs.Admission.{IsAdmitted, IsReady}
+use Rattle.passes.specs.Admission.{IsAdmitted}
+use Rattle.passes.specs.Readiness.{IsReady}
 use Rattle.passes.proofs.Owned.{own_same}
 use Rattle.passes.proofs.Done.{counted}
 use Rattle.passes.proofs.Commands.{IsTold, IsCounted}
@@ -47,11 +48,11 @@ module _ {M : Type 0} where
   prefix_on xs ys zs p q =
       let e : xs ++ (p.0 ++ q.0) ≡ zs = sym (append_assoc xs p.0 q.0) ∙ ap (λ (l : List (Command M)). l ++ q.0) p.1 ∙ q.1 in (p.0 ++ q.0, e)
 
-  told : PassState M → Publication M → PassState M
-  told v before = record v { seen = before.history }
+  told_history : PassState M → Publication M → PassState M
+  told_history v before = record v { seen = before.history }
 
-  shut_out : (v : PassState M) (before next : Publication M) → IsShutOut (told v before) before next → IsShutOut v before next
-  unfolding told
+  shut_out : (v : PassState M) (before next : Publication M) → IsShutOut (told_history v before) before next → IsShutOut v before next
+  unfolding told_history
   shut_out v before next (unconnected e) = unconnected e
   shut_out v before next (closed e) = closed e
   shut_out v before next (ended e) = ended e
@@ -59,8 +60,8 @@ module _ {M : Type 0} where
   shut_out v before next (fewer e) = absurd (omega (arith, e))
 
   answers : (v w : PassState M) (before next : Publication M) (command : Command M) (result : Result Reply BusError) → HasTaken v → IsHistory before.history → IsAdmitted v before
-      → Answers false (told v before) before command result w next → Answers false v before command result w next
-  unfolding told
+      → Answers false (told_history v before) before command result w next → Answers false v before command result w next
+  unfolding told_history
   answers v w before next command (Ok reply) taken legal a h =
       let same : own_commands w.connection before.history ≡ own_commands w.connection v.seen =
       subst (λ (n : ℕ). own_commands n before.history ≡ own_commands n v.seen) (sym h.1) (own_seen v before taken legal a) in (
@@ -96,6 +97,6 @@ module _ {M : Type 0} where
   -- what it asks for is answered as if the pass that was admitted had asked
   pub answers_admitted : (v u w : PassState M) (before next : Publication M) (command : Command M) (result : Result Reply BusError) → HasTaken v → IsHistory before.history
       → IsAdmitted v before → u ≡ record v { seen = before.history } → Answers false u before command result w next → Answers false v before command result w next
-  unfolding told
+  unfolding told_history
   answers_admitted v u w before next command result taken legal a is h =
       answers v w before next command result taken legal a (subst (λ (p : PassState M). Answers false p before command result w next) is h)

@@ -21,10 +21,10 @@ use Rattle.passes.proofs.Done.{counted, done, keeps}
 
 module _ {M : Type 0} where
   -- the pass w is v, which was told the published history
-  pub record IsTold (v w : PassState M) (told : List (Command M)) (before : Publication M) : Type 0 where
-    pub told_is : told ≡ before.history
-    pub begins : IsPrefix v.seen told
-    pub same : w ≡ record v { seen = told }
+  pub record IsTold (v w : PassState M) (told_history : List (Command M)) (before : Publication M) : Type 0 where
+    pub told_is : told_history ≡ before.history
+    pub begins : IsPrefix v.seen told_history
+    pub same : w ≡ record v { seen = told_history }
 
   -- the number and the count that the pass gave, and the count of the state
   pub record IsCounted (v : PassState M) (before : Publication M) (connection took : ℕ) : Type 0 where
@@ -42,20 +42,20 @@ module _ {M : Type 0} where
       let e : commands_of v.connection (after l).connections ≡ v.took = ap (λ (n : ℕ). commands_of n (after l).connections) (sym h.at) ∙ h.counts ∙ h.was in
       counted v.connection v.took l h.legal (h.taken.some (λ (z : v.connection ≡ 0). h.there (h.at ∙ z))) e
 
-  pub begins_all : (v w : PassState M) (told : List (Command M)) (before : Publication M) → IsTold v w told before → IsPrefix v.seen before.history
-  begins_all v w told before t = subst (λ (l : List (Command M)). IsPrefix v.seen l) t.told_is t.begins
+  pub begins_all : (v w : PassState M) (told_history : List (Command M)) (before : Publication M) → IsTold v w told_history before → IsPrefix v.seen before.history
+  begins_all v w told_history before t = subst (λ (l : List (Command M)). IsPrefix v.seen l) t.told_is t.begins
 
-  pub seen_all : (v w : PassState M) (told : List (Command M)) (before : Publication M) → IsTold v w told before → w.seen ≡ before.history
-  seen_all v w told before t = ap (λ (p : PassState M). p.seen) t.same ∙ t.told_is
+  pub seen_all : (v w : PassState M) (told_history : List (Command M)) (before : Publication M) → IsTold v w told_history before → w.seen ≡ before.history
+  seen_all v w told_history before t = ap (λ (p : PassState M). p.seen) t.same ∙ t.told_is
 
   -- a refused command
-  pub turned_down : (v w : PassState M) (told : List (Command M)) (before next : Publication M) (connection took : ℕ) (command : Command M) (refusal : Refusal) (error : BusError)
-      → IsTold v w told before → IsCounted v before connection took → reply_to (after before.history) command ≡ Refused refusal → next.history ≡ with_next before.history command
+  pub turned_down : (v w : PassState M) (told_history : List (Command M)) (before next : Publication M) (connection took : ℕ) (command : Command M) (refusal : Refusal) (error : BusError)
+      → IsTold v w told_history before → IsCounted v before connection took → reply_to (after before.history) command ≡ Refused refusal → next.history ≡ with_next before.history command
       → error ≡ error_of refusal → IsRefused v before command error w next × KeepsOwn v w
-  turned_down v w told before next connection took command refusal error t h said more is =
+  turned_down v w told_history before next connection took command refusal error t h said more is =
       let l = before.history in
       let off : is_accepted (after l) command ≡ false = refused (after l) command refusal said in
-      let pre : IsPrefix v.seen l = begins_all v w told before t in (
+      let pre : IsPrefix v.seen l = begins_all v w told_history before t in (
         record {
           begins = pre;
           refusal = refusal;
@@ -64,7 +64,7 @@ module _ {M : Type 0} where
           published = more ∙ ap (λ (b : Bool). if b then l ++ command ∷ [] else l) off;
           seen = t.same ∙ ap (λ (k : List (Command M)). let p : PassState M = record v { seen = k } in p) t.told_is;
         },
-        keeps v w l pre h.taken.own (own_count v before connection took h) (seen_all v w told before t) (ap (λ (p : PassState M). p.took) t.same),
+        keeps v w l pre h.taken.own (own_count v before connection took h) (seen_all v w told_history before t) (ap (λ (p : PassState M). p.took) t.same),
       )
 
   -- the command is accepted, and is of the pass's connection
@@ -81,22 +81,22 @@ module _ {M : Type 0} where
       let on : is_accepted (after l) command ≡ true = accepted (after l) command off in
       record { accepted = on; of_connection = is; more = more ∙ ap (λ (b : Bool). if b then l ++ command ∷ [] else l) on }
 
-  pub goes_on : (v w : PassState M) (told front : List (Command M)) (before next : Publication M) (command : Command M) → IsTold v w told before → IsGained v before next command
+  pub goes_on : (v w : PassState M) (told_history front : List (Command M)) (before next : Publication M) (command : Command M) → IsTold v w told_history before → IsGained v before next command
       → front ≡ next.history → IsPrefix w.seen front
-  goes_on v w told front before next command t a is =
-      (command ∷ [], ap (λ (l : List (Command M)). l ++ command ∷ []) (seen_all v w told before t) ∙ sym a.more ∙ sym is)
+  goes_on v w told_history front before next command t a is =
+      (command ∷ [], ap (λ (l : List (Command M)). l ++ command ∷ []) (seen_all v w told_history before t) ∙ sym a.more ∙ sym is)
 
-  pub room : (v w : PassState M) (told : List (Command M)) (before next : Publication M) (connection took : ℕ) (command : Command M) → IsTold v w told before → IsCounted v before connection took
+  pub room : (v w : PassState M) (told_history : List (Command M)) (before next : Publication M) (connection took : ℕ) (command : Command M) → IsTold v w told_history before → IsCounted v before connection took
       → IsGained v before next command → w.took + 1 < 2 ^ 64
-  room v w told before next connection took command t h a =
+  room v w told_history before next connection took command t h a =
       let n = own_count v before connection took h in
       let few = own_within before.history v.connection in
       let k : w.took ≡ v.took = ap (λ (p : PassState M). p.took) t.same in
       omega (arith, n, few, k, accepted_room before.history command h.legal a.accepted)
 
-  pub one_more : (v w : PassState M) (told front : List (Command M)) (before next : Publication M) (connection took : ℕ) (command : Command M) → IsTold v w told before
+  pub one_more : (v w : PassState M) (told_history front : List (Command M)) (before next : Publication M) (connection took : ℕ) (command : Command M) → IsTold v w told_history before
       → IsCounted v before connection took → IsGained v before next command → front ≡ next.history → w.took + 1 ≤ length (own_commands connection front)
-  one_more v w told front before next connection took command t h a is =
+  one_more v w told_history front before next connection took command t h a is =
       let l = before.history in
       let n = own_count v before connection took h in
       let k : w.took ≡ v.took = ap (λ (p : PassState M). p.took) t.same in
@@ -104,14 +104,14 @@ module _ {M : Type 0} where
       ap (λ (c : ℕ). own_commands c front) h.at ∙ ap (own_commands v.connection) (is ∙ a.more) ∙ own-push l v.connection command a.of_connection in
       omega (arith, n, k, ap length e, length-append (own_commands v.connection l) (command ∷ []))
 
-  pub finished : (v w x : PassState M) (told front : List (Command M)) (before next : Publication M) (connection took : ℕ) (command : Command M) (reply : Reply) → IsTold v w told before
+  pub finished : (v w x : PassState M) (told_history front : List (Command M)) (before next : Publication M) (connection took : ℕ) (command : Command M) (reply : Reply) → IsTold v w told_history before
       → IsCounted v before connection took → IsGained v before next command → front ≡ next.history → reply ≡ reply_to (after before.history) command
       → x ≡ record w { seen = front; connection = connection; took = w.took + 1 } → IsDone v before command reply x next
-  finished v w x told front before next connection took command reply t h a is said to =
+  finished v w x told_history front before next connection took command reply t h a is said to =
       let l = before.history in
       let at : x.connection ≡ v.connection = ap (λ (p : PassState M). p.connection) to ∙ h.at in
       let n : length (own_commands x.connection l) ≡ v.took = ap (λ (c : ℕ). length (own_commands c l)) at ∙ own_count v before connection took h in
       let low : v.took ≤ length (own_commands x.connection v.seen) = subst (λ (c : ℕ). v.took ≤ length (own_commands c v.seen)) (sym at) h.taken.own in
       let own : is_command_of (after l) x.connection command ≡ true = subst (λ (c : ℕ). is_command_of (after l) c command ≡ true) (sym at) a.of_connection in
       let k : x.took ≡ v.took + 1 = ap (λ (p : PassState M). p.took) to ∙ ap (λ (p : PassState M). p.took + 1) t.same in
-      done v before command reply x next (begins_all v w told before t) a.accepted said low n own a.more (ap (λ (p : PassState M). p.seen) to ∙ is) k
+      done v before command reply x next (begins_all v w told_history before t) a.accepted said low n own a.more (ap (λ (p : PassState M). p.seen) to ∙ is) k

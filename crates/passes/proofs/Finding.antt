@@ -7,7 +7,8 @@ use Rattle.program_table.specs.Connections.{is_connected}
 use Rattle.program_table.specs.State.{State}
 use Rattle.routing.specs.SenderView.{RecipientView, StopView}
 use Rattle.routing.specs.Stops.{RisesFrom, is_in}
-use Rattle.lookups.specs.Newcomers.{HasEntry, AreNewcomers}
+use Rattle.lookups.specs.Newcomers.{AreNewcomers}
+use Rattle.lookups.specs.Searching.{HasEntry}
 use Rattle.lookups.specs.Broadcasts.{AreConnected}
 use Rattle.lookups.proofs.Newcomers.{is_in-contains, is_in-connected, entry_connected}
 use Rattle.passes.specs.Sending.{AreReachable, stays}

@@ -65,14 +65,14 @@ module _ {M : Type 0} where
   none_taken v before connection h = h.taken.none (sym h.at ∙ h.none)
 
   -- a refused Connect
-  pub turned_away : (v w : PassState M) (told : List (Command M)) (before next : Publication M) (m : M) (refusal : Refusal) (error : BusError)
-      → IsTold v w told before → reply_to (after before.history) (Connect m) ≡ Refused refusal → next.history ≡ with_next before.history (Connect m)
+  pub turned_away : (v w : PassState M) (told_history : List (Command M)) (before next : Publication M) (m : M) (refusal : Refusal) (error : BusError)
+      → IsTold v w told_history before → reply_to (after before.history) (Connect m) ≡ Refused refusal → next.history ≡ with_next before.history (Connect m)
       → error ≡ error_of refusal → IsRefused v before (Connect m) error w next
-  turned_away v w told before next m refusal error t said more is =
+  turned_away v w told_history before next m refusal error t said more is =
       let l = before.history in
       let off : is_accepted (after l) (Connect m) ≡ false = refused (after l) (Connect m) refusal said in
       record {
-        begins = begins_all v w told before t;
+        begins = begins_all v w told_history before t;
         refusal = refusal;
         replies = said;
         error_is = is;
@@ -87,25 +87,25 @@ module _ {M : Type 0} where
   none_own : (before : Publication M) (m : M) (n : ℕ) → IsHistory before.history → reply_to (after before.history) (Connect m) ≡ Connected n → own_commands n before.history ≡ []
   none_own before m n legal said = let e = next_number (after before.history) m n said in own_commands_new before.history n legal (omega (arith, e))
 
-  pub room_for_one : (v w : PassState M) (told : List (Command M)) (before : Publication M) (connection : ℕ) → IsTold v w told before → IsFresh v before connection → w.took + 1 < 2 ^ 64
-  room_for_one v w told before connection t h =
+  pub room_for_one : (v w : PassState M) (told_history : List (Command M)) (before : Publication M) (connection : ℕ) → IsTold v w told_history before → IsFresh v before connection → w.took + 1 < 2 ^ 64
+  room_for_one v w told_history before connection t h =
       let z = none_taken v before connection h in
       let k : w.took ≡ v.took = ap (λ (p : PassState M). p.took) t.same in
       omega (arith, z, k)
 
-  pub first_own : (v w : PassState M) (told front : List (Command M)) (before next : Publication M) (connection n : ℕ) (m : M) → IsTold v w told before → IsFresh v before connection
+  pub first_own : (v w : PassState M) (told_history front : List (Command M)) (before next : Publication M) (connection n : ℕ) (m : M) → IsTold v w told_history before → IsFresh v before connection
       → reply_to (after before.history) (Connect m) ≡ Connected n → next.history ≡ before.history ++ Connect m ∷ [] → front ≡ next.history → w.took + 1 ≤ length (own_commands n front)
-  first_own v w told front before next connection n m t h said more is =
+  first_own v w told_history front before next connection n m t h said more is =
       let l = before.history in
       let z = none_taken v before connection h in
       let k : w.took ≡ v.took = ap (λ (p : PassState M). p.took) t.same in
       let e : own_commands n front ≡ own_commands n l ++ Connect m ∷ [] = ap (own_commands n) (is ∙ more) ∙ own-push l n (Connect m) (its_own before m n said) in
       omega (arith, z, k, ap length e, length-append (own_commands n l) (Connect m ∷ []))
 
-  pub joined : (v w x : PassState M) (told front : List (Command M)) (before next : Publication M) (connection n : ℕ) (m : M) (reply : Reply) → IsTold v w told before
+  pub joined : (v w x : PassState M) (told_history front : List (Command M)) (before next : Publication M) (connection n : ℕ) (m : M) (reply : Reply) → IsTold v w told_history before
       → IsFresh v before connection → is_accepted (after before.history) (Connect m) ≡ true → reply ≡ reply_to (after before.history) (Connect m) → reply ≡ Connected n
       → next.history ≡ before.history ++ Connect m ∷ [] → front ≡ next.history → x ≡ record w { seen = front; connection = n; took = w.took + 1 } → IsDone v before (Connect m) reply x next
-  joined v w x told front before next connection n m reply t h on said number more is to =
+  joined v w x told_history front before next connection n m reply t h on said number more is to =
       let l = before.history in
       let z = none_taken v before connection h in
       let named : reply_to (after l) (Connect m) ≡ Connected n = sym said ∙ number in
@@ -114,4 +114,4 @@ module _ {M : Type 0} where
       let low : v.took ≤ length (own_commands x.connection v.seen) = omega (arith, z) in
       let own : is_command_of (after l) x.connection (Connect m) ≡ true = subst (λ (c : ℕ). is_command_of (after l) c (Connect m) ≡ true) (sym at) (its_own before m n named) in
       let k : x.took ≡ v.took + 1 = ap (λ (p : PassState M). p.took) to ∙ ap (λ (p : PassState M). p.took + 1) t.same in
-      done v before (Connect m) reply x next (begins_all v w told before t) on said low count own more (ap (λ (p : PassState M). p.seen) to ∙ is) k
+      done v before (Connect m) reply x next (begins_all v w told_history before t) on said low count own more (ap (λ (p : PassState M). p.seen) to ∙ is) k

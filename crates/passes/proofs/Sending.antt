@@ -10,13 +10,13 @@ use Rattle.routing.specs.SenderView.{RecipientView, StopView, SenderView}
 use Rattle.routing.specs.Stops.{stop_at, last_count, outbox_id, knows_shut, is_in, is_put, number_of, outbox_at, HasStop, AllHave, AllFit, Lists, Keeps, Routed, Unrouted}
 use Rattle.routing.proofs.Routes.{kept_at}
 use Rattle.passes.specs.declared.reading.Source.{Source}
-use Rattle.passes.specs.Passes.{PassState, sending, sender_of}
+use Rattle.passes.specs.Passes.{PassState, sender_of}
+use Rattle.passes.specs.Sending.{sending, kept_stops, stays, AreReachable, KeepsThose, UnroutedThose, RoutedThose}
 use Rattle.passes.specs.declared.error.BusError.{BusError}
 use Rattle.passes.specs.declared.error.BusError.TheVariants as errors
 use Rattle.lookups.specs.Newcomers.{IsOutboxOf}
 use Rattle.lookups.specs.Broadcasts.{IsFound}
 use Rattle.passes.specs.Routes.{max_count, Sends, HasRouted, HasNotRouted, IsUnrouted}
-use Rattle.passes.specs.Sending.{kept_stops, stays, AreReachable, KeepsThose, UnroutedThose, RoutedThose}
 use Rattle.passes.proofs.Finding.{stays-connected}
 
 kept_stop : (connected : Option (List ℕ)) (n : ℕ) (stops : List StopView) → stop_at n (kept_stops connected stops) ≡ cond (stays connected n) (stop_at n stops) None

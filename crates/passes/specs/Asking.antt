@@ -1,5 +1,5 @@
 -- What a pass is answered without the lock: of the state after a history that begins with what it had seen, which it
--- has then seen.
+-- has then seen (own).
 use Rattle.std.specs.Prelude.{◌≡◌, ◌⊎◌, ℕ, ◌<◌, ◌≤◌, List, Option, Result, Ok, Err}
 use mathlib.Core.List.{IsPrefix}
 use Rattle.arrayvec.specs.ArrayVec.{ArrayVec}

@@ -1,7 +1,9 @@
 -- Inner: a rule with its program, for the slot that a state gives.
 use Rattle.std.specs.Prelude.{◌≡◌, ◌⊎◌, ◌<◌, ℕ, true, List, Result, Ok, Err}
-use Rattle.bpf_code.specs.declared.instruction.Ins.{Ins}
 use Rattle.match_rule.specs.RuleTree.{RuleTree, weight_of}
+use Rattle.bpf_code.specs.declared.instruction.Ins.{Ins}
+use Rattle.rule_compile.specs.declared.error.CompileError.{CompileError}
+use Rattle.rule_compile.specs.declared.error.CompileError.TheVariants as compile_errors
 use Rattle.entry_table.specs.CompiledRule.{CompiledRule, IsFit}
 use Rattle.program_table.specs.declared.command.Reply.TheVariants.{Refused}
 use Rattle.program_table.specs.declared.refusal.Refusal.{Refusal}
@@ -27,5 +29,10 @@ module _ {M : Type 0} where
     pub fits : (program : List Ins) → is_accepted s (add_of s connection rule program) ≡ true
 
   abbrev pub Compiles : State M → ℕ → RuleTree → Result CompiledRule BusError → Type 0
-  Compiles s connection rule (Ok compiled) = (compiled ≡ compiled_in s rule compiled.program) × IsFit compiled
+  Compiles s connection rule (Ok compile_for) = (compile_for ≡ compiled_in s rule compile_for.program) × IsFit compile_for
   Compiles s connection rule (Err error) = IsKeptOut s connection rule error ⊎ (IsHeavy s connection rule error ⊎ (error ≡ errors.NoMemory))
+
+-- the error of a rule that isn't compiled
+abbrev pub compile_error : CompileError → BusError
+compile_error compile_errors.TooLong = errors.TooLong
+compile_error compile_errors.NoMemory = errors.NoMemory

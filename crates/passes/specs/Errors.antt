@@ -1,7 +1,5 @@
--- The errors of a bus.
+-- The errors of a bus (own).
 use Rattle.std.specs.Prelude.{ℕ}
-use Rattle.rule_compile.specs.declared.error.CompileError.{CompileError}
-use Rattle.rule_compile.specs.declared.error.CompileError.TheVariants as compile_errors
 use Rattle.program_table.specs.declared.refusal.Refusal.{Refusal}
 use Rattle.program_table.specs.declared.refusal.Refusal.TheVariants as refusals
 use Rattle.passes.specs.declared.error.BusError.{BusError}
@@ -17,11 +15,6 @@ error_of refusals.RuleNotFound = errors.RuleNotFound
 error_of refusals.NoAttachment = errors.NoAttachment
 error_of refusals.Closed = errors.Closed
 error_of refusals.Stale = errors.Closed
-
--- the error of a rule that isn't compiled
-abbrev pub compile_error : CompileError → BusError
-compile_error compile_errors.TooLong = errors.TooLong
-compile_error compile_errors.NoMemory = errors.NoMemory
 
 abbrev pub bus_error_number : BusError → ℕ
 bus_error_number errors.NoMemory = 1

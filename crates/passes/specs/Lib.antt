@@ -9,6 +9,7 @@ pub mod Sending
 pub mod Unicasts
 pub mod Calls
 pub mod Admission
+pub mod Readiness
 pub mod Readings
 pub mod Compiling
 pub mod Asking

@@ -1,8 +1,8 @@
--- What a pass has seen and done.
+-- What a pass has seen and done (own).
 use Rattle.std.specs.Prelude.{◌≡◌, ◌≢◌, ℕ, ◌≤◌, ◌<◌, Bool, false, List, [], length, Option, Some, None}
 use Rattle.program_table.specs.declared.command.Command.{Command}
 use Rattle.program_table.specs.History.{own_commands}
-use Rattle.routing.specs.SenderView.{StopView, SenderView}
+use Rattle.routing.specs.SenderView.{StopView}
 use Rattle.passes.specs.declared.reading.Source.{Source}
 use Rattle.passes.specs.declared.reading.Source.TheVariants.{Own, Bus}
 
@@ -26,29 +26,11 @@ module _ {M : Type 0} where
   abbrev pub new_pass : List (Command M) → PassState M
   new_pass seen = record { seen = seen; connection = 0; is_closed = false; took = 0; count = 0; stops = [] }
 
-  -- Inner: as many commands of its connection as it took were seen, its connect among them
+  -- as many commands of its connection as it took were seen, its connect among them
   pub record HasTaken (v : PassState M) : Type 0 where
     pub none : v.connection ≡ 0 → v.took ≡ 0
     pub some : v.connection ≢ 0 → 0 < v.took
     pub own : v.took ≤ length (own_commands v.connection v.seen)
-
-  -- what the pass's messages are sent by; before the first message it has no seats
-  abbrev pub sending : PassState M → SenderView
-  sending v = record { origin = v.connection; count = v.count; stops = v.stops }
-
--- Inner: the count of the last broadcast, 0 before the first
-abbrev pub count_in : Option SenderView → ℕ
-count_in None = 0
-count_in (Some s) = s.count
-
-abbrev pub stops_in : Option SenderView → List StopView
-stops_in None = []
-stops_in (Some s) = s.stops
-
--- Inner: the sender is the connection's
-abbrev pub SendsFor : ℕ → Option SenderView → Type 0
-SendsFor connection None = Unit {0}
-SendsFor connection (Some s) = (s.origin ≡ connection) × (connection ≢ 0)
 
 -- the sender of the message that a pass asks for. None is the bus.
 abbrev pub sender_of : Source → ℕ → Option ℕ

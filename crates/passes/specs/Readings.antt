@@ -1,4 +1,4 @@
--- The calls that are given a text or a program.
+-- The calls that are given a text or a program (own).
 use Rattle.std.specs.Prelude.{◌≡◌, ◌⊎◌, ◌<◌, ℕ, true, false, List, Result, Err, IfOk}
 use Rattle.bpf_code.specs.declared.instruction.Ins.{Ins}
 use Rattle.bpf_verify.specs.declared.error.VerifyError.{VerifyError}

@@ -1,4 +1,4 @@
--- Broadcasts of a pass.
+-- Broadcasts of a pass (own).
 use Rattle.std.specs.Prelude.{◌≡◌, ◌⊎◌, ◌+◌, ℕ, Bool, true, cond, List, Some}
 use mathlib.Core.List.{IsPrefix}
 use Rattle.message_view.specs.Message.{Message}

@@ -1,10 +1,30 @@
 -- Inner: what a pass's sender makes of what was found.
-use Rattle.std.specs.Prelude.{◌≡◌, ◌⊎◌, ◌+◌, ℕ, Bool, true, cond, List, Option, Some, None, filter, map}
+use Rattle.std.specs.Prelude.{◌≡◌, ◌⊎◌, ◌+◌, ℕ, Bool, true, cond, List, Option, Some, None, filter, map, ◌≢◌, []}
 use Rattle.outbox.specs.Seated.{OutboxId}
 use Rattle.routing.specs.SenderView.{RecipientView, StopView, SenderView}
 use Rattle.routing.specs.Stops.{RisesFrom, is_in, is_put, number_of, last_at, outbox_at, shut_at, HasStop, Lists}
 use Rattle.passes.specs.declared.unicasts.Sent.{Sent}
 use Rattle.passes.specs.declared.unicasts.Sent.TheVariants.{Put, Full}
+use Rattle.passes.specs.Passes.{PassState}
+
+module _ {M : Type 0} where
+  -- what the pass's messages are sent by; before the first message it has no seats
+  abbrev pub sending : PassState M → SenderView
+  sending v = record { origin = v.connection; count = v.count; stops = v.stops }
+
+-- the count of the last broadcast, 0 before the first
+abbrev pub count_in : Option SenderView → ℕ
+count_in None = 0
+count_in (Some s) = s.count
+
+abbrev pub stops_in : Option SenderView → List StopView
+stops_in None = []
+stops_in (Some s) = s.stops
+
+-- the sender is the connection's
+abbrev pub SendsFor : ℕ → Option SenderView → Type 0
+SendsFor connection None = Unit {0}
+SendsFor connection (Some s) = (s.origin ≡ connection) × (connection ≢ 0)
 
 -- the stops that aren't given up
 abbrev pub kept_stops : Option (List ℕ) → List StopView → List StopView

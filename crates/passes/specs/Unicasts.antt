@@ -1,4 +1,4 @@
--- Unicast messages of a pass.
+-- Unicast messages of a pass (own).
 use Rattle.std.specs.Prelude.{◌≡◌, ◌⊎◌, ℕ, true, List}
 use Rattle.outbox.specs.Seated.{OutboxId}
 use Rattle.program_table.specs.History.{after}

@@ -7,7 +7,7 @@ ghost use Rattle.program_table.specs.History.{after, is_command_of, IsHistory};
 ghost use Rattle.published.specs.Publication.{Publication, nothing_published};
 ghost use Rattle.passes.specs.Passes.{PassState, new_pass};
 ghost use Rattle.passes.specs.Calls.{Answers, Connects};
-ghost use Rattle.passes.specs.Admission.{Admits, IsReady};
+ghost use Rattle.passes.specs.Readiness.{Admits, IsReady};
 
 use crate::error::BusError;
 use crate::pass::Pass;
@@ -87,13 +87,13 @@ impl<J: Naming, M: Mailbox, R: Wait + Drop> Control<J, M, R> {
     /// Tells the published history, which the pass has then seen.
     pub fn tell(&self, pass: &mut Pass<J, M>) -> Result<Front<J, M>, BusError>
         ensures { MatchResult result
-            (λ told. (told ≡ self.now.history) × IsPrefix pass.old.seen told × (pass.new ≡ record pass.old { seen = told }))
+            (λ told_history. (told_history ≡ self.now.history) × IsPrefix pass.old.seen told_history × (pass.new ≡ record pass.old { seen = told_history }))
             (λ error. (error ≡ BusError.Closed) × (length self.now.history < length pass.old.seen) × (pass.new ≡ pass.old)) }
     {
         match self.publisher.value.tell(pass.seen()) {
-            Some(told) => {
-                pass.take_over(told.again());
-                Ok(told)
+            Some(told_history) => {
+                pass.take_over(told_history.again());
+                Ok(told_history)
             }
             None => Err(BusError::Closed),
         }

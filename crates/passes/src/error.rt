@@ -1,7 +1,8 @@
 // Why a call of the bus is refused.
 
 ghost use Rattle.std.specs.Prelude.{◌≡◌};
-ghost use Rattle.passes.specs.Errors.{error_of, bus_error_number, compile_error};
+ghost use Rattle.passes.specs.Errors.{error_of, bus_error_number};
+ghost use Rattle.passes.specs.Compiling.{compile_error};
 ghost use Rattle.passes.specs.Readings.{rule_error};
 
 use bpf_verify::VerifyError;

@@ -8,7 +8,8 @@ ghost use Rattle.owners.specs.Queues.{owner_of, queue_of};
 ghost use Rattle.program_table.specs.Connections.{is_connected, numbers_of};
 ghost use Rattle.program_table.specs.History.{after, own_commands};
 ghost use Rattle.program_table.specs.Recipients.{AreRecipients};
-ghost use Rattle.passes.specs.Passes.{PassState, HasTaken, new_pass, sending};
+ghost use Rattle.passes.specs.Passes.{PassState, HasTaken, new_pass};
+ghost use Rattle.passes.specs.Sending.{sending};
 ghost use Rattle.lookups.specs.NameOwners.{IsOwner};
 ghost use Rattle.lookups.specs.Addressees.{IsAddressee};
 ghost use Rattle.lookups.specs.Broadcasts.{AreFound, IsFound};
@@ -53,7 +54,8 @@ impl<J: Naming, M: Mailbox> Model for Pass<J, M>
 where
     Published: Protocol<Shown<J, M>, LinkedList<Command<M>>>,
 {
-    ghost use Rattle.passes.specs.Passes.{PassState, HasTaken, SendsFor, count_in, stops_in};
+    ghost use Rattle.passes.specs.Passes.{PassState, HasTaken};
+    ghost use Rattle.passes.specs.Sending.{SendsFor, count_in, stops_in};
 
     ghost Value = { PassState M };
 
@@ -106,33 +108,33 @@ impl<J: Naming, M: Mailbox> Pass<J, M> {
     }
 
     /// Takes over a told history: the longer of the two is then seen. One of them begins the other.
-    pub fn learn(&mut self, told: &Front<J, M>)
-        ensures one { (self.new.seen ≡ self.old.seen) ⊎ (self.new.seen ≡ told.now) }
+    pub fn learn(&mut self, told_history: &Front<J, M>)
+        ensures one { (self.new.seen ≡ self.old.seen) ⊎ (self.new.seen ≡ told_history.now) }
         ensures this { IsPrefix self.old.seen self.new.seen }
-        ensures that { IsPrefix told.now self.new.seen }
+        ensures that { IsPrefix told_history.now self.new.seen }
         ensures same { self.new ≡ record self.old { seen = self.new.seen } }
     {
-        self.sight.learn(told);
+        self.sight.learn(told_history);
     }
 
     /// Takes over a history, which begins with what was seen; it is then seen.
-    pub(crate) fn take_over(&mut self, told: Front<J, M>)
-        requires { IsPrefix self.old.seen told }
-        ensures { self.new ≡ record self.old { seen = told } }
+    pub(crate) fn take_over(&mut self, told_history: Front<J, M>)
+        requires { IsPrefix self.old.seen told_history }
+        ensures { self.new ≡ record self.old { seen = told_history } }
     {
-        self.sight.take_over(told);
+        self.sight.take_over(told_history);
     }
 
     /// Takes over a history in which one more command of the connection was accepted; it is then seen.
-    pub(crate) fn count_in(&mut self, told: Front<J, M>, connection: u64)
-        requires begins { IsPrefix self.old.seen told }
+    pub(crate) fn count_in(&mut self, told_history: Front<J, M>, connection: u64)
+        requires begins { IsPrefix self.old.seen told_history }
         requires room { self.old.took + 1 < 2 ^ 64 }
         requires number { connection ≢ 0 }
         requires same { (self.old.connection ≡ 0) ⊎ (connection ≡ self.old.connection) }
-        requires own { self.old.took + 1 ≤ length (own_commands connection told) }
-        ensures { self.new ≡ record self.old { seen = told; connection = connection; took = self.old.took + 1 } }
+        requires own { self.old.took + 1 ≤ length (own_commands connection told_history) }
+        ensures { self.new ≡ record self.old { seen = told_history; connection = connection; took = self.old.took + 1 } }
     {
-        self.sight.take_over(told);
+        self.sight.take_over(told_history);
         self.connection = connection;
         self.took += 1;
     }

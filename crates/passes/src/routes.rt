@@ -1,6 +1,6 @@
 // Broadcasts of a pass.
 
-ghost use Rattle.std.specs.Prelude.{◌≡◌, ◌⊎◌, IfOk, IfErr, OnOk, MatchResult, map, option_map};
+ghost use Rattle.std.specs.Prelude.{◌≡◌, ◌⊎◌, [], IfErr, OnOk, MatchResult, map, option_map};
 ghost use Rattle.routing.specs.Stops.{RisesFrom, number_of, AllHave};
 ghost use Rattle.passes.specs.Sending.{kept_stops, AreReachable, KeepsThose, UnroutedThose, RoutedThose};
 ghost use Rattle.passes.specs.Routes.{HasRouted, IsUnrouted};
@@ -52,11 +52,13 @@ fn broadcast<M: Carrier, W: Wait, G: Gate>(
     found: Audience<M>,
     bytes: &Bytes,
     gate: &G,
-) -> Result<ArrayVec<u64, MAX_RECIPIENTS>, BusError>
+    refused: &mut ArrayVec<u64, MAX_RECIPIENTS>,
+) -> Result<(), BusError>
+    requires none { refused.old.items ≡ [] }
     requires reachable { AreReachable (option_map (λ v. v.items) found.connected) recipients.now.items found.newcomers.items sender.old.stops }
     requires rising { RisesFrom 0 recipients.now.items }
     ensures keeps { KeepsThose (option_map (λ v. v.items) found.connected) found.newcomers.items sender.old sender.new }
-    ensures ok { IfOk result (λ refused. RoutedThose (option_map (λ v. v.items) found.connected) recipients.now.items refused.items sender.old sender.new) }
+    ensures ok { OnOk result (RoutedThose (option_map (λ v. v.items) found.connected) recipients.now.items refused.new.items sender.old sender.new) }
     ensures err { IfErr result (λ error. ((error ≡ BusError.NoMemory) ⊎ ((error ≡ BusError.Counts) × (sender.old.count ≡ u64.MAX))) × UnroutedThose (option_map (λ v. v.items) found.connected) sender.old sender.new) }
 {
     let Audience {
@@ -67,8 +69,8 @@ fn broadcast<M: Carrier, W: Wait, G: Gate>(
         Ok(()) => {}
         Err(_) => return Err(BusError::NoMemory),
     }
-    match sender.route_gated(rt, alloc, recipients.as_slice(), bytes, gate) {
-        Ok(refused) => Ok(refused),
+    match sender.route_gated(rt, alloc, recipients.as_slice(), bytes, gate, refused) {
+        Ok(()) => Ok(()),
         Err(RouteError::NoMemory) => Err(BusError::NoMemory),
         Err(RouteError::Counts) => Err(BusError::Counts),
     }
@@ -76,9 +78,9 @@ fn broadcast<M: Carrier, W: Wait, G: Gate>(
 
 impl<J: Naming, M: Mailbox + Carrier> Pass<J, M> {
     /// Finds the recipients of a broadcast, leaves the published state, and puts the message into their outboxes.
-    /// Answers those whose outbox refused it, a shut one included, by rising number. The view is that of the bytes.
-    /// `gate.before(0)` is called once the published state is left and the seats are there, before the first put, and
-    /// `gate.after(0)` after the last.
+    /// Lists those whose outbox refused it, a shut one included, by rising number, into an empty list of the caller's. The
+    /// view is that of the bytes. `gate.before(0)` is called once the published state is left and the seats are there,
+    /// before the first put, and `gate.after(0)` after the last.
     ///
     /// # Errors
     ///
@@ -92,8 +94,10 @@ impl<J: Naming, M: Mailbox + Carrier> Pass<J, M> {
         view: &View<'_>,
         bytes: &Bytes,
         gate: &G,
-    ) -> Result<ArrayVec<u64, MAX_RECIPIENTS>, BusError>
-        ensures { MatchResult result (λ refused. HasRouted M.outbox_of source view.now self.old refused.items self.new) (λ error. IsUnrouted M.outbox_of error self.old self.new) }
+        refused: &mut ArrayVec<u64, MAX_RECIPIENTS>,
+    ) -> Result<(), BusError>
+        requires { refused.old.items ≡ [] }
+        ensures { MatchResult result (λ _. HasRouted M.outbox_of source view.now self.old refused.new.items self.new) (λ error. IsUnrouted M.outbox_of error self.old self.new) }
     {
         let connection = self.connection();
         if connection == 0 || (source == Source::Own && self.is_closed()) {
@@ -105,7 +109,16 @@ impl<J: Naming, M: Mailbox + Carrier> Pass<J, M> {
         let mut recipients = ArrayVec::new();
         match self.look_for_mailboxes(alloc, &sender, from, view, &mut recipients) {
             Ok(found) => {
-                let answer = broadcast(rt, alloc, &mut sender, &recipients, found, bytes, gate);
+                let answer = broadcast(
+                    rt,
+                    alloc,
+                    &mut sender,
+                    &recipients,
+                    found,
+                    bytes,
+                    gate,
+                    refused,
+                );
                 let _ = sender.seats();
                 self.put_back(sender);
                 answer

@@ -46,14 +46,19 @@ impl<J: Naming, M: Mailbox, R: Wait + Drop> Control<J, M, R> {
     {
         self.admit(pass)?;
         let connection = pass.connection();
-        match self.compiled(alloc, connection, rule) {
+        match self.compile_for(alloc, connection, rule) {
             Ok(program) => self.publish(pass, Command::AddRule(connection, program)),
             Err(error) => Err(error),
         }
     }
 
     // The rule with its program, for the slot that the state gives to its sender name.
-    fn compiled(&self, alloc: Global, connection: u64, rule: Rule) -> Result<RuleProgram, BusError>
+    fn compile_for(
+        &self,
+        alloc: Global,
+        connection: u64,
+        rule: Rule,
+    ) -> Result<RuleProgram, BusError>
         ensures { Compiles (after self.now.history) connection rule result }
     {
         match self.state().rule_slot(connection, &rule) {

@@ -1,4 +1,4 @@
--- Lists over the places 0 to N - 1.
+-- Lists over the places 0 to N - 1 (own).
 use Rattle.std.specs.Prelude.{◌≡◌, ℕ, ◌<◌, Bool, true, false, not, List, [], filter, length, replicate, ◌==◌, ◌∷◌, slice_index_or}
 use Rattle.std.specs.List.{list_any}
 

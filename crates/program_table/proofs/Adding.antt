@@ -11,7 +11,7 @@ use Rattle.std.proofs.lemmas.List.Sums.{sum_by-cons}
 use Rattle.owners.specs.declared.holding.Holding.{Holding}
 use Rattle.owners.specs.declared.answer.Named.{Named}
 use Rattle.owners.specs.declared.error.ClaimError.{ClaimError}
-use Rattle.owners.specs.Queues.{requested}
+use Rattle.owners.specs.Queues.{after_requesting}
 use Rattle.owners.specs.Registry as registry
 use Rattle.entry_table.specs.declared.entry.Entry.{Entry}
 use Rattle.entry_table.specs.Entries.{Entries, AreEntries}
@@ -26,10 +26,10 @@ use Rattle.program_table.specs.IsState.{slot_in, is_own_slot, has_own_slot}
 use Rattle.program_table.specs.Ties.{slot_names, rules_with, holdings, registrations_of, AreTied}
 use Rattle.program_table.proofs.Holdings.{own, free, next_is, with_slot-own, own-with_slot, put_holding, rules-holdings}
 use Rattle.program_table.proofs.Positions.{position-set_first}
-use Rattle.program_table.proofs.Kept.{replied, request_replied}
+use Rattle.program_table.proofs.Kept.{reply_to_claim, request_replied}
 use Rattle.program_table.proofs.Tying.{tied, seen, requested_slots, one_slot}
 
-replied_ok : (r : Result Named ClaimError) → is_ok (replied r) ≡ is_ok r
+replied_ok : (r : Result Named ClaimError) → is_ok (reply_to_claim r) ≡ is_ok r
 replied_ok (Ok named) = refl
 replied_ok (Err error) = refl
 
@@ -40,7 +40,7 @@ has_next (Some n) rest e = (n, refl)
 -- the names after a request that is accepted
 abbrev requested_names : List ℕ → ℕ → ℕ → registry.Registry → registry.Registry
 requested_names name c flags names = record {
-  claims = requested name c flags names.claims;
+  claims = after_requesting name c flags names.claims;
   slots = registry.with_rules name (registry.rules_of name names.slots) names.slots;
 }
 

@@ -8,7 +8,7 @@ use Rattle.owners.specs.Registry as registry
 use Rattle.entry_table.specs.declared.entry.Entry.{Entry}
 use Rattle.entry_table.specs.Entries.{Entries, AreEntries}
 use Rattle.program_table.specs.SlotNames.{slot_of, slot_next, sender_asked, asks_for, is_name, is_used, used_slot, used_slots}
-use Rattle.program_table.specs.Registrations.{Registrations, settled}
+use Rattle.program_table.specs.Registrations.{Registrations, settle_names}
 use Rattle.program_table.specs.Senders.{without_sender}
 use Rattle.program_table.specs.IsState.{slot_in, has_own_slot}
 use Rattle.program_table.specs.Ties.{slot_names, rules_with, holdings, registrations_of, AreTied}
@@ -54,13 +54,13 @@ module _ (e : Entry) (front back : List Entry) (names : registry.Registry) (all 
       go None asks = tt
       go (Some name) asks = let more = rules_more name asks in omega (arith, more)
 
-  kept_slots : map (registry.kept names.claims) (holdings after.entries slots) ≡ holdings after.entries (used_slots names.claims after.entries slots)
+  kept_slots : map (registry.kept_slot names.claims) (holdings after.entries slots) ≡ holdings after.entries (used_slots names.claims after.entries slots)
   kept_slots = kept-holdings names.claims after.entries slots
 
   none_freed : sender_asked e.filter ≡ None → names.slots ≡ holdings after.entries (used_slots names.claims after.entries slots)
   none_freed asks =
       sym tie.registry.used
-      ∙ ap (map (registry.kept names.claims)) (sym tie.counted ∙ same_holdings all.entries after.entries slots same)
+      ∙ ap (map (registry.kept_slot names.claims)) (sym tie.counted ∙ same_holdings all.entries after.entries slots same)
       ∙ kept_slots
     where
       same : (name : List ℕ) → rules_with name all.entries ≡ rules_with name after.entries
@@ -71,10 +71,10 @@ module _ (e : Entry) (front back : List Entry) (names : registry.Registry) (all 
 
   one_freed : (name : List ℕ) → sender_asked e.filter ≡ Some name → (registry.after_slot_free name names).slots ≡ holdings after.entries (used_slots names.claims after.entries slots)
   one_freed name asks =
-      ap (λ (k : ℕ). map (registry.kept names.claims) (registry.with_rules name k names.slots)) fewer
-      ∙ ap (λ (s : List (Option Holding)). map (registry.kept names.claims) (registry.with_rules name (rules_with name after.entries) s)) (sym tie.counted)
-      ∙ ap (map (registry.kept names.claims)) (put_holding name all.entries after.entries slots has.0 next (one_slot names all tie) apart)
-      ∙ ap (λ (s : List (Option (List ℕ))). map (registry.kept names.claims) (holdings after.entries s)) (with_slot-own name slots has.0 has.1)
+      ap (λ (k : ℕ). map (registry.kept_slot names.claims) (registry.with_rules name k names.slots)) fewer
+      ∙ ap (λ (s : List (Option Holding)). map (registry.kept_slot names.claims) (registry.with_rules name (rules_with name after.entries) s)) (sym tie.counted)
+      ∙ ap (map (registry.kept_slot names.claims)) (put_holding name all.entries after.entries slots has.0 next (one_slot names all tie) apart)
+      ∙ ap (λ (s : List (Option (List ℕ))). map (registry.kept_slot names.claims) (holdings after.entries s)) (with_slot-own name slots has.0 has.1)
       ∙ kept_slots
     where
       has : (n : ℕ) × (slot_of name slots ≡ Some n)
@@ -107,7 +107,7 @@ module _ (e : Entry) (front back : List Entry) (names : registry.Registry) (all 
   freed_tie later f is entries =
       tied later after (used_slots names.claims after.entries slots) is entries (freed_slots later f) (own-used_slots names.claims after.entries slots own_rest)
 
-  pub freed_view : (later : registry.Registry) → later ≡ without_sender (sender_asked e.filter) names → registrations_of later after ≡ settled (record { claims = names.claims; slots = slots; entries = after.entries; last_entry = after.last })
+  pub freed_view : (later : registry.Registry) → later ≡ without_sender (sender_asked e.filter) names → registrations_of later after ≡ settle_names (record { claims = names.claims; slots = slots; entries = after.entries; last_entry = after.last })
   freed_view later f =
       seen later after (used_slots names.claims after.entries slots) (freed_slots later f)
       ∙ ap (λ (cs : List _). let r : Registrations = record { claims = cs; slots = used_slots names.claims after.entries slots; entries = after.entries; last_entry = after.last } in r) (same_claims later (sender_asked e.filter) f)

@@ -7,7 +7,7 @@ use Rattle.owners.specs.Registry as registry
 use Rattle.entry_table.specs.declared.entry.Entry.{Entry}
 use Rattle.entry_table.specs.Entries.{Entries, AreEntries, is_of, is_entry, entries_but}
 use Rattle.program_table.specs.SlotNames.{sender_asked, asks_for, used_slots}
-use Rattle.program_table.specs.Registrations.{Registrations, settled, without_all_of}
+use Rattle.program_table.specs.Registrations.{Registrations, settle_names, without_all_of}
 use Rattle.program_table.specs.Senders.{without_sender}
 use Rattle.program_table.specs.Removal.{entries_not_of, AreSomeGone}
 use Rattle.program_table.specs.Ties.{slot_names, registrations_of, AreTied}
@@ -72,7 +72,7 @@ more_gone c r s t first next = record {
 }
 
 -- all of them are gone, and the claims
-pub all_gone : (c : ℕ) (r s : Registrations) → AreSomeGone c r s → entries_not_of c s.entries ≡ s.entries → settled (record s { claims = without_all c s.claims }) ≡ without_all_of c r
+pub all_gone : (c : ℕ) (r s : Registrations) → AreSomeGone c r s → entries_not_of c s.entries ≡ s.entries → settle_names (record s { claims = without_all c s.claims }) ≡ without_all_of c r
 all_gone c r s gone last =
     let same : s.entries ≡ entries_not_of c r.entries = sym last ∙ gone.others in
     let slots : used_slots (without_all c s.claims) s.entries s.slots ≡ used_slots (without_all c r.claims) (entries_not_of c r.entries) r.slots =
@@ -103,13 +103,13 @@ fewer_left e all rest here =
     omega (arith, left, full, less)
 
 -- names that are registered are used
-settled_now : (names : registry.Registry) (all : Entries) → AreTied names all → registrations_of names all ≡ settled (registrations_of names all)
+settled_now : (names : registry.Registry) (all : Entries) → AreTied names all → registrations_of names all ≡ settle_names (registrations_of names all)
 settled_now names all tie =
     ap (λ (s : List (Option (List ℕ))). let r : Registrations = record { claims = names.claims; slots = s; entries = all.entries; last_entry = all.last } in r)
     (sym (registrations_sound names all tie).used)
 
 abbrev left_with : registry.Registry → List Entry → ℕ → Registrations
-left_with names es last = settled (record { claims = names.claims; slots = slot_names names.slots; entries = es; last_entry = last })
+left_with names es last = settle_names (record { claims = names.claims; slots = slot_names names.slots; entries = es; last_entry = last })
 
 pub entry_gone : (c n : ℕ) (e : Entry) (names later : registry.Registry) (all after : Entries) → AreTied names all → Some e ≡ find (is_entry c n) all.entries → after ≡ entries_but (λ f. f.id == e.id) all → later ≡ without_sender (sender_asked e.filter) names
     → registrations_of later after ≡ left_with names (filter (λ f. not (is_entry c n f)) all.entries) all.last

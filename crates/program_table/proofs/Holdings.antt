@@ -122,14 +122,14 @@ kept_or true false name entries = refl
 kept_or false true name entries = refl
 kept_or false false name entries = refl
 
-kept_is : (claims : List Claim) (entries : List Entry) (x : Option (List ℕ)) → registry.kept claims (holding_of entries x) ≡ holding_of entries (used_slot claims entries x)
+kept_is : (claims : List Claim) (entries : List Entry) (x : Option (List ℕ)) → registry.kept_slot claims (holding_of entries x) ≡ holding_of entries (used_slot claims entries x)
 kept_is claims entries None = refl
 kept_is claims entries (Some name) =
     rw (none_is (rules_with name entries), counts_some (asks_for name) entries)
     (kept_or (list_any (asks_for name) entries) (list_any (is_on name) claims) name entries)
 
 -- the names that are kept are those that are used
-pub kept-holdings : (claims : List Claim) (entries : List Entry) (slots : List (Option (List ℕ))) → map (registry.kept claims) (holdings entries slots) ≡ holdings entries (used_slots claims entries slots)
+pub kept-holdings : (claims : List Claim) (entries : List Entry) (slots : List (Option (List ℕ))) → map (registry.kept_slot claims) (holdings entries slots) ≡ holdings entries (used_slots claims entries slots)
 kept-holdings claims entries [] = refl
 kept-holdings claims entries (x ∷ slots) = rw (kept_is claims entries x, kept-holdings claims entries slots) refl
 

@@ -4,7 +4,7 @@ use Rattle.std.specs.Prelude.{Result, Err, is_ok}
 use Rattle.std.proofs.lemmas.Bool.Decides.{nat_tests}
 use Rattle.std.specs.List.{list_all}
 use Rattle.owners.specs.Queues as queues
-use Rattle.owners.specs.Queues.{Claim, is_claim, has_flag, do_not_queue, may_replace, has_claim, without, without_all, with_flags, with_last, replaced, requested, requested_by, first_claim}
+use Rattle.owners.specs.Queues.{Claim, is_claim, has_flag, do_not_queue, may_replace, has_claim, without, without_all, with_flags, with_last, after_replacement, after_requesting, requested_by, first_claim}
 use Rattle.entry_table.specs.declared.entry.Entry.{Entry}
 use Rattle.entry_table.specs.declared.entry.Filter.{Filter}
 use Rattle.entry_table.specs.Entries.{is_of, is_entry}
@@ -16,7 +16,7 @@ use Rattle.program_table.specs.Connections.{has_number, is_connected, with_comma
 use Rattle.program_table.specs.Registrations.{Registrations, no_registrations, with_entry, with_sender, without_entry, with_request, without_claim, without_all_of}
 use Rattle.program_table.specs.State.{State}
 use Rattle.program_table.specs.Refusals.{◌>>=◌}
-use Rattle.program_table.specs.Does.{connected}
+use Rattle.program_table.specs.Does.{refuse_unconnected}
 use Rattle.program_table.specs.OfConnections.{AreOfConnections}
 use Rattle.program_table.proofs.Adding.{all-push}
 
@@ -69,7 +69,7 @@ module _ (p : ℕ → Bool) where
       go true rest = both (holds_of c) _ (first_true (holds_of c) (list_all holds_of claims) e) rest
       go false rest = both (holds_of c) _ (first_true (holds_of c) (list_all holds_of claims) e) rest
 
-  all_replaced : (owner : Claim) (name : List ℕ) (connection flags : ℕ) (claims : List Claim) → list_all holds_of claims ≡ true → p connection ≡ true → list_all holds_of (replaced owner name connection flags claims) ≡ true
+  all_replaced : (owner : Claim) (name : List ℕ) (connection flags : ℕ) (claims : List Claim) → list_all holds_of claims ≡ true → p connection ≡ true → list_all holds_of (after_replacement owner name connection flags claims) ≡ true
   all_replaced owner name connection flags claims e is =
       both (p connection) _ is (
       all_kept holds_of (λ c. not (is_claim name connection c)) (cond (has_flag owner.flags do_not_queue) (without name owner.connection claims) claims)
@@ -84,7 +84,7 @@ module _ (p : ℕ → Bool) where
       let same = all_with_flags name connection flags claims e in
       let last = all_last name connection flags claims e is in
       all_either holds_of (owner.connection == connection) (with_flags name connection flags claims) _ same
-      (all_either holds_of (may_replace owner flags) (replaced owner name connection flags claims) _ (all_replaced owner name connection flags claims e is)
+      (all_either holds_of (may_replace owner flags) (after_replacement owner name connection flags claims) _ (all_replaced owner name connection flags claims e is)
       (all_either holds_of (has_flag flags do_not_queue) (without name connection claims) _ (all_kept holds_of (λ c. not (is_claim name connection c)) claims e)
       (all_either holds_of (has_claim name connection claims) (with_flags name connection flags claims) (with_last name connection flags claims) same last)))
 
@@ -169,7 +169,7 @@ module _ {M : Type 0} where
   }
 
   -- a command of a connection is only accepted where the connection is there
-  pub accepted_there : (full : Bool) (c : ℕ) (s : State M) (rest : Result Reply Refusal) → is_ok (cond full (Err refusals.Closed) (connected c s >>= λ there. rest)) ≡ true → is_connected c s.connections ≡ true
+  pub accepted_there : (full : Bool) (c : ℕ) (s : State M) (rest : Result Reply Refusal) → is_ok (cond full (Err refusals.Closed) (refuse_unconnected c s >>= λ there. rest)) ≡ true → is_connected c s.connections ≡ true
   accepted_there true c s rest e = cc
   accepted_there false c s rest e = go (is_connected c s.connections) refl
     where

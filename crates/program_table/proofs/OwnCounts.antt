@@ -13,7 +13,7 @@ use Rattle.program_table.specs.Connections.{has_number, is_connected, commands_o
 use Rattle.program_table.specs.Registrations.{Registrations}
 use Rattle.program_table.specs.Refusals.{◌>>=◌, refuse_if}
 use Rattle.program_table.specs.State.{State, opening}
-use Rattle.program_table.specs.Does.{row, is_accepted, effect, next_of, changed, max_commands}
+use Rattle.program_table.specs.Does.{row, is_accepted, effect, next_of, with_registrations, max_commands}
 use Rattle.program_table.specs.History.{after, are_accepted, IsHistory, is_command_of, own_from, own_commands}
 
 abbrev one_if : Bool → ℕ
@@ -34,7 +34,7 @@ flipped : (m n : ℕ) → (m == n) ≡ (n == m)
 flipped m n = grind (arith, nat_tests)
 
 not_next : (n c last : ℕ) → nat_le n last ≡ true → (n == c) ≡ true → (c == (last + 1)) ≡ false
-not_next n c last given e = grind (arith, nat_tests)
+not_next n c last below_last e = grind (arith, nat_tests)
 
 not_next_below : (c last : ℕ) → c ≤ last → ((last + 1) == c) ≡ false
 not_next_below c last le = grind (arith, nat_tests)
@@ -43,7 +43,7 @@ le_next : (m n : ℕ) → nat_le m n ≡ true → nat_le m (n + 1) ≡ true
 le_next m n e = grind (arith, nat_tests)
 
 le_of : (n c last : ℕ) → nat_le n last ≡ true → (n == c) ≡ true → c ≤ last
-le_of n c last given e = grind (arith, nat_tests)
+le_of n c last below_last e = grind (arith, nat_tests)
 
 next_le : (n : ℕ) → nat_le (n + 1) (n + 1) ≡ true
 next_le n = grind (arith, nat_tests)
@@ -207,7 +207,7 @@ module _ {M : Type 0} where
 
   record Stepped (c : ℕ) (s next : State M) (own closing : Bool) : Type 0 where
     counts : next.commands ≡ s.commands + 1
-    given : AreGiven next.last_connection next.connections
+    below_last : AreGiven next.last_connection next.connections
     mine : closing ≡ false → commands_of c next.connections ≡ commands_of c s.connections + one_if own
     gone : closing ≡ true → (is_connected c next.connections ≡ false) × (c ≤ next.last_connection)
     stays : is_connected c s.connections ≡ false → c ≤ s.last_connection → (is_connected c next.connections ≡ false) × (c ≤ next.last_connection)
@@ -226,10 +226,10 @@ module _ {M : Type 0} where
     low_if : (d : ℕ) → is_connected d s.connections ≡ true → (c == d) ≡ true → c ≤ s.last_connection
     low_if d there e = rw (eq_of c d e) (there_below d s.last_connection s.connections g there)
 
-    step_changed : (d : ℕ) (r : Registrations) → is_connected d s.connections ≡ true → Stepped c s (changed d s r) (c == d) false
+    step_changed : (d : ℕ) (r : Registrations) → is_connected d s.connections ≡ true → Stepped c s (with_registrations d s r) (c == d) false
     step_changed d r there = record {
       counts = refl;
-      given = given_still s.last_connection d s.connections g;
+      below_last = given_still s.last_connection d s.connections g;
       mine = λ e. counted_more c d s.connections ∙ ap (λ (b : Bool). commands_of c s.connections + one_if b) (own_if d there (c == d) refl);
       gone = λ e. absurd (cc);
       stays = λ e le. (there_still c d s.connections ∙ e, le);
@@ -240,7 +240,7 @@ module _ {M : Type 0} where
     step : (x : Command M) → is_ok (row s x) ≡ true → Stepped c s (effect s x) (is_command_of s c x) (closes c x)
     step (Connect m) ok = record {
       counts = refl;
-      given = given_first s.last_connection m s.connections g;
+      below_last = given_first s.last_connection m s.connections g;
       mine = λ e. counted_first c s.last_connection m s.connections g;
       gone = λ e. absurd (cc);
       stays = λ e le. (still_gone c s.last_connection m s.connections le e, omega (arith, le));
@@ -256,7 +256,7 @@ module _ {M : Type 0} where
     step (DropOne d) ok = step_changed d _ (there_first _ _ ok)
     step (Close d) ok = record {
       counts = refl;
-      given = given_others s.last_connection d s.connections g;
+      below_last = given_others s.last_connection d s.connections g;
       mine = λ e. counted_others c d s.connections e ∙ rw e (omega arith);
       gone = λ e. (ap (λ (n : ℕ). is_connected n (without_connection d s.connections)) (eq_of c d e) ∙ gone_itself d s.connections, rw (eq_of c d e) (there_below d s.last_connection s.connections g (there_first _ _ ok)));
       stays = λ e le. (gone_others c d s.connections e, le);
@@ -279,7 +279,7 @@ module _ {M : Type 0} where
       let p = both_true (is_accepted s x) (are_accepted (next_of s x) xs) ok in
       let stepped = step_next c s g x p.0 in
       let now = stepped.stays gone le in
-      gone_ever c (next_of s x) xs stepped.given p.1 now.0 now.1
+      gone_ever c (next_of s x) xs stepped.below_last p.1 now.0 now.1
 
   own_counted : (c : ℕ) (s : State M) (xs : List (Command M)) → AreGiven s.last_connection s.connections → are_accepted s xs ≡ true
       → is_connected c (fold next_of s xs).connections ≡ true
@@ -288,14 +288,14 @@ module _ {M : Type 0} where
   own_counted c s (x ∷ xs) g ok there =
       let p = both_true (is_accepted s x) (are_accepted (next_of s x) xs) ok in
       let stepped = step_next c s g x p.0 in
-      go p.1 stepped (closes c x) refl (own_counted c (next_of s x) xs stepped.given p.1 there)
+      go p.1 stepped (closes c x) refl (own_counted c (next_of s x) xs stepped.below_last p.1 there)
     where
       go : are_accepted (next_of s x) xs ≡ true → Stepped c s (next_of s x) (is_command_of s c x) (closes c x) → (b : Bool) → closes c x ≡ b
           → commands_of c (fold next_of (next_of s x) xs).connections ≡ commands_of c (next_of s x).connections + length (own_from (next_of s x) c xs)
           → commands_of c (fold next_of (next_of s x) xs).connections ≡ commands_of c s.connections + length (own_from s c (x ∷ xs))
       go rest stepped true e later =
           let now = stepped.gone e in
-          absurd (contradicts (gone_ever c (next_of s x) xs stepped.given rest now.0 now.1) there)
+          absurd (contradicts (gone_ever c (next_of s x) xs stepped.below_last rest now.0 now.1) there)
         where
           contradicts : {b : Bool} → b ≡ false → b ≡ true → ⊥
           contradicts p q = cc
@@ -309,7 +309,7 @@ module _ {M : Type 0} where
   all_counted s (x ∷ xs) g ok =
       let p = both_true (is_accepted s x) (are_accepted (next_of s x) xs) ok in
       let stepped = step_next 0 s g x p.0 in
-      let later = all_counted (next_of s x) xs stepped.given p.1 in
+      let later = all_counted (next_of s x) xs stepped.below_last p.1 in
       let first = stepped.counts in
       omega (arith, later, first)
 
@@ -318,7 +318,7 @@ module _ {M : Type 0} where
   last_grows s (x ∷ xs) g ok =
       let p = both_true (is_accepted s x) (are_accepted (next_of s x) xs) ok in
       let stepped = step_next 0 s g x p.0 in
-      let later = last_grows (next_of s x) xs stepped.given p.1 in
+      let later = last_grows (next_of s x) xs stepped.below_last p.1 in
       let first = stepped.grows in
       omega (arith, later, first)
 
@@ -328,8 +328,8 @@ module _ {M : Type 0} where
   none_own c s (x ∷ xs) g ok above =
       let p = both_true (is_accepted s x) (are_accepted (next_of s x) xs) ok in
       let stepped = step_next c s g x p.0 in
-      let later = last_grows (next_of s x) xs stepped.given p.1 in
-      go (is_command_of s c x) (λ e. let le = stepped.low e in omega (arith, le, later, above)) (none_own c (next_of s x) xs stepped.given p.1 above)
+      let later = last_grows (next_of s x) xs stepped.below_last p.1 in
+      go (is_command_of s c x) (λ e. let le = stepped.low e in omega (arith, le, later, above)) (none_own c (next_of s x) xs stepped.below_last p.1 above)
     where
       go : (b : Bool) → (b ≡ true → ⊥) → own_from (next_of s x) c xs ≡ [] → (if b then x ∷ own_from (next_of s x) c xs else own_from (next_of s x) c xs) ≡ []
       go true never e = absurd (never refl)

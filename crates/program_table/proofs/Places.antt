@@ -151,7 +151,7 @@ module _ {M : Type 0} where
   kept_numbers : (cs ds : List (Connection M)) (last : ℕ) → numbers_of ds ≡ numbers_of cs → length ds ≡ length cs → IsConnectionList (record { connections = cs; last = last }) → IsConnectionList (record { connections = ds; last = last })
   kept_numbers cs ds last e n h = record {
     rising = subst IsStrictlyIncreasing (sym e) h.rising;
-    given = subst (λ (ns : List ℕ). All (λ m. m ≤ last) ns) (sym e) h.given;
+    below_last = subst (λ (ns : List ℕ). All (λ m. m ≤ last) ns) (sym e) h.below_last;
     few = omega (arith, h.few, n);
   }
 
@@ -167,7 +167,7 @@ module _ {M : Type 0} where
   pub without_list : (n last : ℕ) (cs : List (Connection M)) → IsConnectionList (record { connections = cs; last = last }) → IsConnectionList (record { connections = without_connection n cs; last = last })
   without_list n last cs h = record {
     rising = subst IsStrictlyIncreasing (sym (rising_without n cs)) (IsStrictlyIncreasing-filter (λ (m : ℕ). not (m == n)) (numbers_of cs) h.rising);
-    given = subst (λ (ns : List ℕ). All (λ m. m ≤ last) ns) (sym (rising_without n cs)) (All-filter (λ (m : ℕ). not (m == n)) (λ m. m ≤ last) (numbers_of cs) h.given);
+    below_last = subst (λ (ns : List ℕ). All (λ m. m ≤ last) ns) (sym (rising_without n cs)) (All-filter (λ (m : ℕ). not (m == n)) (λ m. m ≤ last) (numbers_of cs) h.below_last);
     few = omega (arith, h.few, length-filter (λ (c : Connection M). not (has_number n c)) cs, count_by-le-length (λ (c : Connection M). not (has_number n c)) cs);
   }
 

@@ -17,7 +17,8 @@ use Rattle.program_table.specs.Refusals.{◌>>=◌, refuse_if}
 use Rattle.program_table.specs.Answers.{max_entries, slot_asked, slot_fits}
 use Rattle.program_table.specs.State.{State}
 use Rattle.program_table.specs.Does.{reply_of, answer_of, max_commands}
-use Rattle.program_table.specs.RuleSlots.{IsRuleSlot, add_of, slot_for, rule_slot_of}
+use Rattle.program_table.specs.RuleSlots.{IsRuleSlot, add_of}
+use Rattle.program_table.specs.SlotSearch.{slot_for, rule_slot_of}
 
 -- both are Ok, or both are refused for the same
 abbrev Agree : {A : Type 0} → Result A Refusal → Result Reply Refusal → Type 0

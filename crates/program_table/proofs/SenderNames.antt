@@ -2,12 +2,12 @@
 use Rattle.std.proofs.Common.{◌≡◌, ℕ, Bool, true, false, not, ◌&&◌, List, [], ◌∷◌, Some, refl}
 use Rattle.std.specs.Prelude.{Ok}
 use Rattle.std.specs.Str.{bytes_eq}
-use Rattle.signature.specs.Name.{is_bus_name}
+use Rattle.signature.specs.Name.{is_bus_name, bus_name}
 use Rattle.match_rule.specs.declared.condition.Condition.{Condition}
 use Rattle.match_rule.specs.declared.condition.Condition.TheVariants.{Kind, Sender, Compares}
 use Rattle.match_rule.specs.RuleTree.{RuleTree, sender_name_of, first_owned_name, is_owned_name}
 use Rattle.match_rule.specs.Parts.{have_sender_names}
-use Rattle.owners.specs.WellKnown.{name_in, bus_name, is_unique}
+use Rattle.owners.specs.WellKnown.{name_in, is_unique}
 
 both_true : (a b : Bool) → (a && b) ≡ true → (a ≡ true) × (b ≡ true)
 both_true true b e = (refl, e)

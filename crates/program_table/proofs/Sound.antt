@@ -26,9 +26,9 @@ registrations_sound names all tie =
       own_slots = tie.own_slots;
       used =
           sym (slot_names-holdings all.entries (used_slots names.claims all.entries slots))
-          ∙ ap slot_names (sym (kept-holdings names.claims all.entries slots) ∙ ap (map (registry.kept names.claims)) tie.counted ∙ tie.registry.used);
+          ∙ ap slot_names (sym (kept-holdings names.claims all.entries slots) ∙ ap (map (registry.kept_slot names.claims)) tie.counted ∙ tie.registry.used);
       rising = tie.entries.rising;
-      given = tie.entries.given;
+      below_last = tie.entries.below_last;
       few_entries = tie.entries.few;
       few_claims = tie.registry.claims;
     }

@@ -7,7 +7,7 @@ use Rattle.owners.specs.Queues.{Claim, without}
 use Rattle.owners.specs.Registry as registry
 use Rattle.entry_table.specs.Entries.{Entries, AreEntries}
 use Rattle.program_table.specs.SlotNames.{slot_of, slot_next, with_slot, used_slots}
-use Rattle.program_table.specs.Registrations.{Registrations, settled, without_claim}
+use Rattle.program_table.specs.Registrations.{Registrations, settle_names, without_claim}
 use Rattle.program_table.specs.IsState.{has_own_slot}
 use Rattle.program_table.specs.Ties.{slot_name, slot_names, holdings, registrations_of, AreTied}
 use Rattle.program_table.proofs.Holdings.{HaveOneSlot, slot_of-holdings, slot_names-holdings, put_holding, kept-holdings, rules-holdings, own-used_slots}
@@ -48,19 +48,19 @@ seen names all slots e =
     (ap slot_names e ∙ slot_names-holdings all.entries slots)
 
 -- some claims are gone
-settled_slots : (names : registry.Registry) (all : Entries) (claims : List Claim) → AreTied names all → (registry.settled claims names.slots).slots ≡ holdings all.entries (used_slots claims all.entries (slot_names names.slots))
-settled_slots names all claims tie = ap (map (registry.kept claims)) (sym tie.counted) ∙ kept-holdings claims all.entries (slot_names names.slots)
+settled_slots : (names : registry.Registry) (all : Entries) (claims : List Claim) → AreTied names all → (registry.settle_slots claims names.slots).slots ≡ holdings all.entries (used_slots claims all.entries (slot_names names.slots))
+settled_slots names all claims tie = ap (map (registry.kept_slot claims)) (sym tie.counted) ∙ kept-holdings claims all.entries (slot_names names.slots)
 
-pub settled_tie : (names later : registry.Registry) (all : Entries) (claims : List Claim) → AreTied names all → registry.IsRegistry later → later ≡ registry.settled claims names.slots → AreTied later all
+pub settled_tie : (names later : registry.Registry) (all : Entries) (claims : List Claim) → AreTied names all → registry.IsRegistry later → later ≡ registry.settle_slots claims names.slots → AreTied later all
 settled_tie names later all claims tie is e =
     tied later all (used_slots claims all.entries (slot_names names.slots)) is tie.entries
     (ap (λ (n : registry.Registry). n.slots) e ∙ settled_slots names all claims tie)
     (own-used_slots claims all.entries (slot_names names.slots) tie.own_slots)
 
-pub settled_view : (names later : registry.Registry) (all : Entries) (claims : List Claim) → AreTied names all → later ≡ registry.settled claims names.slots → registrations_of later all ≡ settled (record (registrations_of names all) { claims = claims })
+pub settled_view : (names later : registry.Registry) (all : Entries) (claims : List Claim) → AreTied names all → later ≡ registry.settle_slots claims names.slots → registrations_of later all ≡ settle_names (record (registrations_of names all) { claims = claims })
 settled_view names later all claims tie e =
     ap (λ (n : registry.Registry). registrations_of n all) e
-    ∙ seen (registry.settled claims names.slots) all (used_slots claims all.entries (slot_names names.slots)) (settled_slots names all claims tie)
+    ∙ seen (registry.settle_slots claims names.slots) all (used_slots claims all.entries (slot_names names.slots)) (settled_slots names all claims tie)
 
 pub dropped_tie : (o : Option (List ℕ)) (c : ℕ) (names later : registry.Registry) (all : Entries) → AreTied names all → registry.IsRegistry later → later ≡ registry.after_drop_one_at o c names → AreTied later all
 dropped_tie None c names later all tie is e = subst (λ (n : registry.Registry). AreTied n all) (sym e) tie

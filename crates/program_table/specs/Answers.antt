@@ -1,10 +1,10 @@
--- What a command of a connection that is there is answered, by what is registered.
+-- What a command of a connection that is there is answered, by what is registered (own).
 use Rattle.std.specs.Prelude.{ℕ, ◌+◌, not, List, length, find, Option, Some, None, option_map, is_none, Result, Ok, nat_le, nat_lt, nat_eq, ◌==◌, ◌||◌}
 use Rattle.std.specs.List.{list_any}
 use Rattle.std.specs.Option.{option_eq}
 use Rattle.match_rule.specs.RuleTree.{RuleTree, sender_name_of}
 use Rattle.owners.specs.declared.answer.Change.{Change}
-use Rattle.owners.specs.Queues.{Claim, first_claim, without, requested, request_reply, release_reply}
+use Rattle.owners.specs.Queues.{Claim, first_claim, without, after_requesting, request_reply, release_reply}
 use Rattle.owners.specs.Registry.{max_claims, change_between, least_of}
 use Rattle.entry_table.specs.declared.entry.Entry.{Entry}
 use Rattle.entry_table.specs.CompiledRule.{CompiledRule}
@@ -65,10 +65,10 @@ detach_answer c id r = do
 abbrev pub request_answer : List ℕ → ℕ → ℕ → Registrations → Result Reply Refusal
 request_answer name c flags r = do
   free ← refuse_if (is_none (slot_next name r.slots)) refusals.NamesFull
-  few ← refuse_if (nat_lt max_claims (length (requested name c flags r.claims))) refusals.QueueFull
+  few ← refuse_if (nat_lt max_claims (length (after_requesting name c flags r.claims))) refusals.QueueFull
   Ok (replies.Name (record {
     answer = request_reply (first_claim name r.claims) c flags;
-    change = change_between name r.claims (requested name c flags r.claims);
+    change = change_between name r.claims (after_requesting name c flags r.claims);
   }))
 
 abbrev pub release_answer : List ℕ → ℕ → Registrations → Reply

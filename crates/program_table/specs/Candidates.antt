@@ -1,4 +1,4 @@
--- The entries that a message may match by its member and its interface.
+-- The entries that a message may match by its member and its interface (own).
 use Rattle.std.specs.Prelude.{ℕ, Bool, true, ◌&&◌, List, filter, Option, Some, None}
 use Rattle.message_view.specs.Message.{Message, member_of, interface_of}
 use Rattle.match_rule.specs.FixedTexts.{member_asked, interface_asked}

@@ -1,4 +1,4 @@
--- The connections and the last number that was given.
+-- Inner: the connections and the last number that was given.
 use Rattle.std.specs.Prelude.{ℕ, ◌+◌, ◌≤◌, List, [], ◌∷◌, ◌++◌, All, length}
 use Rattle.std.specs.List.Sorted.{IsStrictlyIncreasing}
 use Rattle.program_table.specs.declared.connection.Connection.{Connection}
@@ -11,7 +11,7 @@ pub record ConnectionList (M : Type 0) : Type 0 where
 -- numbers rise from 1 to the last one, and there are at most 256
 pub record IsConnectionList {M : Type 0} (c : ConnectionList M) : Type 0 where
   pub rising : IsStrictlyIncreasing (numbers_of c.connections)
-  pub given : All (λ n. n ≤ c.last) (numbers_of c.connections)
+  pub below_last : All (λ n. n ≤ c.last) (numbers_of c.connections)
   pub few : length c.connections ≤ max_connections
 
 module _ {M : Type 0} where

@@ -27,8 +27,8 @@ reply_of (Err refusal) = replies.Refused refusal
 
 module _ {M : Type 0} where
   -- the connection is there
-  abbrev pub connected : ℕ → State M → Result (Unit {0}) Refusal
-  connected c s = refuse_if (not (is_connected c s.connections)) refusals.Closed
+  abbrev pub refuse_unconnected : ℕ → State M → Result (Unit {0}) Refusal
+  refuse_unconnected c s = refuse_if (not (is_connected c s.connections)) refusals.Closed
 
   abbrev pub connect_row : State M → Result Reply Refusal
   connect_row s = do
@@ -39,28 +39,28 @@ module _ {M : Type 0} where
   abbrev pub row : State M → Command M → Result Reply Refusal
   row s (Connect m) = connect_row s
   row s (AddRule c compiled) = do
-    there ← connected c s
+    there ← refuse_unconnected c s
     add_rule_answer compiled s.registrations
   row s (RemoveRule c rule) = do
-    there ← connected c s
+    there ← refuse_unconnected c s
     remove_rule_answer c rule s.registrations
   row s (Attach c attachment) = do
-    there ← connected c s
+    there ← refuse_unconnected c s
     attach_answer s.registrations
   row s (Detach c id) = do
-    there ← connected c s
+    there ← refuse_unconnected c s
     detach_answer c id s.registrations
   row s (Request c name flags) = do
-    there ← connected c s
+    there ← refuse_unconnected c s
     request_answer name c flags s.registrations
   row s (Release c name) = do
-    there ← connected c s
+    there ← refuse_unconnected c s
     Ok (release_answer name c s.registrations)
   row s (DropOne c) = do
-    there ← connected c s
+    there ← refuse_unconnected c s
     Ok (drop_answer c s.registrations)
   row s (Close c) = do
-    there ← connected c s
+    there ← refuse_unconnected c s
     Ok replies.Done
 
   -- once as many commands were accepted as can be counted, each one is refused
@@ -68,8 +68,8 @@ module _ {M : Type 0} where
   answer_of s command = if nat_le max_commands s.commands then Err refusals.Closed else row s command
 
   -- one more command of the connection was accepted, and led to these registrations
-  abbrev pub changed : ℕ → State M → Registrations → State M
-  changed c s r = record s { commands = s.commands + 1; connections = with_command c s.connections; registrations = r }
+  abbrev pub with_registrations : ℕ → State M → Registrations → State M
+  with_registrations c s r = record s { commands = s.commands + 1; connections = with_command c s.connections; registrations = r }
 
   -- a new connection, whose Connect is its first command
   abbrev pub with_connection : M → State M → State M
@@ -80,8 +80,8 @@ module _ {M : Type 0} where
   }
 
   -- the connection is gone, with its entries and its claims
-  abbrev pub closed : ℕ → State M → State M
-  closed c s = record s {
+  abbrev pub close_state : ℕ → State M → State M
+  close_state c s = record s {
     commands = s.commands + 1;
     connections = without_connection c s.connections;
     registrations = without_all_of c s.registrations;
@@ -91,14 +91,14 @@ module _ {M : Type 0} where
   abbrev pub effect : State M → Command M → State M
   effect s (Connect m) = with_connection m s
   effect s (AddRule c compiled) =
-      changed c s (with_sender (sender_name_of compiled.rule) (with_entry c (Rule compiled) s.registrations))
-  effect s (RemoveRule c rule) = changed c s (without_entry c (oldest_with c rule s.registrations.entries) s.registrations)
-  effect s (Attach c attachment) = changed c s (with_entry c (Attached attachment) s.registrations)
-  effect s (Detach c id) = changed c s (without_entry c (Some id) s.registrations)
-  effect s (Request c name flags) = changed c s (with_request name c flags s.registrations)
-  effect s (Release c name) = changed c s (without_claim c (Some name) s.registrations)
-  effect s (DropOne c) = changed c s (without_claim c (least_of c s.registrations.claims) s.registrations)
-  effect s (Close c) = closed c s
+      with_registrations c s (with_sender (sender_name_of compiled.rule) (with_entry c (Rule compiled) s.registrations))
+  effect s (RemoveRule c rule) = with_registrations c s (without_entry c (oldest_with c rule s.registrations.entries) s.registrations)
+  effect s (Attach c attachment) = with_registrations c s (with_entry c (Attached attachment) s.registrations)
+  effect s (Detach c id) = with_registrations c s (without_entry c (Some id) s.registrations)
+  effect s (Request c name flags) = with_registrations c s (with_request name c flags s.registrations)
+  effect s (Release c name) = with_registrations c s (without_claim c (Some name) s.registrations)
+  effect s (DropOne c) = with_registrations c s (without_claim c (least_of c s.registrations.claims) s.registrations)
+  effect s (Close c) = close_state c s
 
   -- the command is accepted
   abbrev pub is_accepted : State M → Command M → Bool

@@ -1,4 +1,4 @@
--- Histories: lists of accepted commands, from the opening state.
+-- Histories: lists of accepted commands, from the opening state (own).
 use Rattle.std.specs.Prelude.{◌≡◌, ℕ, ◌+◌, Bool, true, List, [], ◌∷◌, fold, ◌==◌, ◌&&◌, if◌then◌else◌}
 use Rattle.program_table.specs.declared.command.Command.{Command}
 use Rattle.program_table.specs.declared.command.Command.TheVariants.{Connect, AddRule, RemoveRule, Attach, Detach, Request, Release, DropOne, Close}

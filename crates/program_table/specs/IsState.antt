@@ -1,4 +1,4 @@
--- What is true of each state of the bus.
+-- What is true of each state of the bus (own).
 use Rattle.std.specs.Prelude.{◌≡◌, ℕ, ◌≤◌, ◌<◌, Bool, true, ◌&&◌, List, All, AllPairs, Option, Some, None, is_some, length, nat_eq, nat_le, slice_get}
 use Rattle.std.specs.List.{list_all}
 use Rattle.std.specs.Option.{option_eq}
@@ -39,14 +39,14 @@ pub record AreRegistrations (r : Registrations) : Type 0 where
   pub used : used_slots r.claims r.entries r.slots ≡ r.slots
   -- ids rise, and none is above the last one that was given
   pub rising : AllPairs (λ (e f : Entry). e.id < f.id) r.entries
-  pub given : All (λ (e : Entry). e.id ≤ r.last_entry) r.entries
+  pub below_last : All (λ (e : Entry). e.id ≤ r.last_entry) r.entries
   pub few_entries : length r.entries ≤ max_entries
   pub few_claims : length r.claims ≤ max_claims
 
 pub record IsState {M : Type 0} (s : State M) : Type 0 where
   -- numbers rise, and none is above the last one that was given
   pub rising : IsStrictlyIncreasing (numbers_of s.connections)
-  pub given : All (λ n. n ≤ s.last_connection) (numbers_of s.connections)
+  pub below_last : All (λ n. n ≤ s.last_connection) (numbers_of s.connections)
   pub few : length s.connections ≤ max_connections
   -- each connection and each of its commands was counted
   pub numbered : s.last_connection ≤ s.commands

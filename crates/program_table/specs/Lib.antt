@@ -11,6 +11,7 @@ pub mod Refusals
 pub mod Answers
 pub mod Does
 pub mod RuleSlots
+pub mod SlotSearch
 pub mod History
 pub mod IsState
 pub mod Ties

@@ -1,4 +1,4 @@
--- The numbers and names of refusals.
+-- The numbers and names of refusals (own).
 use Rattle.std.specs.Prelude.{ℕ, List, codes}
 use Rattle.program_table.specs.declared.refusal.Refusal.{Refusal}
 use Rattle.program_table.specs.declared.refusal.Refusal.TheVariants.{ConnectionsFull, EntriesFull, NamesFull, QueueFull, RuleNotFound, NoAttachment, Closed, Stale}

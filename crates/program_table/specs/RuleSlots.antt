@@ -1,5 +1,5 @@
--- The slot for which a rule is compiled, before its program is there.
-use Rattle.std.specs.Prelude.{◌≡◌, ℕ, true, List, Option, Some, None, is_none, Result, Ok, Err, nat_le, if◌then◌else◌}
+-- The slot for which a rule is compiled, before its program is there (own).
+use Rattle.std.specs.Prelude.{◌≡◌, ℕ, true, List, Option, Result, Ok, Err}
 use Rattle.bpf_code.specs.declared.instruction.Ins.{Ins}
 use Rattle.match_rule.specs.RuleTree.{RuleTree, sender_name_of}
 use Rattle.rule_compile.specs.Compiled.{IsSlotOf}
@@ -7,13 +7,9 @@ use Rattle.program_table.specs.declared.command.Command.{Command}
 use Rattle.program_table.specs.declared.command.Command.TheVariants.{AddRule}
 use Rattle.program_table.specs.declared.command.Reply.TheVariants.{Refused}
 use Rattle.program_table.specs.declared.refusal.Refusal.{Refusal}
-use Rattle.program_table.specs.declared.refusal.Refusal.TheVariants as refusals
-use Rattle.program_table.specs.SlotNames.{slot_next}
-use Rattle.program_table.specs.Registrations.{Registrations}
-use Rattle.program_table.specs.Refusals.{◌>>=◌, refuse_if}
-use Rattle.program_table.specs.Answers.{has_room, slot_asked}
+use Rattle.program_table.specs.Answers.{slot_asked}
 use Rattle.program_table.specs.State.{State}
-use Rattle.program_table.specs.Does.{is_accepted, reply_to, connected, max_commands}
+use Rattle.program_table.specs.Does.{is_accepted, reply_to}
 
 module _ {M : Type 0} where
   -- the rule's AddRule with the slot that the state gives, and some program
@@ -26,19 +22,3 @@ module _ {M : Type 0} where
   IsRuleSlot s c rule (Ok slot) =
       (slot ≡ slot_asked (sender_name_of rule) s.registrations.slots) × IsSlotOf slot rule × ((program : List Ins) → is_accepted s (add_of s c rule program) ≡ true)
   IsRuleSlot s c rule (Err refusal) = (program : List Ins) → reply_to s (add_of s c rule program) ≡ Refused refusal
-
--- Inner: as the code looks for it
-abbrev pub slot_for : Option (List ℕ) → List (Option (List ℕ)) → Result (Option ℕ) Refusal
-slot_for None slots = Ok None
-slot_for (Some name) slots = do
-  free ← refuse_if (is_none (slot_next name slots)) refusals.NamesFull
-  Ok (slot_next name slots)
-
-abbrev pub rule_slot : RuleTree → Registrations → Result (Option ℕ) Refusal
-rule_slot rule r = do
-  room ← has_room r
-  slot_for (sender_name_of rule) r.slots
-
-module _ {M : Type 0} where
-  abbrev pub rule_slot_of : State M → ℕ → RuleTree → Result (Option ℕ) Refusal
-  rule_slot_of s c rule = if nat_le max_commands s.commands then Err refusals.Closed else (connected c s >>= (λ there. rule_slot rule s.registrations))

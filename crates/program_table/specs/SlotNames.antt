@@ -1,5 +1,5 @@
--- The slots of names. A slot belongs to a name while a claim on the name is there, or an entry whose rule asks for it
--- as the sender.
+-- The slots of names (own). A slot belongs to a name while a claim on the name is there, or an entry whose rule asks
+-- for it as the sender.
 use Rattle.std.specs.Prelude.{ℕ, Bool, false, List, Option, Some, None, map, position, is_none, slice_set, ◌||◌, if◌then◌else◌}
 use Rattle.std.specs.List.{list_any}
 use Rattle.std.specs.Str.{bytes_eq}

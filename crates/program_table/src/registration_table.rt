@@ -1,7 +1,7 @@
 // Claims on names and entries, tied by the slots of names.
 
 ghost use Rattle.std.specs.Prelude.{◌≡◌};
-ghost use Rattle.program_table.specs.Refusals.{claim_refusal};
+ghost use Rattle.program_table.specs.SlotSearch.{claim_refusal};
 
 use crate::command::Reply;
 use crate::refusal::Refusal;
@@ -41,7 +41,7 @@ impl RegistrationTable {
     ghost use Rattle.owners.specs.Queues.{owner_of, queue_of};
     ghost use Rattle.owners.specs.Registry.{max_names, next_name, least_of};
     ghost use Rattle.rule_compile.specs.Compiled.{IsSlotOf};
-    ghost use Rattle.program_table.specs.RuleSlots.{rule_slot};
+    ghost use Rattle.program_table.specs.SlotSearch.{rule_slot};
     ghost use Rattle.entry_table.specs.declared.entry.Filter.TheVariants as filters;
     ghost use Rattle.entry_table.specs.OfferedEntries.{AreOffered};
     ghost use Rattle.program_table.specs.SlotNames.{slot_next};
@@ -249,11 +249,11 @@ impl RegistrationTable {
     }
 
     /// The entries that a message is offered to.
-    pub(crate) fn offered<'a>(&'a self, view: &View<'a>) -> Offered<'a>
+    pub(crate) fn entries_for<'a>(&'a self, view: &View<'a>) -> Offered<'a>
         ensures offered { (m : Message) → Valid view.now m → AreOffered self.now.entries m result }
         ensures sound { AreRegistrations self.now }
     {
-        self.entries.offered(view)
+        self.entries.entries_for(view)
     }
 
     /// The primary owner of a name.

@@ -45,9 +45,10 @@ impl<M: Mailbox> BusState<M> {
     ghost use Rattle.program_table.specs.Connections.{max_connections, numbers_of, mailbox_of, commands_of, is_connected};
     ghost use Rattle.program_table.specs.SlotNames.{slot_next};
     ghost use Rattle.program_table.specs.State.{State, opening};
-    ghost use Rattle.program_table.specs.Does.{Does, reply_to, max_commands, answer_of, is_accepted, is_sharing, row, connect_row, connected, changed, effect};
+    ghost use Rattle.program_table.specs.Does.{Does, reply_to, max_commands, answer_of, is_accepted, is_sharing, row, connect_row, refuse_unconnected, with_registrations, effect};
     ghost use Rattle.program_table.specs.Recipients.{AreOwnedSlots};
-    ghost use Rattle.program_table.specs.RuleSlots.{IsRuleSlot, rule_slot_of};
+    ghost use Rattle.program_table.specs.RuleSlots.{IsRuleSlot};
+    ghost use Rattle.program_table.specs.SlotSearch.{rule_slot_of};
     ghost use Rattle.program_table.specs.IsState.{IsState};
     ghost use Rattle.rule_compile.specs.Compiled.{IsSlotOf};
 
@@ -106,35 +107,35 @@ impl<M: Mailbox> BusState<M> {
         match command {
             Command::Connect(_) => self.connect_row(),
             Command::AddRule(connection, program) => {
-                self.connected(*connection)?;
+                self.refuse_unconnected(*connection)?;
                 self.registrations.add_rule_answer(program)
             }
             Command::RemoveRule(connection, rule) => {
-                self.connected(*connection)?;
+                self.refuse_unconnected(*connection)?;
                 self.registrations.remove_rule_answer(*connection, rule)
             }
             Command::Attach(connection, _) => {
-                self.connected(*connection)?;
+                self.refuse_unconnected(*connection)?;
                 self.registrations.attach_answer()
             }
             Command::Detach(connection, id) => {
-                self.connected(*connection)?;
+                self.refuse_unconnected(*connection)?;
                 self.registrations.detach_answer(*connection, *id)
             }
             Command::Request(connection, name, flags) => {
-                self.connected(*connection)?;
+                self.refuse_unconnected(*connection)?;
                 self.registrations.request_answer(name, *connection, *flags)
             }
             Command::Release(connection, name) => {
-                self.connected(*connection)?;
+                self.refuse_unconnected(*connection)?;
                 Ok(self.registrations.release_answer(name, *connection))
             }
             Command::DropOne(connection) => {
-                self.connected(*connection)?;
+                self.refuse_unconnected(*connection)?;
                 Ok(self.registrations.drop_answer(*connection))
             }
             Command::Close(connection) => {
-                self.connected(*connection)?;
+                self.refuse_unconnected(*connection)?;
                 Ok(Reply::Done)
             }
         }
@@ -152,8 +153,8 @@ impl<M: Mailbox> BusState<M> {
     }
 
     /// Whether the connection is there.
-    fn connected(&self, connection: u64) -> Result<(), Refusal>
-        ensures { result ≡ connected connection self.now }
+    fn refuse_unconnected(&self, connection: u64) -> Result<(), Refusal>
+        ensures { result ≡ refuse_unconnected connection self.now }
     {
         if self.connections.contains(connection) {
             Ok(())
@@ -225,7 +226,7 @@ impl<M: Mailbox> BusState<M> {
     fn count(&mut self, connection: u64)
         requires there { is_connected connection self.old.connections ≡ true }
         requires fits { self.old.commands < max_commands }
-        ensures { self.new ≡ changed connection self.old self.old.registrations }
+        ensures { self.new ≡ with_registrations connection self.old self.old.registrations }
     {
         self.connections.count_command(connection);
         self.commands += 1;
@@ -311,7 +312,7 @@ impl<M: Mailbox> BusState<M> {
         if self.commands() == u64::MAX {
             return Err(Refusal::Closed);
         }
-        self.connected(connection)?;
+        self.refuse_unconnected(connection)?;
         self.registrations.rule_slot(rule)
     }
 
@@ -331,12 +332,12 @@ impl<M: Mailbox> BusState<M> {
 
     /// The entries that a message is offered to: attached programs, and the rules whose member, interface, path and
     /// `arg0` conditions, where there are such, hold of the message.
-    pub fn offered<'a>(&'a self, view: &View<'a>) -> Offered<'a>
+    pub fn entries_for<'a>(&'a self, view: &View<'a>) -> Offered<'a>
         ensures offered { (m : Message) → Valid view.now m → AreOffered self.now.registrations.entries m result }
         // Rules have the slots of their senders, no name has two slots, and entries are of connections.
         ensures state { IsState self.now }
     {
         let _ = self.connections.last();
-        self.registrations.offered(view)
+        self.registrations.entries_for(view)
     }
 }

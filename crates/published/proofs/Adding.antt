@@ -9,7 +9,8 @@ use Rattle.program_table.specs.declared.command.Command.{Command}
 use Rattle.program_table.specs.Does.{is_accepted}
 use Rattle.program_table.specs.History.{after, IsHistory}
 use Rattle.published.proofs.Histories.{history-push}
-use Rattle.published.specs.HistoryRule.{IsKept, Adds}
+use Rattle.published.specs.HistoryRule.{IsKept}
+use Rattle.published.specs.Steps.{Adds}
 use Rattle.published.proofs.Fronts.{prefix_whole}
 
 module _ {M : Type 0} where

@@ -4,7 +4,7 @@ use Rattle.std.specs.Prelude.{Result, Ok, Err, is_ok, is_none, nat_le, nat_lt, i
 use Rattle.std.specs.List.{list_any}
 use Rattle.match_rule.specs.RuleTree.{sender_name_of}
 use Rattle.owners.specs.declared.answer.Change.{Change}
-use Rattle.owners.specs.Queues.{requested, request_reply, first_claim, without, Claim}
+use Rattle.owners.specs.Queues.{after_requesting, request_reply, first_claim, without, Claim}
 use Rattle.owners.specs.Registry.{max_claims, least_of, change_between}
 use Rattle.entry_table.specs.CompiledRule.{CompiledRule}
 use Rattle.entry_table.specs.Entries.{is_attachment}
@@ -20,13 +20,13 @@ use Rattle.program_table.specs.Registrations.{Registrations}
 use Rattle.program_table.specs.Refusals.{◌>>=◌, refuse_if}
 use Rattle.program_table.specs.State.{State}
 use Rattle.program_table.specs.Answers.{oldest_with, has_room, slot_fits, add_rule_answer, remove_rule_answer, attach_answer, detach_answer, request_answer, drop_reply, drop_reply_at, drop_answer}
-use Rattle.program_table.specs.Does.{max_commands, reply_of, connected, row, is_accepted, reply_to}
+use Rattle.program_table.specs.Does.{max_commands, reply_of, refuse_unconnected, row, is_accepted, reply_to}
 
 abbrev pub is_refused : Reply → Bool
 is_refused (replies.Connected n) = false
 is_refused (replies.Entry n) = false
 is_refused replies.Done = false
-is_refused (replies.Name named) = false
+is_refused (replies.Name open_named) = false
 is_refused replies.Nothing = false
 is_refused replies.Waiting = false
 is_refused (replies.Changed change) = false
@@ -55,8 +55,8 @@ add_rule_tells compiled r =
 request_tells : (name : List ℕ) (c flags : ℕ) (r : Registrations) → Tells (request_answer name c flags r)
 request_tells name c flags r =
     let free = refuse_if (is_none (slot_next name r.slots)) refusals.NamesFull in
-    let few = refuse_if (nat_lt max_claims (length (requested name c flags r.claims))) refusals.QueueFull in
-    let reply : Reply = replies.Name (record { answer = request_reply (first_claim name r.claims) c flags; change = change_between name r.claims (requested name c flags r.claims) }) in
+    let few = refuse_if (nat_lt max_claims (length (after_requesting name c flags r.claims))) refusals.QueueFull in
+    let reply : Reply = replies.Name (record { answer = request_reply (first_claim name r.claims) c flags; change = change_between name r.claims (after_requesting name c flags r.claims) }) in
     chained free (λ done. few >>= λ done. Ok reply) (λ done. tested few reply refl)
 
 dropped : (o : Option Change) → is_refused (drop_reply o) ≡ false
@@ -74,19 +74,19 @@ refused_by (Err refusal) e = (refusal, refl)
 module _ {M : Type 0} where
   row_tells : (s : State M) (c : Command M) → Tells (row s c)
   row_tells s (Connect m) = tested (refuse_if (nat_le max_connections (length s.connections)) refusals.ConnectionsFull) (replies.Connected (s.last_connection + 1)) refl
-  row_tells s (AddRule c compiled) = chained (connected c s) (λ there. add_rule_answer compiled s.registrations) (λ there. add_rule_tells compiled s.registrations)
+  row_tells s (AddRule c compiled) = chained (refuse_unconnected c s) (λ there. add_rule_answer compiled s.registrations) (λ there. add_rule_tells compiled s.registrations)
   row_tells s (RemoveRule c rule) =
       let found = refuse_if (is_none (oldest_with c rule s.registrations.entries)) refusals.RuleNotFound in
-      chained (connected c s) (λ there. remove_rule_answer c rule s.registrations) (λ there. tested found replies.Done refl)
+      chained (refuse_unconnected c s) (λ there. remove_rule_answer c rule s.registrations) (λ there. tested found replies.Done refl)
   row_tells s (Attach c attachment) =
-      chained (connected c s) (λ there. attach_answer s.registrations) (λ there. tested (has_room s.registrations) (replies.Entry (s.registrations.last_entry + 1)) refl)
+      chained (refuse_unconnected c s) (λ there. attach_answer s.registrations) (λ there. tested (has_room s.registrations) (replies.Entry (s.registrations.last_entry + 1)) refl)
   row_tells s (Detach c id) =
       let found = refuse_if (not (list_any (is_attachment c id) s.registrations.entries)) refusals.NoAttachment in
-      chained (connected c s) (λ there. detach_answer c id s.registrations) (λ there. tested found replies.Done refl)
-  row_tells s (Request c name flags) = chained (connected c s) (λ there. request_answer name c flags s.registrations) (λ there. request_tells name c flags s.registrations)
-  row_tells s (Release c name) = tested (connected c s) _ refl
-  row_tells s (DropOne c) = tested (connected c s) (drop_answer c s.registrations) (dropped_at (least_of c s.registrations.claims) c s.registrations.claims)
-  row_tells s (Close c) = tested (connected c s) replies.Done refl
+      chained (refuse_unconnected c s) (λ there. detach_answer c id s.registrations) (λ there. tested found replies.Done refl)
+  row_tells s (Request c name flags) = chained (refuse_unconnected c s) (λ there. request_answer name c flags s.registrations) (λ there. request_tells name c flags s.registrations)
+  row_tells s (Release c name) = tested (refuse_unconnected c s) _ refl
+  row_tells s (DropOne c) = tested (refuse_unconnected c s) (drop_answer c s.registrations) (dropped_at (least_of c s.registrations.claims) c s.registrations.claims)
+  row_tells s (Close c) = tested (refuse_unconnected c s) replies.Done refl
 
   pub is_refused-reply : (s : State M) (c : Command M) → is_refused (reply_to s c) ≡ not (is_accepted s c)
   is_refused-reply s c = unless (nat_le max_commands s.commands) refusals.Closed (row s c) (row_tells s c)

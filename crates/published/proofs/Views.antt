@@ -6,7 +6,8 @@ use lib.ListN.{get_elem?}
 use Rattle.crossbeam_utils.specs.Register.{Admits, TurnsAt, Forks, Merges}
 use Rattle.atomic_table.proofs.Lists.{at_set, at_snoc, set_again}
 use Rattle.program_table.specs.declared.command.Command.{Command}
-use Rattle.published.specs.Publishing.{Keeps, Shows}
+use Rattle.published.specs.Publishing.{Keeps}
+use Rattle.published.specs.Steps.{Shows}
 use Rattle.published.proofs.Fronts.{prefix_self, prefix_trans}
 
 module _ {M : Type 0} where

@@ -1,4 +1,4 @@
--- The names of the errors.
+-- The names of the errors (own).
 use Rattle.std.specs.Prelude.{ℕ, List, codes}
 use Rattle.published.specs.declared.publisher.PublishError.{PublishError}
 use Rattle.published.specs.declared.publisher.PublishError.TheVariants.{NoMemory, Ended}

@@ -1,4 +1,5 @@
 pub mod HistoryRule
+pub mod Steps
 pub mod Publishing
 pub mod Publication
 pub mod ErrorName

@@ -1,4 +1,4 @@
--- What the writer has published.
+-- What the writer has published (own).
 use Rattle.std.specs.Prelude.{Bool, false, List, [], ◌∷◌, ◌++◌, if◌then◌else◌}
 use Rattle.program_table.specs.declared.command.Command.{Command}
 use Rattle.program_table.specs.Does.{is_accepted}

@@ -4,7 +4,7 @@ ghost use Rattle.std.specs.Prelude.{◌≡◌, ◌+◌, ◌≤◌, ◌++◌, ◌
 ghost use mathlib.Core.List.{IsPrefix};
 ghost use Rattle.program_table.specs.Does.{is_accepted};
 ghost use Rattle.program_table.specs.History.{after, IsHistory};
-ghost use Rattle.published.specs.HistoryRule.{IsLonger};
+ghost use Rattle.published.specs.Steps.{IsLonger};
 
 use logbook::{Gain, Offer, Plain, Play, Rule, Seen, Start, Word};
 use program_table::{Command, Mailbox};
@@ -44,7 +44,7 @@ impl<M: Mailbox> Gain<Command<M>, u64> for Nothing {
 pub struct Add;
 
 impl<M: Mailbox> Play<Command<M>, u64> for Add {
-    ghost use Rattle.published.specs.HistoryRule.{Adds};
+    ghost use Rattle.published.specs.Steps.{Adds};
 
     ghost then = { Adds };
 }
@@ -85,7 +85,7 @@ where
 {
     ghost use Rattle.std.specs.Prelude.{◌≡◌, []};
     ghost use Rattle.logbook.specs.Pages.{Book};
-    ghost use Rattle.published.specs.HistoryRule.{head_of};
+    ghost use Rattle.published.specs.Steps.{head_of};
 
     ghost Value = { Book };
 
@@ -105,7 +105,7 @@ impl<M: Mailbox> Opened<M> {
     }
 
     /// The history's word under a name, and the beginning that has no command.
-    pub(crate) fn named<J: Naming>(self) -> (Book<J, M>, Front<J, M>)
+    pub(crate) fn open_named<J: Naming>(self) -> (Book<J, M>, Front<J, M>)
         requires { self ≡ J.book }
         ensures { result.1 ≡ [] }
     {
@@ -140,7 +140,7 @@ where
 {
     ghost use Rattle.std.specs.Prelude.{◌≡◌};
     ghost use Rattle.logbook.specs.Pages.{Named};
-    ghost use Rattle.published.specs.HistoryRule.{head_of};
+    ghost use Rattle.published.specs.Steps.{head_of};
 
     ghost Value = { Named };
 

@@ -8,7 +8,7 @@ ghost use Rattle.program_table.specs.Does.{is_accepted, reply_to};
 ghost use Rattle.program_table.specs.History.{after, own_commands, IsHistory};
 ghost use Rattle.published.specs.ErrorName.{publish_error_name};
 ghost use Rattle.published.specs.Publication.{Publication, nothing_published, with_next};
-ghost use Rattle.published.specs.Publishing.{Continues};
+ghost use Rattle.published.specs.Steps.{Continues};
 
 use crate::history::{Book, Front, Law, Naming, Opened};
 use crate::shown::{Entry, Notes, Published, Sees, Shown};
@@ -167,7 +167,7 @@ impl<J: Naming, M: Mailbox, R: Wait + Drop> Publisher<J, M, R> {
         requires readers { (0 < readers) × (readers < 2 ^ 32) }
         ensures { IfOk result (λ publisher. publisher ≡ nothing_published) }
     {
-        let (book, front) = opened.named::<J>();
+        let (book, front) = opened.open_named::<J>();
         let first = Shown::new(alloc, key, front.again())?;
         let second = Shown::new(alloc, key, front)?;
         // The log never has more than two entries, and after these two it has room for them.
@@ -193,14 +193,14 @@ impl<J: Naming, M: Mailbox, R: Wait + Drop> Publisher<J, M, R> {
         let written = replace_with(
             &mut self.writer,
             (entry, &self.rt),
-            |writer, given| -> (ShownWriter<J, M>, Result<(), AllocError>)
+            |writer, front_and_entry| -> (ShownWriter<J, M>, Result<(), AllocError>)
                 requires pending { drop writer.behind writer.log.items ≡ [] }
-                requires begins { IsPrefix writer.desk.shown.value given.0 }
+                requires begins { IsPrefix writer.desk.shown.value front_and_entry.0 }
                 ensures values { MatchResult result.1
-                    (λ _. (result.0.desk.shown.value ≡ given.entry.0) × (drop result.0.behind result.0.log.items ≡ []))
+                    (λ _. (result.0.desk.shown.value ≡ front_and_entry.entry.0) × (drop result.0.behind result.0.log.items ≡ []))
                     (λ _. result.0.desk.shown.value ≡ writer.desk.shown.value) }
                 ensures view { view writer.desk.place ≡ writer.desk.shown.value → view result.0.desk.place ≡ result.0.desk.shown.value }
-            { write(writer, given.0, given.1) },
+            { write(writer, front_and_entry.0, front_and_entry.1) },
         );
         match written {
             Ok(()) => {
@@ -277,14 +277,14 @@ impl<J: Naming, M: Mailbox, R: Wait + Drop> Publisher<J, M, R> {
 
     /// The published history. None where it has fewer commands than what was seen, as no history of this bus has.
     pub fn tell(&self, seen: &Front<J, M>) -> Option<Front<J, M>>
-        ensures { MatchOption result (length self.now.history < length seen.now) (λ told. (told ≡ self.now.history) × IsPrefix seen.now told) }
+        ensures { MatchOption result (length self.now.history < length seen.now) (λ told_history. (told_history ≡ self.now.history) × IsPrefix seen.now told_history) }
     {
-        let told = self.front();
-        if seen.len() > told.len() {
+        let told_history = self.front();
+        if seen.len() > told_history.len() {
             return None;
         }
-        seen.begins(&told);
-        Some(told)
+        seen.begins(&told_history);
+        Some(told_history)
     }
 
     /// A new reader, which is told the published history. `None` where all places of readers are in use.

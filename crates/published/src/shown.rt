@@ -85,7 +85,7 @@ pub struct Entry<J: Naming, M: Mailbox> {
 impl<J: Naming, M: Mailbox> Model for Entry<J, M> {
     ghost use Rattle.std.specs.Prelude.{List};
     ghost use Rattle.program_table.specs.declared.command.Command.{Command};
-    ghost use Rattle.published.specs.Publishing.{EndsWith};
+    ghost use Rattle.published.specs.Steps.{EndsWith};
 
     ghost Value = { List (Command M) };
 
@@ -167,7 +167,7 @@ impl<J: Naming, M: Mailbox> Protocol<Shown<J, M>, LinkedList<Command<M>>> for Pu
 pub struct Sees;
 
 impl<J: Naming, M: Mailbox> Outcome<Shown<J, M>, LinkedList<Command<M>>> for Sees {
-    ghost use Rattle.published.specs.Publishing.{Shows};
+    ghost use Rattle.published.specs.Steps.{Shows};
 
     ghost then = { Shows };
 }
@@ -184,7 +184,7 @@ impl<M: Mailbox> Split<LinkedList<Command<M>>> for Notes {
 impl<M: Mailbox> Join<LinkedList<Command<M>>> for Notes {
     ghost use Rattle.std.specs.Prelude.{[]};
 
-    ghost both = { λ seen told. told };
+    ghost both = { λ seen told_history. told_history };
 
     ghost spent = { [] };
 }

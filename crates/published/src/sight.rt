@@ -67,26 +67,26 @@ impl<J: Naming, M: Mailbox> Sight<J, M> {
     }
 
     /// Takes over a history, which begins with what was seen; it is then seen.
-    pub fn take_over(&mut self, told: Front<J, M>)
-        requires { IsPrefix self.old told }
-        ensures { self.new ≡ told }
+    pub fn take_over(&mut self, told_history: Front<J, M>)
+        requires { IsPrefix self.old told_history }
+        ensures { self.new ≡ told_history }
     {
-        self.front = told;
+        self.front = told_history;
         self.is_ahead = true;
     }
 
     /// Takes over a told history: the longer of the two is then seen. One of them begins the other.
-    pub fn learn(&mut self, told: &Front<J, M>)
-        ensures one { (self.new ≡ self.old) ⊎ (self.new ≡ told.now) }
+    pub fn learn(&mut self, told_history: &Front<J, M>)
+        ensures one { (self.new ≡ self.old) ⊎ (self.new ≡ told_history.now) }
         ensures this { IsPrefix self.old self.new }
-        ensures that { IsPrefix told.now self.new }
+        ensures that { IsPrefix told_history.now self.new }
     {
-        if self.front.len() < told.len() {
-            self.front.begins(told);
-            self.front = told.again();
+        if self.front.len() < told_history.len() {
+            self.front.begins(told_history);
+            self.front = told_history.again();
             self.is_ahead = true;
         } else {
-            told.begins(&self.front);
+            told_history.begins(&self.front);
         }
     }
 

@@ -83,7 +83,7 @@ impl<J: Naming, M: Mailbox, R: Wait + Drop> Bus<J, M, R> {
     /// Tells the published history, which begins with what the pass had seen, and is seen then.
     pub fn tell(&self, rt: &impl Wait, pass: &mut Pass<J, M>) -> Result<Front<J, M>, BusError>
         ensures { MatchResult result
-            (λ told. IsPrefix pass.old.seen told × (pass.new ≡ record pass.old { seen = told }))
+            (λ told_history. IsPrefix pass.old.seen told_history × (pass.new ≡ record pass.old { seen = told_history }))
             (λ error. (error ≡ BusError.Closed) × (pass.new ≡ pass.old)) }
     {
         self.control.lock(rt).tell(pass)

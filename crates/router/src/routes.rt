@@ -1,6 +1,6 @@
 // Broadcasts through the bus.
 
-ghost use Rattle.std.specs.Prelude.{MatchResult};
+ghost use Rattle.std.specs.Prelude.{◌≡◌, [], MatchResult};
 ghost use Rattle.passes.specs.Routes.{HasRouted, IsUnrouted};
 
 use crate::bus::Bus;
@@ -44,7 +44,27 @@ impl<J: Naming, M: Mailbox + Carrier, R: Wait + Drop> Bus<J, M, R> {
     ) -> Result<ArrayVec<u64, MAX_RECIPIENTS>, BusError>
         ensures { MatchResult result (λ refused. HasRouted M.outbox_of source view.now pass.old refused.items pass.new) (λ error. IsUnrouted M.outbox_of error pass.old pass.new) }
     {
-        pass.broadcast(rt, alloc, source, view, bytes, &OpenGate)
+        let mut refused = ArrayVec::new();
+        self.route_into(rt, alloc, pass, source, view, bytes, &mut refused)?;
+        Ok(refused)
+    }
+
+    /// Routes as `route` does, and lists into an empty list of the caller's. The list has room for each connection, two
+    /// kilobytes, which needn't be cleared and copied in each call that a message goes through.
+    pub fn route_into<W: Wait>(
+        &self,
+        rt: &W,
+        alloc: Global,
+        pass: &mut Pass<J, M>,
+        source: Source,
+        view: &View<'_>,
+        bytes: &Bytes,
+        refused: &mut ArrayVec<u64, MAX_RECIPIENTS>,
+    ) -> Result<(), BusError>
+        requires { refused.old.items ≡ [] }
+        ensures { MatchResult result (λ _. HasRouted M.outbox_of source view.now pass.old refused.new.items pass.new) (λ error. IsUnrouted M.outbox_of error pass.old pass.new) }
+    {
+        pass.broadcast(rt, alloc, source, view, bytes, &OpenGate, refused)
     }
 
     /// Routes as `route` does. `gate.before(0)` is called once the published state is left and the seats are there,
@@ -61,6 +81,8 @@ impl<J: Naming, M: Mailbox + Carrier, R: Wait + Drop> Bus<J, M, R> {
     ) -> Result<ArrayVec<u64, MAX_RECIPIENTS>, BusError>
         ensures { MatchResult result (λ refused. HasRouted M.outbox_of source view.now pass.old refused.items pass.new) (λ error. IsUnrouted M.outbox_of error pass.old pass.new) }
     {
-        pass.broadcast(rt, alloc, source, view, bytes, gate)
+        let mut refused = ArrayVec::new();
+        pass.broadcast(rt, alloc, source, view, bytes, gate, &mut refused)?;
+        Ok(refused)
     }
 }

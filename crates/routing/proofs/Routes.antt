@@ -4,7 +4,7 @@ use Rattle.outbox.specs.declared.rule.SeatView.{SeatView}
 use Rattle.outbox.specs.Seated.{OutboxId}
 use Rattle.outbox.specs.Views.{Follows, after_put}
 use Rattle.routing.specs.SenderView.{RecipientView, StopView, SenderView}
-use Rattle.routing.specs.Stops.{is_for, stop_at, last_count, outbox_id, knows_shut, last_at, outbox_at, shut_at, Fits, AllFit, is_in, is_put, Lists, Keeps, Routed, Unrouted}
+use Rattle.routing.specs.Stops.{stop_at, last_count, outbox_id, knows_shut, last_at, outbox_at, shut_at, Fits, AllFit, is_in, is_put, Lists, Keeps, Routed, Unrouted}
 use Rattle.routing.specs.Puts.{TakenAt, SeatsTaken, PutAt, RoutedAt, PutTo}
 use Rattle.routing.proofs.Puts.{put_once}
 

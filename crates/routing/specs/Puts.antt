@@ -1,5 +1,5 @@
 -- Inner: what seats that are taken and puts that are made change, stop by stop.
-use Rattle.std.specs.Prelude.{ℕ, ◌≡◌, ◌≤◌, ◌+◌, ◌==◌, Bool, true, false, not, cond, Option, Some, None, IsSome, List, [], ◌∷◌}
+use Rattle.std.specs.Prelude.{ℕ, ◌≡◌, ◌≤◌, ◌+◌, ◌==◌, Bool, true, false, not, cond, Option, Some, None, List, [], ◌∷◌}
 use Rattle.outbox.specs.Views.{blank, after_put}
 use Rattle.routing.specs.SenderView.{RecipientView, StopView}
 use Rattle.routing.specs.Stops.{stop_at, is_in, RisesFrom, Lists}

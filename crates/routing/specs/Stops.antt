@@ -1,4 +1,4 @@
--- Which stops a sender has, what their seats know, and what a call of the sender changes.
+-- Which stops a sender has, what their seats know, and what a call of the sender changes (own).
 use Rattle.std.specs.Prelude.{ℕ, ◌≡◌, ◌⊎◌, ◌≤◌, ◌+◌, ◌==◌, ◌&&◌, Bool, true, false, not, cond, Option, Some, None, IsSome, IfSome, List, [], ◌∷◌, find}
 use Rattle.std.specs.List.{list_any}
 use Rattle.outbox.specs.Seated.{OutboxId}

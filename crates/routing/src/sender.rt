@@ -92,11 +92,14 @@ impl<C: Carrier> Sender<C> {
         ensures err { OnErr result (self.new ≡ self.old) }
         ensures counts { (result ≡ Err RouteError.Counts) ↔ (self.old.count ≡ u64.MAX) }
     {
-        self.route_gated(rt, alloc, recipients, bytes, &OpenGate)
+        let mut refused = ArrayVec::new();
+        self.route_gated(rt, alloc, recipients, bytes, &OpenGate, &mut refused)?;
+        Ok(refused)
     }
 
-    /// Routes a broadcast as `route` does. `gate.before(0)` is called once the shares are there, before the first put,
-    /// and `gate.after(0)` after the last put; neither is called where the answer is an error.
+    /// Routes a broadcast as `route` does, and lists into an empty list of the caller's. `gate.before(0)` is called once
+    /// the shares are there, before the first put, and `gate.after(0)` after the last put; neither is called where the
+    /// answer is an error.
     pub fn route_gated<R: Wait, G: Gate>(
         &mut self,
         rt: &R,
@@ -104,11 +107,13 @@ impl<C: Carrier> Sender<C> {
         recipients: &[u64],
         bytes: &Bytes,
         gate: &G,
-    ) -> Result<ArrayVec<u64, 256>, RouteError>
+        refused: &mut ArrayVec<u64, 256>,
+    ) -> Result<(), RouteError>
         requires few { length recipients.now ≤ 256 }
         requires rising { RisesFrom 0 recipients.now }
         requires seats { AllHave recipients.now self.old.stops }
-        ensures ok { IfOk result (λ refused. Routed recipients.now refused.items self.old self.new) }
+        requires none { refused.old.items ≡ [] }
+        ensures ok { OnOk result (Routed recipients.now refused.new.items self.old self.new) }
         ensures keeps { Keeps [] self.old self.new }
         ensures err { OnErr result (self.new ≡ self.old) }
         ensures counts { (result ≡ Err RouteError.Counts) ↔ (self.old.count ≡ u64.MAX) }
@@ -119,10 +124,17 @@ impl<C: Carrier> Sender<C> {
         let shares = shares_of(alloc, bytes, recipients.len())?;
         let mark = (self.origin, self.count + 1);
         gate.before(0);
-        let refused = put_all(rt, self.stops.as_mut_slice(), recipients, mark, shares);
+        put_all(
+            rt,
+            self.stops.as_mut_slice(),
+            recipients,
+            mark,
+            shares,
+            refused,
+        );
         gate.after(0);
         self.count = mark.1;
-        Ok(refused)
+        Ok(())
     }
 
     /// Puts a message that isn't a broadcast into the recipient's outbox. No last count changes.

@@ -155,29 +155,29 @@ fn note(refused: &mut ArrayVec<u64, 256>, recipient: u64, put: bool)
     }
 }
 
-/// Puts a broadcast to each recipient, one share for each, and answers those whose outbox refused it.
+/// Puts a broadcast to each recipient, one share for each, and lists those whose outbox refused it.
 pub(crate) fn put_all<C, R: Wait>(
     rt: &R,
     stops: &mut [Stop<C>],
     recipients: &[u64],
     mark: (u64, u64),
     mut shares: Vec<Bytes>,
-) -> ArrayVec<u64, 256>
+    refused: &mut ArrayVec<u64, 256>,
+)
     requires has { AllHave recipients.now stops.old }
     requires rising { RisesFrom 0 recipients.now }
     requires shares { length shares.items ≡ length recipients.now }
     requires few { length recipients.now ≤ 256 }
     requires follows { (n : ℕ) → IfSome (stop_at n stops.old) (λ s. Follows s.seat.view (Some mark)) }
-    ensures { PutTo (Some mark) recipients.now result.items stops.old stops.new }
+    requires none { refused.old.items ≡ [] }
+    ensures { PutTo (Some mark) recipients.now refused.new.items stops.old stops.new }
 {
-    let mut refused = ArrayVec::new();
     for recipient in recipients {
         let bytes = shares.pop().unwrap();
         let mark = Some(mark);
         let put = put_at(rt, stops, *recipient, Item { bytes, mark });
-        note(&mut refused, *recipient, put);
+        note(refused, *recipient, put);
     }
-    refused
 }
 
 /// Writes out each outbox in which something was put since it last was written out.

@@ -11,8 +11,9 @@ use Rattle.match_key.specs.declared.relation.Relation.TheVariants as relations
 use Rattle.match_rule.specs.Arguments.{text_in}
 use Rattle.match_rule.specs.Holds.{is_compared, compared_text}
 use Rattle.summary.specs.Shown.{Tells, ShowsArgument}
+use Rattle.summary.specs.Layout.{argument_place}
 use Rattle.rule_compile.specs.Code.{image_word, want, settle}
-use Rattle.rule_compile.specs.RuleCode.{argument_at, has_type, has_text_type, type_code}
+use Rattle.rule_compile.specs.RuleCode.{has_type, has_text_type, type_code}
 use Rattle.rule_compile.proofs.Pieces.{Any, Tests}
 use Rattle.rule_compile.proofs.Runs.{runs_image_word, runs_want, stops_want, runs_settle, stays_settle}
 use Rattle.rule_compile.proofs.Combined.{Extends, extends_more, extends_want, extends_settle, guards, tests_same, tests_word}
@@ -22,18 +23,18 @@ use Rattle.rule_compile.proofs.TextArguments.{IsText}
 -- ---- the type
 
 extends_has_type : (n code : ℕ) → Extends (has_type n code)
-extends_has_type n code = extends_more (want Equal code) (λ _. image_word (argument_at n)) (extends_want Equal code)
+extends_has_type n code = extends_more (want Equal code) (λ _. image_word (argument_place n)) (extends_want Equal code)
 
 extends_has_text_type : (n : ℕ) → Extends (has_text_type n)
-extends_has_text_type n = extends_settle (want Equal 111) (argument_at n) Equal 115 (extends_want Equal 111)
+extends_has_text_type n = extends_settle (want Equal 111) (argument_place n) Equal 115 (extends_want Equal 111)
 
 -- A has the code after the first comparison too
-tests_has_text_type : (image : List ℕ) (n w : ℕ) → load_word image (argument_at n) ≡ Some w → Tests image Any (IsText w) (has_text_type n)
+tests_has_text_type : (image : List ℕ) (n w : ℕ) → load_word image (argument_place n) ≡ Some w → Tests image Any (IsText w) (has_text_type n)
 tests_has_text_type image n w is = elim (cases_Bool (eqb w 115)) [
   | inl string ↦ record {
     decided = inl (inl (eqb-true w 115 string));
     guarded = guards (has_text_type n) (extends_has_text_type n);
-    passes = λ rest v g leads _ a x fits. runs_image_word (settle Equal 115 rest (want Equal 111 rest)) image (argument_at n) w a x v is (runs_settle (_ ∷ []) rest (want Equal 111 rest) image Equal 115 w x v refl string (leads w x fits));
+    passes = λ rest v g leads _ a x fits. runs_image_word (settle Equal 115 rest (want Equal 111 rest)) image (argument_place n) w a x v is (runs_settle (_ ∷ []) rest (want Equal 111 rest) image Equal 115 w x v refl string (leads w x fits));
     fails = λ rest g none. absurd (none (inl (eqb-true w 115 string)));
   }
   | inr other ↦ record {
@@ -42,8 +43,8 @@ tests_has_text_type image n w is = elim (cases_Bool (eqb w 115)) [
       | inr no_path ↦ inr (λ text. elim text [ inl e ↦ eqb-false w 115 other e | inr e ↦ eqb-false w 111 no_path e ])
     ];
     guarded = guards (has_text_type n) (extends_has_text_type n);
-    passes = λ rest v g leads text a x fits. runs_image_word (settle Equal 115 rest (want Equal 111 rest)) image (argument_at n) w a x v is (stays_settle rest (want Equal 111 rest) image Equal 115 w x v other (runs_want rest image Equal 111 w x v (elim text [ inl e ↦ absurd (eqb-false w 115 other e) | inr e ↦ eq-eqb w 111 e ]) (leads w x fits)));
-    fails = λ rest g none a x fits. runs_image_word (settle Equal 115 rest (want Equal 111 rest)) image (argument_at n) w a x 0 is (stays_settle rest (want Equal 111 rest) image Equal 115 w x 0 other (stops_want rest image Equal 111 w x g (ne_eqb w 111 (λ e. none (inr e)))));
+    passes = λ rest v g leads text a x fits. runs_image_word (settle Equal 115 rest (want Equal 111 rest)) image (argument_place n) w a x v is (stays_settle rest (want Equal 111 rest) image Equal 115 w x v other (runs_want rest image Equal 111 w x v (elim text [ inl e ↦ absurd (eqb-false w 115 other e) | inr e ↦ eq-eqb w 111 e ]) (leads w x fits)));
+    fails = λ rest g none a x fits. runs_image_word (settle Equal 115 rest (want Equal 111 rest)) image (argument_place n) w a x 0 is (stays_settle rest (want Equal 111 rest) image Equal 115 w x 0 other (stops_want rest image Equal 111 w x g (ne_eqb w 111 (λ e. none (inr e)))));
   }
 ]
 
@@ -66,9 +67,9 @@ compared_is_text : (relation : Relation) (code : ℕ) → is_compared relation c
 compared_is_text relations.NestedPath code e = (compared_text_type code).1 e
 compared_is_text _ code e = inl (eqb-true code 115 e)
 
-tests_type : (relation : Relation) (image : List ℕ) (n w : ℕ) → load_word image (argument_at n) ≡ Some w → Tests image Any (is_compared relation w ≡ true) (type_code relation n)
+tests_type : (relation : Relation) (image : List ℕ) (n w : ℕ) → load_word image (argument_place n) ≡ Some w → Tests image Any (is_compared relation w ≡ true) (type_code relation n)
 tests_type relations.NestedPath image n w is = tests_same image Any _ _ (has_text_type n) (compared_text_type w) (tests_has_text_type image n w is)
-tests_type _ image n w is = tests_word image Any (argument_at n) w Equal 115 is
+tests_type _ image n w is = tests_word image Any (argument_place n) w Equal 115 is
 
 -- ---- the type, and then the text
 
@@ -88,7 +89,7 @@ not_compared : (relation : Relation) → is_compared relation 0 ≡ true → ⊥
 not_compared relation e = elim (compared_is_text relation 0 e) [ inl is ↦ omega arith | inr is ↦ omega arith ]
 
 -- an argument is there and has a text that the relation compares, of which something holds
-pub turn_argument : (image : List ℕ) (n : ℕ) (relation : Relation) (o : Option Argument) (Q : List ℕ → Type 0) (f g : List Ins → List Ins) → ShowsArgument image (argument_at n) o → ((a : Argument) → o ≡ Some a → IsText a.code → (t : List ℕ) × (a.text ≡ Some t)) → Extends f → Extends g → ((t : List ℕ) → Tells image (argument_at n + 4) t → InTurn image (Q t) f g) → InTurn image (IsSomeAnd (compared_text relation (text_in o)) Q) (λ rest. type_code relation n (f rest)) g
+pub turn_argument : (image : List ℕ) (n : ℕ) (relation : Relation) (o : Option Argument) (Q : List ℕ → Type 0) (f g : List Ins → List Ins) → ShowsArgument image (argument_place n) o → ((a : Argument) → o ≡ Some a → IsText a.code → (t : List ℕ) × (a.text ≡ Some t)) → Extends f → Extends g → ((t : List ℕ) → Tells image (argument_place n + 4) t → InTurn image (Q t) f g) → InTurn image (IsSomeAnd (compared_text relation (text_in o)) Q) (λ rest. type_code relation n (f rest)) g
 turn_argument image n relation None Q f g shows has extends_f extends_g tail =
     turn_same image _ _ (λ rest. type_code relation n (f rest)) g (λ both. both.1, λ none. absurd none) (turn_after image (is_compared relation 0 ≡ true) ⊥ (type_code relation n) f g (tests_type relation image n 0 shows) extends_f extends_g (λ c. absurd (not_compared relation c)))
 turn_argument image n relation (Some a) Q f g shows has extends_f extends_g tail =
@@ -98,4 +99,4 @@ turn_argument image n relation (Some a) Q f g shows has extends_f extends_g tail
     turn_same image (Q t.0) (IsSomeAnd a.text Q) f g (
       λ q. subst (λ (o : Option (List ℕ)). IsSomeAnd o Q) (sym t.1) q,
       λ q. subst (λ (o : Option (List ℕ)). IsSomeAnd o Q) t.1 q,
-    ) (tail t.0 (subst (λ (o : Option (List ℕ)). IfSome o (Tells image (argument_at n + 4))) t.1 shows.1))))
+    ) (tail t.0 (subst (λ (o : Option (List ℕ)). IfSome o (Tells image (argument_place n + 4))) t.1 shows.1))))

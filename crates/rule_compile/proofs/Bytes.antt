@@ -6,8 +6,9 @@ use Rattle.bpf_code.specs.declared.operation.Width.{Width}
 use Rattle.bpf_code.specs.declared.operation.Width.TheVariants.{Word, Half, Byte}
 use Rattle.bpf_code.specs.declared.operation.Test.TheVariants.{Equal}
 use Rattle.bpf_code.specs.Loads.{load_byte, load_half, load_word}
-use Rattle.summary.specs.Shown.{Lies, AreBytes}
-use Rattle.rule_compile.specs.Code.{indexed, want, two, four, same_word, same_words, same_bytes}
+use Rattle.summary.specs.Shown.{Lies}
+use Rattle.message_value.specs.Bytes.{AreBytes}
+use Rattle.rule_compile.specs.Code.{load_indexed, want, half_number, four, same_word, same_words, same_bytes}
 use Rattle.rule_compile.proofs.Pieces.{Tests}
 use Rattle.rule_compile.proofs.Combined.{Extends, extends_none, extends_more, extends_then, extends_want, tests_none, tests_same, tests_then, tests_both, tests_indexed}
 
@@ -31,7 +32,7 @@ loads_byte image place text at lies inside =
     let a = lies_at image place text at lies (omega arith) in
     rw (le-leb (place + at + 1) (length image) h, a) refl
 
-loads_half : (image : List ℕ) (place : ℕ) (text : List ℕ) (at : ℕ) → Lies image place text → at + 2 ≤ length text → load_half image (place + at) ≡ Some (two (slice_index text at) (slice_index text (at + 1)))
+loads_half : (image : List ℕ) (place : ℕ) (text : List ℕ) (at : ℕ) → Lies image place text → at + 2 ≤ length text → load_half image (place + at) ≡ Some (half_number (slice_index text at) (slice_index text (at + 1)))
 loads_half image place text at lies inside =
     let l = lies_inside image place text lies in
     let h : place + at + 2 ≤ length image = omega arith in
@@ -107,7 +108,7 @@ agree_stands text at (a ∷ more) inside agree =
 
 -- ---- bytes as numbers
 
-two_same : (a b c d : ℕ) → b < 256 → d < 256 → two a b ≡ two c d → (a ≡ c) × (b ≡ d)
+two_same : (a b c d : ℕ) → b < 256 → d < 256 → half_number a b ≡ half_number c d → (a ≡ c) × (b ≡ d)
 two_same a b c d small_b small_d e = (omega arith, omega arith)
 
 four_same : (a b c d e f g h : ℕ) → b < 256 → c < 256 → d < 256 → f < 256 → g < 256 → h < 256 → four a b c d ≡ four e f g h → (a ≡ e) × (b ≡ f) × (c ≡ g) × (d ≡ h)
@@ -123,25 +124,25 @@ four_same a b c d e f g h sb sc sd sf sg sh is =
 abbrev pub At : ℕ → ℕ → Type 0
 At place x = x ≡ place
 
-pub extends_indexed : (width : Width) (at k : ℕ) → Extends (λ rest. indexed width at ∷ want Equal k rest)
-extends_indexed width at k = extends_more (want Equal k) (λ _. indexed width at) (extends_want Equal k)
+pub extends_indexed : (width : Width) (at k : ℕ) → Extends (λ rest. load_indexed width at ∷ want Equal k rest)
+extends_indexed width at k = extends_more (want Equal k) (λ _. load_indexed width at) (extends_want Equal k)
 
-pub tests_byte : (image : List ℕ) (place : ℕ) (text : List ℕ) (at a : ℕ) → Lies image place text → at + 1 ≤ length text → Tests image (At place) (slice_index text at ≡ a) (λ rest. indexed Byte at ∷ want Equal a rest)
+pub tests_byte : (image : List ℕ) (place : ℕ) (text : List ℕ) (at a : ℕ) → Lies image place text → at + 1 ≤ length text → Tests image (At place) (slice_index text at ≡ a) (λ rest. load_indexed Byte at ∷ want Equal a rest)
 tests_byte image place text at a lies inside =
-    tests_same image (At place) _ _ (λ rest. indexed Byte at ∷ want Equal a rest) (eqb-true (slice_index text at) a, eq-eqb (slice_index text at) a) (tests_indexed image place Byte at (slice_index text at) Equal a (loads_byte image place text at lies inside))
+    tests_same image (At place) _ _ (λ rest. load_indexed Byte at ∷ want Equal a rest) (eqb-true (slice_index text at) a, eq-eqb (slice_index text at) a) (tests_indexed image place Byte at (slice_index text at) Equal a (loads_byte image place text at lies inside))
 
-tests_two : (image : List ℕ) (place : ℕ) (text : List ℕ) (at a b : ℕ) → Lies image place text → AreBytes text → b < 256 → at + 2 ≤ length text → Tests image (At place) ((slice_index text at ≡ a) × (slice_index text (at + 1) ≡ b)) (λ rest. indexed Half at ∷ want Equal (two a b) rest)
+tests_two : (image : List ℕ) (place : ℕ) (text : List ℕ) (at a b : ℕ) → Lies image place text → AreBytes text → b < 256 → at + 2 ≤ length text → Tests image (At place) ((slice_index text at ≡ a) × (slice_index text (at + 1) ≡ b)) (λ rest. load_indexed Half at ∷ want Equal (half_number a b) rest)
 tests_two image place text at a b lies are small inside =
-    let w : ℕ = two (slice_index text at) (slice_index text (at + 1)) in
-    tests_same image (At place) _ _ (λ rest. indexed Half at ∷ want Equal (two a b) rest) (
-      λ e. two_same (slice_index text at) (slice_index text (at + 1)) a b (are (at + 1)) small (eqb-true w (two a b) e),
-      λ both. eq-eqb w (two a b) (rw (both.0, both.1) refl),
-    ) (tests_indexed image place Half at w Equal (two a b) (loads_half image place text at lies inside))
+    let w : ℕ = half_number (slice_index text at) (slice_index text (at + 1)) in
+    tests_same image (At place) _ _ (λ rest. load_indexed Half at ∷ want Equal (half_number a b) rest) (
+      λ e. two_same (slice_index text at) (slice_index text (at + 1)) a b (are (at + 1)) small (eqb-true w (half_number a b) e),
+      λ both. eq-eqb w (half_number a b) (rw (both.0, both.1) refl),
+    ) (tests_indexed image place Half at w Equal (half_number a b) (loads_half image place text at lies inside))
 
-tests_four : (image : List ℕ) (place : ℕ) (text : List ℕ) (at a b c d : ℕ) → Lies image place text → AreBytes text → b < 256 → c < 256 → d < 256 → at + 4 ≤ length text → Tests image (At place) (AreFour text at a b c d) (λ rest. indexed Word at ∷ want Equal (four a b c d) rest)
+tests_four : (image : List ℕ) (place : ℕ) (text : List ℕ) (at a b c d : ℕ) → Lies image place text → AreBytes text → b < 256 → c < 256 → d < 256 → at + 4 ≤ length text → Tests image (At place) (AreFour text at a b c d) (λ rest. load_indexed Word at ∷ want Equal (four a b c d) rest)
 tests_four image place text at a b c d lies are small_b small_c small_d inside =
     let w : ℕ = four (slice_index text at) (slice_index text (at + 1)) (slice_index text (at + 2)) (slice_index text (at + 3)) in
-    tests_same image (At place) _ _ (λ rest. indexed Word at ∷ want Equal (four a b c d) rest) (
+    tests_same image (At place) _ _ (λ rest. load_indexed Word at ∷ want Equal (four a b c d) rest) (
       λ e. four_same (slice_index text at) (slice_index text (at + 1)) (slice_index text (at + 2)) (slice_index text (at + 3)) a b c d (are (at + 1)) (are (at + 2)) (are (at + 3)) small_b small_c small_d (eqb-true w (four a b c d) e),
       λ each. eq-eqb w (four a b c d) (rw (each.0, each.1, each.2, each.3) refl),
     ) (tests_indexed image place Word at w Equal (four a b c d) (loads_word image place text at lies inside))
@@ -223,9 +224,9 @@ tests_same_words image place text at value (suc n) lies are bytes inside =
 pub extends_same_bytes : (at : ℕ) (value : List ℕ) → Extends (same_bytes at value)
 extends_same_bytes at [] = extends_none
 extends_same_bytes at (a ∷ []) = extends_indexed Byte at a
-extends_same_bytes at (a ∷ b ∷ []) = extends_indexed Half at (two a b)
+extends_same_bytes at (a ∷ b ∷ []) = extends_indexed Half at (half_number a b)
 extends_same_bytes at (a ∷ b ∷ c ∷ []) =
-    extends_then (λ rest. indexed Half at ∷ want Equal (two a b) rest) (λ rest. indexed Byte (at + 2) ∷ want Equal c rest) (extends_indexed Half at (two a b)) (extends_indexed Byte (at + 2) c)
+    extends_then (λ rest. load_indexed Half at ∷ want Equal (half_number a b) rest) (λ rest. load_indexed Byte (at + 2) ∷ want Equal c rest) (extends_indexed Half at (half_number a b)) (extends_indexed Byte (at + 2) c)
 extends_same_bytes at (a ∷ b ∷ c ∷ d ∷ more) =
     let value = a ∷ b ∷ c ∷ d ∷ more in
     extends_then (same_word at value (length more)) (same_words at value ((length more + 3) / 4)) (extends_word at value (length more)) (extends_words at value ((length more + 3) / 4))
@@ -257,6 +258,6 @@ tests_same_bytes image place text at (a ∷ b ∷ c ∷ []) lies are bytes insid
     tests_same image (At place) _ _ (same_bytes at (a ∷ b ∷ c ∷ [])) (
       λ both. same.0 (both.0, last.0 (both.1, stands_none text (at + 2 + 1))),
       λ stands. let x = same.1 stands in (x.0, (last.1 x.1).0),
-    ) (tests_then image (At place) _ _ (λ rest. indexed Half at ∷ want Equal (two a b) rest) (λ rest. indexed Byte (at + 2) ∷ want Equal c rest) (tests_two image place text at a b lies are (bytes 1) (omega arith)) (extends_indexed Byte (at + 2) c) (λ _. tests_byte image place text (at + 2) c lies (omega arith)))
+    ) (tests_then image (At place) _ _ (λ rest. load_indexed Half at ∷ want Equal (half_number a b) rest) (λ rest. load_indexed Byte (at + 2) ∷ want Equal c rest) (tests_two image place text at a b lies are (bytes 1) (omega arith)) (extends_indexed Byte (at + 2) c) (λ _. tests_byte image place text (at + 2) c lies (omega arith)))
 tests_same_bytes image place text at (a ∷ b ∷ c ∷ d ∷ more) lies are bytes inside =
     tests_many image place text at (a ∷ b ∷ c ∷ d ∷ more) (length more) ((length more + 3) / 4) lies are bytes (omega arith) (omega arith) (omega arith) inside

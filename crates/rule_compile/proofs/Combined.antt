@@ -7,7 +7,7 @@ use Rattle.bpf_code.specs.declared.operation.Width.{Width}
 use Rattle.bpf_code.specs.declared.operation.Test.{Test}
 use Rattle.bpf_code.specs.Loads.{load, load_word}
 use Rattle.bpf_code.specs.Effects.{passes}
-use Rattle.rule_compile.specs.Code.{image_word, indexed, index_from_a, returns, branch, want, settle, index_text}
+use Rattle.rule_compile.specs.Code.{image_word, load_indexed, index_from_a, returns, branch, want, settle, index_text}
 use Rattle.rule_compile.proofs.Pieces.{Guarded, Any, Tests}
 use Rattle.rule_compile.proofs.Runs.{runs_image_word, runs_indexed, runs_index_from_a, runs_want, stops_want, runs_settle, stays_settle}
 
@@ -97,10 +97,10 @@ tests_word image X at w test k is = record {
 }
 
 -- the comparison holds of the bytes at an offset from X, which is a place
-pub tests_indexed : (image : List ℕ) (place : ℕ) (width : Width) (at w : ℕ) (test : Test) (k : ℕ) → load width image (place + at) ≡ Some w → Tests image (λ x. x ≡ place) (passes test w k ≡ true) (λ rest. indexed width at ∷ want test k rest)
+pub tests_indexed : (image : List ℕ) (place : ℕ) (width : Width) (at w : ℕ) (test : Test) (k : ℕ) → load width image (place + at) ≡ Some w → Tests image (λ x. x ≡ place) (passes test w k ≡ true) (λ rest. load_indexed width at ∷ want test k rest)
 tests_indexed image place width at w test k is = record {
   decided = elim (cases_Bool (passes test w k)) [ inl h ↦ inl h | inr h ↦ inr (λ e. true≢false (sym e ∙ h)) ];
-  guarded = guards (λ rest. indexed width at ∷ want test k rest) (extends_more (want test k) (λ _. indexed width at) (extends_want test k));
+  guarded = guards (λ rest. load_indexed width at ∷ want test k rest) (extends_more (want test k) (λ _. load_indexed width at) (extends_want test k));
   passes = λ rest v g leads holds a x fits. runs_indexed (want test k rest) image width at w a x v (subst (λ (y : ℕ). load width image (y + at) ≡ Some w) (sym fits) is) (runs_want rest image test k w x v holds (leads w x fits));
   fails = λ rest g n a x fits. runs_indexed (want test k rest) image width at w a x 0 (subst (λ (y : ℕ). load width image (y + at) ≡ Some w) (sym fits) is) (stops_want rest image test k w x g (elim (cases_Bool (passes test w k)) [ inl h ↦ absurd (n h) | inr h ↦ h ]));
 }

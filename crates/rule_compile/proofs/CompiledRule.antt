@@ -1,7 +1,6 @@
 -- The lowered program of a rule, from what is known of the program before it was lowered.
-use Rattle.std.proofs.Common.{◌≡◌, ◌↔◌, ℕ, ◌<◌, ◌≤◌, Bool, List, Option, sym, subst, arith}
+use Rattle.std.proofs.Common.{◌↔◌, ℕ, ◌<◌, ◌≤◌, Bool, List, Option, sym, subst, arith}
 use Rattle.bpf_code.specs.declared.instruction.Ins.{Ins}
-use Rattle.bpf_code.specs.Program.{WellFormed}
 use Rattle.bpf_code.specs.Steps.{Ends, start}
 use Rattle.bpf_machine.proofs.OneEnd.{ends_one}
 use Rattle.message_view.specs.Message.{Message}
@@ -13,10 +12,8 @@ use Rattle.summary.specs.ImageBytes.{image_bytes}
 use Rattle.summary.specs.Sets.{IsSet}
 use Rattle.jump_islands.specs.declared.error.LowerError.{LowerError}
 use Rattle.jump_islands.specs.declared.error.LowerError.TheVariants.{TooMany, NoMemory}
-use Rattle.jump_islands.specs.Draft.{DraftTree, instructions_of}
-use Rattle.jump_islands.specs.Lowering.{IsLowered, IsRefusal as IsDraftRefusal}
+use Rattle.jump_islands.specs.Lowering.{IsTarget, IsTargetRefusal}
 use Rattle.jump_islands.specs.PlainLength.{plain_length}
-use Rattle.jump_islands.specs.WellMade.{AreWellMade}
 use Rattle.rule_compile.specs.Compiled.{IsCompiled, IsRefusal, AgreeOn}
 use Rattle.rule_compile.specs.Numbers.{error_of}
 
@@ -30,22 +27,16 @@ Decides rule slot code =
     → (v : ℕ) × (n : ℕ) × Ends code (image_bytes Two m slots) v n × ((0 < v) ↔ Holds rule m owned)
 
 -- so does the lowered program
-pub compiled : (rule : RuleTree) (slot : Option ℕ) (code : List Ins) (draft : DraftTree) (program : List Ins) → instructions_of draft ≡ code → IsLowered draft program → Decides rule slot code → IsCompiled rule slot program
-compiled rule slot code draft program same lowered decides = λ bytes m slots owned v n valid set agree ends.
+pub compiled : (rule : RuleTree) (slot : Option ℕ) (code program : List Ins) → IsTarget code program → Decides rule slot code → IsCompiled rule slot program
+compiled rule slot code program lowered decides = λ bytes m slots owned v n valid set agree ends.
     let image = image_bytes Two m slots in
-    let of_draft = lowered.only image v n ends in
+    let of_code = lowered.only image v n ends in
     let r = decides bytes m slots owned valid set agree in
-    let EndsSo : List Ins → Type 0 = λ more. Ends more image v of_draft.0 in
-    let of_code : Ends code image v of_draft.0 = subst EndsSo same of_draft.1 in
-    let one = ends_one code image v r.0 of_draft.0 r.1 start of_code r.2 in
+    let one = ends_one code image v r.0 of_code.0 r.1 start of_code.1 r.2 in
     let Holding : ℕ → Type 0 = λ w. (0 < w) ↔ Holds rule m owned in
     subst Holding (sym one.0) r.3
 
--- it is accepted
-pub well_formed : (code : List Ins) (draft : DraftTree) (program : List Ins) → instructions_of draft ≡ code → IsLowered draft program → AreWellMade code → WellFormed program
-well_formed code draft program same lowered made = lowered.accepted (subst AreWellMade (sym same) made)
-
--- a draft that is refused weighs too much
-pub refused : (rule : RuleTree) (draft : DraftTree) (error : LowerError) → IsDraftRefusal draft error → plain_length draft ≤ weight_of rule → IsRefusal rule (error_of error)
-refused rule draft TooMany many short = omega arith
-refused rule draft NoMemory many short = tt
+-- a program that is refused weighs too much
+pub refused : (rule left : RuleTree) (code : List Ins) (error : LowerError) → IsTargetRefusal code error → plain_length code ≤ weight_of left → weight_of left ≤ weight_of rule → IsRefusal rule (error_of error)
+refused rule left code TooMany many short lighter = omega arith
+refused rule left code NoMemory many short lighter = tt

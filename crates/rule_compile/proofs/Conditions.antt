@@ -10,6 +10,7 @@ use Rattle.bpf_code.specs.declared.operation.Test.TheVariants.{Equal, AtLeast, S
 use Rattle.bpf_code.specs.declared.instruction.Ins.{Ins}
 use Rattle.bpf_code.specs.Loads.{load_word}
 use Rattle.bpf_code.specs.Effects.{passes}
+use Rattle.message_view.specs.declared.extent.TextField.TheVariants as texts
 use Rattle.message_view.specs.declared.kind.Kind as kinds
 use Rattle.message_view.specs.Header.{kind_byte, kind_of}
 use Rattle.message_view.specs.Message.{Message, sender_of}
@@ -31,10 +32,12 @@ use Rattle.match_rule.specs.Parts.{has_small_number}
 use Rattle.match_rule.specs.RuleTree.{is_owned_name}
 use Rattle.summary.specs.declared.edition.Edition.TheVariants.{Two}
 use Rattle.summary.specs.Sets.{has_slot}
-use Rattle.summary.specs.Shown.{AreBytes, Tells, ShowsText, Shows}
+use Rattle.summary.specs.Shown.{Tells, ShowsText, Shows}
+use Rattle.message_value.specs.Bytes.{AreBytes}
+use Rattle.summary.specs.Layout.{kind_place, text_place, argument_place, ownership_place}
 use Rattle.rule_compile.specs.Code.{image_word, want, is_there, has_text_len, has_bytes, in_namespace}
 use Rattle.rule_compile.specs.Folders.{is_nested}
-use Rattle.rule_compile.specs.RuleCode.{argument_at, field_at, owns, relation_len, relation_bytes, there_code, condition_words, condition_bytes}
+use Rattle.rule_compile.specs.RuleCode.{field_at, owns, relation_len, relation_bytes, there_code, condition_words, condition_bytes}
 use Rattle.rule_compile.proofs.Pieces.{Any, Tests}
 use Rattle.rule_compile.proofs.Combined.{Extends, extends_none, tests_none, tests_same, tests_word}
 use Rattle.rule_compile.proofs.InTurn.{InTurn, turn_first, turn_second, turn_then, turn_same, turn_one}
@@ -54,12 +57,12 @@ kind_back Error = refl
 same_kind : (a b : kinds.Kind) → Some a ≡ Some b → a ≡ b
 same_kind a b h = cc
 
-tests_kind : (image : List ℕ) (kind : kinds.Kind) (name : KindName) → load_word image 4 ≡ Some (kind_byte kind) → kind_of (kind_byte kind) ≡ Some kind → Tests image Any (kind ≡ kind_meant name) (λ rest. image_word 4 ∷ want Equal (kind_byte (kind_meant name)) rest)
+tests_kind : (image : List ℕ) (kind : kinds.Kind) (name : KindName) → load_word image kind_place ≡ Some (kind_byte kind) → kind_of (kind_byte kind) ≡ Some kind → Tests image Any (kind ≡ kind_meant name) (λ rest. image_word kind_place ∷ want Equal (kind_byte (kind_meant name)) rest)
 tests_kind image kind name is known =
-    tests_same image Any _ _ (λ rest. image_word 4 ∷ want Equal (kind_byte (kind_meant name)) rest) (
+    tests_same image Any _ _ (λ rest. image_word kind_place ∷ want Equal (kind_byte (kind_meant name)) rest) (
       λ e. same_kind kind (kind_meant name) (sym known ∙ ap kind_of (eqb-true (kind_byte kind) (kind_byte (kind_meant name)) e) ∙ kind_back name),
       λ same. eq-eqb (kind_byte kind) (kind_byte (kind_meant name)) (ap kind_byte same),
-    ) (tests_word image Any 4 (kind_byte kind) Equal (kind_byte (kind_meant name)) is)
+    ) (tests_word image Any kind_place (kind_byte kind) Equal (kind_byte (kind_meant name)) is)
 
 -- ---- the sender
 
@@ -69,17 +72,17 @@ bit_shared (suc zero) power small lit =
     let e : 1 * power ≡ 0 → ⊥ = λ h. omega arith in rw (ne_eqb (1 * power) 0 e) refl
 bit_shared (suc (suc bit)) power small lit = absurd (omega arith)
 
-tests_owns : (image : List ℕ) (slots : List ℕ) (slot : ℕ) (owned : Bool) → load_word image (840 + 4 * (slot / 32)) ≡ Some (slice_index slots (slot / 32)) → owned ≡ has_slot slots slot → Tests image Any (owned ≡ true) (owns slot)
+tests_owns : (image : List ℕ) (slots : List ℕ) (slot : ℕ) (owned : Bool) → load_word image (ownership_place slot) ≡ Some (slice_index slots (slot / 32)) → owned ≡ has_slot slots slot → Tests image Any (owned ≡ true) (owns slot)
 tests_owns image slots slot owned is agrees =
     let word : ℕ = slice_index slots (slot / 32) in
     let shares : passes SharesBit word (2 ^ (slot % 32)) ≡ owned = ap (λ (n : ℕ). not (eqb n 0)) (and_pow word (slot % 32)) ∙ bit_shared (bit_at word (slot % 32)) (2 ^ (slot % 32)) (bit_at-lt word (slot % 32)) (pow_pos (slot % 32)) ∙ sym agrees in
-    tests_same image Any _ _ (owns slot) (λ e. sym shares ∙ e, λ e. shares ∙ e) (tests_word image Any (840 + 4 * (slot / 32)) word SharesBit (2 ^ (slot % 32)) is)
+    tests_same image Any _ _ (owns slot) (λ e. sym shares ∙ e, λ e. shares ∙ e) (tests_word image Any (ownership_place slot) word SharesBit (2 ^ (slot % 32)) is)
 
-turn_sender : (image : List ℕ) (slots : List ℕ) (slot : ℕ) (name : List ℕ) (sender : Option (List ℕ)) (is_owned owned : Bool) → load_word image (840 + 4 * (slot / 32)) ≡ Some (slice_index slots (slot / 32)) → ShowsText image 64 sender → AreBytes name → (is_owned ≡ true → owned ≡ has_slot slots slot) → InTurn image (MatchBool is_owned (owned ≡ true) (sender ≡ Some name)) (λ rest. if is_owned then owns slot rest else has_text_len Equal (length name) 64 rest) (λ rest. if is_owned then rest else has_bytes 64 name rest)
+turn_sender : (image : List ℕ) (slots : List ℕ) (slot : ℕ) (name : List ℕ) (sender : Option (List ℕ)) (is_owned owned : Bool) → load_word image (ownership_place slot) ≡ Some (slice_index slots (slot / 32)) → ShowsText image (text_place texts.Sender) sender → AreBytes name → (is_owned ≡ true → owned ≡ has_slot slots slot) → InTurn image (MatchBool is_owned (owned ≡ true) (sender ≡ Some name)) (λ rest. if is_owned then owns slot rest else has_text_len Equal (length name) (text_place texts.Sender) rest) (λ rest. if is_owned then rest else has_bytes (text_place texts.Sender) name rest)
 turn_sender image slots slot name sender true owned word shows bytes agrees =
     turn_first image (owned ≡ true) (owns slot) (tests_owns image slots slot owned word (agrees refl))
 turn_sender image slots slot name sender false owned word shows bytes agrees =
-    turn_is_text image 64 sender name shows bytes
+    turn_is_text image (text_place texts.Sender) sender name shows bytes
 
 -- ---- a text that stands in a relation to a value
 
@@ -186,4 +189,4 @@ turn_condition image bytes m slots owned slot (Sender name) valid shows slot_sma
 turn_condition image bytes m slots owned slot (Compares (Header field) relation value) valid shows slot_small fits small are =
     turn_shown relation image (field_at field) (field_of field m) value (shows_field image m slots field shows) are
 turn_condition image bytes m slots owned slot (Compares (Arg n) relation value) valid shows slot_small fits small are =
-    turn_argument image n relation (slice_get (arguments_of m) n) (λ text. Relates relation text value) (relation_len relation (argument_at n + 4) value) (relation_bytes relation (argument_at n + 4) value) (shows.argument n (let l = leb-true n 63 small in omega arith)) (λ a is text. argument_has_text bytes m n a valid is text) (extends_len relation (argument_at n + 4) value) (extends_relation relation (argument_at n + 4) value) (λ text tells. turn_told relation image (argument_at n + 4) text value tells are)
+    turn_argument image n relation (slice_get (arguments_of m) n) (λ text. Relates relation text value) (relation_len relation (argument_place n + 4) value) (relation_bytes relation (argument_place n + 4) value) (shows.argument n (let l = leb-true n 63 small in omega arith)) (λ a is text. argument_has_text bytes m n a valid is text) (extends_len relation (argument_place n + 4) value) (extends_relation relation (argument_place n + 4) value) (λ text tells. turn_told relation image (argument_place n + 4) text value tells are)

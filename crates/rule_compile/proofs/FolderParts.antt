@@ -6,7 +6,7 @@ use Rattle.std.proofs.lemmas.Bool.{ne_eqb}
 use Rattle.bpf_code.specs.declared.instruction.Ins.{Ins}
 use Rattle.bpf_code.specs.declared.operation.Test.TheVariants.{Equal, AtLeast}
 use Rattle.rule_compile.specs.Code.{image_word, branch, same_bytes, has_len}
-use Rattle.rule_compile.specs.Folders.{with_front, parts_of, along}
+use Rattle.rule_compile.specs.Folders.{with_front, parts_of, follow_parts}
 
 -- a part ends at its `/`
 pub first_part : (text : List ℕ) (n : ℕ) → n < length text → ((k : ℕ) → k < n → get_or text k 0 ≢ 47) → get_or text n 0 ≡ 47 → parts_of text ≡ take (suc n) text ∷ parts_of (drop (suc n) text)
@@ -44,16 +44,16 @@ abbrev pub inner : ℕ → ℕ → List ℕ → List Ins → List Ins → List I
 inner at place part exit rest =
     has_len AtLeast (place + length part) at (same_bytes place part (image_word (at + 4) ∷ branch Equal (place + length part) (length rest - length exit) 0 ∷ rest))
 
-along_more : (at place : ℕ) (part : List ℕ) (parts : List (List ℕ)) (rest : List Ins) → 0 < length parts → along at place (part ∷ parts) rest ≡ inner at place part rest (along at (place + length part) parts rest)
-along_more at place part [] rest h = absurd (omega (arith, h))
-along_more at place part (next ∷ more) rest h = refl
+follow_parts_more : (at place : ℕ) (part : List ℕ) (parts : List (List ℕ)) (rest : List Ins) → 0 < length parts → follow_parts at place (part ∷ parts) rest ≡ inner at place part rest (follow_parts at (place + length part) parts rest)
+follow_parts_more at place part [] rest h = absurd (omega (arith, h))
+follow_parts_more at place part (next ∷ more) rest h = refl
 
 length_part : (text : List ℕ) (start end : ℕ) → start ≤ end → end ≤ length text → length (take (end - start) (drop start text)) ≡ end - start
 length_part text start end h k = grind (arith, length-take, length-drop)
 
 -- the part from a start up to the end that another part begins at
-pub along_before : (at start end : ℕ) (text : List ℕ) (rest : List Ins) → start < end → end < length text → ((k : ℕ) → start ≤ k → k + 1 < end → get_or text k 0 ≢ 47) → get_or text (end - 1) 0 ≡ 47 → along at start (parts_of (drop start text)) rest ≡ inner at start (take (end - start) (drop start text)) rest (along at end (parts_of (drop end text)) rest)
-along_before at start end text rest before within one slash =
+pub follow_parts_before : (at start end : ℕ) (text : List ℕ) (rest : List Ins) → start < end → end < length text → ((k : ℕ) → start ≤ k → k + 1 < end → get_or text k 0 ≢ 47) → get_or text (end - 1) 0 ≡ 47 → follow_parts at start (parts_of (drop start text)) rest ≡ inner at start (take (end - start) (drop start text)) rest (follow_parts at end (parts_of (drop end text)) rest)
+follow_parts_before at start end text rest before within one slash =
     let left = drop start text in
     let n : ℕ = end - start - 1 in
     let many : length left ≡ length text - start = length-drop start text in
@@ -67,12 +67,12 @@ along_before at start end text rest before within one slash =
     let cut_so : parts_of left ≡ take (end - start) left ∷ parts_of (drop end text) = cut ∙ ap (λ (i : ℕ). take i left ∷ parts_of (drop (suc n) left)) size ∙ ap (λ (others : List ℕ). take (end - start) left ∷ parts_of others) same in
     let some_left : 0 < length (drop end text) = rw length-drop (omega arith) in
     let here : start + length (take (end - start) left) ≡ end = rw (length_part text start end (omega arith) (omega arith)) (omega arith) in
-    ap (λ (parts : List (List ℕ)). along at start parts rest) cut_so ∙ along_more at start (take (end - start) left) (parts_of (drop end text)) rest (some_parts (drop end text) some_left) ∙ ap (λ (i : ℕ). inner at start (take (end - start) left) rest (along at i (parts_of (drop end text)) rest)) here
+    ap (λ (parts : List (List ℕ)). follow_parts at start parts rest) cut_so ∙ follow_parts_more at start (take (end - start) left) (parts_of (drop end text)) rest (some_parts (drop end text) some_left) ∙ ap (λ (i : ℕ). inner at start (take (end - start) left) rest (follow_parts at i (parts_of (drop end text)) rest)) here
 
 -- the last part of a text
-pub along_last : (at start : ℕ) (text : List ℕ) (rest : List Ins) → start < length text → ((k : ℕ) → start ≤ k → k + 1 < length text → get_or text k 0 ≢ 47) → along at start (parts_of (drop start text)) rest ≡ along at start (drop start text ∷ []) rest
-along_last at start text rest within one =
+pub follow_parts_last : (at start : ℕ) (text : List ℕ) (rest : List Ins) → start < length text → ((k : ℕ) → start ≤ k → k + 1 < length text → get_or text k 0 ≢ 47) → follow_parts at start (parts_of (drop start text)) rest ≡ follow_parts at start (drop start text ∷ []) rest
+follow_parts_last at start text rest within one =
     let left = drop start text in
     let many : length left ≡ length text - start = length-drop start text in
     let cut : parts_of left ≡ left ∷ [] = only_part left (omega arith) (λ k h. rw get_or-drop (one (start + k) (omega arith) (omega (arith, h)))) in
-    ap (λ (parts : List (List ℕ)). along at start parts rest) cut
+    ap (λ (parts : List (List ℕ)). follow_parts at start parts rest) cut

@@ -7,14 +7,15 @@ use Rattle.bpf_code.specs.declared.operation.Test.{Test}
 use Rattle.bpf_code.specs.declared.operation.Test.TheVariants.{Equal, AtLeast}
 use Rattle.match_rule.specs.Bytes.{ends_with}
 use Rattle.match_rule.specs.Holds.{AreNested}
-use Rattle.summary.specs.Shown.{AreBytes, Tells}
+use Rattle.summary.specs.Shown.{Tells}
+use Rattle.message_value.specs.Bytes.{AreBytes}
 use Rattle.rule_compile.specs.Code.{same_bytes, has_len, index_text, may_end}
-use Rattle.rule_compile.specs.Folders.{with_front, parts_of, along, is_nested}
+use Rattle.rule_compile.specs.Folders.{with_front, parts_of, follow_parts, is_nested}
 use Rattle.rule_compile.proofs.Pieces.{Any, Tests}
 use Rattle.rule_compile.proofs.Combined.{Extends, extends_none, extends_then, extends_settle, extends_index_text, tests_none, tests_same, tests_then, tests_both, tests_settle, tests_index_text}
 use Rattle.rule_compile.proofs.Bytes.{Stands, At, extends_same_bytes, tests_same_bytes}
 use Rattle.rule_compile.proofs.Texts.{extends_has_len, tests_len_is, tests_len_from}
-use Rattle.rule_compile.proofs.NestedTexts.{AlongParts, nested_along, nested_empty}
+use Rattle.rule_compile.proofs.NestedTexts.{AlongParts, nested_follow_parts, nested_empty}
 
 -- ---- the bytes of the parts
 
@@ -67,21 +68,21 @@ extends_part test n at place part f more =
     let bytes = extends_then (same_bytes place part) f (extends_same_bytes place part) more in
     extends_then (has_len test n at) (λ rest. same_bytes place part (f rest)) (extends_has_len test n at) bytes
 
-extends_along : (at place : ℕ) (parts : List (List ℕ)) → Extends (along at place parts)
-extends_along at place [] = extends_none
-extends_along at place (part ∷ []) = go (ends_with 47 part)
+extends_follow_parts : (at place : ℕ) (parts : List (List ℕ)) → Extends (follow_parts at place parts)
+extends_follow_parts at place [] = extends_none
+extends_follow_parts at place (part ∷ []) = go (ends_with 47 part)
   where
     go : (slash : Bool) → Extends (λ rest. if slash then has_len AtLeast (place + length part) at (same_bytes place part rest) else has_len Equal (place + length part) at (same_bytes place part rest))
     go true = extends_part AtLeast (place + length part) at place part (λ rest. rest) extends_none
     go false = extends_part Equal (place + length part) at place part (λ rest. rest) extends_none
-extends_along at place (part ∷ next ∷ more) =
+extends_follow_parts at place (part ∷ next ∷ more) =
     let n = place + length part in
-    let later = extends_settle (along at n (next ∷ more)) (at + 4) Equal n (extends_along at n (next ∷ more)) in
-    extends_part AtLeast n at place part (λ rest. may_end at n rest (along at n (next ∷ more) rest)) later
+    let later = extends_settle (follow_parts at n (next ∷ more)) (at + 4) Equal n (extends_follow_parts at n (next ∷ more)) in
+    extends_part AtLeast n at place part (λ rest. may_end at n rest (follow_parts at n (next ∷ more) rest)) later
 
-along_tests : (parts : List (List ℕ)) (image : List ℕ) (at : ℕ) (text : List ℕ) (place : ℕ) → (tells : Tells image at text) → PartsAreBytes parts → Tests image (At tells.place) (AlongParts text place parts) (along at place parts)
-along_tests [] image at text place tells are = tests_none image (At tells.place) (Unit {0}) tt
-along_tests (part ∷ []) image at text place tells are = go (ends_with 47 part)
+follow_parts_tests : (parts : List (List ℕ)) (image : List ℕ) (at : ℕ) (text : List ℕ) (place : ℕ) → (tells : Tells image at text) → PartsAreBytes parts → Tests image (At tells.place) (AlongParts text place parts) (follow_parts at place parts)
+follow_parts_tests [] image at text place tells are = tests_none image (At tells.place) (Unit {0}) tt
+follow_parts_tests (part ∷ []) image at text place tells are = go (ends_with 47 part)
   where
     n : ℕ
     n = place + length part
@@ -89,13 +90,13 @@ along_tests (part ∷ []) image at text place tells are = go (ends_with 47 part)
     go : (slash : Bool) → Tests image (At tells.place) (MatchBool slash ((n ≤ length text) × Stands text place part) ((length text ≡ n) × Stands text place part)) (λ rest. if slash then has_len AtLeast n at (same_bytes place part rest) else has_len Equal n at (same_bytes place part rest))
     go true = part_tests image at text place part AtLeast (n ≤ length text) tells are.0 (λ fits. fits) (tests_len_from image (At tells.place) at (length text) n tells.len_word)
     go false = part_tests image at text place part Equal (length text ≡ n) tells are.0 (λ is. omega arith) (tests_len_is image (At tells.place) at (length text) n tells.len_word)
-along_tests (part ∷ next ∷ more) image at text place tells are =
+follow_parts_tests (part ∷ next ∷ more) image at text place tells are =
     let n = place + length part in
     let X = At tells.place in
-    let rest_of = along at n (next ∷ more) in
+    let rest_of = follow_parts at n (next ∷ more) in
     let first = part_tests image at text place part AtLeast (n ≤ length text) tells are.0 (λ fits. fits) (tests_len_from image X at (length text) n tells.len_word) in
-    let later = ends_here image X (AlongParts text n (next ∷ more)) rest_of at text n tells (extends_along at n (next ∷ more)) (along_tests (next ∷ more) image at text n tells are.1) in
-    tests_same image X _ (AlongParts text place (part ∷ next ∷ more)) (along at place (part ∷ next ∷ more)) (λ both. (both.0.0, both.0.1, both.1), λ all. ((all.0, all.1), all.2))
+    let later = ends_here image X (AlongParts text n (next ∷ more)) rest_of at text n tells (extends_follow_parts at n (next ∷ more)) (follow_parts_tests (next ∷ more) image at text n tells are.1) in
+    tests_same image X _ (AlongParts text place (part ∷ next ∷ more)) (follow_parts at place (part ∷ next ∷ more)) (λ both. (both.0.0, both.0.1, both.1), λ all. ((all.0, all.1), all.2))
     (tests_both image X ((n ≤ length text) × Stands text place part) ((length text ≡ n) ⊎ AlongParts text n (next ∷ more)) (λ rest. has_len AtLeast n at (same_bytes place part rest)) (λ rest. may_end at n rest (rest_of rest)) first later)
 
 -- ---- the whole piece
@@ -103,9 +104,9 @@ along_tests (part ∷ next ∷ more) image at text place tells are =
 pub extends_is_nested : (at : ℕ) (value : List ℕ) → Extends (is_nested at value)
 extends_is_nested at value = go (length value == 0)
   where
-    go : (empty : Bool) → Extends (λ rest. if empty then has_len Equal 0 at rest else index_text at (along at 0 (parts_of value) rest))
+    go : (empty : Bool) → Extends (λ rest. if empty then has_len Equal 0 at rest else index_text at (follow_parts at 0 (parts_of value) rest))
     go true = extends_has_len Equal 0 at
-    go false = extends_index_text (along at 0 (parts_of value)) at (extends_along at 0 (parts_of value))
+    go false = extends_index_text (follow_parts at 0 (parts_of value)) at (extends_follow_parts at 0 (parts_of value))
 
 -- the piece tests whether the text and the value are nested
 pub is_nested_tests : (image : List ℕ) (at : ℕ) (text value : List ℕ) → Tells image at text → AreBytes value → Tests image Any (AreNested text value) (is_nested at value)
@@ -118,8 +119,8 @@ is_nested_tests image at text (b ∷ bs) tells are = tests_same image Any (Along
     parts = parts_of (b ∷ bs)
 
     same : AreNested text (b ∷ bs) ↔ AlongParts text 0 parts
-    same = nested_along text b bs
+    same = nested_follow_parts text b bs
 
-    go : (empty : Bool) → (length (b ∷ bs) == 0) ≡ empty → Tests image Any (AlongParts text 0 parts) (λ rest. if empty then has_len Equal 0 at rest else index_text at (along at 0 parts rest))
+    go : (empty : Bool) → (length (b ∷ bs) == 0) ≡ empty → Tests image Any (AlongParts text 0 parts) (λ rest. if empty then has_len Equal 0 at rest else index_text at (follow_parts at 0 parts rest))
     go true is = absurd (let e = eqb-true (length (b ∷ bs)) 0 is in omega arith)
-    go false is = tests_index_text image (AlongParts text 0 parts) (along at 0 parts) at tells.place tells.place_word (along_tests parts image at text 0 tells (parts_are_bytes (b ∷ bs) are))
+    go false is = tests_index_text image (AlongParts text 0 parts) (follow_parts at 0 parts) at tells.place tells.place_word (follow_parts_tests parts image at text 0 tells (parts_are_bytes (b ∷ bs) are))

@@ -146,9 +146,9 @@ left_len text place part remainder fits goes = omega (arith, length-drop place t
 left_after : (text : List ℕ) (place : ℕ) (part remainder : List ℕ) → drop place text ≡ part ++ remainder → drop (place + length part) text ≡ remainder
 left_after text place part remainder goes = sym (drop-drop (length part) place text) ∙ ap (drop (length part)) goes ∙ drop_at part remainder (length part) refl
 
-along_meets : (parts : List (List ℕ)) (text : List ℕ) (place : ℕ) → place ≤ length text → AlongParts text place parts ↔ Meets (drop place text) parts
-along_meets [] text place fits = (λ w. w, λ w. w)
-along_meets (part ∷ []) text place fits = go (ends_with 47 part)
+follow_parts_meets : (parts : List (List ℕ)) (text : List ℕ) (place : ℕ) → place ≤ length text → AlongParts text place parts ↔ Meets (drop place text) parts
+follow_parts_meets [] text place fits = (λ w. w, λ w. w)
+follow_parts_meets (part ∷ []) text place fits = go (ends_with 47 part)
   where
     go : (slash : Bool) → MatchBool slash ((place + length part ≤ length text) × Stands text place part) ((length text ≡ place + length part) × Stands text place part) ↔ MatchBool slash (Begins (drop place text) part) (drop place text ≡ part)
     go true = (λ w. w.1, λ w. (let h = left_len text place part w.0 fits w.1 in omega arith, w))
@@ -159,7 +159,7 @@ along_meets (part ∷ []) text place fits = go (ends_with 47 part)
             let h = left_len text place part remainder fits goes in
             let none : remainder ≡ [] = nil_from_length remainder (omega arith) in
             goes ∙ ap (λ (x : List ℕ). part ++ x) none ∙ append-nil part
-along_meets (part ∷ next ∷ more) text place fits = (λ w. (w.1.0, w.1.1, forth w.0 w.1.0 w.1.1 (λ h. along_meets (next ∷ more) text (place + length part) h) w.2), λ w. (let h = left_len text place part w.0 fits w.1 in omega arith, (w.0, w.1), back w.0 w.1 (λ h. along_meets (next ∷ more) text (place + length part) h) w.2))
+follow_parts_meets (part ∷ next ∷ more) text place fits = (λ w. (w.1.0, w.1.1, forth w.0 w.1.0 w.1.1 (λ h. follow_parts_meets (next ∷ more) text (place + length part) h) w.2), λ w. (let h = left_len text place part w.0 fits w.1 in omega arith, (w.0, w.1), back w.0 w.1 (λ h. follow_parts_meets (next ∷ more) text (place + length part) h) w.2))
   where
     P : List ℕ → Type 0
     P x = Meets x (next ∷ more)
@@ -170,7 +170,7 @@ along_meets (part ∷ next ∷ more) text place fits = (λ w. (w.1.0, w.1.1, for
 
     forth : place + length part ≤ length text → (remainder : List ℕ) → drop place text ≡ part ++ remainder → Rest → (length text ≡ place + length part) ⊎ AlongParts text (place + length part) (next ∷ more) → (remainder ≡ []) ⊎ Meets remainder (next ∷ more)
     forth fits_part remainder goes rest (inl ends) = inl (let h = left_len text place part remainder fits goes in nil_from_length remainder (omega arith))
-    forth fits_part remainder goes rest (inr along) = inr (subst P (left_after text place part remainder goes) ((rest fits_part).0 along))
+    forth fits_part remainder goes rest (inr follow_parts) = inr (subst P (left_after text place part remainder goes) ((rest fits_part).0 follow_parts))
 
     back : (remainder : List ℕ) → drop place text ≡ part ++ remainder → Rest → (remainder ≡ []) ⊎ Meets remainder (next ∷ more) → (length text ≡ place + length part) ⊎ AlongParts text (place + length part) (next ∷ more)
     back remainder goes rest (inl none) = inl (let h = left_len text place part remainder fits goes in let n : length remainder ≡ 0 = ap length none in omega arith)
@@ -181,10 +181,10 @@ along_meets (part ∷ next ∷ more) text place fits = (λ w. (w.1.0, w.1.1, for
 -- ---- both
 
 -- a value that isn't empty
-pub nested_along : (text : List ℕ) (b : ℕ) (bs : List ℕ) → AreNested text (b ∷ bs) ↔ AlongParts text 0 (parts_of (b ∷ bs))
-nested_along text b bs =
+pub nested_follow_parts : (text : List ℕ) (b : ℕ) (bs : List ℕ) → AreNested text (b ∷ bs) ↔ AlongParts text 0 (parts_of (b ∷ bs))
+nested_follow_parts text b bs =
     let h = nested_meets b bs text in
-    let g = along_meets (parts_of (b ∷ bs)) text 0 (omega arith) in
+    let g = follow_parts_meets (parts_of (b ∷ bs)) text 0 (omega arith) in
     (λ n. g.1 (h.0 n), λ w. h.1 (g.0 w))
 
 -- the empty value

@@ -16,7 +16,7 @@ use Rattle.match_rule.specs.declared.condition.Condition.{Condition}
 use Rattle.match_rule.specs.declared.condition.Condition.TheVariants.{Kind, Sender, Compares}
 use Rattle.match_rule.specs.Arguments.{text_in}
 use Rattle.match_rule.specs.Condition.{value_of}
-use Rattle.message_value.specs.Words.{AreBytes}
+use Rattle.message_value.specs.Bytes.{AreBytes}
 use Rattle.match_rule.specs.FixedTexts.{member_asked, interface_asked, path_asked, arg0_asked, arg0_of, fixed_texts, texts_of, AreFound}
 use Rattle.match_rule.specs.Parts.{is_sender, has_one_sender, has_small_number, have_small_numbers}
 use Rattle.match_rule.specs.RuleTree.{RuleTree, condition_weight, weight_of, owned_name_in, or_else, first_owned_name, sender_name_of}
@@ -137,7 +137,7 @@ pub no_heavier : (tested : Tested) (rule : RuleTree) → weight_of (tested_of te
 no_heavier tested rule = omega (arith, weight_kept (is_tested tested) rule.conditions)
 
 pub same_slot : (tested : Tested) (rule : RuleTree) (slot : Option ℕ) → IsSlotOf slot rule → IsSlotOf slot (tested_of tested rule)
-same_slot tested rule slot is = record { given = rw (same_sender tested rule) is.given; small = is.small }
+same_slot tested rule slot is = record { where_asked = rw (same_sender tested rule) is.where_asked; small = is.small }
 
 -- all conditions are the rule's
 all_tested : (cs : List Condition) → filter (is_tested AllTested) cs ≡ cs
@@ -150,9 +150,9 @@ whole_rule rule = ap (λ (cs : List Condition). record { conditions = cs; eavesd
 -- ---- where a rule holds
 
 -- a text that is fixed and found
-told : (fixed : Option (List ℕ)) (text : List ℕ) (Q : List ℕ → Type 0) → is_fixed fixed text ≡ true → IfSome fixed Q → Q text
-told None text Q is found = absurd (false≢true is)
-told (Some other) text Q is found = subst Q ((bytes_eq-Decides other text).0 is) found
+fixed_text_is : (fixed : Option (List ℕ)) (text : List ℕ) (Q : List ℕ → Type 0) → is_fixed fixed text ≡ true → IfSome fixed Q → Q text
+fixed_text_is None text Q is found = absurd (false≢true is)
+fixed_text_is (Some other) text Q is found = subst Q ((bytes_eq-Decides other text).0 is) found
 
 -- a text that is there
 there : (shown : Option (List ℕ)) (value : List ℕ) → shown ≡ Some value → IsSomeAnd shown (λ text. text ≡ value)
@@ -165,16 +165,16 @@ module _ (rule : RuleTree) (m : Message) (owned : List ℕ → Bool) (found : Ar
     where
       go : (b : Bool) → (n == 0) ≡ b → is_fixed (if b then arg0_asked rule else None) value ≡ true → IsSomeAnd (text_at (Arg n) relations.Equal m) (λ text. text ≡ value)
       go true zeroth e =
-          let is = told (arg0_asked rule) value (λ text. arg0_of m ≡ Some text) e found.arg0 in
+          let is = fixed_text_is (arg0_asked rule) value (λ text. arg0_of m ≡ Some text) e found.arg0 in
           let at_zero = there (text_at (Arg 0) relations.Equal m) value (sym (same_string (text_in (slice_get (arguments_of m) 0))) ∙ is) in
           subst (λ (k : ℕ). IsSomeAnd (text_at (Arg k) relations.Equal m) (λ text. text ≡ value)) (sym (eqb-true n 0 zeroth)) at_zero
       go false other e = absurd (false≢true e)
 
   -- a text that the rule fixes is found
   source_fixed : (source : Source) (value : List ℕ) → is_fixed (fixed_source rule source) value ≡ true → IsSomeAnd (text_at source relations.Equal m) (λ text. text ≡ value)
-  source_fixed (Header Interface) value e = there (interface_of m) value (told (interface_asked rule) value (λ text. interface_of m ≡ Some text) e found.interface)
-  source_fixed (Header Member) value e = there (member_of m) value (told (member_asked rule) value (λ text. member_of m ≡ Some text) e found.member)
-  source_fixed (Header Path) value e = there (path_of m) value (told (path_asked rule) value (λ text. path_of m ≡ Some text) e found.path)
+  source_fixed (Header Interface) value e = there (interface_of m) value (fixed_text_is (interface_asked rule) value (λ text. interface_of m ≡ Some text) e found.interface)
+  source_fixed (Header Member) value e = there (member_of m) value (fixed_text_is (member_asked rule) value (λ text. member_of m ≡ Some text) e found.member)
+  source_fixed (Header Path) value e = there (path_of m) value (fixed_text_is (path_asked rule) value (λ text. path_of m ≡ Some text) e found.path)
   source_fixed (Header Destination) value e = absurd (false≢true e)
   source_fixed (Arg n) value e = arg_fixed n value e
 
@@ -195,8 +195,8 @@ module _ (rule : RuleTree) (m : Message) (owned : List ℕ → Bool) (found : Ar
 
   rest_holds : (tested : Tested) → ((c : Condition) → is_tested tested c ≡ is_left rule c) → (Holds (tested_of tested rule) m owned ↔ Holds rule m owned)
   rest_holds tested same = (
-    (λ h. record { each = all_hold (is_tested tested) (λ c e. not_left_holds c (sym (same c) ∙ e)) rule.conditions h.each; offered = h.offered }),
-    (λ h. record { each = All-filter (is_tested tested) (λ c. ConditionHolds c m owned) rule.conditions h.each; offered = h.offered }),
+    (λ h. record { each = all_hold (is_tested tested) (λ c e. not_left_holds c (sym (same c) ∙ e)) rule.conditions h.each; destination_fits = h.destination_fits }),
+    (λ h. record { each = All-filter (is_tested tested) (λ c. ConditionHolds c m owned) rule.conditions h.each; destination_fits = h.destination_fits }),
   )
 
 pub rest_compiled : (rule : RuleTree) (slot : Option ℕ) (tested : Tested) (program : List Ins) → ((c : Condition) → is_tested tested c ≡ is_left rule c) → IsCompiled (tested_of tested rule) slot program → IsRest rule slot program

@@ -1,5 +1,5 @@
 -- A rule's program, with an island of its own for each far target, isn't longer than the rule weighs.
-use Rattle.std.proofs.Common.{◌≡◌, ℕ, zero, suc, ◌+◌, ◌-◌, ◌*◌, ◌≤◌, Bool, true, false, List, [], ◌∷◌, length, refl, ap, arith}
+use Rattle.std.proofs.Common.{◌≡◌, ℕ, zero, suc, ◌+◌, ◌-◌, ◌*◌, ◌≤◌, Bool, true, false, List, [], ◌∷◌, length, refl, arith}
 use Rattle.std.specs.Prelude.{◌/◌, ◌%◌, ◌^◌, ◌&&◌, ◌==◌, if◌then◌else◌, nat_lt, slice_index, sum_by}
 use Rattle.std.specs.Str.{bytes_eq}
 use Rattle.std.proofs.lemmas.Bool.{eqb-true, ne_eqb}
@@ -10,7 +10,6 @@ use Rattle.bpf_code.specs.declared.operation.Width.TheVariants.{Word, Half, Byte
 use Rattle.bpf_code.specs.declared.operation.Test.{Test}
 use Rattle.bpf_code.specs.declared.operation.Test.TheVariants.{Equal, Above, AtLeast, SharesBit}
 use Rattle.bpf_code.specs.Table.{op_of}
-use Rattle.jump_islands.specs.Draft.{DraftTree, instructions_of}
 use Rattle.jump_islands.specs.PlainLength.{is_far, count, span, size_of, sizes_of, plain_length}
 use Rattle.match_rule.specs.Bytes.{ends_with}
 use Rattle.match_key.specs.declared.source.Source.TheVariants.{Header, Arg}
@@ -19,19 +18,21 @@ use Rattle.match_key.specs.declared.relation.Relation.TheVariants as relations
 use Rattle.match_rule.specs.declared.condition.Condition.{Condition}
 use Rattle.match_rule.specs.declared.condition.Condition.TheVariants.{Kind, Sender, Compares}
 use Rattle.match_rule.specs.RuleTree.{RuleTree, is_owned_name, slashes, relation_weight, condition_weight, weight_of}
+use Rattle.message_view.specs.declared.extent.TextField.TheVariants as texts
 use Rattle.message_view.specs.Header.{kind_byte}
 use Rattle.match_key.specs.Kinds.{kind_meant}
 use Rattle.match_rule.specs.Condition.{value_of}
+use Rattle.summary.specs.Layout.{kind_place, text_place, argument_place, ownership_place}
 use Rattle.rule_compile.specs.declared.condition.Part.TheVariants.{Words, Bytes}
-use Rattle.rule_compile.specs.Code.{image_word, indexed, index_from_a, branch, want, settle, two, four, same_word, same_words, same_bytes, has_len, is_there, is_there_if, has_text_len, index_text, has_bytes, may_end, in_namespace}
-use Rattle.rule_compile.specs.Folders.{with_front, parts_of, along, is_nested}
-use Rattle.rule_compile.specs.RuleCode.{argument_at, field_at, words_at, has_type, has_text_type, owns, path_namespace_len, path_namespace, relation_len, relation_bytes, there_code, type_code, part_code, rank_of, ranks, of_rank, rising, falling, offered, verdicts, rule_code}
+use Rattle.rule_compile.specs.Code.{image_word, load_indexed, index_from_a, branch, want, settle, half_number, four, same_word, same_words, same_bytes, has_len, is_there, is_there_if, has_text_len, index_text, has_bytes, may_end, in_namespace}
+use Rattle.rule_compile.specs.Folders.{with_front, parts_of, follow_parts, is_nested}
+use Rattle.rule_compile.specs.RuleCode.{field_at, words_at, has_type, has_text_type, owns, path_namespace_len, path_namespace, relation_len, relation_bytes, there_code, type_code, part_code, rank_of, ranks, of_rank, rising, falling, destination_fits, verdicts, rule_code}
 
 -- ---- single instructions
 
--- the sizes of a program's instructions, added up
+-- the length, which no tactic computes
 total : List Ins → ℕ
-total code = sum_by (λ size. size) (sizes_of code)
+total code = plain_length code
 
 count_small : (far : Bool) → count far ≤ 1
 count_small true = omega arith
@@ -52,10 +53,10 @@ total_cons ins rest = sum_by-cons (λ size. size) (size_of (op_of ins.code) ins 
 image_total : (at : ℕ) (rest : List Ins) → total (image_word at ∷ rest) ≡ 1 + total rest
 image_total at rest = total_cons (image_word at) rest
 
-indexed_total : (width : Width) (at : ℕ) (rest : List Ins) → total (indexed width at ∷ rest) ≡ 1 + total rest
-indexed_total Word at rest = total_cons (indexed Word at) rest
-indexed_total Half at rest = total_cons (indexed Half at) rest
-indexed_total Byte at rest = total_cons (indexed Byte at) rest
+indexed_total : (width : Width) (at : ℕ) (rest : List Ins) → total (load_indexed width at ∷ rest) ≡ 1 + total rest
+indexed_total Word at rest = total_cons (load_indexed Word at) rest
+indexed_total Half at rest = total_cons (load_indexed Half at) rest
+indexed_total Byte at rest = total_cons (load_indexed Byte at) rest
 
 index_total : (rest : List Ins) → total (index_from_a ∷ rest) ≡ 1 + total rest
 index_total rest = total_cons index_from_a rest
@@ -97,10 +98,10 @@ words_total at value (suc n) rest =
 same_total : (at : ℕ) (bytes : List ℕ) (rest : List Ins) → total (same_bytes at bytes rest) ≤ length bytes + 3 + total rest
 same_total at [] rest = omega arith
 same_total at (a ∷ []) rest = omega (arith, indexed_total Byte at (want Equal a rest), want_total Equal a rest)
-same_total at (a ∷ b ∷ []) rest = omega (arith, indexed_total Half at (want Equal (two a b) rest), want_total Equal (two a b) rest)
+same_total at (a ∷ b ∷ []) rest = omega (arith, indexed_total Half at (want Equal (half_number a b) rest), want_total Equal (half_number a b) rest)
 same_total at (a ∷ b ∷ c ∷ []) rest =
-    let tail = indexed Byte (at + 2) ∷ want Equal c rest in
-    omega (arith, indexed_total Half at (want Equal (two a b) tail), want_total Equal (two a b) tail, indexed_total Byte (at + 2) (want Equal c rest), want_total Equal c rest)
+    let tail = load_indexed Byte (at + 2) ∷ want Equal c rest in
+    omega (arith, indexed_total Half at (want Equal (half_number a b) tail), want_total Equal (half_number a b) tail, indexed_total Byte (at + 2) (want Equal c rest), want_total Equal c rest)
 same_total at (a ∷ b ∷ c ∷ d ∷ more) rest =
     let value = a ∷ b ∷ c ∷ d ∷ more in
     let n = (length more + 3) / 4 in
@@ -134,7 +135,7 @@ may_end_total at n exit rest = omega (arith, image_total (at + 4) (settle Equal 
 
 namespace_total : (at separator : ℕ) (value : List ℕ) (rest : List Ins) → total (in_namespace at separator value rest) ≤ length value + 11 + total rest
 namespace_total at separator value rest =
-    let last = indexed Byte (length value) ∷ want Equal separator rest in
+    let last = load_indexed Byte (length value) ∷ want Equal separator rest in
     let a = bytes_total at value (may_end at (length value) rest last) in
     let b = may_end_total at (length value) rest last in
     let c = indexed_total Byte (length value) (want Equal separator rest) in
@@ -151,14 +152,14 @@ weight_of_parts (part ∷ parts) = length part + 9 + weight_of_parts parts
 part_total : (test : Test) (at place : ℕ) (part : List ℕ) (rest : List Ins) → total (has_len test (place + length part) at (same_bytes place part rest)) ≤ length part + 6 + total rest
 part_total test at place part rest = omega (arith, len_total test (place + length part) at (same_bytes place part rest), same_total place part rest)
 
-along_total : (at place : ℕ) (parts : List (List ℕ)) (rest : List Ins) → total (along at place parts rest) ≤ weight_of_parts parts + total rest
-along_total at place [] rest = omega arith
-along_total at place (part ∷ []) rest =
+follow_parts_total : (at place : ℕ) (parts : List (List ℕ)) (rest : List Ins) → total (follow_parts at place parts rest) ≤ weight_of_parts parts + total rest
+follow_parts_total at place [] rest = omega arith
+follow_parts_total at place (part ∷ []) rest =
     choice_total (ends_with 47 part) (weight_of_parts (part ∷ []) + total rest) _ _ (omega (arith, part_total AtLeast at place part rest)) (omega (arith, part_total Equal at place part rest))
-along_total at place (part ∷ next ∷ more) rest =
-    let tail = along at (place + length part) (next ∷ more) rest in
+follow_parts_total at place (part ∷ next ∷ more) rest =
+    let tail = follow_parts at (place + length part) (next ∷ more) rest in
     let ends = may_end at (place + length part) rest tail in
-    omega (arith, part_total AtLeast at place part ends, may_end_total at (place + length part) rest tail, along_total at (place + length part) (next ∷ more) rest)
+    omega (arith, part_total AtLeast at place part ends, may_end_total at (place + length part) rest tail, follow_parts_total at (place + length part) (next ∷ more) rest)
 
 front_weight : (b : ℕ) (parts : List (List ℕ)) (n : ℕ) → weight_of_parts parts ≤ n + 9 → weight_of_parts (with_front b parts) ≤ n + 10
 front_weight b [] n h = omega arith
@@ -177,25 +178,25 @@ parts_weight (b ∷ bs) = rw (slashes_cons b bs) (go (b == 47) (parts_weight bs)
 
 nested_total : (at : ℕ) (value : List ℕ) (rest : List Ins) → total (is_nested at value rest) ≤ length value + 9 * slashes value + 11 + total rest
 nested_total at value rest =
-    let tail = along at 0 (parts_of value) rest in
+    let tail = follow_parts at 0 (parts_of value) rest in
     let a = len_total Equal 0 at rest in
     let b = text_total at tail in
-    let c = along_total at 0 (parts_of value) rest in
+    let c = follow_parts_total at 0 (parts_of value) rest in
     let d = parts_weight value in
     choice_total (length value == 0) (length value + 9 * slashes value + 11 + total rest) (has_len Equal 0 at rest) (index_text at tail) (omega arith) (omega arith)
 
 -- ---- conditions
 
 type_total : (n code : ℕ) (rest : List Ins) → total (has_type n code rest) ≤ 3 + total rest
-type_total n code rest = omega (arith, image_total (argument_at n) (want Equal code rest), want_total Equal code rest)
+type_total n code rest = omega (arith, image_total (argument_place n) (want Equal code rest), want_total Equal code rest)
 
 text_type_total : (n : ℕ) (rest : List Ins) → total (has_text_type n rest) ≤ 5 + total rest
 text_type_total n rest =
     let tail = want Equal 111 rest in
-    omega (arith, image_total (argument_at n) (settle Equal 115 rest tail), settle_total Equal 115 rest tail, want_total Equal 111 rest)
+    omega (arith, image_total (argument_place n) (settle Equal 115 rest tail), settle_total Equal 115 rest tail, want_total Equal 111 rest)
 
 owns_total : (slot : ℕ) (rest : List Ins) → total (owns slot rest) ≤ 3 + total rest
-owns_total slot rest = omega (arith, image_total (840 + 4 * (slot / 32)) (want SharesBit (2 ^ (slot % 32)) rest), want_total SharesBit (2 ^ (slot % 32)) rest)
+owns_total slot rest = omega (arith, image_total (ownership_place slot) (want SharesBit (2 ^ (slot % 32)) rest), want_total SharesBit (2 ^ (slot % 32)) rest)
 
 path_len_total : (at : ℕ) (value : List ℕ) (rest : List Ins) → total (path_namespace_len at value rest) ≤ 6 + total rest
 path_len_total at value rest =
@@ -246,23 +247,23 @@ IsWithin weight piece = (c : Condition) (rest : List Ins) → total (piece c res
 
 words_within : (slot : ℕ) → IsWithin words_weight (part_code Words slot)
 words_within slot (Kind kind) rest =
-    let tail = want Equal (kind_byte (kind_meant kind)) rest in omega (arith, image_total 4 tail, want_total Equal (kind_byte (kind_meant kind)) rest)
+    let tail = want Equal (kind_byte (kind_meant kind)) rest in omega (arith, image_total kind_place tail, want_total Equal (kind_byte (kind_meant kind)) rest)
 words_within slot (Sender name) rest =
     let a = owns_total slot rest in
-    let b = text_len_total Equal (length name) 64 rest in
-    choice_total (is_owned_name name) (11 + total rest) (owns slot rest) (has_text_len Equal (length name) 64 rest) (omega arith) (omega arith)
+    let b = text_len_total Equal (length name) (text_place texts.Sender) rest in
+    choice_total (is_owned_name name) (11 + total rest) (owns slot rest) (has_text_len Equal (length name) (text_place texts.Sender) rest) (omega arith) (omega arith)
 words_within slot (Compares (Header field) relation value) rest =
     let tail = relation_len relation (field_at field) value rest in
     omega (arith, there_code_total relation (field_at field) tail, relation_len_total relation (field_at field) value rest)
 words_within slot (Compares (Arg n) relation value) rest =
-    let tail = relation_len relation (argument_at n + 4) value rest in
-    omega (arith, type_code_total relation n tail, relation_len_total relation (argument_at n + 4) value rest)
+    let tail = relation_len relation (argument_place n + 4) value rest in
+    omega (arith, type_code_total relation n tail, relation_len_total relation (argument_place n + 4) value rest)
 
 bytes_within : (slot : ℕ) → IsWithin bytes_weight (part_code Bytes slot)
 bytes_within slot (Kind kind) rest = omega arith
 bytes_within slot (Sender name) rest =
-    let b = bytes_total 64 name rest in
-    choice_total (is_owned_name name) (13 + length name + total rest) rest (has_bytes 64 name rest) (omega arith) (omega arith)
+    let b = bytes_total (text_place texts.Sender) name rest in
+    choice_total (is_owned_name name) (13 + length name + total rest) rest (has_bytes (text_place texts.Sender) name rest) (omega arith) (omega arith)
 bytes_within slot (Compares source relation value) rest = omega (arith, relation_total relation (words_at source) value rest)
 
 -- ---- rules
@@ -334,8 +335,8 @@ module _ (weight : Condition → ℕ) (piece : Condition → List Ins → List I
       let sum = sum_by-cons weight c cs in
       omega arith
 
-offered_total : (eavesdrops : Bool) → total (offered eavesdrops verdicts) ≤ 5
-offered_total eavesdrops = choice_total eavesdrops 5 verdicts (image_word 56 ∷ want Equal 0 verdicts) (omega (arith, verdicts_total)) (omega (arith, image_total 56 (want Equal 0 verdicts), want_total Equal 0 verdicts, verdicts_total))
+offered_total : (eavesdrops : Bool) → total (destination_fits eavesdrops verdicts) ≤ 5
+offered_total eavesdrops = choice_total eavesdrops 5 verdicts (image_word (text_place texts.Destination) ∷ want Equal 0 verdicts) (omega (arith, verdicts_total)) (omega (arith, image_total (text_place texts.Destination) (want Equal 0 verdicts), want_total Equal 0 verdicts, verdicts_total))
 
 both_sums : (cs : List Condition) → sum_by words_weight cs + sum_by bytes_weight cs ≤ sum_by condition_weight cs
 both_sums [] = omega arith
@@ -345,7 +346,7 @@ both_sums (c ∷ cs) =
 code_total : (slot : ℕ) (rule : RuleTree) → total (rule_code slot rule) ≤ weight_of rule
 code_total slot rule =
     let cs = rule.conditions in
-    let tail = offered rule.eavesdrops verdicts in
+    let tail = destination_fits rule.eavesdrops verdicts in
     let bytes = falling (part_code Bytes slot) ranks cs tail in
     let a = rising_total words_weight (part_code Words slot) (words_within slot) ranks cs bytes in
     let b = falling_total bytes_weight (part_code Bytes slot) (bytes_within slot) ranks cs tail in
@@ -354,9 +355,6 @@ code_total slot rule =
     omega (arith, offered_total rule.eavesdrops, both_sums cs)
 
 -- with an island for each far target the program isn't longer than the rule weighs
-pub rule_length : (slot : ℕ) (rule : RuleTree) (draft : DraftTree) → instructions_of draft ≡ rule_code slot rule → plain_length draft ≤ weight_of rule
+pub rule_length : (slot : ℕ) (rule : RuleTree) → plain_length (rule_code slot rule) ≤ weight_of rule
 unfolding total
-rule_length slot rule draft is =
-    let e : plain_length draft ≡ total (rule_code slot rule) = ap total is in
-    let h : total (rule_code slot rule) ≤ weight_of rule = code_total slot rule in
-    rw e h
+rule_length slot rule = code_total slot rule

@@ -7,6 +7,7 @@ use Rattle.std.specs.Prelude.{unwrap_or}
 use Rattle.bpf_code.specs.declared.instruction.Ins.{Ins}
 use Rattle.bpf_code.specs.declared.operation.Test.TheVariants.{Equal}
 use Rattle.bpf_code.specs.Steps.{Ends}
+use Rattle.message_view.specs.declared.extent.TextField.TheVariants as texts
 use Rattle.message_view.specs.Message.{Message, destination_of}
 use Rattle.message_view.specs.Valid.{Valid}
 use Rattle.match_key.specs.declared.source.Field.{Field}
@@ -23,11 +24,13 @@ use Rattle.match_rule.specs.RuleTree.{RuleTree, is_owned_name, or_else, first_ow
 use Rattle.summary.specs.declared.edition.Edition.TheVariants.{Two}
 use Rattle.summary.specs.ImageBytes.{image_bytes}
 use Rattle.summary.specs.Sets.{has_slot}
-use Rattle.summary.specs.Shown.{AreBytes, ShowsText, Shows}
+use Rattle.summary.specs.Shown.{ShowsText, Shows}
+use Rattle.message_value.specs.Bytes.{AreBytes}
+use Rattle.summary.specs.Layout.{text_place}
 use Rattle.rule_compile.specs.declared.condition.Part.TheVariants.{Words, Bytes}
 use Rattle.rule_compile.specs.Code.{returns}
 use Rattle.rule_compile.specs.Compiled.{IsSlotOf, AgreeOn}
-use Rattle.rule_compile.specs.RuleCode.{part_code, field_rank, whole_rank, other_rank, rank_of, ranks, of_rank, rising, falling, offered, verdicts, rule_code}
+use Rattle.rule_compile.specs.RuleCode.{part_code, field_rank, whole_rank, other_rank, rank_of, ranks, of_rank, rising, falling, destination_fits, verdicts, rule_code}
 use Rattle.rule_compile.proofs.Pieces.{Guarded, Any, Tests}
 use Rattle.rule_compile.proofs.Runs.{runs_returns}
 use Rattle.rule_compile.proofs.Combined.{tests_none, tests_same, tests_both, tests_word}
@@ -112,16 +115,16 @@ tests_conditions image slot P cs each =
 
 -- ---- a message with a destination
 
-tests_offered : (image : List ℕ) (destination : Option (List ℕ)) (eavesdrops : Bool) → ShowsText image 56 destination → Tests image Any ((destination ≡ None) ⊎ (eavesdrops ≡ true)) (offered eavesdrops)
+tests_offered : (image : List ℕ) (destination : Option (List ℕ)) (eavesdrops : Bool) → ShowsText image (text_place texts.Destination) destination → Tests image Any ((destination ≡ None) ⊎ (eavesdrops ≡ true)) (destination_fits eavesdrops)
 tests_offered image destination true shows =
     tests_none image Any ((destination ≡ None) ⊎ (true ≡ true)) (inr refl)
 tests_offered image None false shows =
-    tests_same image Any _ _ (offered false) (λ _. inl refl, λ _. refl) (tests_word image Any 56 0 Equal 0 shows.0)
+    tests_same image Any _ _ (destination_fits false) (λ _. inl refl, λ _. refl) (tests_word image Any (text_place texts.Destination) 0 Equal 0 shows.0)
 tests_offered image (Some text) false tells =
-    tests_same image Any _ _ (offered false) (
+    tests_same image Any _ _ (destination_fits false) (
       λ e. absurd (let z = eqb-true tells.place 0 e in let start = tells.after_start in omega arith),
       λ p. elim p [ inl e ↦ absurd cc | inr e ↦ absurd (false≢true e) ],
-    ) (tests_word image Any 56 tells.place Equal 0 tells.place_word)
+    ) (tests_word image Any (text_place texts.Destination) tells.place Equal 0 tells.place_word)
 
 -- ---- the slot of the sender's name
 
@@ -163,12 +166,12 @@ guarded_verdicts : Guarded verdicts
 guarded_verdicts = (returns 1 ∷ [], refl)
 
 -- what the program of a rule tests of any image that shows the message
-tests_rule : (image bytes : List ℕ) (m : Message) (slots : List ℕ) (owned : List ℕ → Bool) (rule : RuleTree) (slot : ℕ) → Valid bytes m → Shows Two image m slots → slot < 1024 → All (SlotFits slots slot owned) rule.conditions → have_small_numbers rule.conditions ≡ true → All (λ c. AreBytes (value_of c)) rule.conditions → Tests image Any (Holds rule m owned) (λ rest. all_parts slot rule.conditions (offered rule.eavesdrops rest))
+tests_rule : (image bytes : List ℕ) (m : Message) (slots : List ℕ) (owned : List ℕ → Bool) (rule : RuleTree) (slot : ℕ) → Valid bytes m → Shows Two image m slots → slot < 1024 → All (SlotFits slots slot owned) rule.conditions → have_small_numbers rule.conditions ≡ true → All (λ c. AreBytes (value_of c)) rule.conditions → Tests image Any (Holds rule m owned) (λ rest. all_parts slot rule.conditions (destination_fits rule.eavesdrops rest))
 tests_rule image bytes m slots owned rule slot valid shows small fits numbers are =
-    tests_same image Any _ _ (λ rest. all_parts slot rule.conditions (offered rule.eavesdrops rest)) (
-      λ both. record { each = both.0; offered = both.1 },
-      λ holds. (holds.each, holds.offered),
-    ) (tests_both image Any (All (λ c. ConditionHolds c m owned) rule.conditions) ((destination_of m ≡ None) ⊎ (rule.eavesdrops ≡ true)) (all_parts slot rule.conditions) (offered rule.eavesdrops) (tests_conditions image slot (λ c. ConditionHolds c m owned) rule.conditions (each_tests image bytes m slots owned slot rule.conditions valid shows small fits numbers are)) (tests_offered image (destination_of m) rule.eavesdrops shows.destination))
+    tests_same image Any _ _ (λ rest. all_parts slot rule.conditions (destination_fits rule.eavesdrops rest)) (
+      λ both. record { each = both.0; destination_fits = both.1 },
+      λ holds. (holds.each, holds.destination_fits),
+    ) (tests_both image Any (All (λ c. ConditionHolds c m owned) rule.conditions) ((destination_of m ≡ None) ⊎ (rule.eavesdrops ≡ true)) (all_parts slot rule.conditions) (destination_fits rule.eavesdrops) (tests_conditions image slot (λ c. ConditionHolds c m owned) rule.conditions (each_tests image bytes m slots owned slot rule.conditions valid shows small fits numbers are)) (tests_offered image (destination_of m) rule.eavesdrops shows.destination))
 
 -- a program that tests a fact ends, with 1 where the fact holds and with 0 where it doesn't
 verdict : (image : List ℕ) (P : Type 0) (f : List Ins → List Ins) → Tests image Any P f → (v : ℕ) × (n : ℕ) × Ends (f verdicts) image v n × ((0 < v) ↔ P)
@@ -182,4 +185,4 @@ pub rule_runs : (bytes : List ℕ) (m : Message) (slots : List ℕ) (owned : Lis
 rule_runs bytes m slots owned rule slot valid shows is agree one numbers are =
     let image : List ℕ = image_bytes Two m slots in
     let fits = slots_fit slots (unwrap_or slot 0) owned rule.conditions one agree in
-    verdict image (Holds rule m owned) (λ rest. all_parts (unwrap_or slot 0) rule.conditions (offered rule.eavesdrops rest)) (tests_rule image bytes m slots owned rule (unwrap_or slot 0) valid shows (slot_small slot is.small) fits numbers are)
+    verdict image (Holds rule m owned) (λ rest. all_parts (unwrap_or slot 0) rule.conditions (destination_fits rule.eavesdrops rest)) (tests_rule image bytes m slots owned rule (unwrap_or slot 0) valid shows (slot_small slot is.small) fits numbers are)

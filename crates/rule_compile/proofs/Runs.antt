@@ -16,7 +16,7 @@ use Rattle.bpf_code.specs.Table.{op_of, code_of}
 use Rattle.bpf_code.specs.Loads.{load, load_word}
 use Rattle.bpf_code.specs.Effects.{Effect, SetA, SetX, SetWord, Skip, Finish, passes, effect_of}
 use Rattle.bpf_code.specs.Steps.{State, with_word, after, step_at, Arrives, EndsFrom}
-use Rattle.rule_compile.specs.Code.{image_word, indexed, index_from_a, returns, branch, want, settle}
+use Rattle.rule_compile.specs.Code.{image_word, load_indexed, index_from_a, returns, branch, want, settle}
 use Rattle.rule_compile.proofs.Pieces.{RunsTo, Guarded}
 
 -- ---- after a front
@@ -87,15 +87,15 @@ runs_image_word rest image at w a x v is run =
     (suc later.0, rw is later.1)
 
 -- a load at an offset from X
-pub runs_indexed : (rest : List Ins) (image : List ℕ) (width : Width) (k w a x v : ℕ) → load width image (x + k) ≡ Some w → RunsTo rest image w x v → RunsTo (indexed width k ∷ rest) image a x v
+pub runs_indexed : (rest : List Ins) (image : List ℕ) (width : Width) (k w a x v : ℕ) → load width image (x + k) ≡ Some w → RunsTo rest image w x v → RunsTo (load_indexed width k ∷ rest) image a x v
 runs_indexed rest image Word k w a x v is run =
-    let later = runs_after (indexed Word k ∷ []) rest image w x v 1 refl run in
+    let later = runs_after (load_indexed Word k ∷ []) rest image w x v 1 refl run in
     (suc later.0, rw is later.1)
 runs_indexed rest image Half k w a x v is run =
-    let later = runs_after (indexed Half k ∷ []) rest image w x v 1 refl run in
+    let later = runs_after (load_indexed Half k ∷ []) rest image w x v 1 refl run in
     (suc later.0, rw is later.1)
 runs_indexed rest image Byte k w a x v is run =
-    let later = runs_after (indexed Byte k ∷ []) rest image w x v 1 refl run in
+    let later = runs_after (load_indexed Byte k ∷ []) rest image w x v 1 refl run in
     (suc later.0, rw is later.1)
 
 -- a load outside the image says no match

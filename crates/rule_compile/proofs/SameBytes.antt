@@ -3,24 +3,24 @@ use Rattle.std.proofs.Common.{◌≡◌, ℕ, ◌+◌, ◌-◌, ◌/◌, ◌≤�
 use Rattle.bpf_code.specs.declared.instruction.Ins.{Ins}
 use Rattle.bpf_code.specs.declared.operation.Width.TheVariants.{Half, Byte}
 use Rattle.bpf_code.specs.declared.operation.Test.TheVariants.{Equal}
-use Rattle.rule_compile.specs.Code.{indexed, want, two, same_word, same_words, same_bytes}
+use Rattle.rule_compile.specs.Code.{load_indexed, want, half_number, same_word, same_words, same_bytes}
 
 pub same_none : (at : ℕ) (value : List ℕ) (rest : List Ins) → length value ≡ 0 → same_bytes at value rest ≡ rest
 same_none at [] rest e = refl
 same_none at (a ∷ value) rest e = absurd (omega (arith, e))
 
-pub same_one : (at : ℕ) (value : List ℕ) (rest : List Ins) → length value ≡ 1 → same_bytes at value rest ≡ indexed Byte at ∷ want Equal (get_or value 0 0) rest
+pub same_one : (at : ℕ) (value : List ℕ) (rest : List Ins) → length value ≡ 1 → same_bytes at value rest ≡ load_indexed Byte at ∷ want Equal (get_or value 0 0) rest
 same_one at [] rest e = absurd (omega (arith, e))
 same_one at (a ∷ []) rest e = refl
 same_one at (a ∷ b ∷ value) rest e = absurd (omega (arith, e))
 
-pub same_two : (at : ℕ) (value : List ℕ) (rest : List Ins) → length value ≡ 2 → same_bytes at value rest ≡ indexed Half at ∷ want Equal (two (get_or value 0 0) (get_or value 1 0)) rest
+pub same_two : (at : ℕ) (value : List ℕ) (rest : List Ins) → length value ≡ 2 → same_bytes at value rest ≡ load_indexed Half at ∷ want Equal (half_number (get_or value 0 0) (get_or value 1 0)) rest
 same_two at [] rest e = absurd (omega (arith, e))
 same_two at (a ∷ []) rest e = absurd (omega (arith, e))
 same_two at (a ∷ b ∷ []) rest e = refl
 same_two at (a ∷ b ∷ c ∷ value) rest e = absurd (omega (arith, e))
 
-pub same_three : (at : ℕ) (value : List ℕ) (rest : List Ins) → length value ≡ 3 → same_bytes at value rest ≡ indexed Half at ∷ want Equal (two (get_or value 0 0) (get_or value 1 0)) (indexed Byte (at + 2) ∷ want Equal (get_or value 2 0) rest)
+pub same_three : (at : ℕ) (value : List ℕ) (rest : List Ins) → length value ≡ 3 → same_bytes at value rest ≡ load_indexed Half at ∷ want Equal (half_number (get_or value 0 0) (get_or value 1 0)) (load_indexed Byte (at + 2) ∷ want Equal (get_or value 2 0) rest)
 same_three at [] rest e = absurd (omega (arith, e))
 same_three at (a ∷ []) rest e = absurd (omega (arith, e))
 same_three at (a ∷ b ∷ []) rest e = absurd (omega (arith, e))

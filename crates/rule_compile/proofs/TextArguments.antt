@@ -5,7 +5,7 @@ use Rattle.signature.specs.DataType.{DataType, DataTypes, basic, variant, array,
 use Rattle.signature.specs.Alignment.{alignment_of}
 use Rattle.message_value.specs.declared.order.Order.{Order}
 use Rattle.message_value.specs.Value.{Value, Values, number, text, elements, entries, members, of_type, no_values, one_value}
-use Rattle.message_value.specs.Spelling.{aligned, value_bytes}
+use Rattle.message_value.specs.Spelling.{align_up, value_bytes}
 use Rattle.message_value.specs.Arguments.{Argument, argument_of, arguments_from}
 use Rattle.message_value.specs.Fits.{is_text_code, BareFits, MembersFit, max_levels}
 use Rattle.message_view.specs.Message.{Message}
@@ -46,7 +46,7 @@ text_among order levels place no_types vs n a fits at is = absurd cc
 text_among order levels place (one_more t ts) no_values n a fits at is = absurd cc
 text_among order levels place (one_more t ts) (one_value v vs) zero a fits at is =
     let same = some_same _ a at in
-    subst HasText same (argument_text order levels (aligned (alignment_of t) place) t v fits.0 (subst (λ (b : Argument). IsText b.code) (sym same) is))
+    subst HasText same (argument_text order levels (align_up (alignment_of t) place) t v fits.0 (subst (λ (b : Argument). IsText b.code) (sym same) is))
 text_among order levels place (one_more t ts) (one_value v vs) (suc n) a fits at is =
     text_among order levels (place + length (value_bytes order place t v)) ts vs n a fits.1 at is
 

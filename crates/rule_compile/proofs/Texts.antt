@@ -9,8 +9,9 @@ use Rattle.bpf_code.specs.declared.operation.Test.TheVariants.{Equal, Above, AtL
 use Rattle.bpf_code.specs.Loads.{load_word}
 use Rattle.bpf_code.specs.Effects.{passes}
 use Rattle.match_rule.specs.Holds.{Begins}
-use Rattle.summary.specs.Shown.{AreBytes, Tells, ShowsText}
-use Rattle.rule_compile.specs.Code.{image_word, indexed, want, same_bytes, has_len, is_there, is_there_if, has_text_len, index_text, has_bytes, may_end, in_namespace}
+use Rattle.summary.specs.Shown.{Tells, ShowsText}
+use Rattle.message_value.specs.Bytes.{AreBytes}
+use Rattle.rule_compile.specs.Code.{image_word, load_indexed, want, same_bytes, has_len, is_there, is_there_if, has_text_len, index_text, has_bytes, may_end, in_namespace}
 use Rattle.rule_compile.proofs.Pieces.{Any, Tests}
 use Rattle.rule_compile.proofs.InTurn.{InTurn, turn_then, turn_same}
 use Rattle.rule_compile.proofs.Combined.{Extends, extends_none, extends_more, extends_then, extends_want, extends_settle, extends_index_text, tests_none, tests_same, tests_then, tests_both, tests_word, tests_settle, tests_index_text}
@@ -107,11 +108,11 @@ turn_is_text image at (Some text) value tells bytes =
 
 -- the value is all of the text, or the separator follows it
 abbrev closed : ℕ → ℕ → ℕ → List Ins → List Ins
-closed at n separator rest = may_end at n rest (indexed Byte n ∷ want Equal separator rest)
+closed at n separator rest = may_end at n rest (load_indexed Byte n ∷ want Equal separator rest)
 
 extends_closed : (at n separator : ℕ) → Extends (closed at n separator)
 extends_closed at n separator =
-    extends_settle (λ rest. indexed Byte n ∷ want Equal separator rest) (at + 4) Equal n (extends_indexed Byte n separator)
+    extends_settle (λ rest. load_indexed Byte n ∷ want Equal separator rest) (at + 4) Equal n (extends_indexed Byte n separator)
 
 extends_named : (at separator : ℕ) (value : List ℕ) → Extends (λ rest. same_bytes 0 value (closed at (length value) separator rest))
 extends_named at separator value =
@@ -126,9 +127,9 @@ Separated text n separator = (n < length text) × (slice_index text n ≡ separa
 
 tests_closed : (image : List ℕ) (at : ℕ) (text : List ℕ) (n separator : ℕ) → (tells : Tells image at text) → n ≤ length text → Tests image (At tells.place) ((eqb (length text) n ≡ true) ⊎ Separated text n separator) (closed at n separator)
 tests_closed image at text n separator tells few =
-    tests_settle image (At tells.place) (Separated text n separator) (λ rest. indexed Byte n ∷ want Equal separator rest) (at + 4) (length text) Equal n tells.len_word (extends_indexed Byte n separator) (
+    tests_settle image (At tells.place) (Separated text n separator) (λ rest. load_indexed Byte n ∷ want Equal separator rest) (at + 4) (length text) Equal n tells.len_word (extends_indexed Byte n separator) (
     λ differs. let less : n < length text = let ne = eqb-false (length text) n differs in omega arith in
-    tests_same image (At tells.place) _ _ (λ rest. indexed Byte n ∷ want Equal separator rest) (λ e. (less, e), λ both. both.1) (tests_byte image tells.place text n separator tells.lies (omega arith))
+    tests_same image (At tells.place) _ _ (λ rest. load_indexed Byte n ∷ want Equal separator rest) (λ e. (less, e), λ both. both.1) (tests_byte image tells.place text n separator tells.lies (omega arith))
     )
 
 abbrev Named : List ℕ → List ℕ → ℕ → Type 0

@@ -14,7 +14,7 @@ use Rattle.rule_compile.specs.declared.error.CompileError.TheVariants.{TooLong, 
 
 -- a slot below 1,024 is given exactly where the rule asks for an owned name
 pub record IsSlotOf (slot : Option ℕ) (rule : RuleTree) : Type 0 where
-  pub given : is_some slot ≡ is_some (sender_name_of rule)
+  pub where_asked : is_some slot ≡ is_some (sender_name_of rule)
   pub small : IfSome slot (λ s. s < 1024)
 
 -- the owned names have the rule's sender name exactly where its slot is among the slots

@@ -1,4 +1,4 @@
--- Texts cut after each `/`, and the piece of a program that compares paths.
+-- Inner: texts cut after each `/`, and the piece of a program that compares paths.
 use Rattle.std.specs.Prelude.{ℕ, ◌+◌, List, [], ◌∷◌, length, ◌==◌, if◌then◌else◌}
 use Rattle.bpf_code.specs.declared.instruction.Ins.{Ins}
 use Rattle.bpf_code.specs.declared.operation.Test.TheVariants.{Equal, AtLeast}
@@ -17,15 +17,15 @@ parts_of (b ∷ bs) = if b == 47 then (b ∷ []) ∷ parts_of bs else with_front
 
 -- The text goes on from a place with these parts of a value: it may end after each `/`, and go on after the value where
 -- that ends with one.
-abbrev pub along : ℕ → ℕ → List (List ℕ) → List Ins → List Ins
-along at place [] rest = rest
-along at place (part ∷ []) rest =
+abbrev pub follow_parts : ℕ → ℕ → List (List ℕ) → List Ins → List Ins
+follow_parts at place [] rest = rest
+follow_parts at place (part ∷ []) rest =
     if ends_with 47 part then has_len AtLeast (place + length part) at (same_bytes place part rest)
     else has_len Equal (place + length part) at (same_bytes place part rest)
-along at place (part ∷ next ∷ more) rest =
-    has_len AtLeast (place + length part) at (same_bytes place part (may_end at (place + length part) rest (along at (place + length part) (next ∷ more) rest)))
+follow_parts at place (part ∷ next ∷ more) rest =
+    has_len AtLeast (place + length part) at (same_bytes place part (may_end at (place + length part) rest (follow_parts at (place + length part) (next ∷ more) rest)))
 
 -- the text equals the value, or one of them ends with `/` and begins the other
 abbrev pub is_nested : ℕ → List ℕ → List Ins → List Ins
 is_nested at value rest =
-    if length value == 0 then has_len Equal 0 at rest else index_text at (along at 0 (parts_of value) rest)
+    if length value == 0 then has_len Equal 0 at rest else index_text at (follow_parts at 0 (parts_of value) rest)

@@ -1,9 +1,8 @@
 pub mod Code
+pub mod Sound
 pub mod Folders
 pub mod RuleCode
 pub mod Compiled
 pub mod Rest
 pub mod Headline
-pub mod Items
-pub mod Drafting
 pub mod Numbers

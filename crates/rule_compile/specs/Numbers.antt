@@ -14,7 +14,7 @@ abbrev pub compile_error_name : CompileError → List ℕ
 compile_error_name TooLong = codes "TooLong"
 compile_error_name NoMemory = codes "NoMemory"
 
--- what it means for a rule that its draft is refused
+-- what it means for a rule that its source program is refused
 abbrev pub error_of : LowerError → CompileError
 error_of TooMany = TooLong
 error_of NoLowerMemory = NoMemory

@@ -1,8 +1,9 @@
--- The programs of rules.
-use Rattle.std.specs.Prelude.{ℕ, ◌+◌, ◌*◌, ◌/◌, ◌%◌, ◌^◌, List, [], ◌∷◌, length, ◌==◌, if◌then◌else◌, zero, suc, Bool}
+-- Inner: the programs of rules.
+use Rattle.std.specs.Prelude.{ℕ, ◌+◌, ◌%◌, ◌^◌, List, [], ◌∷◌, length, ◌==◌, if◌then◌else◌, zero, suc, Bool}
 use Rattle.std.specs.Str.{bytes_eq}
 use Rattle.bpf_code.specs.declared.instruction.Ins.{Ins}
 use Rattle.bpf_code.specs.declared.operation.Test.TheVariants.{Equal, AtLeast, SharesBit}
+use Rattle.message_view.specs.declared.extent.TextField.TheVariants as texts
 use Rattle.message_view.specs.Header.{kind_byte}
 use Rattle.match_key.specs.declared.source.Field.{Field}
 use Rattle.match_key.specs.declared.source.Field.TheVariants.{Interface, Member, Path, Destination}
@@ -14,39 +15,36 @@ use Rattle.match_rule.specs.declared.condition.Condition.{Condition}
 use Rattle.match_rule.specs.declared.condition.Condition.TheVariants.{Kind, Sender, Compares}
 use Rattle.match_key.specs.Kinds.{kind_meant}
 use Rattle.match_rule.specs.RuleTree.{RuleTree, is_owned_name}
+use Rattle.summary.specs.Layout.{kind_place, text_place, argument_place, ownership_place}
 use Rattle.rule_compile.specs.declared.condition.Part.{Part}
 use Rattle.rule_compile.specs.declared.condition.Part.TheVariants.{Words, Bytes}
 use Rattle.rule_compile.specs.Code.{image_word, want, settle, returns, is_there, has_text_len, has_bytes, in_namespace}
 use Rattle.rule_compile.specs.Folders.{is_nested}
 
--- the place of the words of argument n
-abbrev pub argument_at : ℕ → ℕ
-argument_at n = 72 + 12 * n
-
 -- argument n has the type of this code
 abbrev pub has_type : ℕ → ℕ → List Ins → List Ins
-has_type n code rest = image_word (argument_at n) ∷ want Equal code rest
+has_type n code rest = image_word (argument_place n) ∷ want Equal code rest
 
 -- argument n is a string or an object path
 abbrev pub has_text_type : ℕ → List Ins → List Ins
-has_text_type n rest = image_word (argument_at n) ∷ settle Equal 115 rest (want Equal 111 rest)
+has_text_type n rest = image_word (argument_place n) ∷ settle Equal 115 rest (want Equal 111 rest)
 
 -- the sender owns the name of a slot
 abbrev pub owns : ℕ → List Ins → List Ins
-owns slot rest = image_word (840 + 4 * (slot / 32)) ∷ want SharesBit (2 ^ (slot % 32)) rest
+owns slot rest = image_word (ownership_place slot) ∷ want SharesBit (2 ^ (slot % 32)) rest
 
 -- ---- the text at a source
 
 -- the place of the words of a header field's text
 abbrev pub field_at : Field → ℕ
-field_at Path = 24
-field_at Interface = 32
-field_at Member = 40
-field_at Destination = 56
+field_at Path = text_place texts.Path
+field_at Interface = text_place texts.Interface
+field_at Member = text_place texts.Member
+field_at Destination = text_place texts.Destination
 
 abbrev pub words_at : Source → ℕ
 words_at (Header field) = field_at field
-words_at (Arg n) = argument_at n + 4
+words_at (Arg n) = argument_place n + 4
 
 -- the text is a path that isn't shorter than the value; of `/` any path
 abbrev pub path_namespace_len : ℕ → List ℕ → List Ins → List Ins
@@ -90,15 +88,15 @@ source_code (Arg n) relation rest = type_code relation n rest
 
 -- what words of the summary tell: all but the bytes of a text
 abbrev pub condition_words : ℕ → Condition → List Ins → List Ins
-condition_words slot (Kind kind) rest = image_word 4 ∷ want Equal (kind_byte (kind_meant kind)) rest
+condition_words slot (Kind kind) rest = image_word kind_place ∷ want Equal (kind_byte (kind_meant kind)) rest
 condition_words slot (Sender name) rest =
-    if is_owned_name name then owns slot rest else has_text_len Equal (length name) 64 rest
+    if is_owned_name name then owns slot rest else has_text_len Equal (length name) (text_place texts.Sender) rest
 condition_words slot (Compares source relation value) rest = source_code source relation (relation_len relation (words_at source) value rest)
 
 -- the bytes of a text, where the words passed
 abbrev pub condition_bytes : Condition → List Ins → List Ins
 condition_bytes (Kind kind) rest = rest
-condition_bytes (Sender name) rest = if is_owned_name name then rest else has_bytes 64 name rest
+condition_bytes (Sender name) rest = if is_owned_name name then rest else has_bytes (text_place texts.Sender) name rest
 condition_bytes (Compares source relation value) rest = relation_bytes relation (words_at source) value rest
 
 -- a part of the piece, in a rule whose sender name has a slot
@@ -153,8 +151,8 @@ falling piece zero cs rest = rest
 falling piece (suc n) cs rest = of_rank piece n cs (falling piece n cs rest)
 
 -- a message with a destination is offered to a rule that eavesdrops alone
-abbrev pub offered : Bool → List Ins → List Ins
-offered eavesdrops rest = if eavesdrops then rest else image_word 56 ∷ want Equal 0 rest
+abbrev pub destination_fits : Bool → List Ins → List Ins
+destination_fits eavesdrops rest = if eavesdrops then rest else image_word (text_place texts.Destination) ∷ want Equal 0 rest
 
 -- a match, and after it no match
 abbrev pub verdicts : List Ins
@@ -165,4 +163,4 @@ verdicts = returns 1 ∷ returns 0 ∷ []
 -- differ most in those texts.
 abbrev pub rule_code : ℕ → RuleTree → List Ins
 rule_code slot rule =
-    rising (part_code Words slot) ranks rule.conditions (falling (part_code Bytes slot) ranks rule.conditions (offered rule.eavesdrops verdicts))
+    rising (part_code Words slot) ranks rule.conditions (falling (part_code Bytes slot) ranks rule.conditions (destination_fits rule.eavesdrops verdicts))

@@ -4,18 +4,16 @@ ghost use Rattle.bpf_code.specs.Program.{WellFormed};
 ghost use Rattle.rule_compile.specs.Compiled.{IsSlotOf, IsCompiled, IsRefusal};
 ghost use Rattle.rule_compile.specs.Rest.{IsRest, tested_of};
 
-use crate::drafting::draft_of;
 use crate::error::CompileError;
 use crate::ranking::rule_code;
 use crate::rest::Tested;
 use bpf_code::Ins;
 use bpf_verify::{Verified, verify};
-use jump_islands::lower;
 use match_rule::Rule;
 use std::alloc::Global;
 
 /// A well-formed program, which is accepted.
-fn accepted(program: Vec<Ins>) -> Verified
+fn verified_program(program: Vec<Ins>) -> Verified
     requires { WellFormed program.items }
     ensures { result ≡ program.items }
 {
@@ -38,9 +36,8 @@ fn compile_tested(
 {
     let slot = slot.unwrap_or(0);
     let code = rule_code(alloc, slot, rule.conditions(), rule.eavesdrops(), tested)?;
-    let draft = draft_of(alloc, &code)?;
-    let program = lower(alloc, &draft)?;
-    Ok(accepted(program))
+    let program = code.lower(alloc)?;
+    Ok(verified_program(program))
 }
 
 /// The program of a rule, for images of edition 2: its verdict is nonzero exactly where the rule holds of the message

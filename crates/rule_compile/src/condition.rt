@@ -5,34 +5,14 @@ ghost use Rattle.message_view.specs.Header.{kind_byte};
 ghost use Rattle.bpf_code.specs.declared.operation.Test.TheVariants.{Equal};
 ghost use Rattle.match_rule.specs.RuleTree.{condition_weight};
 ghost use Rattle.rule_compile.specs.Code.{image_word, want};
-ghost use Rattle.rule_compile.specs.RuleCode.{argument_at, field_at, words_at, has_type, has_text_type, owns, path_namespace_len, path_namespace, relation_len, relation_bytes, there_code, type_code, source_code, condition_words, condition_bytes, part_code};
+ghost use Rattle.rule_compile.specs.RuleCode.{field_at, words_at, has_type, has_text_type, owns, path_namespace_len, path_namespace, relation_len, relation_bytes, there_code, type_code, source_code, condition_words, condition_bytes, part_code};
 
 use crate::piece::Code;
 use bpf_code::Test;
 use match_rule::{Condition, Field, Relation, Source, is_owned_name};
+use message_view::TextField;
 use std::alloc::AllocError;
-
-/// The place of the kind's word in an image.
-const KIND: u32 = 4;
-
-/// The places of the words of texts in an image.
-const PATH: u16 = 24;
-
-const INTERFACE: u16 = 32;
-
-const MEMBER: u16 = 40;
-
-pub(crate) const DESTINATION: u16 = 56;
-
-const SENDER: u16 = 64;
-
-/// The place of the words of the first argument, and how many bytes on those of the next one are.
-const ARGUMENTS: u16 = 72;
-
-const ARGUMENT_LEN: u16 = 12;
-
-/// The place of the first word of ownership bits.
-const OWNERSHIP: u32 = 840;
+use summary::{KIND_PLACE, argument_place, ownership_place, text_place};
 
 /// The parts of the piece of a condition.
 #[derive(Clone, Copy)]
@@ -43,22 +23,15 @@ pub(crate) enum Part {
     Bytes,
 }
 
-/// The place of the words of an argument.
-fn argument_at(n: u8) -> u16
-    ensures { result ≡ argument_at n }
-{
-    ARGUMENTS + ARGUMENT_LEN * u16::from(n)
-}
-
 /// The place of the words of a header field's text.
 fn field_at(field: Field) -> u16
     ensures { result ≡ field_at field }
 {
     match field {
-        Field::Path => PATH,
-        Field::Interface => INTERFACE,
-        Field::Member => MEMBER,
-        Field::Destination => DESTINATION,
+        Field::Path => text_place(TextField::Path),
+        Field::Interface => text_place(TextField::Interface),
+        Field::Member => text_place(TextField::Member),
+        Field::Destination => text_place(TextField::Destination),
     }
 }
 
@@ -68,7 +41,7 @@ fn words_at(source: Source) -> u16
 {
     match source {
         Source::Header(field) => field_at(field),
-        Source::Arg(n) => argument_at(n) + 4,
+        Source::Arg(n) => argument_place(n) + 4,
     }
 }
 
@@ -78,7 +51,7 @@ impl Code {
         ensures { OnOk result (self.new ≡ has_type n code self.old) }
     {
         self.want(Test::Equal, u32::from(code))?;
-        self.image_word(u32::from(argument_at(n)))
+        self.image_word(u32::from(argument_place(n)))
     }
 
     /// Argument n is a string or an object path.
@@ -88,7 +61,7 @@ impl Code {
         let exit_len = self.len();
         self.want(Test::Equal, u32::from(b'o'))?;
         self.settle(Test::Equal, u32::from(b's'), exit_len)?;
-        self.image_word(u32::from(argument_at(n)))
+        self.image_word(u32::from(argument_place(n)))
     }
 
     /// The sender owns the name of a slot.
@@ -96,7 +69,7 @@ impl Code {
         ensures { OnOk result (self.new ≡ owns slot self.old) }
     {
         self.want(Test::SharesBit, 1 << (slot % 32))?;
-        self.image_word(OWNERSHIP + 4 * u32::from(slot / 32))
+        self.image_word(u32::from(ownership_place(slot)))
     }
 
     /// The sender owns the name of a slot, or has a name as long as this one.
@@ -107,7 +80,11 @@ impl Code {
         if is_owned_name(name) {
             self.owns(slot)
         } else {
-            self.has_text_len(Test::Equal, name.len() as u32, SENDER)
+            self.has_text_len(
+                Test::Equal,
+                name.len() as u32,
+                text_place(TextField::Sender),
+            )
         }
     }
 
@@ -117,7 +94,7 @@ impl Code {
         ensures { OnOk result (self.new ≡ condition_bytes (Condition.Sender name.now) self.old) }
     {
         if !is_owned_name(name) {
-            self.has_bytes(SENDER, name)?;
+            self.has_bytes(text_place(TextField::Sender), name)?;
         }
         Ok(())
     }
@@ -211,7 +188,7 @@ impl Code {
         match condition {
             Condition::Kind(kind) => {
                 self.want(Test::Equal, u32::from(kind.kind().byte()))?;
-                self.image_word(KIND)
+                self.image_word(u32::from(KIND_PLACE))
             }
             Condition::Sender(name) => self.sender_words(slot, name.as_str()),
             Condition::Compares(source, relation, value) => {

@@ -3,7 +3,7 @@ ghost use Rattle.std.specs.Prelude.{◌≡◌, ◌≢◌, ◌<◌, ◌≤◌, �
 ghost use Rattle.bpf_code.specs.declared.operation.Test.TheVariants.{Equal, AtLeast};
 ghost use Rattle.match_rule.specs.Bytes.{ends_with};
 ghost use Rattle.rule_compile.specs.Code.{image_word, branch, same_bytes, has_len};
-ghost use Rattle.rule_compile.specs.Folders.{parts_of, along, is_nested};
+ghost use Rattle.rule_compile.specs.Folders.{parts_of, follow_parts, is_nested};
 
 use crate::piece::Code;
 use bpf_code::Test;
@@ -37,7 +37,7 @@ impl Code {
     /// The text goes on from a place with the last part of a value, and may go on after it where that ends with `/`.
     fn last_part(&mut self, at: u16, place: usize, part: &[u8]) -> Result<(), AllocError>
         requires { place + length part.now < 2 ^ 32 }
-        ensures { OnOk result (self.new ≡ along at place (part.now ∷ []) self.old) }
+        ensures { OnOk result (self.new ≡ follow_parts at place (part.now ∷ []) self.old) }
     {
         let end = (place + part.len()) as u32;
         self.same_bytes(place as u32, part)?;
@@ -69,10 +69,10 @@ impl Code {
     }
 
     /// The text goes along the parts of a value, from the last one to the first.
-    fn along(&mut self, at: u16, value: &[u8]) -> Result<(), AllocError>
+    fn follow_parts(&mut self, at: u16, value: &[u8]) -> Result<(), AllocError>
         requires some { 0 < length value.now }
         requires fits { length value.now < 2 ^ 32 }
-        ensures { OnOk result (self.new ≡ along at 0 (parts_of value.now) self.old) }
+        ensures { OnOk result (self.new ≡ follow_parts at 0 (parts_of value.now) self.old) }
     {
         let exit_len = self.len();
         let mut start = part_start(value, value.len());
@@ -93,7 +93,7 @@ impl Code {
         if value.is_empty() {
             return self.has_len(Test::Equal, 0, at);
         }
-        self.along(at, value.as_bytes())?;
+        self.follow_parts(at, value.as_bytes())?;
         self.index_text(at)
     }
 }

@@ -4,7 +4,6 @@
 
 mod compiling;
 mod condition;
-mod drafting;
 mod error;
 mod folders;
 mod headline;

@@ -2,15 +2,19 @@
 // messages, and then bytes, from the highest rank on.
 ghost use Rattle.std.specs.Prelude.{◌≡◌, ◌<◌, ◌^◌, sum_by, filter, OnOk, IfOk};
 ghost use Rattle.match_rule.specs.RuleTree.{condition_weight};
+ghost use Rattle.jump_islands.specs.Source.{AreWellMade};
 ghost use Rattle.rule_compile.specs.Rest.{is_tested, tested_of};
-ghost use Rattle.rule_compile.specs.RuleCode.{field_rank, whole_rank, other_rank, relation_rank, rank_of, ranks, part_code, of_rank, rising, falling, offered, rule_code};
+ghost use Rattle.rule_compile.specs.RuleCode.{field_rank, whole_rank, other_rank, relation_rank, rank_of, ranks, part_code, of_rank, rising, falling, destination_fits, rule_code};
 
-use crate::condition::{DESTINATION, Part};
+use crate::condition::Part;
 use crate::piece::Code;
 use crate::rest::Tested;
 use bpf_code::Test;
+use jump_islands::SourceProgram;
 use match_rule::{Condition, Field, Relation, Source};
+use message_view::TextField;
 use std::alloc::{AllocError, Global};
+use summary::text_place;
 
 /// How many ranks there are.
 const RANKS: u8 = 8;
@@ -124,12 +128,12 @@ impl Code {
     }
 
     /// A message with a destination is offered to a rule that eavesdrops alone.
-    fn offered(&mut self, eavesdrops: bool) -> Result<(), AllocError>
-        ensures { OnOk result (self.new ≡ offered eavesdrops self.old) }
+    fn destination_fits(&mut self, eavesdrops: bool) -> Result<(), AllocError>
+        ensures { OnOk result (self.new ≡ destination_fits eavesdrops self.old) }
     {
         if !eavesdrops {
             self.want(Test::Equal, 0)?;
-            self.image_word(u32::from(DESTINATION))?;
+            self.image_word(u32::from(text_place(TextField::Destination)))?;
         }
         Ok(())
     }
@@ -143,13 +147,14 @@ pub(crate) fn rule_code(
     conditions: &[Condition],
     eavesdrops: bool,
     tested: Tested<'_>,
-) -> Result<Code, AllocError>
+) -> Result<SourceProgram, AllocError>
     requires { sum_by condition_weight conditions.now < 2 ^ 32 }
-    ensures { IfOk result (λ code. code ≡ rule_code slot (tested_of tested.entry (record { conditions = conditions.now; eavesdrops = eavesdrops }))) }
+    ensures value { IfOk result (λ code. code ≡ rule_code slot (tested_of tested.entry (record { conditions = conditions.now; eavesdrops = eavesdrops }))) }
+    ensures made { IfOk result AreWellMade }
 {
     let mut code = Code::verdicts(alloc)?;
-    code.offered(eavesdrops)?;
+    code.destination_fits(eavesdrops)?;
     code.all_bytes(slot, conditions, tested)?;
     code.all_words(slot, conditions, tested)?;
-    Ok(code)
+    Ok(code.finish())
 }

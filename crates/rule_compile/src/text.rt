@@ -1,14 +1,14 @@
 // Texts, whose place and length are two words of an image.
 ghost use Rattle.std.specs.Prelude.{◌≡◌, ◌<◌, ◌≤◌, ◌+◌, ◌*◌, ◌^◌, length, OnOk};
-ghost use Rattle.rule_compile.specs.Code.{two, same_word, same_words, same_bytes, has_len, is_there, has_text_len, index_text, has_bytes, in_namespace};
+ghost use Rattle.rule_compile.specs.Code.{half_number, same_word, same_words, same_bytes, has_len, is_there, has_text_len, index_text, has_bytes, in_namespace};
 
 use crate::piece::Code;
 use bpf_code::{Test, Width};
 use std::alloc::AllocError;
 
 /// Two bytes as a number, the highest first.
-fn two(a: u8, b: u8) -> u32
-    ensures { result ≡ two a b }
+fn half_number(a: u8, b: u8) -> u32
+    ensures { result ≡ half_number a b }
 {
     u32::from(u16::from_be_bytes([a, b]))
 }
@@ -24,17 +24,17 @@ impl Code {
         match *value {
             [a] => {
                 self.want(Test::Equal, u32::from(a))?;
-                self.indexed(Width::Byte, at)
+                self.load_indexed(Width::Byte, at)
             }
             [a, b] => {
-                self.want(Test::Equal, two(a, b))?;
-                self.indexed(Width::Half, at)
+                self.want(Test::Equal, half_number(a, b))?;
+                self.load_indexed(Width::Half, at)
             }
             [a, b, c] => {
                 self.want(Test::Equal, u32::from(c))?;
-                self.indexed(Width::Byte, at + 2)?;
-                self.want(Test::Equal, two(a, b))?;
-                self.indexed(Width::Half, at)
+                self.load_indexed(Width::Byte, at + 2)?;
+                self.want(Test::Equal, half_number(a, b))?;
+                self.load_indexed(Width::Half, at)
             }
             _ => Ok(()),
         }
@@ -53,7 +53,7 @@ impl Code {
             value[from + 3],
         ];
         self.want(Test::Equal, u32::from_be_bytes(bytes))?;
-        self.indexed(Width::Word, at + from as u32)
+        self.load_indexed(Width::Word, at + from as u32)
     }
 
     /// So are the first words of the value, `count` of them.
@@ -137,7 +137,7 @@ impl Code {
         let len = value.len() as u32;
         let exit_len = self.len();
         self.want(Test::Equal, u32::from(separator))?;
-        self.indexed(Width::Byte, len)?;
+        self.load_indexed(Width::Byte, len)?;
         self.settle(Test::Equal, len, exit_len)?;
         self.image_word(u32::from(at) + 4)?;
         self.has_bytes(at, value)

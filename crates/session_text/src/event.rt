@@ -66,9 +66,9 @@ impl<'a> Action<'a> {
     fn read(alloc: Global, verb: &str, rest: &'a str) -> Result<Action<'a>, LineError> {
         match verb {
             "says" | "sends" | "repeats" | "calls" | "posts" => {
-                Ok(Action::Send(sent(alloc, verb, rest)?))
+                Ok(Action::Send(send_event(alloc, verb, rest)?))
             }
-            "gets" | "hears" | "reads" => Ok(Action::Get(wanted(alloc, verb, rest)?)),
+            "gets" | "hears" | "reads" => Ok(Action::Get(wanted_event(alloc, verb, rest)?)),
             "cuts" => Ok(Action::Cut(rest.parse::<usize>()?)),
             "enters" => Ok(Action::Enter(entry(alloc)?)),
             "forgets" => Ok(Action::Forget),
@@ -81,17 +81,17 @@ impl<'a> Action<'a> {
 }
 
 /// The bytes that a line sends.
-fn sent(alloc: Global, verb: &str, rest: &str) -> Result<Vec<u8>, LineError> {
+fn send_event(alloc: Global, verb: &str, rest: &str) -> Result<Vec<u8>, LineError> {
     match verb {
         "says" => line_bytes(alloc, rest),
         "sends" => digits(alloc, rest),
-        "repeats" => repeated(alloc, rest),
+        "repeats" => repeat_bytes(alloc, rest),
         "calls" => bus_call(alloc, rest),
         _ => message(alloc, rest),
     }
 }
 
-fn wanted<'a>(alloc: Global, verb: &str, rest: &'a str) -> Result<Wanted<'a>, LineError> {
+fn wanted_event<'a>(alloc: Global, verb: &str, rest: &'a str) -> Result<Wanted<'a>, LineError> {
     match (verb, rest) {
         ("gets", "nothing") => Ok(Wanted::Nothing),
         ("gets", words) => Ok(Wanted::Bytes(digits(alloc, words)?)),
@@ -108,7 +108,7 @@ fn line_bytes(alloc: Global, words: &str) -> Result<Vec<u8>, LineError> {
 }
 
 /// `N DIGITS`: these bytes N times.
-fn repeated(alloc: Global, words: &str) -> Result<Vec<u8>, LineError> {
+fn repeat_bytes(alloc: Global, words: &str) -> Result<Vec<u8>, LineError> {
     let (count, words) = words.split_once(' ').ok_or(LineError::Unreadable)?;
     let once = digits(alloc, words)?;
     let mut bytes = Vec::new(alloc);

@@ -20,7 +20,7 @@ pub(crate) fn bus_call(alloc: Global, line: &str) -> Result<Vec<u8>, LineError> 
     builder.interface(BUS);
     builder.member(member);
     builder.destination(BUS);
-    finished(alloc, builder, words)
+    finish_message(alloc, builder, words)
 }
 
 /// `KIND SERIAL WORD..`: a message.
@@ -29,10 +29,10 @@ pub(crate) fn message(alloc: Global, line: &str) -> Result<Vec<u8>, LineError> {
     let (serial, words) = rest.split_once(' ').unwrap_or((rest, ""));
     let serial = serial.parse::<u32>()?;
     let builder = Builder::new(alloc, kind_of(kind)?, flags_of(words)?, serial);
-    finished(alloc, builder, words)
+    finish_message(alloc, builder, words)
 }
 
-fn finished<'a>(
+fn finish_message<'a>(
     alloc: Global,
     mut builder: Builder<'a>,
     words: &'a str,

@@ -43,8 +43,8 @@ impl Received {
     }
 
     /// Whether more bytes have to come before what comes next can be looked at.
-    pub fn lacks(&self, wanted: &Wanted<'_>) -> bool {
-        match wanted {
+    pub fn lacks(&self, wanted_event: &Wanted<'_>) -> bool {
+        match wanted_event {
             Wanted::Bytes(bytes) => self.bytes.len() < bytes.len(),
             Wanted::Line(_) => self.bytes.len() < self.message_len(),
             Wanted::Nothing => true,
@@ -59,15 +59,15 @@ impl Received {
     pub fn miss(
         &mut self,
         alloc: Global,
-        wanted: &Wanted<'_>,
+        wanted_event: &Wanted<'_>,
     ) -> Result<Option<String>, LineError> {
-        match wanted {
+        match wanted_event {
             Wanted::Bytes(bytes) => {
                 let came = self.take(bytes.len())?;
                 if came == *bytes {
                     return Ok(None);
                 }
-                Ok(Some(spelled(alloc, came.as_slice())?))
+                Ok(Some(spelled_bytes(alloc, came.as_slice())?))
             }
             Wanted::Line(line) => {
                 let came = self.take_message()?;
@@ -79,7 +79,7 @@ impl Received {
                 })
             }
             Wanted::Nothing if self.bytes.is_empty() => Ok(None),
-            Wanted::Nothing => Ok(Some(spelled(alloc, self.bytes.as_slice())?)),
+            Wanted::Nothing => Ok(Some(spelled_bytes(alloc, self.bytes.as_slice())?)),
         }
     }
 
@@ -108,7 +108,7 @@ impl Received {
 /// A message as a line, or its bytes where they are none.
 fn words_of(alloc: Global, bytes: &[u8]) -> Result<String, LineError> {
     let Ok(view) = View::read(bytes) else {
-        return spelled(alloc, bytes);
+        return spelled_bytes(alloc, bytes);
     };
     let Ok(line) = message_line(alloc, &view) else {
         return Err(LineError::NoMemory);
@@ -118,7 +118,7 @@ fn words_of(alloc: Global, bytes: &[u8]) -> Result<String, LineError> {
 }
 
 /// Bytes as digits, or the word nothing.
-fn spelled(alloc: Global, bytes: &[u8]) -> Result<String, LineError> {
+fn spelled_bytes(alloc: Global, bytes: &[u8]) -> Result<String, LineError> {
     if bytes.is_empty() {
         return Ok(String::from_str(alloc, "nothing")?);
     }

@@ -1,4 +1,4 @@
--- The numbers and names of the errors that end a session.
+-- The numbers and names of the errors that end a session (own).
 use Rattle.std.specs.Prelude.{ℕ, List, codes}
 use Rattle.frames.specs.declared.error.FrameError.{FrameError}
 use Rattle.frames.specs.declared.error.FrameError.TheVariants as frame_errors

@@ -67,10 +67,10 @@ fn send_broadcast<J: Naming, M: Mailbox + Carrier, W: Wait, R: Wait + Drop>(
     home: &mut Home<M>,
     view: &View<'_>,
 ) -> Result<(), AnswerError> {
-    match stamped(site.alloc, view, &connection.name) {
+    match stamp_message(site.alloc, view, &connection.name) {
         Ok(bytes) => {
-            let stamped = View::of_message(bytes.as_slice());
-            connection.broadcast(site, Source::Own, &stamped, &bytes)
+            let stamp_message = View::of_message(bytes.as_slice());
+            connection.broadcast(site, Source::Own, &stamp_message, &bytes)
         }
         Err(why) => give_up(connection, site, home, view, why),
     }
@@ -83,7 +83,7 @@ fn send_to<J: Naming, M: Mailbox + Carrier, W: Wait, R: Wait + Drop>(
     view: &View<'_>,
     to: &str,
 ) -> Result<(), AnswerError> {
-    let bytes = match stamped(site.alloc, view, &connection.name) {
+    let bytes = match stamp_message(site.alloc, view, &connection.name) {
         Ok(bytes) => bytes,
         Err(why) => return give_up(connection, site, home, view, why),
     };
@@ -101,7 +101,7 @@ fn send_to<J: Naming, M: Mailbox + Carrier, W: Wait, R: Wait + Drop>(
 }
 
 /// The message as it is passed on, with its sender.
-fn stamped(alloc: Global, view: &View<'_>, sender: &UniqueName) -> Result<Bytes, Refused>
+fn stamp_message(alloc: Global, view: &View<'_>, sender: &UniqueName) -> Result<Bytes, Refused>
     ensures { IfOk result (λ bytes. (m : Message) × Valid bytes m) }
 {
     match stamp(alloc, view, sender.as_str()) {

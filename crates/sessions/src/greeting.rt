@@ -25,7 +25,7 @@ pub(crate) fn greet<J: Naming, M: Mailbox + Carrier, W: Wait, R: Wait + Drop>(
     if !is_hello(view) {
         return Err(SessionError::NoHello);
     }
-    match connected(site, home, identity, view) {
+    match connect_pass(site, home, identity, view) {
         Ok(connection) => Ok(connection),
         Err(Refused::Ended) => Err(SessionError::NoMemory),
         Err(Refused::Error(name)) => {
@@ -44,7 +44,7 @@ fn is_hello(view: &View<'_>) -> bool {
     is_for_bus(view) && has_interface && view.member() == Some("Hello")
 }
 
-fn connected<J: Naming, M: Mailbox + Carrier, W: Wait, R: Wait + Drop>(
+fn connect_pass<J: Naming, M: Mailbox + Carrier, W: Wait, R: Wait + Drop>(
     site: &Site<'_, J, M, W, R>,
     home: &Home<M>,
     identity: Identity,

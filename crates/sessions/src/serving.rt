@@ -29,7 +29,7 @@ pub fn serve_one<J: Naming, W: Wait, R: Wait + Drop, I: Read + Drop, O: Write + 
     mut reader: I,
     writer: O,
 ) -> (Result<(), SessionError>, Option<Rest<J, Letterbox>>) {
-    let Ok((mut session, mut writing)) = opened(alloc, guid, writer) else {
+    let Ok((mut session, mut writing)) = open_session(alloc, guid, writer) else {
         return (Err(SessionError::NoMemory), None);
     };
     let outcome = read_to_end(rt, alloc, bus, &mut session, &mut writing, &mut reader);
@@ -43,7 +43,7 @@ pub fn serve_one<J: Naming, W: Wait, R: Wait + Drop, I: Read + Drop, O: Write + 
 }
 
 /// A session with an outbox of its own, and what writes that out.
-fn opened<J: Naming, O: Write + Drop>(
+fn open_session<J: Naming, O: Write + Drop>(
     alloc: Global,
     guid: [u8; 32],
     writer: O,

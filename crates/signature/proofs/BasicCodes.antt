@@ -1,13 +1,11 @@
 -- Bytes that stand for basic types open no container.
-use Rattle.std.proofs.Common.{◌≡◌, ℕ, Bool, true, false, cond, List, [], ◌∷◌, Some, None, get_or, length, refl, sym, ◌∙◌, arith}
-use Rattle.std.specs.Prelude.{◌&&◌}
+use Rattle.std.proofs.Common.{◌≡◌, ℕ, true, List, [], ◌∷◌, None, get_or, length, refl, arith}
 use Rattle.std.specs.List.{list_all}
 use Rattle.std.proofs.lemmas.Bool.{and_parts}
-use Rattle.signature.specs.declared.code.Code.{Code}
 use Rattle.signature.specs.declared.code.Code.TheVariants.{Basic}
 use Rattle.signature.specs.Code.{is_basic, code_of}
 use Rattle.signature.specs.DataType.{basic, TypeText}
-use Rattle.signature.specs.Reading.{fault_from, fault_at, next, or_else}
+use Rattle.signature.specs.Reading.{fault_from}
 
 basic_code : (byte : ℕ) → is_basic byte ≡ true → code_of byte ≡ Basic
 basic_code byte is = rw is refl

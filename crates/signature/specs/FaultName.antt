@@ -1,4 +1,4 @@
--- The numbers and the names of the faults of signatures.
+-- The numbers and the names of the faults of signatures (own).
 use Rattle.std.specs.Prelude.{ℕ, List, codes}
 use Rattle.signature.specs.declared.fault.SigError.{SigError}
 use Rattle.signature.specs.declared.fault.SigError.TheVariants as faults

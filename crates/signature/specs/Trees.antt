@@ -1,4 +1,4 @@
--- The types that a text spells, read from its end.
+-- The types that a text spells, read from its end (own).
 use Rattle.std.specs.Prelude.{ℕ, List, [], ◌∷◌, Option, Some, None, is_none, if◌then◌else◌}
 use Rattle.signature.specs.declared.code.Code.{Code}
 use Rattle.signature.specs.declared.code.Code.TheVariants as codes

@@ -6,9 +6,8 @@ use Rattle.message_value.specs.Arguments.{Argument}
 use Rattle.message_view.specs.Message.{Message}
 use Rattle.message_view.specs.Spelling.{arguments_of}
 use Rattle.summary.specs.declared.edition.Edition.{Edition}
-use Rattle.summary.specs.Layout.{with_word}
+use Rattle.summary.specs.Parts.{with_word, head_with}
 use Rattle.summary.specs.ImageBytes.{words_bytes, texts_words, arguments_words, owned_words, serial_words, summary_bytes}
-use Rattle.summary.specs.Parts.{head_with}
 use Rattle.summary.proofs.WordLists.{then_words}
 
 -- the sixth word is set

@@ -1,7 +1,7 @@
 -- Worked examples: slots, words, and loads over the seam.
 use Rattle.std.proofs.Common.{◌≡◌, true, false, [], ◌∷◌, ◌++◌, Some, None, refl}
 use Rattle.bpf_code.specs.Loads.{load_byte, load_half, load_word}
-use Rattle.summary.specs.Layout.{with_word}
+use Rattle.summary.specs.Parts.{with_word}
 use Rattle.summary.specs.Sets.{has_slot}
 
 -- bit 2 of word 1 is slot 34 alone

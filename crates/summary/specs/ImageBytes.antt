@@ -1,4 +1,4 @@
--- What programs read of a message: a summary, then the message's bytes. The summary's words say where the
+-- What programs read of a message: a summary, then the message's bytes (own). The summary's words say where the
 -- parts of the message lie, counted from the image's start.
 use Rattle.std.specs.Prelude.{ℕ, zero, suc, ◌+◌, List, [], ◌∷◌, ◌++◌, length, take, min, Option, Some, None, unwrap_or}
 use Rattle.std.specs.Int.{w32, to_be_bytes}

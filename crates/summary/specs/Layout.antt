@@ -1,6 +1,6 @@
--- Where the words of a summary stand, in bytes from the start of the image; each has four bytes, the highest first.
-use Rattle.std.specs.Prelude.{◌≡◌, ℕ, ◌+◌, ◌*◌, ◌/◌, ◌⊎◌, List, ◌++◌, take, drop}
-use Rattle.std.specs.Int.{w32, to_be_bytes}
+-- Where the words of a summary stand, in bytes from the start of the image; each has four bytes, the highest first
+-- (own).
+use Rattle.std.specs.Prelude.{◌≡◌, ℕ, ◌+◌, ◌*◌, ◌/◌, ◌⊎◌}
 use Rattle.message_view.specs.declared.extent.TextField.{TextField}
 use Rattle.message_view.specs.declared.extent.TextField.TheVariants.{Path, Interface, Member, ErrorName, Destination, Sender}
 use Rattle.summary.specs.declared.edition.Edition.{Edition}
@@ -55,7 +55,3 @@ summary_len Two = 976
 -- the length of some edition's summary
 abbrev pub IsSize : ℕ → Type 0
 IsSize n = (n ≡ summary_len One) ⊎ (n ≡ summary_len Two)
-
--- the bytes with a word at a place, its highest byte first
-abbrev pub with_word : List ℕ → ℕ → ℕ → List ℕ
-with_word bytes at value = take at bytes ++ to_be_bytes w32 value ++ drop (at + 4) bytes

@@ -1,4 +1,4 @@
--- Sets of slots.
+-- Sets of slots (own).
 use Rattle.std.specs.Prelude.{◌≡◌, ℕ, ◌/◌, ◌%◌, ◌^◌, ◌<◌, Bool, ◌==◌, List, length, slice_index}
 use Rattle.std.specs.Int.{bit_at}
 

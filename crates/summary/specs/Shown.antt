@@ -1,12 +1,13 @@
--- What the loads of an image say of its message.
+-- What the loads of an image say of its message (own).
 use Rattle.std.specs.Prelude.{◌≡◌, ℕ, ◌+◌, ◌/◌, ◌^◌, ◌<◌, List, ◌++◌, length, min, Option, Some, None, IfSome, slice_get, slice_index}
-use Rattle.bpf_code.specs.Loads.{load_word}
 use Rattle.message_value.specs.Arguments.{Argument}
 use Rattle.message_value.specs.Order.{order_byte}
+use Rattle.message_value.specs.Bytes.{AreBytes}
 use Rattle.message_view.specs.declared.extent.TextField.TheVariants.{Path, Interface, Member, ErrorName, Destination, Sender}
 use Rattle.message_view.specs.Header.{kind_byte}
 use Rattle.message_view.specs.Message.{Message, path_of, interface_of, member_of, error_name_of, destination_of, sender_of}
 use Rattle.message_view.specs.Spelling.{header_bytes, body_place, body_bytes, arguments_of}
+use Rattle.bpf_code.specs.Loads.{load_word}
 use Rattle.summary.specs.declared.edition.Edition.{Edition}
 use Rattle.summary.specs.declared.edition.Edition.TheVariants.{One, Two}
 use Rattle.summary.specs.Layout.{order_place, kind_place, flags_place, body_words_place, count_place, text_place, argument_place, ownership_place, serial_place, summary_len}
@@ -15,10 +16,6 @@ use Rattle.summary.specs.ImageBytes.{max_arguments}
 -- the text lies at a place of the image
 abbrev pub Lies : List ℕ → ℕ → List ℕ → Type 0
 Lies image place text = (front : List ℕ) × (tail : List ℕ) × (image ≡ front ++ (text ++ tail)) × (length front ≡ place)
-
--- each is a byte
-abbrev pub AreBytes : List ℕ → Type 0
-AreBytes bytes = (i : ℕ) → slice_index bytes i < 256
 
 -- two words from a place on tell the place and the length of a text that is there
 pub record Tells (image : List ℕ) (at : ℕ) (text : List ℕ) : Type 0 where

@@ -1,7 +1,7 @@
 ghost use Rattle.std.specs.Prelude.{◌≡◌, ◌+◌, ◌*◌, ◌≤◌, ◌++◌, [], length, replicate};
 ghost use Rattle.std.specs.Int.{w32, to_be_bytes};
 ghost use Rattle.summary.specs.ImageBytes.{words_bytes};
-ghost use Rattle.summary.specs.Layout.{with_word};
+ghost use Rattle.summary.specs.Parts.{with_word};
 
 use std::marker::Model;
 

@@ -61,7 +61,7 @@ fn expect_offered<R: Abort>(rt: &R, alloc: Global, table: &EntryTable, wanted: &
     let bytes = hex::decode(alloc, S1).expect(rt, "bytes");
     let view = View::read(bytes.as_slice()).expect(rt, "a message");
     let mut ids = Vec::new(alloc);
-    for entry in table.offered(&view) {
+    for entry in table.entries_for(&view) {
         ids.push(entry.id).expect(rt, "memory");
     }
     ids.sort().expect(rt, "memory");

@@ -2,7 +2,7 @@ ghost use Rattle.std.specs.Prelude.{◌≡◌, ◌<◌, length, OnOk};
 
 use bpf_code::{Ins, Operand, Test};
 use bpf_verify::verify;
-use jump_islands::{Draft, Label, LowerError, lower};
+use jump_islands::{Draft, Label, LowerError, SourceProgram, lower};
 use std::alloc::Global;
 use std::test::Fail;
 
@@ -131,6 +131,26 @@ fn far_beside_far(rt: HostRuntime) -> Result<(), Fail> {
     assert_eq!(rt; program.len(), 260);
     assert_eq!(rt; program.first().copied(), Some(ins(0x2d, 1, 0, 7)));
     assert_eq!(rt; program.get(1).copied(), Some(ins(0x05, 0, 0, 256)));
+    assert_eq!(rt; program.get(2).copied(), Some(ins(0x05, 0, 0, 256)));
+    assert!(rt; verify(program).is_ok());
+    Ok(())
+}
+
+/// A source program, whose jumps carry distances: a conditional jump over 257 instructions, and a jump over 256.
+#[test]
+fn source_program(rt: HostRuntime) -> Result<(), Fail> {
+    let mut source = SourceProgram::new(rt.alloc());
+    source.put_plain(RETURN)?;
+    for _ in 0..256 {
+        source.put_plain(LOAD)?;
+    }
+    source.put_jump(256)?;
+    source.put_branch(Test::Equal, Operand::Constant, 0, 257, 0)?;
+    assert_eq!(rt; source.len(), 259);
+    let program = source.lower(rt.alloc())?;
+    assert_eq!(rt; program.len(), 260);
+    assert_eq!(rt; program.first().copied(), Some(ins(0x15, 0, 1, 0)));
+    assert_eq!(rt; program.get(1).copied(), Some(ins(0x05, 0, 0, 257)));
     assert_eq!(rt; program.get(2).copied(), Some(ins(0x05, 0, 0, 256)));
     assert!(rt; verify(program).is_ok());
     Ok(())

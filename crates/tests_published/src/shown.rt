@@ -80,7 +80,7 @@ fn learn<J: Naming, R: Wait + Abort>(
     mut reader: Sight<J, ()>,
 ) {
     assert_eq!(rt; publisher.state().owner_of("com.example.A"), Some(1));
-    let told = publisher.tell(reader.seen()).expect(rt, "the history");
-    reader.learn(&told);
+    let told_history = publisher.tell(reader.seen()).expect(rt, "the history");
+    reader.learn(&told_history);
     assert_eq!(rt; reader.seen().len(), 2);
 }

@@ -46,8 +46,8 @@ fn route_and_close<J: Naming, R: Wait + Abort>(rt: &R, alloc: Global, opened: Op
     let stays = new_letterbox(rt, alloc);
     let goes = new_letterbox(rt, alloc);
     let mut one = connect_pass(rt, &bus, new_letterbox(rt, alloc));
-    let mut two = connect_with(rt, &bus, &stays);
-    attach_to_all(rt, alloc, &bus, &mut two);
+    let mut second_pass = connect_with(rt, &bus, &stays);
+    attach_to_all(rt, alloc, &bus, &mut second_pass);
     let mut three = connect_with(rt, &bus, &goes);
     attach_to_all(rt, alloc, &bus, &mut three);
     close_between(rt, alloc, &bus, &mut one, three);

@@ -27,17 +27,21 @@ fn meet<J: Naming + Send + Sync, R: Wait + Threads + Abort>(
 {
     let bus = new_bus::<J, (), R>(rt, alloc, opened);
     let mut one = connect_pass(rt, &bus, ());
-    let two = connect_pass(rt, &bus, ());
+    let second_pass = connect_pass(rt, &bus, ());
     let added = bus.add_match(rt, alloc, &mut one, MEMBER_C);
     expect_reply(rt, added, Reply::Entry(1));
-    let told = bus.tell(rt, &mut one).expect(rt, "the history");
-    let (found, _) = join(rt, move || learn_and_look(two, &told), || ());
+    let told_history = bus.tell(rt, &mut one).expect(rt, "the history");
+    let (found, _) = join(
+        rt,
+        move || learn_and_look(second_pass, &told_history),
+        || (),
+    );
     assert_eq!(rt; found, Some(1));
 }
 
 // The one recipient of S1 that a pass finds once it was told.
-fn learn_and_look<J: Naming>(mut pass: Pass<J, ()>, told: &Front<J, ()>) -> Option<u64> {
-    pass.learn(told);
+fn learn_and_look<J: Naming>(mut pass: Pass<J, ()>, told_history: &Front<J, ()>) -> Option<u64> {
+    pass.learn(told_history);
     let view = View::read(&S1).ok()?;
     let found = pass.recipients(Source::Own, &view).ok()?;
     match found.as_slice() {

@@ -44,10 +44,10 @@ fn own_and_send<J: Naming, R: Wait + Abort>(rt: &R, alloc: Global, opened: Opene
     let bus = new_bus::<J, Letterbox, R>(rt, alloc, opened);
     let letterbox = new_letterbox(rt, alloc);
     let mut one = connect_with(rt, &bus, &new_letterbox(rt, alloc));
-    let mut two = connect_with(rt, &bus, &letterbox);
+    let mut second_pass = connect_with(rt, &bus, &letterbox);
     send_s1(rt, alloc, &bus, &mut one, "com.example.A", Sent::NoOwner);
     let name = name_a(rt);
-    let requested = bus.request_name(rt, &mut two, &name, 0);
+    let requested = bus.request_name(rt, &mut second_pass, &name, 0);
     expect_reply(rt, requested, owner_reply(&name, None, 2));
     send_to_each_name(rt, alloc, &bus, &mut one);
     expect_letters(rt, alloc, &letterbox, 2);
@@ -80,11 +80,11 @@ fn send_one_too_many<J: Naming, R: Wait + Abort>(rt: &R, alloc: Global, opened: 
     let full = new_letterbox(rt, alloc);
     let other = new_letterbox(rt, alloc);
     let mut one = connect_with(rt, &bus, &full);
-    let mut two = connect_with(rt, &bus, &other);
+    let mut second_pass = connect_with(rt, &bus, &other);
     attach_to_all(rt, alloc, &bus, &mut one);
-    attach_to_all(rt, alloc, &bus, &mut two);
-    fill_first(rt, alloc, &bus, &mut two);
-    route_s1(rt, alloc, &bus, &mut two, &[1]);
+    attach_to_all(rt, alloc, &bus, &mut second_pass);
+    fill_first(rt, alloc, &bus, &mut second_pass);
+    route_s1(rt, alloc, &bus, &mut second_pass, &[1]);
     expect_letters(rt, alloc, &full, ROOM);
     expect_letters(rt, alloc, &other, 1);
 }

@@ -33,10 +33,10 @@ fn send_and_take<J: Naming + Send + Sync, R: Wait + Threads + Sync + Abort>(
     let bus = new_bus::<J, Letterbox, R>(rt, alloc, opened);
     let letterbox = new_letterbox(rt, alloc);
     let one = connect_with(rt, &bus, &new_letterbox(rt, alloc));
-    let two = connect_with(rt, &bus, &new_letterbox(rt, alloc));
+    let second_pass = connect_with(rt, &bus, &new_letterbox(rt, alloc));
     let mut three = connect_with(rt, &bus, &letterbox);
     attach_to_all(rt, alloc, &bus, &mut three);
-    send_at_once(rt, alloc, &bus, one, two);
+    send_at_once(rt, alloc, &bus, one, second_pass);
     let items = take_all(rt, alloc, letterbox.outbox());
     assert_eq!(rt; items.len(), 200);
     assert_eq!(rt; count_in_order(items.as_slice(), 1), BROADCASTS);
@@ -48,12 +48,12 @@ fn send_at_once<J: Naming + Send + Sync, R: Wait + Threads + Sync + Abort>(
     alloc: Global,
     bus: &Bus<J, Letterbox, &R>,
     one: Pass<J, Letterbox>,
-    two: Pass<J, Letterbox>,
+    second_pass: Pass<J, Letterbox>,
 ) {
     let (first, second) = join(
         rt,
         move || send(rt, alloc, bus, one),
-        move || send(rt, alloc, bus, two),
+        move || send(rt, alloc, bus, second_pass),
     );
     assert_eq!(rt; first, BROADCASTS);
     assert_eq!(rt; second, BROADCASTS);

@@ -29,7 +29,7 @@ fn take_over<J: Naming, R: Wait + Threads + Abort>(rt: &R, alloc: Global, opened
     let bus = new_bus::<J, Letterbox, R>(rt, alloc, opened);
     let letterbox = new_letterbox(rt, alloc);
     let mut one = connect_pass(rt, &bus, new_letterbox(rt, alloc));
-    let mut two = connect_with(rt, &bus, &letterbox);
+    let mut second_pass = connect_with(rt, &bus, &letterbox);
     let mut three = connect_pass(rt, &bus, new_letterbox(rt, alloc));
     let added = bus.add_match(rt, alloc, &mut three, "sender='com.example.A'");
     expect_reply(rt, added, Reply::Entry(1));
@@ -37,15 +37,15 @@ fn take_over<J: Naming, R: Wait + Threads + Abort>(rt: &R, alloc: Global, opened
     let first = bus.request_name(rt, &mut one, &name, 1);
     expect_reply(rt, first, owner_reply(&name, None, 1));
     expect_each_way(rt, &mut one, &[3]);
-    expect_each_way(rt, &mut two, &[]);
-    let second = bus.request_name(rt, &mut two, &name, 2);
+    expect_each_way(rt, &mut second_pass, &[]);
+    let second = bus.request_name(rt, &mut second_pass, &name, 2);
     expect_reply(rt, second, owner_reply(&name, Some(1), 2));
     expect_each_way(rt, &mut one, &[]);
-    expect_each_way(rt, &mut two, &[3]);
+    expect_each_way(rt, &mut second_pass, &[3]);
     look_up(rt, alloc, &mut one, &name);
     send_s1(rt, alloc, &bus, &mut one, "com.example.A", Sent::Put);
     expect_s1(rt, alloc, &letterbox);
-    expect_reply(rt, bus.close(rt, &mut two), Reply::Done);
+    expect_reply(rt, bus.close(rt, &mut second_pass), Reply::Done);
     expect_each_way(rt, &mut one, &[3]);
 }
 

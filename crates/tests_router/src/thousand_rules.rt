@@ -30,14 +30,14 @@ fn subscribe_all<J: Naming, R: Wait + Abort>(rt: &R, alloc: Global, opened: Open
 {
     let bus = new_bus::<J, (), R>(rt, alloc, opened);
     let mut one = subscriber(rt, alloc, &bus, 0);
-    let mut two = subscriber(rt, alloc, &bus, 1);
+    let mut second_pass = subscriber(rt, alloc, &bus, 1);
     for place in 2..250 {
         let _ = subscriber(rt, alloc, &bus, place);
     }
     let empty = bus.add_match(rt, alloc, &mut one, "");
     expect_reply(rt, empty, Reply::Entry(1001));
     expect_found(rt, &mut one, &[1, 2]);
-    let removed = bus.remove_match(rt, alloc, &mut two, "member='m7'");
+    let removed = bus.remove_match(rt, alloc, &mut second_pass, "member='m7'");
     expect_reply(rt, removed, Reply::Done);
     expect_found(rt, &mut one, &[1]);
 }

@@ -110,11 +110,11 @@ fn counted(items: &[Item], origin: u64) -> u64 {
 fn exchange<R: Threads + Wait + Sync>(rt: &R, alloc: Global) -> Result<Vec<Item>, AllocError> {
     let outbox = Outbox::new(alloc)?;
     let one = outbox.share()?;
-    let two = outbox.share()?;
+    let second_share = outbox.share()?;
     join(
         rt,
         move || send_all(rt, alloc, 1, one),
-        move || send_all(rt, alloc, 2, two),
+        move || send_all(rt, alloc, 2, second_share),
     );
     take_all(rt, alloc, &outbox)
 }
@@ -238,7 +238,7 @@ impl Gate for Calls {
     }
 }
 
-fn gated<R: Wait + Abort>(
+fn route_at_gate<R: Wait + Abort>(
     rt: &R,
     alloc: Global,
     sender: &mut Sender<Line>,
@@ -246,7 +246,9 @@ fn gated<R: Wait + Abort>(
 ) -> Result<usize, Fail> {
     let bytes = Bytes::from_static(b"signal");
     if sender.has(3) {
-        return Ok(sender.route_gated(rt, alloc, &[3], &bytes, calls)?.len());
+        let mut refused = ArrayVec::new();
+        sender.route_gated(rt, alloc, &[3], &bytes, calls, &mut refused)?;
+        return Ok(refused.len());
     }
     panic!(rt; "no seat");
 }
@@ -258,7 +260,7 @@ fn gate_is_called_round_the_puts(rt: HostRuntime) -> Result<(), Fail> {
     let calls = Calls { seen: Cell::new(0) };
     let mut sender = Sender::new(alloc, 1);
     assert!(rt; seat_at(alloc, &mut sender, 3, outbox.share()?));
-    assert_eq!(rt; gated(&rt, alloc, &mut sender, &calls)?, 0);
+    assert_eq!(rt; route_at_gate(&rt, alloc, &mut sender, &calls)?, 0);
     assert_eq!(rt; calls.seen.get(), 12);
     assert_eq!(rt; take_all(&rt, alloc, &outbox)?.len(), 1);
     Ok(())

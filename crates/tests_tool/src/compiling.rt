@@ -1,6 +1,6 @@
 // Rules as programs.
 
-use crate::given::TwoFiles;
+use crate::two_files::TwoFiles;
 use dbusfan_tool::{Output, tool};
 
 /// Each rule has a program, which is accepted.

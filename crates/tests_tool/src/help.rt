@@ -1,6 +1,6 @@
 // The help of the command line, of which only a part is fixed.
 
-use crate::given::{S1, TwoFiles};
+use crate::two_files::{S1, TwoFiles};
 use dbusfan_tool::{Output, tool};
 use std::test::Fail;
 

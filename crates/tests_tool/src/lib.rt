@@ -5,10 +5,10 @@
 #[cfg(test)]
 mod compiling;
 #[cfg(test)]
-mod given;
-#[cfg(test)]
 mod help;
 #[cfg(test)]
 mod running;
+#[cfg(test)]
+mod two_files;
 #[cfg(test)]
 mod writers;

@@ -1,6 +1,6 @@
 // A run of the longest program of jumps.
 
-use crate::given::{S1, TwoFiles};
+use crate::two_files::{S1, TwoFiles};
 use dbusfan_tool::{Output, tool};
 use std::alloc::Global;
 use std::test::Fail;

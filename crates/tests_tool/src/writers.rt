@@ -2,7 +2,7 @@
 
 ghost use Rattle.std.specs.Prelude.{◌≡◌, ◌++◌, [], true, ⊤};
 
-use crate::given::{S1, TwoFiles};
+use crate::two_files::{S1, TwoFiles};
 use dbusfan_tool::{Output, Writer, tool};
 use std::alloc::Global;
 use std::io;

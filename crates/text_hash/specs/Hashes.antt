@@ -1,5 +1,5 @@
 -- The hash of a text at a point: a polynomial modulo the prime 2^61 - 1, whose coefficients are the text's words, by
--- Horner's rule.
+-- Horner's rule (own).
 use Rattle.std.specs.Prelude.{ℕ, zero, suc, ◌+◌, ◌-◌, ◌*◌, ◌/◌, ◌%◌, List, length}
 use Rattle.text_hash.specs.Words.{seven_at, last_word}
 
@@ -7,13 +7,13 @@ abbrev pub prime : ℕ
 prime = 2305843009213693951
 
 -- the sum of the hash and a word, times the point
-unfoldable pub absorbed : ℕ → ℕ → ℕ → ℕ
-absorbed point hash word = (hash + word) % prime * point % prime
+unfoldable pub absorb : ℕ → ℕ → ℕ → ℕ
+absorb point hash word = (hash + word) % prime * point % prime
 
 -- the first words of a text
 unfoldable pub words_hash : ℕ → List ℕ → ℕ → ℕ
 words_hash point text zero = 1
-words_hash point text (suc words) = absorbed point (words_hash point text words) (seven_at text (7 * words))
+words_hash point text (suc words) = absorb point (words_hash point text words) (seven_at text (7 * words))
 
 unfoldable pub text_hash : ℕ → List ℕ → ℕ
-text_hash point text = absorbed (point % prime) (words_hash (point % prime) text ((length text - 1) / 7)) (last_word text)
+text_hash point text = absorb (point % prime) (words_hash (point % prime) text ((length text - 1) / 7)) (last_word text)

@@ -1,4 +1,4 @@
--- Inner: the words of a text.
+-- The words of a text (own).
 use Rattle.std.specs.Prelude.{ℕ, ◌+◌, ◌-◌, ◌*◌, ◌/◌, ◌%◌, ◌^◌, ◌==◌, List, [], ◌∷◌, length, nat_lt, nat_le, if◌then◌else◌, slice_index}
 use Rattle.std.specs.Int.{w32, w64, from_le_bytes}
 

@@ -1,7 +1,7 @@
 // The hash of a text.
 
 ghost use Rattle.std.specs.Prelude.{◌≡◌, ◌-◌, ◌*◌, ◌%◌, ◌≤◌, ◌<◌, ◌^◌, length};
-ghost use Rattle.text_hash.specs.Hashes.{prime, absorbed, words_hash, text_hash};
+ghost use Rattle.text_hash.specs.Hashes.{prime, absorb, words_hash, text_hash};
 
 use crate::word::{last_word, seven_at};
 
@@ -42,11 +42,11 @@ fn product(a: u64, b: u64) -> u64
 
 /// The hash after one more word.
 #[inline(always)]
-fn absorbed(point: u64, hash: u64, word: u64) -> u64
+fn absorb(point: u64, hash: u64, word: u64) -> u64
     requires point { point < prime }
     requires hash { hash < prime }
     requires word { word < prime }
-    ensures value { result ≡ absorbed point hash word }
+    ensures value { result ≡ absorb point hash word }
     ensures below { result < prime }
 {
     product(below_twice(hash + word), point)
@@ -61,7 +61,7 @@ fn words_hash(point: u64, text: &[u8], words: usize) -> u64
 {
     let mut hash = 1;
     for i in 0..words {
-        hash = absorbed(point, hash, seven_at(text, 7 * i));
+        hash = absorb(point, hash, seven_at(text, 7 * i));
     }
     hash
 }
@@ -80,5 +80,5 @@ pub fn text_hash(point: u64, text: &str) -> u64
     let bytes = text.as_bytes();
     let words = bytes.len().saturating_sub(1) / 7;
     let hash = words_hash(point, bytes, words);
-    absorbed(point, hash, last_word(bytes))
+    absorb(point, hash, last_word(bytes))
 }

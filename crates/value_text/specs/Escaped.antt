@@ -1,5 +1,6 @@
--- Text between quotes, as `busctl` writes it: the escapes of C, with three octal digits for a byte that has no letter.
-use Rattle.std.specs.Prelude.{ℕ, Bool, List, nat_le, ◌&&◌, ◌||◌, ◌==◌, ◌+◌, ◌/◌, ◌%◌, ◌∷◌, [], ◌++◌, if◌then◌else◌, Option, Some, None}
+-- Text between quotes, as `busctl` writes it: the escapes of C, with three octal digits for a byte that has no
+-- letter (the escapes of ISO C).
+use Rattle.std.specs.Prelude.{ℕ, List, ◌||◌, ◌==◌, ◌+◌, ◌/◌, ◌%◌, ◌∷◌, [], if◌then◌else◌, Option, Some, None}
 use Rattle.std.specs.List.{flat_map}
 use Rattle.value_text.specs.Printable.{is_printable}
 
@@ -23,8 +24,8 @@ abbrev pub with_letter : ℕ → Option ℕ → List ℕ
 with_letter b (Some letter) = 92 ∷ letter ∷ []
 with_letter b None = if is_printable b then b ∷ [] else octal b
 
-abbrev pub escaped : ℕ → List ℕ
-escaped b = with_letter b (letter_of b)
+abbrev pub escape_of : ℕ → List ℕ
+escape_of b = with_letter b (letter_of b)
 
 abbrev pub escaped_text : List ℕ → List ℕ
-escaped_text text = flat_map escaped text
+escaped_text text = flat_map escape_of text

@@ -1,4 +1,4 @@
--- Text that a terminal takes for nothing but text.
+-- Text that a terminal takes for nothing but text (own).
 use Rattle.std.specs.Prelude.{ℕ, Bool, List, nat_le, ◌&&◌, ◌∷◌, [], ◌++◌, ◌≡◌, true}
 use Rattle.std.specs.List.{list_all}
 

@@ -54,7 +54,7 @@ impl Line {
     ghost use Rattle.std.specs.Prelude.{◌≡◌, ◌++◌, ◌∷◌, [], true, OnOk, IfOk, codes};
     ghost use Rattle.std.specs.List.{list_all};
     ghost use Rattle.value_text.specs.Printable.{is_printable, IsOneLine};
-    ghost use Rattle.value_text.specs.Escaped.{escaped, octal, escaped_text};
+    ghost use Rattle.value_text.specs.Escaped.{escape_of, octal, escaped_text};
 
     /// An empty line. It takes no memory.
     pub fn new(alloc: Global) -> Line
@@ -75,7 +75,7 @@ impl Line {
 
     /// Adds a byte, escaped where it is no plain character of text between quotes.
     fn push_escaped(&mut self, byte: u8) -> Result<(), AllocError>
-        ensures { OnOk result (self.new ≡ self.old ++ escaped byte) }
+        ensures { OnOk result (self.new ≡ self.old ++ escape_of byte) }
     {
         match letter_of(byte) {
             Some(letter) => self.push_all(&[b'\\', letter]),

@@ -12,10 +12,10 @@ use Rattle.world.specs.declared.answer.Answer.TheVariants.{Reply, Fault, Ignored
 use Rattle.world.specs.Histories.{commands_of, state_after}
 use Rattle.world.specs.Jobs.{Begins, is_end_of, is_piece_of, is_free, IsClosed, AreRecipientsOf, AreRecipientsIn}
 use Rattle.world.specs.Answers.{IsAnswered}
-use Rattle.world.specs.OpenJobs.{OpenJob, opened, job_of, with_part, SetsJob, SameJobs, LacksPart, HasPart}
+use Rattle.world.specs.OpenJobs.{OpenJob, job_of}
+use Rattle.world.specs.Steps.{opened_job, with_part, SetsJob, SameJobs, LacksPart, HasPart, Step, IsNext}
 use Rattle.world.specs.WorldState.{WorldState}
 use Rattle.world.specs.IsWorld.{IsKept, IsWorld}
-use Rattle.world.specs.Steps.{Step, IsNext}
 use Rattle.world.proofs.Growing.{length_end, state_end, state_stays, closed_end}
 use Rattle.world.proofs.Keeping.{kept_end, free_kept, opened_end, ended_end, piece_end, piece_stays}
 
@@ -49,11 +49,11 @@ module _ (all : List Event) (before after : WorldState) (was : IsWorld all befor
   jobs_begun : (sender : Option ℕ) (e : Event) (m : Message) (recipients : List ℕ)
       → Begins sender m (Some e) → AreRecipients before.state sender m recipients
       → ((job : ℕ) → is_end_of job e ≡ false) → ((job part : ℕ) → is_piece_of job part e ≡ false)
-      → SetsJob before.events (Some (opened recipients)) before.jobs after.jobs
+      → SetsJob before.events (Some (opened_job recipients)) before.jobs after.jobs
       → (job : ℕ) → IsKept (all ++ e ∷ []) job (job_of job after.jobs)
   jobs_begun sender e m recipients begun are no_end no_piece sets =
-      set_cases (length all) (Some (opened recipients)) before.jobs after.jobs (λ job kept. IsKept (all ++ e ∷ []) job kept)
-      (subst (λ (n : ℕ). SetsJob n (Some (opened recipients)) before.jobs after.jobs) was.count sets)
+      set_cases (length all) (Some (opened_job recipients)) before.jobs after.jobs (λ job kept. IsKept (all ++ e ∷ []) job kept)
+      (subst (λ (n : ℕ). SetsJob n (Some (opened_job recipients)) before.jobs after.jobs) was.count sets)
       (opened_end all sender e m recipients begun (subst (λ (s : State (Unit {0})). AreRecipients s sender m recipients) was.state are))
       (λ job differ. kept_end all e job (job_of job before.jobs) (was.jobs job) (no_end job) (λ part small. no_piece job (part + 1)) (λ here. absurd (differ here)))
 
@@ -61,7 +61,7 @@ module _ (all : List Event) (before after : WorldState) (was : IsWorld all befor
   jobs_given : (number part : ℕ) (numbers : List ℕ) → HasPart number part before.jobs after.jobs numbers
       → (job : ℕ) → IsKept (all ++ Piece number part ∷ []) job (job_of job after.jobs)
   jobs_given number part numbers has =
-      set_cases number (Some (with_part part has.job)) before.jobs after.jobs (λ job kept. IsKept (all ++ Piece number part ∷ []) job kept) has.given
+      set_cases number (Some (with_part part has.job)) before.jobs after.jobs (λ job kept. IsKept (all ++ Piece number part ∷ []) job kept) has.parts_done
       (piece_end all number part has.job (subst (λ kept. IsKept all number kept) has.found (was.jobs number)) has.free)
       (λ job differ. kept_end all (Piece number part) job (job_of job before.jobs) (was.jobs job) refl (λ q small. other_piece job number (q + 1) part differ) (λ here sender m begun. begun))
 

@@ -1,4 +1,4 @@
--- What events are answered. Each answer is stated by all events before.
+-- What events are answered (own). Each answer is stated by all events before.
 use Rattle.std.specs.Prelude.{◌≡◌, ◌⊎◌, ℕ, false, List, [], ◌∷◌, ◌++◌, Option, Some, None, option_to_list, Err}
 use Rattle.message_view.specs.Message.{Message}
 use Rattle.message_view.specs.Valid.{Valid}

@@ -1,4 +1,4 @@
--- Lists of all events so far: their commands, and the state of the bus that these lead to.
+-- Lists of all events so far: their commands, and the state of the bus that these lead to (own).
 use Rattle.std.specs.Prelude.{ℕ, List, [], ◌∷◌}
 use Rattle.std.specs.List.{flat_map}
 use Rattle.program_table.specs.declared.command.Command.{Command}

@@ -1,4 +1,4 @@
--- Which events a world is of, and what it is that events are done.
+-- Which events a world is of, and what it is that events are done (own).
 use Rattle.std.specs.Prelude.{◌≡◌, ℕ, ◌+◌, ◌<◌, List, ◌++◌, length, slice_get, Option, Some, None}
 use Rattle.std.specs.List.{list_any}
 use Rattle.world.specs.declared.event.Event.{Event}
@@ -14,7 +14,7 @@ abbrev pub IsKept : List Event → ℕ → Option OpenJob → Type 0
 IsKept all job None = IsClosed all job
 IsKept all job (Some kept) =
     AreRecipientsOf all job kept.recipients
-    × ((part : ℕ) → part < parts → slice_get kept.given part ≡ Some (list_any (is_piece_of job (part + 1)) (events_since job all)))
+    × ((part : ℕ) → part < parts → slice_get kept.parts_done part ≡ Some (list_any (is_piece_of job (part + 1)) (events_since job all)))
 
 -- the world after all these events
 pub record IsWorld (all : List Event) (w : WorldState) : Type 0 where
@@ -24,8 +24,8 @@ pub record IsWorld (all : List Event) (w : WorldState) : Type 0 where
 
 -- The events are done and their answers are added, whatever events were before.
 pub record AreDone (events : List Event) (before after : WorldState) (old new : List Answer) : Type 0 where
-  pub given : List Answer
-  pub added : new ≡ old ++ given
+  pub parts_done : List Answer
+  pub added : new ≡ old ++ parts_done
   pub counted : after.events ≡ before.events + length events
   pub world : (all : List Event) → IsWorld all before → IsWorld (all ++ events) after
-  pub answered : (all : List Event) → IsWorld all before → AreAnswers all events given
+  pub answered : (all : List Event) → IsWorld all before → AreAnswers all events parts_done

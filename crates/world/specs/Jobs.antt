@@ -1,4 +1,5 @@
--- Jobs: broadcasts that began and have not ended. A job is nothing but the place of its Begin among all events, from 0.
+-- Jobs: broadcasts that began and have not ended (own). A job is nothing but the place of its Begin among all
+-- events, from 0.
 use Rattle.std.specs.Prelude.{◌≡◌, ℕ, ◌+◌, ◌-◌, ◌%◌, ◌==◌, ◌&&◌, not, nat_le, Bool, true, false, List, filter, take, drop, slice_get, Option, Some, None}
 use Rattle.std.specs.List.{list_any}
 use Rattle.message_view.specs.Message.{Message}

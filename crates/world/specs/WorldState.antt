@@ -1,4 +1,4 @@
--- What is kept of the events so far.
+-- What is kept of the events so far (own).
 use Rattle.std.specs.Prelude.{ℕ, List}
 use Rattle.program_table.specs.State.{State}
 use Rattle.world.specs.OpenJobs.{OpenJob}

@@ -1,7 +1,7 @@
 // What events are answered.
 
 ghost use Rattle.std.specs.Prelude.{◌≡◌};
-ghost use Rattle.world.specs.OpenJobs.{recipients_answer};
+ghost use Rattle.world.specs.Steps.{recipients_answer};
 
 use arrayvec::ArrayVec;
 use message_view::MsgError;

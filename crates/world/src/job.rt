@@ -2,7 +2,7 @@
 
 ghost use Rattle.std.specs.Prelude.{◌≡◌, ◌≤◌, true, false, length, MatchOption};
 ghost use Rattle.world.specs.Jobs.{in_part};
-ghost use Rattle.world.specs.OpenJobs.{opened, is_free_in, with_part};
+ghost use Rattle.world.specs.Steps.{opened_job, is_free_in, with_part};
 
 use arrayvec::ArrayVec;
 use std::marker::Model;
@@ -14,7 +14,7 @@ const PARTS: usize = 16;
 #[derive(Drop)]
 pub(crate) struct Job {
     recipients: ArrayVec<u64, 256>,
-    given: [bool; PARTS],
+    parts_done: [bool; PARTS],
 }
 
 impl Model for Job {
@@ -22,16 +22,16 @@ impl Model for Job {
 
     ghost Value = { OpenJob };
 
-    ghost view = { λ job. record { recipients = job.recipients.items; given = job.given } };
+    ghost view = { λ job. record { recipients = job.recipients.items; parts_done = job.parts_done } };
 }
 
 impl Job {
     pub(crate) fn new(recipients: ArrayVec<u64, 256>) -> Job
-        ensures { result ≡ opened recipients.items }
+        ensures { result ≡ opened_job recipients.items }
     {
         Job {
             recipients,
-            given: [false; PARTS],
+            parts_done: [false; PARTS],
         }
     }
 
@@ -40,10 +40,10 @@ impl Job {
         ensures { MatchOption result ((is_free_in self.old part ≡ false) × (self.new ≡ self.old)) (λ numbers. (is_free_in self.old part ≡ true) × (self.new ≡ with_part part self.old) × (numbers.items ≡ in_part part self.old.recipients)) }
     {
         let index = (part as usize).checked_sub(1)?;
-        if index >= PARTS || self.given[index] {
+        if index >= PARTS || self.parts_done[index] {
             return None;
         }
-        self.given[index] = true;
+        self.parts_done[index] = true;
         Some(in_part(self.recipients.as_slice(), part))
     }
 

@@ -1,7 +1,8 @@
 // The open jobs by number.
 
 ghost use Rattle.std.specs.Prelude.{◌≡◌, [], Some, None, OnOk, OnErr, MatchOption, IsSomeAnd};
-ghost use Rattle.world.specs.OpenJobs.{job_of, opened, SetsJob, SameJobs, HasPart, LacksPart};
+ghost use Rattle.world.specs.OpenJobs.{job_of};
+ghost use Rattle.world.specs.Steps.{opened_job, SetsJob, SameJobs, HasPart, LacksPart};
 
 use crate::job::Job;
 use arrayvec::ArrayVec;
@@ -39,7 +40,7 @@ impl Jobs {
         number: u64,
         recipients: ArrayVec<u64, 256>,
     ) -> Result<(), AllocError>
-        ensures ok { OnOk result (SetsJob number (Some (opened recipients.items)) self.old self.new) }
+        ensures ok { OnOk result (SetsJob number (Some (opened_job recipients.items)) self.old self.new) }
         ensures err { OnErr result (self.new ≡ self.old) }
     {
         self.jobs.insert(number, Job::new(recipients))?;

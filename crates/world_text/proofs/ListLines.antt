@@ -7,7 +7,8 @@ use Rattle.std.proofs.lemmas.List.Concat.{flat_map-append}
 use Rattle.world_text.specs.declared.error.ListError.{ListError}
 use Rattle.world_text.specs.Events.{EventTree}
 use Rattle.world_text.specs.Lines.{IsReadable, IsUnreadable, events_of}
-use Rattle.world_text.specs.Lists.{texts, AreReadable, AreEvents, IsFirstUnreadable, IsFault}
+use Rattle.world_text.specs.Lists.{AreReadable, AreEvents, IsFirstUnreadable, IsFault}
+use Rattle.world_text.specs.Reads.{texts}
 
 readable_more : (front : List (List ℕ)) (line : List ℕ) → AreReadable front → IsReadable line → AreReadable (front ++ line ∷ [])
 readable_more [] line h is = (is, tt)

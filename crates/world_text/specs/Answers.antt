@@ -1,4 +1,4 @@
--- The answers to events as text.
+-- The answers to events as text (own).
 use Rattle.std.specs.Prelude.{ℕ, List, ◌++◌, codes, decimal, Option, Some, None}
 use Rattle.std.specs.List.{flat_map}
 use Rattle.message_value.specs.FaultName.{name_of as message_name}

@@ -1,4 +1,4 @@
--- The events of a list, and the words that each is written in.
+-- The events of a list, and the words that each is written in (own).
 use Rattle.std.specs.Prelude.{ℕ, List, codes, Option, Some, None, if◌then◌else◌}
 use Rattle.std.specs.Option.{option_map}
 use Rattle.std.specs.Str.{bytes_eq}

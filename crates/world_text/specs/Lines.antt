@@ -1,4 +1,4 @@
--- The lines of a list of events.
+-- The lines of a list of events (own).
 use Rattle.std.specs.Prelude.{◌≡◌, ℕ, ◌==◌, ◌||◌, ◌⊎◌, Bool, true, is_some, List, [], ◌∷◌, length, slice_index, Option, Some, None, if◌then◌else◌}
 use Rattle.std.specs.Option.{option_map}
 use Rattle.std.specs.Str.{IsUtf8}

@@ -1,15 +1,10 @@
--- Lists of events.
-use Rattle.std.specs.Prelude.{◌≡◌, ℕ, ◌+◌, ◌==◌, List, [], ◌∷◌, ◌++◌, length, map}
-use Rattle.std.specs.Borrow.{Bor}
+-- Lists of events (own).
+use Rattle.std.specs.Prelude.{◌≡◌, ℕ, ◌+◌, ◌==◌, List, [], ◌∷◌, ◌++◌, length}
 use Rattle.std.specs.List.{slice_split, flat_map}
 use Rattle.world_text.specs.declared.error.ListError.{ListError}
 use Rattle.world_text.specs.declared.error.ListError.TheVariants.{Unreadable, NoMemory}
 use Rattle.world_text.specs.Events.{EventTree}
 use Rattle.world_text.specs.Lines.{IsReadable, IsUnreadable, events_of}
-
--- what lines are
-abbrev pub texts : List (Bor (List ℕ)) → List (List ℕ)
-texts lines = map (λ (line : Bor (List ℕ)). line.now) lines
 
 -- the lines of some bytes, which LF divides
 abbrev pub lines_of : List ℕ → List (List ℕ)

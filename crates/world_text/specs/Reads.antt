@@ -1,5 +1,6 @@
--- How what a function of this crate answers stands to what a text is.
-use Rattle.std.specs.Prelude.{◌≡◌, ◌≢◌, Option, Some, None, Result, Ok, Err}
+-- Inner: how what a function of this crate answers stands to what a text is.
+use Rattle.std.specs.Prelude.{◌≡◌, ◌≢◌, Option, Some, None, Result, Ok, Err, ℕ, List, map}
+use Rattle.std.specs.Borrow.{Bor}
 use Rattle.world_text.specs.declared.error.LineError.{LineError}
 use Rattle.world_text.specs.declared.error.LineError.TheVariants.{NoMemory}
 
@@ -7,3 +8,7 @@ use Rattle.world_text.specs.declared.error.LineError.TheVariants.{NoMemory}
 abbrev pub Reads : {X Y : Type 0} → (X → Y) → Result X LineError → Option Y → Type 0
 Reads view (Ok found) wanted = wanted ≡ Some (view found)
 Reads view (Err error) wanted = error ≢ NoMemory → wanted ≡ None
+
+-- what lines are
+abbrev pub texts : List (Bor (List ℕ)) → List (List ℕ)
+texts lines = map (λ (line : Bor (List ℕ)). line.now) lines

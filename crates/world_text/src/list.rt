@@ -3,7 +3,8 @@
 ghost use Rattle.std.specs.Prelude.{◌≡◌, ◌++◌, map, IfOk, IfErr, OnOk, Err};
 ghost use Rattle.world_text.specs.Events.{tree_of};
 ghost use Rattle.world_text.specs.Lines.{IsUnreadable, IsReadable, events_of};
-ghost use Rattle.world_text.specs.Lists.{lines_of, texts, AreEvents, IsFault};
+ghost use Rattle.world_text.specs.Lists.{lines_of, AreEvents, IsFault};
+ghost use Rattle.world_text.specs.Reads.{texts};
 
 use crate::error::{LineError, ListError};
 use crate::event::TextEvent;

@@ -1,5 +1,6 @@
 use Rattle.std.proofs.Common.{◌≡◌, ◌<◌, ◌++◌, ℕ, List, length, take}
-use Rattle.auth.specs.Lines.{max_line_len, pieces_of, whole_piece}
+use Rattle.auth.specs.Lines.{max_line_len, pieces_of}
+use Rattle.auth.specs.LineStates.{whole_piece}
 use Rattle.auth.proofs.line.add.Given as goal
 
 pub record Coming (line bytes start : List ℕ) (i : ℕ) : Type 0 where

@@ -1,9 +1,11 @@
 use Rattle.std.proofs.Common.{◌≡◌, List, sym, ap, ◌∙◌}
 use Rattle.std.proofs.lemmas.Result.{IfOk-weaker, IfErr-weaker}
-use Rattle.bpf_text.specs.Source.{lines_of, Line, AreLines, sketch_of, program_in}
+use Rattle.bpf_text.specs.Source.{lines_of, Line, AreLines}
+use Rattle.bpf_text.specs.Sketches.{sketch_of, program_in}
 use Rattle.bpf_text.specs.Views.{sketch_view}
 use Rattle.bpf_text.proofs.Lines.{read_none, read_more, read_all}
 use Rattle.bpf_text.proofs.Faults.{text_fault}
+use Rattle.bpf_text.proofs.SketchedPrograms.{program_sketched}
 use Rattle.bpf_text.proofs.assembler.assemble_bytes.Goals as goal
 
 pub lines-init : goal.lines-init
@@ -15,7 +17,7 @@ returns-in_default-clause-found c =
     let split = rw c.in_default.is at c.split_line.ensures.lines in
     let all : (lines : List Line) × AreLines (lines_of c.args.text.now) lines × (sketch_view c.add_line.new.draft ≡ sketch_of lines) =
     read_all c.args.text.now c.lines.rest.now c.split_line.result.0.now c.lines.number (sketch_view c.lines.draft) (sketch_view c.add_line.new.draft) found.0 c.lines.invariant split found.1 found.2 in
-    IfOk-weaker c.program.result _ _ (λ program is. (all.0, all.1, ap program_in (sym all.2) ∙ is)) c.program.ensures.found
+    IfOk-weaker c.program.result _ _ (λ program is. (all.0, all.1, program_sketched all.0 ∙ ap program_in (sym all.2) ∙ is)) c.program.ensures.found
 
 pub returns-in_default-clause-fault : goal.returns-in_default-clause-fault
 returns-in_default-clause-fault c =

@@ -1,7 +1,8 @@
 use Rattle.std.proofs.Common.{◌≡◌, ◌<◌, ◌≤◌, length, get_or, drop, None, List, ℕ, suc, sym, ◌∙◌, arith}
 use Rattle.std.proofs.Math.Seq.{drop-cons}
 use Rattle.std.proofs.lemmas.List.{drop_all}
-use Rattle.bpf_text.specs.Lexis.{with_digit_of, number_in}
+use Rattle.bpf_text.specs.Lexis.{number_in}
+use Rattle.bpf_text.specs.LineReading.{with_digit_of}
 use Rattle.bpf_text.proofs.Numbers.{number_after, stops, ends}
 use Rattle.bpf_text.proofs.lexis.number_of_base.Goals as goal
 

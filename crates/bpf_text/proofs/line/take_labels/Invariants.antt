@@ -1,5 +1,6 @@
 use Rattle.std.proofs.Common.{◌≡◌, ◌++◌, List, ℕ, Bool, length}
-use Rattle.bpf_text.specs.Source.{Begins, Label, labels_at, repeats}
+use Rattle.bpf_text.specs.Source.{Label, labels_at, repeats}
+use Rattle.bpf_text.specs.LineReading.{Begins}
 use Rattle.bpf_text.proofs.line.take_labels.Given as goal
 
 -- the labels so far

@@ -1,6 +1,6 @@
 use Rattle.std.proofs.Common.{take}
 use Rattle.program_table.specs.Connections.{numbers_of}
-use Rattle.lookups.specs.NameOwners.{NoneIsNamed}
+use Rattle.lookups.specs.Searching.{NoneIsNamed}
 use Rattle.lookups.proofs.name_owner.named_in.Given as goal
 
 abbrev pub invariant-loop-connection : goal.invariant-loop-connection

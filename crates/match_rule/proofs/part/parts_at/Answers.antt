@@ -1,7 +1,7 @@
 use Rattle.std.proofs.Common.{sym, arith}
 use Rattle.std.proofs.lemmas.Bool.{eqb-true}
 use Rattle.std.proofs.lemmas.List.{nil_from_length}
-use Rattle.match_rule.specs.Parts.{tree_at}
+use Rattle.match_rule.specs.Gathering.{tree_at}
 use Rattle.match_rule.proofs.Steps.{gives_err}
 use Rattle.match_rule.proofs.Turns.{blanks_len}
 use Rattle.match_rule.proofs.PartReads.{part_len}

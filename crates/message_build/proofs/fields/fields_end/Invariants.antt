@@ -2,7 +2,7 @@ use Rattle.std.proofs.Common.{◌≡◌, ◌+◌, ◌≤◌, length, drop}
 use Rattle.message_value.specs.declared.order.Order.TheVariants.{Little}
 use Rattle.message_value.specs.Fits.{max_array_len}
 use Rattle.message_view.specs.Spelling.{fixed_len, fields_bytes}
-use Rattle.message_build.specs.Words.{fields_of}
+use Rattle.message_build.specs.HeaderFields.{fields_of}
 use Rattle.message_build.proofs.fields.fields_end.Given as goal
 
 abbrev pub invariant-loop-field : goal.invariant-loop-field

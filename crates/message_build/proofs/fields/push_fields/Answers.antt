@@ -2,7 +2,7 @@ use Rattle.std.proofs.Common.{◌≡◌, ◌<◌, ◌++◌, length, get_or, None
 use Rattle.std.proofs.lemmas.List.{get_or_default}
 use Rattle.message_value.specs.declared.order.Order.TheVariants.{Little}
 use Rattle.message_view.specs.Spelling.{fields_bytes}
-use Rattle.message_build.specs.Words.{fields_of}
+use Rattle.message_build.specs.HeaderFields.{fields_of}
 use Rattle.message_build.proofs.FieldList.{left_at, allowed_at}
 use Rattle.message_build.proofs.fields.push_fields.Goals as goal
 

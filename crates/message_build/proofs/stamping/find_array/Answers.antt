@@ -14,8 +14,8 @@ returns-then-len-gt-MAX_ARRAY_LEN-clause-array c = λ m v is.
     let whole = array_within c.args.raw.now m (length (header_bytes m)) v refl in
     let word : c.in_ok-word.word.now ≡ take 4 (drop 12 c.args.raw.now) = c.in_ok-word.ensures.found (omega arith) (omega (arith, whole)) in
     let four : length c.in_ok-word.word.now ≡ 4 = omega (arith, c.in_ok-word.ensures.len) in
-    let said = fields_len_said c.args.raw.now m c.args.order c.in_ok-word.word.now c.word-len.result v is four word c.word-len.ensures in
-    absurd (omega (arith, said, v.fields_fit, c.if-len-gt-MAX_ARRAY_LEN.true))
+    let text_said = fields_len_said c.args.raw.now m c.args.order c.in_ok-word.word.now c.word-len.result v is four word c.word-len.ensures in
+    absurd (omega (arith, text_said, v.fields_fit, c.if-len-gt-MAX_ARRAY_LEN.true))
 
 pub returns-clause-array : goal.returns-clause-array
 returns-clause-array c = λ m v is.
@@ -24,7 +24,7 @@ returns-clause-array c = λ m v is.
     let whole = array_within raw m (length (header_bytes m)) v refl in
     let word : c.in_ok-word.word.now ≡ take 4 (drop 12 raw) = c.in_ok-word.ensures.found (omega arith) (omega (arith, whole)) in
     let four : length c.in_ok-word.word.now ≡ 4 = omega (arith, c.in_ok-word.ensures.len) in
-    let said = fields_len_said raw m c.args.order c.in_ok-word.word.now len v is four word c.word-len.ensures in
+    let text_said = fields_len_said raw m c.args.order c.in_ok-word.word.now len v is four word c.word-len.ensures in
     let minus : 16 + len - 16 ≡ len = omega arith in
-    let same : take (16 + len - 16) (drop 16 raw) ≡ header_bytes m = ap (λ (k : ℕ). take k (drop 16 raw)) minus ∙ array_is raw m len v said in
-    subst (λ (l : List ℕ). MatchOption c.between-2.result ⊥ (λ (found : Bor (List ℕ)). found.now ≡ l)) same (c.between-2.ensures.found (omega arith) (array_within raw m len v said))
+    let same : take (16 + len - 16) (drop 16 raw) ≡ header_bytes m = ap (λ (k : ℕ). take k (drop 16 raw)) minus ∙ array_is raw m len v text_said in
+    subst (λ (l : List ℕ). MatchOption c.between-2.result ⊥ (λ (found : Bor (List ℕ)). found.now ≡ l)) same (c.between-2.ensures.found (omega arith) (array_within raw m len v text_said))

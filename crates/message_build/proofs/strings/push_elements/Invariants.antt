@@ -2,7 +2,7 @@ use Rattle.std.proofs.Common.{◌≡◌, ◌++◌, length, take, drop}
 use Rattle.signature.specs.DataType.{basic}
 use Rattle.message_value.specs.declared.order.Order.TheVariants.{Little}
 use Rattle.message_value.specs.Spelling.{elements_bytes}
-use Rattle.message_build.specs.Words.{string_values}
+use Rattle.message_build.specs.Adding.{string_values}
 use Rattle.message_build.proofs.strings.push_elements.Given as goal
 
 abbrev pub invariant-loop-string : goal.invariant-loop-string

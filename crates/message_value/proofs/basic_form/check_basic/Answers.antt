@@ -3,7 +3,7 @@ use Rattle.std.proofs.lemmas.Grind.{common_steps}
 use Rattle.message_value.specs.Order.{number_of}
 use Rattle.message_value.specs.Spelling.{width_of}
 use Rattle.message_value.specs.Value.{number, text}
-use Rattle.message_value.specs.Words.{basic_at}
+use Rattle.message_value.specs.Forms.{basic_at}
 use Rattle.message_value.specs.Reading.{number_value_at}
 use Rattle.signature.specs.BasicType.{byte_of}
 use Rattle.message_value.proofs.basic_form.check_basic.Goals as goal

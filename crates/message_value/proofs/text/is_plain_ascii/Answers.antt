@@ -2,7 +2,7 @@ use Rattle.std.proofs.Common.{◌≡◌, ◌∙◌, ℕ, ◌+◌, ◌<◌, ◌�
 use Rattle.std.specs.Prelude.{◌&&◌}
 use Rattle.std.specs.List.{list_all}
 use Rattle.std.proofs.lemmas.List.{drop_more, drop_all}
-use Rattle.message_value.specs.Words.{is_plain}
+use Rattle.message_value.specs.Forms.{is_plain}
 use Rattle.message_value.proofs.text.is_plain_ascii.Goals as goal
 
 all_three : (plain next rest : Bool) → ((plain && next) && rest) ≡ (plain && (next && rest))

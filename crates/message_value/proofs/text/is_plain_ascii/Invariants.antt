@@ -1,7 +1,7 @@
 use Rattle.std.proofs.Common.{◌≡◌, drop}
 use Rattle.std.specs.Prelude.{◌&&◌}
 use Rattle.std.specs.List.{list_all}
-use Rattle.message_value.specs.Words.{is_plain}
+use Rattle.message_value.specs.Forms.{is_plain}
 use Rattle.message_value.proofs.text.is_plain_ascii.Given as goal
 
 abbrev pub invariant-loop-byte : goal.invariant-loop-byte

@@ -1,12 +1,10 @@
-use Rattle.std.proofs.Common.{◌≡◌, ◌≤◌, ℕ, Bool, List, sym, ap, ◌∙◌, subst, arith}
+use Rattle.std.proofs.Common.{◌≡◌, ℕ, Bool, List, sym, ap, ◌∙◌, subst}
 use Rattle.std.specs.Prelude.{unwrap_or}
 use Rattle.std.proofs.lemmas.Result.{err_from_is_err_and}
 use Rattle.bpf_code.specs.declared.instruction.Ins.{Ins}
 use Rattle.match_rule.specs.declared.condition.Condition.{Condition}
-use Rattle.match_rule.specs.RuleTree.{RuleTree, weight_of}
-use Rattle.jump_islands.specs.Draft.{instructions_of}
-use Rattle.jump_islands.specs.PlainLength.{plain_length}
-use Rattle.jump_islands.specs.WellMade.{AreWellMade}
+use Rattle.match_rule.specs.RuleTree.{RuleTree}
+use Rattle.jump_islands.specs.Lowering.{IsTarget, IsTargetRefusal}
 use Rattle.rule_compile.specs.declared.rest.Tested.{Tested}
 use Rattle.rule_compile.specs.Compiled.{IsCompiled, IsSlotOf}
 use Rattle.rule_compile.specs.Rest.{tested_of}
@@ -14,9 +12,8 @@ use Rattle.rule_compile.specs.RuleCode.{rule_code}
 use Rattle.summary.specs.declared.edition.Edition.TheVariants.{Two}
 use Rattle.summary.proofs.ImageShows.{image_shows}
 use Rattle.rule_compile.proofs.RuleLength.{rule_length}
-use Rattle.rule_compile.proofs.RuleWellMade.{rule_well_made}
-use Rattle.rule_compile.proofs.RuleRuns.{rule_runs, slot_small}
-use Rattle.rule_compile.proofs.CompiledRule.{Decides, compiled, well_formed, refused}
+use Rattle.rule_compile.proofs.RuleRuns.{rule_runs}
+use Rattle.rule_compile.proofs.CompiledRule.{Decides, compiled, refused}
 use Rattle.rule_compile.proofs.RestRules.{one_sender, small_numbers, same_bytes, no_heavier, same_slot}
 use Rattle.rule_compile.proofs.compiling.compile_tested.Goals as goal
 
@@ -30,22 +27,16 @@ returns-in_err-program-clause-refused c =
     let rule : RuleTree = c.args.rule.now in
     let tested : Tested = c.args.tested in
     let number : ℕ = unwrap_or c.args.slot 0 in
-    let draft = c.in_ok-draft.draft in
-    let same : instructions_of draft ≡ rule_code number (tested_of tested rule) = c.in_ok-draft.ensures.same ∙ code_is _ number tested rule _ _ _ c.in_ok-code.ensures c.unwrap_or-slot.ensures c.conditions.ensures.value c.eavesdrops.ensures in
-    let short : plain_length draft ≤ weight_of rule = omega (arith, rule_length number (tested_of tested rule) draft same, no_heavier tested rule) in
+    let left : RuleTree = tested_of tested rule in
+    let same : c.in_ok-code.code ≡ rule_code number left = code_is _ number tested rule _ _ _ c.in_ok-code.ensures.value c.unwrap_or-slot.ensures c.conditions.ensures.value c.eavesdrops.ensures in
+    let Refused : List Ins → Type 0 = λ source. IsTargetRefusal source c.in_err-program.field-0.0 in
     let p = err_from_is_err_and c.from_residual-in_err-program.result c.from_residual-in_err-program.ensures.1 in
-    rw (p.1, p.2) (refused rule draft c.in_err-program.field-0.0 c.in_err-program.ensures.refused short)
+    rw (p.1, p.2) (refused rule left (rule_code number left) c.in_err-program.field-0.0 (subst Refused same c.in_err-program.ensures.refused) (rule_length number left) (no_heavier tested rule))
 
-pub accepted-requires : goal.accepted-requires
-accepted-requires c =
-    let rule : RuleTree = c.args.rule.now in
-    let tested : Tested = c.args.tested in
-    let number : ℕ = unwrap_or c.args.slot 0 in
-    let draft = c.in_ok-draft.draft in
-    let code : List Ins = rule_code number (tested_of tested rule) in
-    let same : instructions_of draft ≡ code = c.in_ok-draft.ensures.same ∙ code_is _ number tested rule _ _ _ c.in_ok-code.ensures c.unwrap_or-slot.ensures c.conditions.ensures.value c.eavesdrops.ensures in
-    let made : AreWellMade code = rule_well_made number (tested_of tested rule) (slot_small c.args.slot c.requires.small) (small_numbers tested rule c.conditions.ensures.numbers) in
-    well_formed code draft c.in_ok-program.program.items same c.in_ok-program.ensures.lowered made
+pub verified_program-requires : goal.verified_program-requires
+verified_program-requires c =
+    let target : IsTarget c.in_ok-code.code c.in_ok-program.program.items = c.in_ok-program.ensures.lowered in
+    target.accepted c.in_ok-code.ensures.made
 
 pub returns-clause-compiled : goal.returns-clause-compiled
 returns-clause-compiled c =
@@ -53,10 +44,10 @@ returns-clause-compiled c =
     let tested : Tested = c.args.tested in
     let slot = c.args.slot in
     let left : RuleTree = tested_of tested rule in
-    let draft = c.in_ok-draft.draft in
     let code : List Ins = rule_code (unwrap_or slot 0) left in
-    let same : instructions_of draft ≡ code = c.in_ok-draft.ensures.same ∙ code_is _ (unwrap_or slot 0) tested rule _ _ _ c.in_ok-code.ensures c.unwrap_or-slot.ensures c.conditions.ensures.value c.eavesdrops.ensures in
+    let same : c.in_ok-code.code ≡ code = code_is _ (unwrap_or slot 0) tested rule _ _ _ c.in_ok-code.ensures.value c.unwrap_or-slot.ensures c.conditions.ensures.value c.eavesdrops.ensures in
     let fits : IsSlotOf slot left = same_slot tested rule slot c.requires in
     let decides : Decides left slot code = (λ bytes m slots owned valid set agree. rule_runs bytes m slots owned left slot valid (image_shows Two bytes m slots valid set.size set.bits) fits agree (one_sender tested rule c.conditions.ensures.one_sender) (small_numbers tested rule c.conditions.ensures.numbers) (same_bytes tested rule c.conditions.ensures.bytes)) in
     let Compiled : List Ins → Type 0 = IsCompiled left slot in
-    subst Compiled (sym c.accepted.ensures) (compiled left slot code draft c.in_ok-program.program.items same c.in_ok-program.ensures.lowered decides)
+    let Target : List Ins → Type 0 = λ source. IsTarget source c.in_ok-program.program.items in
+    subst Compiled (sym c.verified_program.ensures) (compiled left slot code c.in_ok-program.program.items (subst Target same c.in_ok-program.ensures.lowered) decides)

@@ -19,9 +19,9 @@ returns c =
     record {
       message = m;
       valid = valid;
-      accepted = c.code-code.ensures.well_formed;
+      verified_program = c.code-code.ensures.well_formed;
       ends = ends;
       within = c.run.ensures.few;
-      decides = λ rule slot owned compiled set agree two.
-          compiled c.args.view.now m slots owned verdict steps valid set agree (subst (λ (edition : Edition). Ends program (image_bytes edition m slots) verdict steps) two ends);
+      decides = λ rule slot owned compiled set agree half_number.
+          compiled c.args.view.now m slots owned verdict steps valid set agree (subst (λ (edition : Edition). Ends program (image_bytes edition m slots) verdict steps) half_number ends);
     }

@@ -1,7 +1,8 @@
 use Rattle.std.proofs.Common.{arith, ◌≡◌, false, sym, ◌∙◌, ap, get_or}
 use Rattle.signature.proofs.Cuts.{none_at, longer_at}
 use Rattle.signature.specs.Code.{code_of}
-use Rattle.signature.specs.Reading.{fault_at, next, is_closed}
+use Rattle.signature.specs.Reading.{fault_at, next}
+use Rattle.signature.specs.TypeTexts.{is_closed}
 use Rattle.signature.proofs.walk.long_type_len.Goals as goal
 
 pub advance-requires : goal.advance-requires

@@ -1,5 +1,6 @@
 use Rattle.std.proofs.Common.{◌≡◌, ◌+◌, [], drop, None}
-use Rattle.signature.specs.Reading.{fault_from, type_len_from}
+use Rattle.signature.specs.Reading.{fault_from}
+use Rattle.signature.specs.TypeTexts.{type_len_from}
 use Rattle.signature.proofs.walk.long_type_len.Given as goal
 
 abbrev pub invariant-loop-byte : goal.invariant-loop-byte

@@ -8,4 +8,4 @@ loop-i-init c = (refl, omega arith)
 
 pub loop-i-preserved : goal.loop-i-preserved
 unfolding words_hash
-loop-i-preserved c = (rw add-one cc, c.absorbed-hash.ensures.below)
+loop-i-preserved c = (rw add-one cc, c.absorb-hash.ensures.below)

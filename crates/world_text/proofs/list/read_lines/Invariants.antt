@@ -1,6 +1,7 @@
 use Rattle.std.proofs.Common.{map, take}
 use Rattle.world_text.specs.Events.{tree_of}
-use Rattle.world_text.specs.Lists.{texts, AreEvents}
+use Rattle.world_text.specs.Lists.{AreEvents}
+use Rattle.world_text.specs.Reads.{texts}
 use Rattle.world_text.proofs.list.read_lines.Given as goal
 
 abbrev pub invariant-loop-index : goal.invariant-loop-index

@@ -1,5 +1,5 @@
 use Rattle.std.proofs.Common.{ap, ◌∙◌}
-use Rattle.world_text.specs.Lists.{texts}
+use Rattle.world_text.specs.Reads.{texts}
 use Rattle.world_text.proofs.ListLines.{same_fault}
 use Rattle.world_text.proofs.list.read_list.Goals as goal
 

@@ -1,6 +1,6 @@
 use Rattle.std.proofs.Common.{◌≡◌, map, drop}
 use Rattle.dbusfan_tool.specs.RowReading.{no_words, gathered}
-use Rattle.dbusfan_tool.specs.Gathered.{names_of}
+use Rattle.dbusfan_tool.specs.Views.{names_of}
 use Rattle.dbusfan_tool.proofs.gathered.Gathered.read.Given as goal
 
 abbrev pub invariant-loop-i : goal.invariant-loop-i

@@ -1,7 +1,8 @@
-use Rattle.std.proofs.Common.{◌∙◌, length, subst, sym, ap}
+use Rattle.std.proofs.Common.{◌∙◌, subst, sym, ap}
 use Rattle.std.specs.Prelude.{option_map}
 use Rattle.entry_table.specs.declared.rule_program.Parts.{Parts}
 use Rattle.entry_table.specs.CompiledRule.{IsFit}
+use Rattle.match_rule.specs.PathNamespaces.{end_of}
 use Rattle.entry_table.specs.RuleHints.{AreHints}
 use Rattle.entry_table.specs.TextKeys.{shape_of}
 use Rattle.rule_compile.specs.Rest.{IsRest}
@@ -10,9 +11,9 @@ use Rattle.entry_table.proofs.rule_program.RuleProgram.compile.Goals as goal
 pub invariant_of-result : goal.invariant_of-result
 invariant_of-result c =
     let fit : IsFit (record { rule = c.args.rule; slot = c.args.slot; program = c.in_ok-program.program }) = record { slot = c.requires; program = c.in_ok-program.ensures.compiled } in
-    let hints : AreHints c.args.rule c.shape-shape.result c.len_of-namespace_len.result = record {
+    let hints : AreHints c.args.rule c.shape-shape.result c.end_asked-namespace_end.result = record {
       same_shape = c.shape-shape.ensures.value ∙ ap shape_of c.of_rule.ensures;
-      same_len = c.len_of-namespace_len.ensures ∙ ap (option_map length) c.path_namespace.ensures;
+      same_end = c.end_asked-namespace_end.ensures ∙ ap (option_map end_of) c.path_namespace.ensures;
     } in
     let left : IsRest c.args.rule c.args.slot c.in_ok-rest.rest = c.in_ok-rest.ensures.rest in
-    subst (λ (p : Parts). IsFit (record { rule = p.rule; slot = p.slot; program = p.program }) × IsRest p.rule p.slot p.rest × AreHints p.rule c.shape-shape.result c.len_of-namespace_len.result) (sym c.in_ok-new.ensures.ok) (fit, left, hints)
+    subst (λ (p : Parts). IsFit (record { rule = p.rule; slot = p.slot; program = p.program }) × IsRest p.rule p.slot p.rest × AreHints p.rule c.shape-shape.result c.end_asked-namespace_end.result) (sym c.in_ok-new.ensures.ok) (fit, left, hints)

@@ -14,19 +14,19 @@ pub push-requires-clause-free : goal.push-requires-clause-free
 push-requires-clause-free c =
     let ages = c.self.inside.ages in
     let stands = has_place-front c.in-Some.place (places_in ages 1) c.next.new.self (sym c.walk.ensures.value ∙ c.in-Some.ensures.steps) in
-    subst (λ (s : PlaceLists). IsFree s c.in-Some.place) (sym c.remove.ensures.removed) (IsFree-between ages c.in-Some.place 1 (omega (arith, c.self.invariant.two)) stands c.walk.ensures.apart)
+    subst (λ (s : PlaceLists). IsFree s c.in-Some.place) (sym c.remove.ensures.removed) (IsFree-between ages c.in-Some.place 1 (omega (arith, c.self.invariant.two_lists)) stands c.walk.ensures.apart)
 
 pub push-requires-clause-place : goal.push-requires-clause-place
 push-requires-clause-place c =
     let ages = c.self.inside.ages in
     let stands = has_place-front c.in-Some.place (places_in ages 1) c.next.new.self (sym c.walk.ensures.value ∙ c.in-Some.ensures.steps) in
-    omega (arith, c.walk.ensures.apart.below 1 c.in-Some.place (omega (arith, c.self.invariant.two)) stands, ap (λ (s : PlaceLists). s.places) c.remove.ensures.removed)
+    omega (arith, c.walk.ensures.apart.below 1 c.in-Some.place (omega (arith, c.self.invariant.two_lists)) stands, ap (λ (s : PlaceLists). s.places) c.remove.ensures.removed)
 
 pub index_mut-requires : goal.index_mut-requires
 index_mut-requires c =
     let ages = c.self.inside.ages in
     let stands = has_place-front c.in-Some.place (places_in ages 1) c.next.new.self (sym c.walk.ensures.value ∙ c.in-Some.ensures.steps) in
-    omega (arith, c.walk.ensures.apart.below 1 c.in-Some.place (omega (arith, c.self.invariant.two)) stands, c.self.invariant.places, c.self.invariant.long, c.from.ensures, c.self.inside.cells.ok.0)
+    omega (arith, c.walk.ensures.apart.below 1 c.in-Some.place (omega (arith, c.self.invariant.two_lists)) stands, c.self.invariant.places, c.self.invariant.long, c.from.ensures, c.self.inside.cells.ok.0)
 
 pub invariant_of-self : goal.invariant_of-self
 invariant_of-self c =
@@ -63,4 +63,4 @@ pub returns-clause-below : goal.returns-clause-below
 returns-clause-below c =
     let ages = c.self.inside.ages in
     let stands = has_place-front c.in-Some.place (places_in ages 1) c.next.new.self (sym c.walk.ensures.value ∙ c.in-Some.ensures.steps) in
-    omega (arith, c.walk.ensures.apart.below 1 c.in-Some.place (omega (arith, c.self.invariant.two)) stands, c.self.invariant.places)
+    omega (arith, c.walk.ensures.apart.below 1 c.in-Some.place (omega (arith, c.self.invariant.two_lists)) stands, c.self.invariant.places)

@@ -16,23 +16,23 @@ remove-requires-clause-stands c =
 pub push-requires-clause-place : goal.push-requires-clause-place
 push-requires-clause-place c =
     let stands = ap (has_place c.args.place) (sym (places-held c.self.inside.cells.items c.self.inside.ages c.self.invariant)) ∙ ap (λ (held : List Placed). has_place c.args.place (places_of held)) c.self.view_is ∙ c.requires in
-    omega (arith, c.remove.ensures.apart.below 0 c.args.place (omega (arith, c.self.invariant.two)) stands, ap (λ (s : PlaceLists). s.places) c.remove.ensures.removed)
+    omega (arith, c.remove.ensures.apart.below 0 c.args.place (omega (arith, c.self.invariant.two_lists)) stands, ap (λ (s : PlaceLists). s.places) c.remove.ensures.removed)
 
 pub push-requires-clause-free : goal.push-requires-clause-free
 push-requires-clause-free c =
     let stands = ap (has_place c.args.place) (sym (places-held c.self.inside.cells.items c.self.inside.ages c.self.invariant)) ∙ ap (λ (held : List Placed). has_place c.args.place (places_of held)) c.self.view_is ∙ c.requires in
-    subst (λ (s : PlaceLists). IsFree s c.args.place) (sym c.remove.ensures.removed) (IsFree-between c.self.inside.ages c.args.place 0 (omega (arith, c.self.invariant.two)) stands c.remove.ensures.apart)
+    subst (λ (s : PlaceLists). IsFree s c.args.place) (sym c.remove.ensures.removed) (IsFree-between c.self.inside.ages c.args.place 0 (omega (arith, c.self.invariant.two_lists)) stands c.remove.ensures.apart)
 
 pub index_mut-requires : goal.index_mut-requires
 index_mut-requires c =
     let stands = ap (has_place c.args.place) (sym (places-held c.self.inside.cells.items c.self.inside.ages c.self.invariant)) ∙ ap (λ (held : List Placed). has_place c.args.place (places_of held)) c.self.view_is ∙ c.requires in
-    omega (arith, c.remove.ensures.apart.below 0 c.args.place (omega (arith, c.self.invariant.two)) stands, c.self.invariant.places, c.self.invariant.long, c.from.ensures, c.self.inside.cells.ok.0)
+    omega (arith, c.remove.ensures.apart.below 0 c.args.place (omega (arith, c.self.invariant.two_lists)) stands, c.self.invariant.places, c.self.invariant.long, c.from.ensures, c.self.inside.cells.ok.0)
 
 pub unreachable-requires : goal.unreachable-requires
 unreachable-requires c =
     let cells = c.self.inside.cells.items in
     let stands = ap (has_place c.args.place) (sym (places-held cells c.self.inside.ages c.self.invariant)) ∙ ap (λ (held : List Placed). has_place c.args.place (places_of held)) c.self.view_is ∙ c.requires in
-    let low : c.args.place < length cells = omega (arith, c.remove.ensures.apart.below 0 c.args.place (omega (arith, c.self.invariant.two)) stands, c.self.invariant.places, c.self.invariant.long) in
+    let low : c.args.place < length cells = omega (arith, c.remove.ensures.apart.below 0 c.args.place (omega (arith, c.self.invariant.two_lists)) stands, c.self.invariant.places, c.self.invariant.long) in
     let was : c.index_mut.result.now ≡ get_or cells c.from.result None = get_or_read cells c.from.result c.index_mut.result.now (omega (arith, low, c.from.ensures)) c.index_mut.ensures.value None in
     let none : get_or cells c.args.place None ≡ None = ap (λ (k : ℕ). get_or cells k None) (sym c.from.ensures) ∙ sym was ∙ sym c.take-cell.ensures.value ∙ c.in-None.is in
     false≢true (sym (ap (λ (o : Option Entry). is_some o) none) ∙ c.self.invariant.same c.args.place ∙ stands)
@@ -50,7 +50,7 @@ pub returns-clause-entry : goal.returns-clause-entry
 returns-clause-entry c =
     let cells = c.self.inside.cells.items in
     let stands = ap (has_place c.args.place) (sym (places-held cells c.self.inside.ages c.self.invariant)) ∙ ap (λ (held : List Placed). has_place c.args.place (places_of held)) c.self.view_is ∙ c.requires in
-    let low : c.args.place < length cells = omega (arith, c.remove.ensures.apart.below 0 c.args.place (omega (arith, c.self.invariant.two)) stands, c.self.invariant.places, c.self.invariant.long) in
+    let low : c.args.place < length cells = omega (arith, c.remove.ensures.apart.below 0 c.args.place (omega (arith, c.self.invariant.two_lists)) stands, c.self.invariant.places, c.self.invariant.long) in
     let was : c.index_mut.result.now ≡ get_or cells c.from.result None = get_or_read cells c.from.result c.index_mut.result.now (omega (arith, low, c.from.ensures)) c.index_mut.ensures.value None in
     ap (entry_at c.args.place) (sym c.self.view_is) ∙ entry-held cells c.self.inside.ages c.self.invariant c.args.place ∙ ap (λ (k : ℕ). get_or cells k None) (sym c.from.ensures) ∙ sym was ∙ sym c.take-cell.ensures.value ∙ c.in-Some.is
 

@@ -1,7 +1,7 @@
 use Rattle.std.proofs.Common.{sym, ap, ◌∙◌}
 use Rattle.std.specs.Prelude.{◌||◌, None}
 use Rattle.match_rule.specs.Condition.{has_key}
-use Rattle.match_rule.specs.Parts.{terms_of}
+use Rattle.match_rule.specs.Gathering.{terms_of}
 use Rattle.match_rule.proofs.KeptParts.{asked_keys}
 use Rattle.match_rule.proofs.parts.Parts.has_key.Goals as goal
 

@@ -1,4 +1,4 @@
-use Rattle.std.proofs.Common.{arith, rules, ap, sym, ◌∙◌, ◌++◌}
+use Rattle.std.proofs.Common.{rules, ap, ◌∙◌, ◌++◌}
 use Rattle.members.specs.Waiting.{all_of}
 use Rattle.members.proofs.Batches.{all_after_copy}
 use Rattle.members.proofs.unsent.Unsent.add.Goals as goal

@@ -1,5 +1,5 @@
 use Rattle.message_value.specs.declared.order.Order.TheVariants.{Little}
-use Rattle.message_build.specs.Words.{field_of}
+use Rattle.message_build.specs.HeaderFields.{field_of}
 use Rattle.message_build.proofs.Appended.{pushed_field}
 use Rattle.message_build.proofs.field.HeaderField.push.Goals as goal
 

@@ -1,5 +1,5 @@
 use Rattle.std.proofs.Common.{◌∙◌, ap, sym, Ok, List, ℕ}
-use Rattle.message_value.specs.Words.{text_code}
+use Rattle.message_value.specs.TextTypes.{text_code}
 use Rattle.message_value.proofs.SkipTexts.{text_fits, text_again_at, item_utf8}
 use Rattle.message_value.proofs.text.TextType.skip.Goals as goal
 

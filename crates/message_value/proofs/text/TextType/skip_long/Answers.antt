@@ -1,4 +1,4 @@
-use Rattle.message_value.specs.Words.{text_code}
+use Rattle.message_value.specs.TextTypes.{text_code}
 use Rattle.message_value.proofs.SkipTexts.{long_fits}
 use Rattle.message_value.proofs.text.TextType.skip_long.Goals as goal
 

@@ -1,7 +1,7 @@
 use Rattle.std.proofs.Common.{None, ap, ◌∙◌}
 use Rattle.std.specs.Prelude.{slice_index_or}
 use Rattle.message_view.specs.Slots.{slot_of}
-use Rattle.message_view.specs.Words.{lying}
+use Rattle.message_view.specs.FieldAnswers.{lying}
 use Rattle.message_view.proofs.Views.{kept_is, extent_kept}
 use Rattle.message_view.proofs.view.View.extent.Goals as goal
 

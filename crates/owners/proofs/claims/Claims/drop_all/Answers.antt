@@ -16,57 +16,57 @@ pub claimed_slots-claimed-requires : goal.claimed_slots-claimed-requires
 claimed_slots-claimed-requires c =
     let cs = c.self.inside.claims.items in
     let ss = c.self.inside.slots.items in
-    let kept = c.self.invariant.0 in
+    let kept_slot = c.self.invariant.0 in
     let connection = c.args.connection in
     let left = filter (λ (x : SlotClaim). not (is_by connection x)) cs in
-    let held = Each-filter (HeldAt ss) (λ (x : SlotClaim). not (is_by connection x)) cs (each_held cs ss kept.placed.held) in
+    let held = Each-filter (HeldAt ss) (λ (x : SlotClaim). not (is_by connection x)) cs (each_held cs ss kept_slot.placed.held) in
     let left_is : c.as_slice.result.now ≡ left = c.as_slice.ensures.value ∙ c.remove_all.ensures.claims in
-    ap are_slots left_is ∙ slots_fit ss kept.placed.count left held
+    ap are_slots left_is ∙ slots_fit ss kept_slot.placed.count left held
 
 pub invariant_of-self : goal.invariant_of-self
 invariant_of-self c =
     let cs = c.self.inside.claims.items in
     let ss = c.self.inside.slots.items in
-    let kept = c.self.invariant.0 in
+    let kept_slot = c.self.invariant.0 in
     let connection = c.args.connection in
     let left = filter (λ (x : SlotClaim). not (is_by connection x)) cs in
-    let held = Each-filter (HeldAt ss) (λ (x : SlotClaim). not (is_by connection x)) cs (each_held cs ss kept.placed.held) in
+    let held = Each-filter (HeldAt ss) (λ (x : SlotClaim). not (is_by connection x)) cs (each_held cs ss kept_slot.placed.held) in
     let left_is : c.as_slice.result.now ≡ left = c.as_slice.ensures.value ∙ c.remove_all.ensures.claims in
     let gone : AreLetGo left ss c.let_go.new.slots.items = let_go_by left ss c.let_go.new.slots.items (has_slot c.claimed_slots-claimed.result)
     (c.let_go.ensures.size)
     (λ k. c.claimed_slots-claimed.ensures k ∙ ap (list_any (is_on_slot k)) left_is)
-    (λ k. c.let_go.ensures.kept k) in
-    let done = drop_all_done cs ss c.let_go.new.slots.items kept connection gone in
+    (λ k. c.let_go.ensures.kept_slot k) in
+    let done = drop_all_done cs ss c.let_go.new.slots.items kept_slot connection gone in
     (subst (λ l. IsKept l c.let_go.new.slots.items) (sym c.remove_all.ensures.claims) done.0, omega (arith, c.self.invariant.1, c.remove_all.ensures.room))
 
 pub returns-clause-after : goal.returns-clause-after
 returns-clause-after c =
     let cs = c.self.inside.claims.items in
     let ss = c.self.inside.slots.items in
-    let kept = c.self.invariant.0 in
+    let kept_slot = c.self.invariant.0 in
     let connection = c.args.connection in
     let left = filter (λ (x : SlotClaim). not (is_by connection x)) cs in
-    let held = Each-filter (HeldAt ss) (λ (x : SlotClaim). not (is_by connection x)) cs (each_held cs ss kept.placed.held) in
+    let held = Each-filter (HeldAt ss) (λ (x : SlotClaim). not (is_by connection x)) cs (each_held cs ss kept_slot.placed.held) in
     let left_is : c.as_slice.result.now ≡ left = c.as_slice.ensures.value ∙ c.remove_all.ensures.claims in
     let gone : AreLetGo left ss c.let_go.new.slots.items = let_go_by left ss c.let_go.new.slots.items (has_slot c.claimed_slots-claimed.result)
     (c.let_go.ensures.size)
     (λ k. c.claimed_slots-claimed.ensures k ∙ ap (list_any (is_on_slot k)) left_is)
-    (λ k. c.let_go.ensures.kept k) in
-    let done = drop_all_done cs ss c.let_go.new.slots.items kept connection gone in
+    (λ k. c.let_go.ensures.kept_slot k) in
+    let done = drop_all_done cs ss c.let_go.new.slots.items kept_slot connection gone in
     ap (λ l. registry l c.let_go.new.slots.items) c.remove_all.ensures.claims ∙ done.1 ∙ ap (after_drop_all connection) c.self.view_is
 
 pub returns-clause-registry : goal.returns-clause-registry
 returns-clause-registry c =
     let cs = c.self.inside.claims.items in
     let ss = c.self.inside.slots.items in
-    let kept = c.self.invariant.0 in
+    let kept_slot = c.self.invariant.0 in
     let connection = c.args.connection in
     let left = filter (λ (x : SlotClaim). not (is_by connection x)) cs in
-    let held = Each-filter (HeldAt ss) (λ (x : SlotClaim). not (is_by connection x)) cs (each_held cs ss kept.placed.held) in
+    let held = Each-filter (HeldAt ss) (λ (x : SlotClaim). not (is_by connection x)) cs (each_held cs ss kept_slot.placed.held) in
     let left_is : c.as_slice.result.now ≡ left = c.as_slice.ensures.value ∙ c.remove_all.ensures.claims in
     let gone : AreLetGo left ss c.let_go.new.slots.items = let_go_by left ss c.let_go.new.slots.items (has_slot c.claimed_slots-claimed.result)
     (c.let_go.ensures.size)
     (λ k. c.claimed_slots-claimed.ensures k ∙ ap (list_any (is_on_slot k)) left_is)
-    (λ k. c.let_go.ensures.kept k) in
-    let done = drop_all_done cs ss c.let_go.new.slots.items kept connection gone in
+    (λ k. c.let_go.ensures.kept_slot k) in
+    let done = drop_all_done cs ss c.let_go.new.slots.items kept_slot connection gone in
     kept_is_registry c.remove_all.new.claims.items c.let_go.new.slots.items (subst (λ l. IsKept l c.let_go.new.slots.items) (sym c.remove_all.ensures.claims) done.0)

@@ -13,12 +13,12 @@ returns-clause-queue c =
     let cs = c.self.inside.claims.items in
     let ss = c.self.inside.slots.items in
     let name = c.args.name.now in
-    let kept = c.self.invariant.0 in
+    let kept_slot = c.self.invariant.0 in
     let slot = c.known_slot-slot.result in
     let slot_is : slot ≡ unwrap_or (slot_of name ss) no_slot_number = c.known_slot-slot.ensures ∙ ap (λ l. unwrap_or (slot_of name l) no_slot_number) c.as_slice.ensures.value in
-    let told : Tells ss slot name = subst (λ n. Tells ss n name) (sym slot_is) (known_tells cs ss kept.placed name) in
+    let evidence : Tells ss slot name = subst (λ n. Tells ss n name) (sym slot_is) (known_tells cs ss kept_slot.placed name) in
     c.new.ensures ∙ ap (slot_queue slot) c.as_slice-2.ensures.value
-    ∙ queue_shown ss slot name told cs (each_held cs ss kept.placed.held)
+    ∙ queue_shown ss slot name evidence cs (each_held cs ss kept_slot.placed.held)
     ∙ ap (λ (r : Registry). queue_of name r.claims) c.self.view_is
 
 pub returns-clause-registry : goal.returns-clause-registry

@@ -12,12 +12,12 @@ returns-clause-answer c =
     let cs = c.self.inside.claims.items in
     let ss = c.self.inside.slots.items in
     let name = c.args.name.now in
-    let kept = c.self.invariant.0 in
+    let kept_slot = c.self.invariant.0 in
     let slot = c.known_slot-slot.result in
     let slot_is : slot ≡ unwrap_or (slot_of name ss) no_slot_number = c.known_slot-slot.ensures ∙ ap (λ t. unwrap_or (slot_of t c.as_slice.result.now) no_slot_number) c.as_str.ensures ∙ ap (λ l. unwrap_or (slot_of name l) no_slot_number) c.as_slice.ensures.value in
-    let told : Tells ss slot name = subst (λ n. Tells ss n name) (sym slot_is) (known_tells cs ss kept.placed name) in
+    let evidence : Tells ss slot name = subst (λ n. Tells ss n name) (sym slot_is) (known_tells cs ss kept_slot.placed name) in
     c.release_answer.ensures ∙ ap (slot_release_answer slot name c.args.connection) c.as_slice-2.ensures.value
-    ∙ release_shown cs ss kept slot c.args.connection name told
+    ∙ release_shown cs ss kept_slot slot c.args.connection name evidence
     ∙ ap (release_answer name c.args.connection) c.self.view_is
 
 pub returns-clause-registry : goal.returns-clause-registry

@@ -20,13 +20,13 @@ hold-requires c =
     let name = c.args.name.now in
     let connection = c.args.connection in
     let flags = c.args.flags in
-    let kept = c.self.invariant.0 in
+    let kept_slot = c.self.invariant.0 in
     let plan = c.in_ok-plan.plan in
     let plan_is : IsPlan cs ss name connection flags plan = subst (λ l. IsPlan cs l name connection flags plan) c.as_slice-2.ensures.value (subst (λ l. IsPlan l c.as_slice-2.result.now name connection flags plan) c.as_slice.ensures.value c.in_ok-plan.ensures) in
     let slot = plan.slot in
     let claim = claim_at slot connection flags in
-    let told = next_tells cs ss kept.placed name slot plan_is.slot_is in
-    told.1
+    let evidence = next_tells cs ss kept_slot.placed name slot plan_is.slot_is in
+    evidence.1
 
 pub invariant_of-self : goal.invariant_of-self
 invariant_of-self c =
@@ -35,17 +35,17 @@ invariant_of-self c =
     let name = c.args.name.now in
     let connection = c.args.connection in
     let flags = c.args.flags in
-    let kept = c.self.invariant.0 in
+    let kept_slot = c.self.invariant.0 in
     let plan = c.in_ok-plan.plan in
     let plan_is : IsPlan cs ss name connection flags plan = subst (λ l. IsPlan cs l name connection flags plan) c.as_slice-2.ensures.value (subst (λ l. IsPlan l c.as_slice-2.result.now name connection flags plan) c.as_slice.ensures.value c.in_ok-plan.ensures) in
     let slot = plan.slot in
     let claim = claim_at slot connection flags in
-    let told = next_tells cs ss kept.placed name slot plan_is.slot_is in
+    let evidence = next_tells cs ss kept_slot.placed name slot plan_is.slot_is in
     let rules = rules_of name ss in
-    let rules_is : c.rules_at-rules.result ≡ rules = c.rules_at-rules.ensures ∙ ap (λ l. rules_at (slice_get l slot)) c.as_slice-3.ensures.value ∙ sym told.2 in
+    let rules_is : c.rules_at-rules.result ≡ rules = c.rules_at-rules.ensures ∙ ap (λ l. rules_at (slice_get l slot)) c.as_slice-3.ensures.value ∙ sym evidence.2 in
     let after : c.hold.new.slots.items ≡ held_slots ss slot name rules = c.hold.ensures.slots ∙ ap (held_slots ss slot name) rules_is in
     let step : c.do_step.new.claims.items ≡ step_done (step_for claim cs) claim cs = c.do_step.ensures.claims ∙ ap (λ (s : Step). step_done s claim cs) plan_is.step_is in
-    let done = request_done cs ss kept claim name rules plan_is.slot_is (subst (λ (s : Step). length (step_done s claim cs) ≤ max_claims) plan_is.step_is plan_is.fits) in
+    let done = request_done cs ss kept_slot claim name rules plan_is.slot_is (subst (λ (s : Step). length (step_done s claim cs) ≤ max_claims) plan_is.step_is plan_is.fits) in
     let new_kept : IsKept c.do_step.new.claims.items c.hold.new.slots.items = subst (λ l. IsKept l c.hold.new.slots.items) (sym step) (subst (IsKept (step_done (step_for claim cs) claim cs)) (sym after) done.0) in
     (new_kept, c.do_step.ensures.room)
 
@@ -56,17 +56,17 @@ returns-clause-after c =
     let name = c.args.name.now in
     let connection = c.args.connection in
     let flags = c.args.flags in
-    let kept = c.self.invariant.0 in
+    let kept_slot = c.self.invariant.0 in
     let plan = c.in_ok-plan.plan in
     let plan_is : IsPlan cs ss name connection flags plan = subst (λ l. IsPlan cs l name connection flags plan) c.as_slice-2.ensures.value (subst (λ l. IsPlan l c.as_slice-2.result.now name connection flags plan) c.as_slice.ensures.value c.in_ok-plan.ensures) in
     let slot = plan.slot in
     let claim = claim_at slot connection flags in
-    let told = next_tells cs ss kept.placed name slot plan_is.slot_is in
+    let evidence = next_tells cs ss kept_slot.placed name slot plan_is.slot_is in
     let rules = rules_of name ss in
-    let rules_is : c.rules_at-rules.result ≡ rules = c.rules_at-rules.ensures ∙ ap (λ l. rules_at (slice_get l slot)) c.as_slice-3.ensures.value ∙ sym told.2 in
+    let rules_is : c.rules_at-rules.result ≡ rules = c.rules_at-rules.ensures ∙ ap (λ l. rules_at (slice_get l slot)) c.as_slice-3.ensures.value ∙ sym evidence.2 in
     let after : c.hold.new.slots.items ≡ held_slots ss slot name rules = c.hold.ensures.slots ∙ ap (held_slots ss slot name) rules_is in
     let step : c.do_step.new.claims.items ≡ step_done (step_for claim cs) claim cs = c.do_step.ensures.claims ∙ ap (λ (s : Step). step_done s claim cs) plan_is.step_is in
-    let done = request_done cs ss kept claim name rules plan_is.slot_is (subst (λ (s : Step). length (step_done s claim cs) ≤ max_claims) plan_is.step_is plan_is.fits) in
+    let done = request_done cs ss kept_slot claim name rules plan_is.slot_is (subst (λ (s : Step). length (step_done s claim cs) ≤ max_claims) plan_is.step_is plan_is.fits) in
     let new_kept : IsKept c.do_step.new.claims.items c.hold.new.slots.items = subst (λ l. IsKept l c.hold.new.slots.items) (sym step) (subst (IsKept (step_done (step_for claim cs) claim cs)) (sym after) done.0) in
     ap (λ l. registry l c.hold.new.slots.items) step ∙ ap (registry (step_done (step_for claim cs) claim cs)) after ∙ done.1
     ∙ sym (request_after name connection flags (registry cs ss) plan.named plan_is.answer)
@@ -79,16 +79,16 @@ returns-clause-registry c =
     let name = c.args.name.now in
     let connection = c.args.connection in
     let flags = c.args.flags in
-    let kept = c.self.invariant.0 in
+    let kept_slot = c.self.invariant.0 in
     let plan = c.in_ok-plan.plan in
     let plan_is : IsPlan cs ss name connection flags plan = subst (λ l. IsPlan cs l name connection flags plan) c.as_slice-2.ensures.value (subst (λ l. IsPlan l c.as_slice-2.result.now name connection flags plan) c.as_slice.ensures.value c.in_ok-plan.ensures) in
     let slot = plan.slot in
     let claim = claim_at slot connection flags in
-    let told = next_tells cs ss kept.placed name slot plan_is.slot_is in
+    let evidence = next_tells cs ss kept_slot.placed name slot plan_is.slot_is in
     let rules = rules_of name ss in
-    let rules_is : c.rules_at-rules.result ≡ rules = c.rules_at-rules.ensures ∙ ap (λ l. rules_at (slice_get l slot)) c.as_slice-3.ensures.value ∙ sym told.2 in
+    let rules_is : c.rules_at-rules.result ≡ rules = c.rules_at-rules.ensures ∙ ap (λ l. rules_at (slice_get l slot)) c.as_slice-3.ensures.value ∙ sym evidence.2 in
     let after : c.hold.new.slots.items ≡ held_slots ss slot name rules = c.hold.ensures.slots ∙ ap (held_slots ss slot name) rules_is in
     let step : c.do_step.new.claims.items ≡ step_done (step_for claim cs) claim cs = c.do_step.ensures.claims ∙ ap (λ (s : Step). step_done s claim cs) plan_is.step_is in
-    let done = request_done cs ss kept claim name rules plan_is.slot_is (subst (λ (s : Step). length (step_done s claim cs) ≤ max_claims) plan_is.step_is plan_is.fits) in
+    let done = request_done cs ss kept_slot claim name rules plan_is.slot_is (subst (λ (s : Step). length (step_done s claim cs) ≤ max_claims) plan_is.step_is plan_is.fits) in
     let new_kept : IsKept c.do_step.new.claims.items c.hold.new.slots.items = subst (λ l. IsKept l c.hold.new.slots.items) (sym step) (subst (IsKept (step_done (step_for claim cs) claim cs)) (sym after) done.0) in
     kept_is_registry c.do_step.new.claims.items c.hold.new.slots.items new_kept

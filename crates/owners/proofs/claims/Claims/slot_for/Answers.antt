@@ -15,11 +15,11 @@ overflow_add-rules c =
     let cs = c.self.inside.claims.items in
     let ss = c.self.inside.slots.items in
     let name = c.args.name.now in
-    let kept = c.self.invariant.0 in
+    let kept_slot = c.self.invariant.0 in
     let slot = c.in-Some.slot in
     let next : slot_next name ss ≡ Some slot = sym (c.in-Some.ensures ∙ ap (λ t. slot_next t c.as_slice.result.now) c.as_str.ensures ∙ ap (slot_next name) c.as_slice.ensures.value) in
-    let told = next_tells cs ss kept.placed name slot next in
-    let rules_is : c.rules_at-rules.result ≡ rules_of name ss = c.rules_at-rules.ensures ∙ ap (λ l. rules_at (slice_get l slot)) c.as_slice-2.ensures.value ∙ sym told.2 in
+    let evidence = next_tells cs ss kept_slot.placed name slot next in
+    let rules_is : c.rules_at-rules.result ≡ rules_of name ss = c.rules_at-rules.ensures ∙ ap (λ l. rules_at (slice_get l slot)) c.as_slice-2.ensures.value ∙ sym evidence.2 in
     let bound : rules_of name ss ≡ rules_of name c.args.self.now.slots = ap (λ (r : Registry). rules_of name r.slots) c.self.view_is in
     omega (arith, c.requires)
 
@@ -28,25 +28,25 @@ hold-requires c =
     let cs = c.self.inside.claims.items in
     let ss = c.self.inside.slots.items in
     let name = c.args.name.now in
-    let kept = c.self.invariant.0 in
+    let kept_slot = c.self.invariant.0 in
     let slot = c.in-Some.slot in
     let next : slot_next name ss ≡ Some slot = sym (c.in-Some.ensures ∙ ap (λ t. slot_next t c.as_slice.result.now) c.as_str.ensures ∙ ap (slot_next name) c.as_slice.ensures.value) in
-    let told = next_tells cs ss kept.placed name slot next in
-    told.1
+    let evidence = next_tells cs ss kept_slot.placed name slot next in
+    evidence.1
 
 pub invariant_of-self : goal.invariant_of-self
 invariant_of-self c =
     let cs = c.self.inside.claims.items in
     let ss = c.self.inside.slots.items in
     let name = c.args.name.now in
-    let kept = c.self.invariant.0 in
+    let kept_slot = c.self.invariant.0 in
     let slot = c.in-Some.slot in
     let next : slot_next name ss ≡ Some slot = sym (c.in-Some.ensures ∙ ap (λ t. slot_next t c.as_slice.result.now) c.as_str.ensures ∙ ap (slot_next name) c.as_slice.ensures.value) in
-    let told = next_tells cs ss kept.placed name slot next in
+    let evidence = next_tells cs ss kept_slot.placed name slot next in
     let rules = rules_at (slice_get ss slot) in
     let rules_is : c.rules_at-rules.result ≡ rules = c.rules_at-rules.ensures ∙ ap (λ l. rules_at (slice_get l slot)) c.as_slice-2.ensures.value in
     let after : c.hold.new.slots.items ≡ held_slots ss slot name (rules + 1) = c.hold.ensures.slots ∙ ap (λ n. held_slots ss slot name (n + 1)) rules_is in
-    let done = slot_for_done cs ss kept slot name next in
+    let done = slot_for_done cs ss kept_slot slot name next in
     (subst (IsKept cs) (sym after) done.0, c.self.invariant.1)
 
 pub returns-clause-after : goal.returns-clause-after
@@ -54,14 +54,14 @@ returns-clause-after c =
     let cs = c.self.inside.claims.items in
     let ss = c.self.inside.slots.items in
     let name = c.args.name.now in
-    let kept = c.self.invariant.0 in
+    let kept_slot = c.self.invariant.0 in
     let slot = c.in-Some.slot in
     let next : slot_next name ss ≡ Some slot = sym (c.in-Some.ensures ∙ ap (λ t. slot_next t c.as_slice.result.now) c.as_str.ensures ∙ ap (slot_next name) c.as_slice.ensures.value) in
-    let told = next_tells cs ss kept.placed name slot next in
+    let evidence = next_tells cs ss kept_slot.placed name slot next in
     let rules = rules_at (slice_get ss slot) in
     let rules_is : c.rules_at-rules.result ≡ rules = c.rules_at-rules.ensures ∙ ap (λ l. rules_at (slice_get l slot)) c.as_slice-2.ensures.value in
     let after : c.hold.new.slots.items ≡ held_slots ss slot name (rules + 1) = c.hold.ensures.slots ∙ ap (λ n. held_slots ss slot name (n + 1)) rules_is in
-    let done = slot_for_done cs ss kept slot name next in
+    let done = slot_for_done cs ss kept_slot slot name next in
     ap (registry cs) after ∙ done.1 ∙ ap (after_slot_for name) c.self.view_is
 
 pub returns-clause-registry : goal.returns-clause-registry
@@ -69,12 +69,12 @@ returns-clause-registry c =
     let cs = c.self.inside.claims.items in
     let ss = c.self.inside.slots.items in
     let name = c.args.name.now in
-    let kept = c.self.invariant.0 in
+    let kept_slot = c.self.invariant.0 in
     let slot = c.in-Some.slot in
     let next : slot_next name ss ≡ Some slot = sym (c.in-Some.ensures ∙ ap (λ t. slot_next t c.as_slice.result.now) c.as_str.ensures ∙ ap (slot_next name) c.as_slice.ensures.value) in
-    let told = next_tells cs ss kept.placed name slot next in
+    let evidence = next_tells cs ss kept_slot.placed name slot next in
     let rules = rules_at (slice_get ss slot) in
     let rules_is : c.rules_at-rules.result ≡ rules = c.rules_at-rules.ensures ∙ ap (λ l. rules_at (slice_get l slot)) c.as_slice-2.ensures.value in
     let after : c.hold.new.slots.items ≡ held_slots ss slot name (rules + 1) = c.hold.ensures.slots ∙ ap (λ n. held_slots ss slot name (n + 1)) rules_is in
-    let done = slot_for_done cs ss kept slot name next in
+    let done = slot_for_done cs ss kept_slot slot name next in
     kept_is_registry cs c.hold.new.slots.items (subst (IsKept cs) (sym after) done.0)

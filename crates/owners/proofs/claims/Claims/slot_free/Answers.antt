@@ -15,52 +15,52 @@ overflow_sub-rules c =
     let cs = c.self.inside.claims.items in
     let ss = c.self.inside.slots.items in
     let name = c.args.name.now in
-    let kept = c.self.invariant.0 in
+    let kept_slot = c.self.invariant.0 in
     let slot = c.known_slot-slot.result in
     let slot_is : slot ≡ unwrap_or (slot_of name ss) no_slot_number = c.known_slot-slot.ensures ∙ ap (λ t. unwrap_or (slot_of t c.as_slice.result.now) no_slot_number) c.as_str.ensures ∙ ap (λ l. unwrap_or (slot_of name l) no_slot_number) c.as_slice.ensures.value in
     let asked : rules_of name c.args.self.now.slots ≡ rules_of name ss = ap (λ (r : Registry). rules_of name r.slots) (sym c.self.view_is) in
     let has_rules : 0 < rules_of name ss = omega (arith, c.requires) in
     let next : slot_next name ss ≡ Some slot = known_is_next ss name slot slot_is has_rules in
-    let told = next_tells cs ss kept.placed name slot next in
+    let evidence = next_tells cs ss kept_slot.placed name slot next in
     let rules = rules_at (slice_get ss slot) in
     let rules_is : c.rules_at-rules.result ≡ rules = c.rules_at-rules.ensures ∙ ap (λ l. rules_at (slice_get l slot)) c.as_slice-2.ensures.value in
-    omega (arith, told.2)
+    omega (arith, evidence.2)
 
 pub hold-requires : goal.hold-requires
 hold-requires c =
     let cs = c.self.inside.claims.items in
     let ss = c.self.inside.slots.items in
     let name = c.args.name.now in
-    let kept = c.self.invariant.0 in
+    let kept_slot = c.self.invariant.0 in
     let slot = c.known_slot-slot.result in
     let slot_is : slot ≡ unwrap_or (slot_of name ss) no_slot_number = c.known_slot-slot.ensures ∙ ap (λ t. unwrap_or (slot_of t c.as_slice.result.now) no_slot_number) c.as_str.ensures ∙ ap (λ l. unwrap_or (slot_of name l) no_slot_number) c.as_slice.ensures.value in
     let asked : rules_of name c.args.self.now.slots ≡ rules_of name ss = ap (λ (r : Registry). rules_of name r.slots) (sym c.self.view_is) in
     let has_rules : 0 < rules_of name ss = omega (arith, c.requires) in
     let next : slot_next name ss ≡ Some slot = known_is_next ss name slot slot_is has_rules in
-    let told = next_tells cs ss kept.placed name slot next in
+    let evidence = next_tells cs ss kept_slot.placed name slot next in
     let rules = rules_at (slice_get ss slot) in
     let rules_is : c.rules_at-rules.result ≡ rules = c.rules_at-rules.ensures ∙ ap (λ l. rules_at (slice_get l slot)) c.as_slice-2.ensures.value in
-    told.1
+    evidence.1
 
 pub claimed_slots-claimed-requires : goal.claimed_slots-claimed-requires
 claimed_slots-claimed-requires c =
     let cs = c.self.inside.claims.items in
     let ss = c.self.inside.slots.items in
-    let kept = c.self.invariant.0 in
-    ap are_slots c.as_slice-3.ensures.value ∙ slots_fit ss kept.placed.count cs (each_held cs ss kept.placed.held)
+    let kept_slot = c.self.invariant.0 in
+    ap are_slots c.as_slice-3.ensures.value ∙ slots_fit ss kept_slot.placed.count cs (each_held cs ss kept_slot.placed.held)
 
 pub invariant_of-self : goal.invariant_of-self
 invariant_of-self c =
     let cs = c.self.inside.claims.items in
     let ss = c.self.inside.slots.items in
     let name = c.args.name.now in
-    let kept = c.self.invariant.0 in
+    let kept_slot = c.self.invariant.0 in
     let slot = c.known_slot-slot.result in
     let slot_is : slot ≡ unwrap_or (slot_of name ss) no_slot_number = c.known_slot-slot.ensures ∙ ap (λ t. unwrap_or (slot_of t c.as_slice.result.now) no_slot_number) c.as_str.ensures ∙ ap (λ l. unwrap_or (slot_of name l) no_slot_number) c.as_slice.ensures.value in
     let asked : rules_of name c.args.self.now.slots ≡ rules_of name ss = ap (λ (r : Registry). rules_of name r.slots) (sym c.self.view_is) in
     let has_rules : 0 < rules_of name ss = omega (arith, c.requires) in
     let next : slot_next name ss ≡ Some slot = known_is_next ss name slot slot_is has_rules in
-    let told = next_tells cs ss kept.placed name slot next in
+    let evidence = next_tells cs ss kept_slot.placed name slot next in
     let rules = rules_at (slice_get ss slot) in
     let rules_is : c.rules_at-rules.result ≡ rules = c.rules_at-rules.ensures ∙ ap (λ l. rules_at (slice_get l slot)) c.as_slice-2.ensures.value in
     let between = held_slots ss slot name (rules - 1) in
@@ -69,8 +69,8 @@ invariant_of-self c =
     let gone : AreLetGo cs between c.let_go.new.slots.items = let_go_by cs between c.let_go.new.slots.items (has_slot c.claimed_slots-claimed.result)
     (c.let_go.ensures.size ∙ ap length slots_is)
     (λ k. c.claimed_slots-claimed.ensures k ∙ ap (list_any (is_on_slot k)) c.as_slice-3.ensures.value)
-    (λ k. c.let_go.ensures.kept k ∙ ap (λ l. kept_at (has_slot c.claimed_slots-claimed.result k) (slice_get l k)) slots_is) in
-    let done = slot_free_done cs ss c.let_go.new.slots.items kept slot name next gone in
+    (λ k. c.let_go.ensures.kept_slot k ∙ ap (λ l. kept_at (has_slot c.claimed_slots-claimed.result k) (slice_get l k)) slots_is) in
+    let done = slot_free_done cs ss c.let_go.new.slots.items kept_slot slot name next gone in
     (done.0, c.self.invariant.1)
 
 pub returns-clause-after : goal.returns-clause-after
@@ -78,13 +78,13 @@ returns-clause-after c =
     let cs = c.self.inside.claims.items in
     let ss = c.self.inside.slots.items in
     let name = c.args.name.now in
-    let kept = c.self.invariant.0 in
+    let kept_slot = c.self.invariant.0 in
     let slot = c.known_slot-slot.result in
     let slot_is : slot ≡ unwrap_or (slot_of name ss) no_slot_number = c.known_slot-slot.ensures ∙ ap (λ t. unwrap_or (slot_of t c.as_slice.result.now) no_slot_number) c.as_str.ensures ∙ ap (λ l. unwrap_or (slot_of name l) no_slot_number) c.as_slice.ensures.value in
     let asked : rules_of name c.args.self.now.slots ≡ rules_of name ss = ap (λ (r : Registry). rules_of name r.slots) (sym c.self.view_is) in
     let has_rules : 0 < rules_of name ss = omega (arith, c.requires) in
     let next : slot_next name ss ≡ Some slot = known_is_next ss name slot slot_is has_rules in
-    let told = next_tells cs ss kept.placed name slot next in
+    let evidence = next_tells cs ss kept_slot.placed name slot next in
     let rules = rules_at (slice_get ss slot) in
     let rules_is : c.rules_at-rules.result ≡ rules = c.rules_at-rules.ensures ∙ ap (λ l. rules_at (slice_get l slot)) c.as_slice-2.ensures.value in
     let between = held_slots ss slot name (rules - 1) in
@@ -93,8 +93,8 @@ returns-clause-after c =
     let gone : AreLetGo cs between c.let_go.new.slots.items = let_go_by cs between c.let_go.new.slots.items (has_slot c.claimed_slots-claimed.result)
     (c.let_go.ensures.size ∙ ap length slots_is)
     (λ k. c.claimed_slots-claimed.ensures k ∙ ap (list_any (is_on_slot k)) c.as_slice-3.ensures.value)
-    (λ k. c.let_go.ensures.kept k ∙ ap (λ l. kept_at (has_slot c.claimed_slots-claimed.result k) (slice_get l k)) slots_is) in
-    let done = slot_free_done cs ss c.let_go.new.slots.items kept slot name next gone in
+    (λ k. c.let_go.ensures.kept_slot k ∙ ap (λ l. kept_at (has_slot c.claimed_slots-claimed.result k) (slice_get l k)) slots_is) in
+    let done = slot_free_done cs ss c.let_go.new.slots.items kept_slot slot name next gone in
     done.1 ∙ ap (after_slot_free name) c.self.view_is
 
 pub returns-clause-registry : goal.returns-clause-registry
@@ -102,13 +102,13 @@ returns-clause-registry c =
     let cs = c.self.inside.claims.items in
     let ss = c.self.inside.slots.items in
     let name = c.args.name.now in
-    let kept = c.self.invariant.0 in
+    let kept_slot = c.self.invariant.0 in
     let slot = c.known_slot-slot.result in
     let slot_is : slot ≡ unwrap_or (slot_of name ss) no_slot_number = c.known_slot-slot.ensures ∙ ap (λ t. unwrap_or (slot_of t c.as_slice.result.now) no_slot_number) c.as_str.ensures ∙ ap (λ l. unwrap_or (slot_of name l) no_slot_number) c.as_slice.ensures.value in
     let asked : rules_of name c.args.self.now.slots ≡ rules_of name ss = ap (λ (r : Registry). rules_of name r.slots) (sym c.self.view_is) in
     let has_rules : 0 < rules_of name ss = omega (arith, c.requires) in
     let next : slot_next name ss ≡ Some slot = known_is_next ss name slot slot_is has_rules in
-    let told = next_tells cs ss kept.placed name slot next in
+    let evidence = next_tells cs ss kept_slot.placed name slot next in
     let rules = rules_at (slice_get ss slot) in
     let rules_is : c.rules_at-rules.result ≡ rules = c.rules_at-rules.ensures ∙ ap (λ l. rules_at (slice_get l slot)) c.as_slice-2.ensures.value in
     let between = held_slots ss slot name (rules - 1) in
@@ -117,6 +117,6 @@ returns-clause-registry c =
     let gone : AreLetGo cs between c.let_go.new.slots.items = let_go_by cs between c.let_go.new.slots.items (has_slot c.claimed_slots-claimed.result)
     (c.let_go.ensures.size ∙ ap length slots_is)
     (λ k. c.claimed_slots-claimed.ensures k ∙ ap (list_any (is_on_slot k)) c.as_slice-3.ensures.value)
-    (λ k. c.let_go.ensures.kept k ∙ ap (λ l. kept_at (has_slot c.claimed_slots-claimed.result k) (slice_get l k)) slots_is) in
-    let done = slot_free_done cs ss c.let_go.new.slots.items kept slot name next gone in
+    (λ k. c.let_go.ensures.kept_slot k ∙ ap (λ l. kept_at (has_slot c.claimed_slots-claimed.result k) (slice_get l k)) slots_is) in
+    let done = slot_free_done cs ss c.let_go.new.slots.items kept_slot slot name next gone in
     kept_is_registry cs c.let_go.new.slots.items done.0

@@ -12,8 +12,8 @@ pub owned_slots-requires : goal.owned_slots-requires
 owned_slots-requires c =
     let cs = c.self.inside.claims.items in
     let ss = c.self.inside.slots.items in
-    let kept = c.self.invariant.0 in
-    ap are_slots c.as_slice.ensures.value ∙ slots_fit ss kept.placed.count cs (each_held cs ss kept.placed.held)
+    let kept_slot = c.self.invariant.0 in
+    ap are_slots c.as_slice.ensures.value ∙ slots_fit ss kept_slot.placed.count cs (each_held cs ss kept_slot.placed.held)
 
 pub returns-clause-owned : goal.returns-clause-owned
 returns-clause-owned c = λ k.

@@ -20,17 +20,17 @@ count_in-requires g c =
     let v = c.args.pass.now in
     let b = c.args.self.now in
     let n = c.connection-connection.result in
-    let told = told_self v b c.requires.ready in
+    let told_history = told_self v b c.requires.ready in
     let count = counted_at v b n c.connection-connection.ensures c.requires.ready in
     let said = c.in-Ok.ensures.reply ∙ ap (λ (p : Publication g.row.M.Denot). reply_to (after p.history) c.args.command) c.self.view_is in
     let more = c.in-Ok.ensures.history ∙ ap (λ (p : Publication g.row.M.Denot). with_next p.history c.args.command) c.self.view_is in
     let gain : IsGained v b c.publish.new.self c.args.command = gained v b c.publish.new.self c.args.command (λ refusal e. c.in_default.not-Refused refusal (said ∙ e)) more (c.requires.own (after b.history)) in
     record {
-      begins = goes_on v v b.history c.front.result b c.publish.new.self c.args.command told gain c.front.ensures;
-      room = room v v b.history b c.publish.new.self n v.took c.args.command told count gain;
+      begins = goes_on v v b.history c.front.result b c.publish.new.self c.args.command told_history gain c.front.ensures;
+      room = room v v b.history b c.publish.new.self n v.took c.args.command told_history count gain;
       number = count.there;
       same = inr c.connection-connection.ensures;
-      own = one_more v v b.history c.front.result b c.publish.new.self n v.took c.args.command told count gain c.front.ensures;
+      own = one_more v v b.history c.front.result b c.publish.new.self n v.took c.args.command told_history count gain c.front.ensures;
     }
 
 pub returns : goal.returns
@@ -38,12 +38,12 @@ returns g c =
     let v = c.args.pass.now in
     let b = c.args.self.now in
     let n = c.connection-connection.result in
-    let told = told_self v b c.requires.ready in
+    let told_history = told_self v b c.requires.ready in
     let count = counted_at v b n c.connection-connection.ensures c.requires.ready in
     let said = c.in-Ok.ensures.reply ∙ ap (λ (p : Publication g.row.M.Denot). reply_to (after p.history) c.args.command) c.self.view_is in
     let more = c.in-Ok.ensures.history ∙ ap (λ (p : Publication g.row.M.Denot). with_next p.history c.args.command) c.self.view_is in
     let gain : IsGained v b c.publish.new.self c.args.command = gained v b c.publish.new.self c.args.command (λ refusal e. c.in_default.not-Refused refusal (said ∙ e)) more (c.requires.own (after b.history)) in (
-      finished v v c.count_in.new.self b.history c.front.result b c.publish.new.self n v.took c.args.command c.in-Ok.reply told count gain c.front.ensures said c.count_in.ensures,
+      finished v v c.count_in.new.self b.history c.front.result b c.publish.new.self n v.took c.args.command c.in-Ok.reply told_history count gain c.front.ensures said c.count_in.ensures,
       ap (λ (p : PassState g.row.M.Denot). p.connection) c.count_in.ensures ∙ c.connection-connection.ensures,
       ap (λ (p : PassState g.row.M.Denot). p.is_closed) c.count_in.ensures ∙ c.requires.ready.admitted.open_still,
     )

@@ -1,5 +1,6 @@
 use Rattle.std.proofs.Common.{refl}
-use Rattle.passes.specs.Passes.{PassState, count_in, stops_in}
+use Rattle.passes.specs.Passes.{PassState}
+use Rattle.passes.specs.Sending.{count_in, stops_in}
 use Rattle.passes.proofs.Done.{still_taken, seen_more}
 use Rattle.passes.proofs.pass.Pass.look_for_mailboxes.Goals as goal
 

@@ -7,7 +7,7 @@ use Rattle.program_table.specs.ConnectionList.{ConnectionList}
 use Rattle.program_table.specs.Registrations.{Registrations, without_entry, with_request, without_claim}
 use Rattle.program_table.specs.State.{State}
 use Rattle.program_table.specs.Answers.{oldest_with, request_answer}
-use Rattle.program_table.specs.Does.{max_commands, is_accepted, changed, closed, effect}
+use Rattle.program_table.specs.Does.{max_commands, is_accepted, with_registrations, close_state, effect}
 use Rattle.program_table.proofs.Counting.{counts_connected, counts_closed}
 use Rattle.program_table.proofs.OfConnections.{connected_theirs, closed_theirs, removed_theirs, requested_theirs, released_theirs, accepted_there}
 use Rattle.program_table.proofs.state.BusState.perform.Goals as goal
@@ -65,27 +65,27 @@ invariant_of-self-in-DropOne g c = rw c.drop_one.ensures (
 pub returns-in-Detach-clause-done : goal.returns-in-Detach-clause-done
 returns-in-Detach-clause-done g c =
     c.count-in-Detach.ensures
-    ∙ ap (λ (r : Registrations). changed c.in-Detach.connection (state_of c.self-in-Detach.inside.commands c.self-in-Detach.inside.connections r) r) c.remove_entry.ensures
-    ∙ ap (λ (s : State _). changed c.in-Detach.connection s (without_entry c.in-Detach.connection (Some c.in-Detach.id) s.registrations)) c.self-in-Detach.view_is
+    ∙ ap (λ (r : Registrations). with_registrations c.in-Detach.connection (state_of c.self-in-Detach.inside.commands c.self-in-Detach.inside.connections r) r) c.remove_entry.ensures
+    ∙ ap (λ (s : State _). with_registrations c.in-Detach.connection s (without_entry c.in-Detach.connection (Some c.in-Detach.id) s.registrations)) c.self-in-Detach.view_is
     ∙ ap (effect c.args.self.now) (sym c.in-Detach.is)
 
 pub returns-in-Request-clause-done : goal.returns-in-Request-clause-done
 returns-in-Request-clause-done g c =
     c.count-in-Request.ensures
-    ∙ ap (λ (r : Registrations). changed c.in-Request.connection (state_of c.self-in-Request.inside.commands c.self-in-Request.inside.connections r) r) c.request.ensures
-    ∙ ap (λ (s : State _). changed c.in-Request.connection s (with_request c.in-Request.name c.in-Request.connection c.in-Request.flags s.registrations)) c.self-in-Request.view_is
+    ∙ ap (λ (r : Registrations). with_registrations c.in-Request.connection (state_of c.self-in-Request.inside.commands c.self-in-Request.inside.connections r) r) c.request.ensures
+    ∙ ap (λ (s : State _). with_registrations c.in-Request.connection s (with_request c.in-Request.name c.in-Request.connection c.in-Request.flags s.registrations)) c.self-in-Request.view_is
     ∙ ap (effect c.args.self.now) (sym c.in-Request.is)
 
 pub returns-in-Release-clause-done : goal.returns-in-Release-clause-done
 returns-in-Release-clause-done g c =
     c.count-in-Release.ensures
-    ∙ ap (λ (r : Registrations). changed c.in-Release.connection (state_of c.self-in-Release.inside.commands c.self-in-Release.inside.connections r) r) c.release.ensures
-    ∙ ap (λ (s : State _). changed c.in-Release.connection s (without_claim c.in-Release.connection (Some c.in-Release.name) s.registrations)) c.self-in-Release.view_is
+    ∙ ap (λ (r : Registrations). with_registrations c.in-Release.connection (state_of c.self-in-Release.inside.commands c.self-in-Release.inside.connections r) r) c.release.ensures
+    ∙ ap (λ (s : State _). with_registrations c.in-Release.connection s (without_claim c.in-Release.connection (Some c.in-Release.name) s.registrations)) c.self-in-Release.view_is
     ∙ ap (effect c.args.self.now) (sym c.in-Release.is)
 
 pub returns-in-Close-clause-done : goal.returns-in-Close-clause-done
 returns-in-Close-clause-done g c =
     ap (λ (l : ConnectionList _). state_of (c.self-in-Close.inside.commands + 1) l c.close.new.self) c.remove.ensures
     ∙ ap (λ (r : Registrations). state_of (c.self-in-Close.inside.commands + 1) (record c.self-in-Close.inside.connections { connections = without_connection c.in-Close.connection c.self-in-Close.inside.connections.connections }) r) c.close.ensures
-    ∙ ap (closed c.in-Close.connection) c.self-in-Close.view_is
+    ∙ ap (close_state c.in-Close.connection) c.self-in-Close.view_is
     ∙ ap (effect c.args.self.now) (sym c.in-Close.is)

@@ -1,6 +1,6 @@
 use Rattle.std.proofs.Common.{◌≡◌, ◌+◌, length, Option, Some, subst, arith}
 use Rattle.program_table.specs.declared.command.Command.{Command}
-use Rattle.published.specs.Publishing.{EndsWith}
+use Rattle.published.specs.Steps.{EndsWith}
 use Rattle.published.proofs.Entries.{next_one, after_next}
 use Rattle.published.proofs.shown.ShownAbsorbEntry.absorb_first.Goals as goal
 

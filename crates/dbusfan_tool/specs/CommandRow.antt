@@ -1,0 +1,90 @@
+-- The rows of the command line, and the words that spell them (own). A word is its bytes.
+use Rattle.std.specs.Prelude.{◌≡◌, ℕ, nat_lt, ◌==◌, ◌&&◌, Bool, true, false, List, [], ◌∷◌, length, map, slice_index, codes, Option, Some, None, unwrap_or}
+use Rattle.std.specs.Borrow.{Bor}
+use Rattle.std.specs.Str.{bytes_eq}
+use Rattle.summary.specs.declared.edition.Edition.{Edition}
+use Rattle.summary.specs.declared.edition.Edition.TheVariants.{One, Two}
+
+-- what words are
+abbrev pub texts : List (Bor (List ℕ)) → List (List ℕ)
+texts words = map (λ (word : Bor (List ℕ)). word.now) words
+
+-- `match`
+abbrev pub match_word : List ℕ
+match_word = codes "match"
+
+-- `asm`
+abbrev pub asm_word : List ℕ
+asm_word = codes "asm"
+
+-- `check`
+abbrev pub check_word : List ℕ
+check_word = codes "check"
+
+-- `run`
+abbrev pub run_word : List ℕ
+run_word = codes "run"
+
+-- `compile`
+abbrev pub compile_word : List ℕ
+compile_word = codes "compile"
+
+-- `--owns`: the sender owns the rule's well-known name
+abbrev pub owns_word : List ℕ
+owns_word = codes "--owns"
+
+-- `--edition`: the next word says of which edition the image is
+abbrev pub edition_word : List ℕ
+edition_word = codes "--edition"
+
+-- the word of an edition
+abbrev pub word_of_edition : Edition → List ℕ
+word_of_edition One = codes "1"
+word_of_edition Two = codes "2"
+
+-- `--`, after which no word is an option
+abbrev pub end_word : List ℕ
+end_word = codes "--"
+
+-- a word that begins with `-` is an option, but for a lone `-`
+abbrev pub is_option : List ℕ → Bool
+is_option word = nat_lt 1 (length word) && slice_index word 0 == 45
+
+-- a lone `-` is standard input
+abbrev pub is_input : List ℕ → Bool
+is_input word = bytes_eq word (codes "-")
+
+-- the options of a row: `--owns`, and an edition
+pub record Options : Type 0 where
+  pub owns : Bool
+  pub edition : Option Edition
+
+-- no option is given
+abbrev pub no_options : Options
+no_options = record { owns = false; edition = None }
+
+-- The options among the words after a command, and the words that are no options, in their order. An option may stand
+-- anywhere before `--`, and is given once at most.
+pub data Spells : Options → List (List ℕ) → List (List ℕ) → Type 0 where
+  nothing : Spells no_options [] []
+  ended : {words : List (List ℕ)} → Spells no_options words (end_word ∷ words)
+  named : {options : Options} {word : List ℕ} {names words : List (List ℕ)} → is_option word ≡ false → Spells options names words → Spells options (word ∷ names) (word ∷ words)
+  owned : {options : Options} {names words : List (List ℕ)} → options.owns ≡ false → Spells options names words → Spells (record options { owns = true }) names (owns_word ∷ words)
+  in_edition : {options : Options} {edition : Edition} {names words : List (List ℕ)} → options.edition ≡ None → Spells options names words → Spells (record options { edition = Some edition }) names (edition_word ∷ word_of_edition edition ∷ words)
+
+-- what a row of the command line asks for
+pub data Asked : Type 0 where
+  to_match : (rule file : List ℕ) (owns : Bool) → Asked
+  to_asm : (file : List ℕ) → Asked
+  to_check : (file : List ℕ) → Asked
+  to_compile : (rule : List ℕ) → Asked
+  to_run : (program file : List ℕ) (edition : Edition) → Asked
+
+-- `match RULE FILE [--owns]`, `asm FILE`, `check FILE`, `compile RULE`, `run PROGRAM FILE [--edition 1|2]`, whose
+-- edition is 1 where none is given, and one of whose files alone may be standard input
+pub data IsRow : Asked → List (List ℕ) → Type 0 where
+  match_row : {rule file : List ℕ} {owns : Bool} {words : List (List ℕ)} → Spells (record { owns = owns; edition = None }) (rule ∷ file ∷ []) words → IsRow (to_match rule file owns) (match_word ∷ words)
+  asm_row : {file : List ℕ} {words : List (List ℕ)} → Spells no_options (file ∷ []) words → IsRow (to_asm file) (asm_word ∷ words)
+  check_row : {file : List ℕ} {words : List (List ℕ)} → Spells no_options (file ∷ []) words → IsRow (to_check file) (check_word ∷ words)
+  compile_row : {rule : List ℕ} {words : List (List ℕ)} → Spells no_options (rule ∷ []) words → IsRow (to_compile rule) (compile_word ∷ words)
+  run_row : {program file : List ℕ} {option : Option Edition} {words : List (List ℕ)} → is_input program && is_input file ≡ false → Spells (record { owns = false; edition = option }) (program ∷ file ∷ []) words → IsRow (to_run program file (unwrap_or option One)) (run_word ∷ words)

@@ -1,0 +1,5 @@
+-- Lists of bytes (own).
+use Rattle.std.specs.Prelude.{ℕ, ◌<◌, List, slice_index}
+
+abbrev pub AreBytes : List ℕ → Type 0
+AreBytes bytes = (i : ℕ) → slice_index bytes i < 256

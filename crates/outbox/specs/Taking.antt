@@ -1,0 +1,9 @@
+-- Inner: the step of a seat that takes an item.
+use Rattle.std.specs.Prelude.{◌≡◌, ℕ, [], ◌∷◌, ◌++◌}
+use Rattle.outbox.specs.declared.rule.Item.{Item}
+use Rattle.outbox.specs.declared.rule.SeatView.{SeatView}
+use Rattle.outbox.specs.Counts.{InOrder}
+
+-- the list taken is longer by this item, which some seat put, and in order
+abbrev pub TakesNext : SeatView → Item → SeatView → Type 0
+TakesNext v x w = (seat : ℕ) × (w ≡ record { origin = v.origin; last = v.last; taken = v.taken ++ (seat, x) ∷ [] }) × InOrder w.taken

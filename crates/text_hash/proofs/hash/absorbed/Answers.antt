@@ -1,7 +1,0 @@
-use Rattle.std.proofs.Common.{◌*◌, ◌%◌, ◌∙◌, ap}
-use Rattle.text_hash.specs.Hashes.{prime, absorbed}
-use Rattle.text_hash.proofs.hash.absorbed.Goals as goal
-
-pub returns-clause-value : goal.returns-clause-value
-unfolding absorbed
-returns-clause-value c = c.product.ensures ∙ ap (λ n. n * c.args.point % prime) c.below_twice.ensures
