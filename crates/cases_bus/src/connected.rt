@@ -26,7 +26,7 @@ pub(crate) struct Connected<'a, J: Naming, R: Wait> {
     // The open ones, by the connection's number.
     passes: BTreeMap<u64, Pass<J, ()>>,
     // The pass that was closed last.
-    closed_stop: Option<Pass<J, ()>>,
+    closed: Option<Pass<J, ()>>,
     // The last connection's number, 0 before the first.
     last: u64,
     jobs: Jobs,
@@ -40,7 +40,7 @@ impl<'a, J: Naming, R: Wait> Connected<'a, J, R> {
             alloc,
             bus,
             passes: BTreeMap::new(alloc),
-            closed_stop: None,
+            closed: None,
             last: 0,
             jobs: Jobs::new(alloc),
         }
@@ -84,7 +84,7 @@ impl<'a, J: Naming, R: Wait> Connected<'a, J, R> {
         if connection == 0 || connection > self.last {
             return Err(Stop::closed_stop());
         }
-        match &mut self.closed_stop {
+        match &mut self.closed {
             Some(pass) => call(self.rt, self.alloc, &self.bus, pass, event),
             None => Err(Stop::closed_stop()),
         }
@@ -110,10 +110,10 @@ impl<'a, J: Naming, R: Wait> Connected<'a, J, R> {
     /// Keeps a pass that was closed, and gives back the one that was closed before it, so that a new connection gets
     /// its reader.
     fn keep_closed(&mut self, pass: Pass<J, ()>) {
-        if let Some(before) = self.closed_stop.take() {
+        if let Some(before) = self.closed.take() {
             give_back(self.rt, &self.bus, before);
         }
-        self.closed_stop = Some(pass);
+        self.closed = Some(pass);
     }
 
     /// Begins the job of this number with those who get a message now.
@@ -161,7 +161,7 @@ impl<'a, J: Naming, R: Wait> Connected<'a, J, R> {
     }
 
     fn recipients_by_closed(&mut self, bytes: &[u8]) -> Result<Recipients, Stop> {
-        match &mut self.closed_stop {
+        match &mut self.closed {
             Some(pass) => recipients(pass, Source::Bus, bytes),
             None => Err(Stop::closed_stop()),
         }

@@ -19,7 +19,7 @@ use Rattle.rule_compile.specs.Compiled.{AgreeOn, IsCompiled, IsRefusal}
 use Rattle.dbusfan_tool.specs.declared.fault.Fault.{Fault}
 use Rattle.dbusfan_tool.specs.declared.fault.Fault.TheVariants.{Memory}
 use Rattle.dbusfan_tool.specs.Fault.{fault_of_rule, fault_of_compile, fault_of_code}
-use Rattle.dbusfan_tool.specs.Compiling.{Compiles, no_rule, too_long, compile_text, slot_for}
+use Rattle.dbusfan_tool.specs.Compiling.{Compiles, no_rule, too_long, compiled, slot_for}
 use Rattle.dbusfan_tool.proofs.UnusedFields.{ends_as_before, accepted_as_before}
 use Rattle.dbusfan_tool.proofs.AcceptedTexts.{only_memory}
 
@@ -58,5 +58,5 @@ module _ (rule : List ℕ) where
   -- the program that the text names does what the compiled one does
   pub of_text : (tree : RuleTree) (text : List ℕ) (program : List Ins) → ReadsAs rule tree → SourceText text (with_unused_zero program) → WellFormed program → IsCompiled tree (slot_for tree) program → Compiles rule (Ok text)
   of_text tree text program reads source fine is =
-      compile_text reads source (accepted_as_before program fine)
+      compiled reads source (accepted_as_before program fine)
       (λ bytes m slots owned v n valid set agrees ends. is bytes m slots owned v n valid set agrees (ends_as_before program _ v n ends))

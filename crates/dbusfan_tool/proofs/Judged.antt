@@ -84,7 +84,7 @@ module _ (made : List FileRead → Type 0) (rule file : List ℕ) (owns : Bool) 
     of_message_fault found error text bytes is gives spells fault = fails found _ is (inl (no_message reads gives spells fault))
 
     pub of_verdict : (program : List Ins) (text bytes : List ℕ) (m : Message) (slots image : List ℕ) (v n : ℕ) → IsCompiled tree (slot_for tree) program → made (one_read file (Some text)) → bytes_of_hex text ≡ Some bytes → Valid bytes m → IsSet slots → has_slot slots 0 ≡ owns → image ≡ image_bytes Two m slots → Ends program image v n → Finds (Ok (not (eqb v 0)))
-    of_verdict program text bytes m slots image v n compile_text gives spells valid set has is ends =
+    of_verdict program text bytes m slots image v n compiled gives spells valid set has is ends =
         let ends : Ends program (image_bytes Two m slots) v n = subst (λ (bytes : List ℕ). Ends program bytes v n) is ends in
-        let holds = compile_text bytes m slots (λ name. owns) v n valid set (agree tree (sender_name_of tree) owns slots refl has) ends in
+        let holds = compiled bytes m slots (λ name. owns) v n valid set (agree tree (sender_name_of tree) owns slots refl has) ends in
         inl (judged reads gives spells valid (λ is. holds.0 ((nonzero v).0 is), λ is. (nonzero v).1 (holds.1 is)))

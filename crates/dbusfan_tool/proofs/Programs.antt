@@ -12,11 +12,11 @@ use Rattle.dbusfan_tool.specs.declared.files.FileError.{FileError}
 use Rattle.dbusfan_tool.specs.declared.files.FileError.TheVariants as of_file
 use Rattle.dbusfan_tool.specs.Fault.{fault_of_code, fault_of_file}
 use Rattle.dbusfan_tool.specs.Files.{ReadsFile}
-use Rattle.dbusfan_tool.specs.Program.{Assembles, no_file, no_code, assemble_file, Checks, no_program, verified_file}
+use Rattle.dbusfan_tool.specs.Program.{Assembles, no_file, no_code, assembled, Checks, no_program, accepted}
 
 -- a program that is assembled from what a file gave, where what the file gave is said in another way
 pub assembled_as : {gave gives : Option (List ℕ) → Type 0} {program : List Ins} → ((content_read : Option (List ℕ)) → gave content_read → gives content_read) → Assembles gave (Ok program) → Assembles gives (Ok program)
-assembled_as as_well (assemble_file {text} content_read source) = assemble_file (as_well (Some text) content_read) source
+assembled_as as_well (assembled {text} content_read source) = assembled (as_well (Some text) content_read) source
 
 module _ (gave : Option (List ℕ) → Type 0) where
   abbrev Fails : Fault → Type 0
@@ -61,4 +61,4 @@ module _ (gave : Option (List ℕ) → Type 0) where
       (subst (λ (code : List Ins). Assembles gave (Ok code)) (sym same) reads, subst WellFormed (sym same) fine)
 
   pub counts : (code verified : List Ins) → code ≡ verified → Assembles gave (Ok verified) → WellFormed verified → Checks gave (Ok (length code))
-  counts code verified lent reads fine = subst (λ (code : List Ins). Checks gave (Ok (length code))) (sym lent) (verified_file reads fine)
+  counts code verified lent reads fine = subst (λ (code : List Ins). Checks gave (Ok (length code))) (sym lent) (accepted reads fine)

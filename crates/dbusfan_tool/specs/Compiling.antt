@@ -22,4 +22,4 @@ slot_for rule = option_map (λ name. 0) (sender_name_of rule)
 pub data Compiles (rule : List ℕ) : Result (List ℕ) Fault → Type 0 where
   no_rule : {fault : RuleError} → rule_at rule ≡ Err fault → Compiles rule (Err (Rule fault))
   too_long : {tree : RuleTree} → ReadsAs rule tree → 4096 < weight_of tree → Compiles rule (Err (Rule TooLong))
-  compile_text : {tree : RuleTree} {text : List ℕ} {program : List Ins} → ReadsAs rule tree → SourceText text program → WellFormed program → IsCompiled tree (slot_for tree) program → Compiles rule (Ok text)
+  compiled : {tree : RuleTree} {text : List ℕ} {program : List Ins} → ReadsAs rule tree → SourceText text program → WellFormed program → IsCompiled tree (slot_for tree) program → Compiles rule (Ok text)

@@ -15,10 +15,10 @@ use Rattle.dbusfan_tool.specs.declared.fault.Fault.TheVariants.{Code, Program, F
 pub data Assembles (gave : Option (List ℕ) → Type 0) : Result (List Ins) Fault → Type 0 where
   no_file : gave None → Assembles gave (Err File)
   no_code : {text : List ℕ} {fault : CodeError} → gave (Some text) → fault ≢ NoMemory → IsTextFault text fault → Assembles gave (Err (Code fault))
-  assemble_file : {text : List ℕ} {program : List Ins} → gave (Some text) → SourceText text program → Assembles gave (Ok program)
+  assembled : {text : List ℕ} {program : List Ins} → gave (Some text) → SourceText text program → Assembles gave (Ok program)
 
 -- What `check` finds. The faults of the file and of its text come before the program's.
 pub data Checks (gave : Option (List ℕ) → Type 0) : Result ℕ Fault → Type 0 where
   no_program : {fault : Fault} → Assembles gave (Err fault) → Checks gave (Err fault)
   refused : {program : List Ins} {fault : VerifyError} → Assembles gave (Ok program) → IsFault program fault → Checks gave (Err (Program fault))
-  verified_file : {program : List Ins} → Assembles gave (Ok program) → WellFormed program → Checks gave (Ok (length program))
+  accepted : {program : List Ins} → Assembles gave (Ok program) → WellFormed program → Checks gave (Ok (length program))

@@ -394,8 +394,8 @@ none-oldest all (x ∷ xs) connection kept none =
       | inl is ↦ (
           let found : cond (test x.0) (Some x.0) (find test (places_with_key connection_key k xs)) ≡ None = sym (ap (find test) (keyed-here connection_key k x xs is)) ∙ none in
           let parts = neither x.0 (find test (places_with_key connection_key k xs)) (test x.0) found in
-          hash_of_texts x (is_of connection x.1) (oldest_of (is_of connection) xs) (sym seen ∙ parts.0) (none-oldest all xs connection kept.1 parts.1))
-      | inr other ↦ hash_of_texts x (is_of connection x.1) (oldest_of (is_of connection) xs) (sym (and-true (is_of connection x.1)) ∙ not_theirs Any connection x.1 other)
+          or_none x (is_of connection x.1) (oldest_of (is_of connection) xs) (sym seen ∙ parts.0) (none-oldest all xs connection kept.1 parts.1))
+      | inr other ↦ or_none x (is_of connection x.1) (oldest_of (is_of connection) xs) (sym (and-true (is_of connection x.1)) ∙ not_theirs Any connection x.1 other)
           (none-oldest all xs connection kept.1 (sym (ap (find test) (keyed-other connection_key k x xs other)) ∙ none))
     ]
   where
@@ -403,10 +403,10 @@ none-oldest all (x ∷ xs) connection kept none =
     neither p r true none = absurd cc
     neither p r false none = (refl, none)
 
-    hash_of_texts : (x : Placed) (b : Bool) (r : Option Placed) → b ≡ false → r ≡ None → or_placed r (cond b (Some x) None) ≡ None
-    hash_of_texts x true r fails none = absurd (false≢true (sym fails))
-    hash_of_texts x false None fails none = refl
-    hash_of_texts x false (Some y) fails none = absurd cc
+    or_none : (x : Placed) (b : Bool) (r : Option Placed) → b ≡ false → r ≡ None → or_placed r (cond b (Some x) None) ≡ None
+    or_none x true r fails none = absurd (false≢true (sym fails))
+    or_none x false None fails none = refl
+    or_none x false (Some y) fails none = absurd cc
 
 pub none-theirs : (held : List Placed) (connection : ℕ) (walk : List ℕ) → AreOnce (places_of held) → walk ≡ places_with_key connection_key (connection % connection_lists) held → None ≡ find (λ p. is_wanted_in Any connection (entry_at p held)) walk → find (is_of connection) (entries_of held) ≡ None
 none-theirs held connection walk once over none =

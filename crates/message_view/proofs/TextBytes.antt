@@ -32,11 +32,11 @@ both_bytes (byte ∷ a) b first second = one_byte byte (a ++ b) (first 0) (both_
 follows : (n : ℕ) → 128 + n % 64 < 256
 follows n = omega arith
 
-two_fields : (a b : ℕ) → a < 256 → AreBytes (a ∷ (128 + b % 64) ∷ [])
-two_fields a b small = one_byte a ((128 + b % 64) ∷ []) small (one_byte (128 + b % 64) [] (follows b) no_bytes)
+two_bytes : (a b : ℕ) → a < 256 → AreBytes (a ∷ (128 + b % 64) ∷ [])
+two_bytes a b small = one_byte a ((128 + b % 64) ∷ []) small (one_byte (128 + b % 64) [] (follows b) no_bytes)
 
 three : (a b c : ℕ) → a < 256 → AreBytes (a ∷ (128 + b % 64) ∷ (128 + c % 64) ∷ [])
-three a b c small = one_byte a ((128 + b % 64) ∷ (128 + c % 64) ∷ []) small (two_fields (128 + b % 64) c (follows b))
+three a b c small = one_byte a ((128 + b % 64) ∷ (128 + c % 64) ∷ []) small (two_bytes (128 + b % 64) c (follows b))
 
 four : (a b c d : ℕ) → a < 256 → AreBytes (a ∷ (128 + b % 64) ∷ (128 + c % 64) ∷ (128 + d % 64) ∷ [])
 four a b c d small = one_byte a ((128 + b % 64) ∷ (128 + c % 64) ∷ (128 + d % 64) ∷ []) small (three (128 + b % 64) c d (follows b))
@@ -48,7 +48,7 @@ char_bytes c low =
     elim (cases_lt c 128) [
       | inl lt ↦ rw (lt-ltb c 128 lt) (one_byte c [] (omega arith) no_bytes)
       | inr le ↦ rw (le-ltb c 128 le) (elim (cases_lt c 2048) [
-        | inl lt ↦ rw (lt-ltb c 2048 lt) (two_fields (192 + c / 64) c (omega arith))
+        | inl lt ↦ rw (lt-ltb c 2048 lt) (two_bytes (192 + c / 64) c (omega arith))
         | inr le ↦ rw (le-ltb c 2048 le) (elim (cases_lt c 65536) [
           | inl lt ↦ rw (lt-ltb c 65536 lt) (three (224 + c / 4096) (c / 64) c (omega arith))
           | inr le ↦ rw (le-ltb c 65536 le) (four (240 + c / 262144) (c / 4096) (c / 64) c (omega arith))

@@ -77,13 +77,13 @@ pub map-same : {X Y : Type 0} (f g : X → Y) (xs : List X) → Each (λ x. f x 
 map-same f g [] e = refl
 map-same f g (x ∷ xs) e = let first = e.0 in let rest = map-same f g xs e.1 in cc
 
-kept_slot : {X Y : Type 0} (f : X → Y) (b : Bool) (x : X) (ys : List Y) (xs : List X) → ys ≡ map f xs → cond b (f x ∷ ys) ys ≡ map f (cond b (x ∷ xs) xs)
-kept_slot f true x ys xs e = ap (λ l. f x ∷ l) e
-kept_slot f false x ys xs e = e
+map_cond : {X Y : Type 0} (f : X → Y) (b : Bool) (x : X) (ys : List Y) (xs : List X) → ys ≡ map f xs → cond b (f x ∷ ys) ys ≡ map f (cond b (x ∷ xs) xs)
+map_cond f true x ys xs e = ap (λ l. f x ∷ l) e
+map_cond f false x ys xs e = e
 
 pub filter-map : {X Y : Type 0} (p : Y → Bool) (q : X → Bool) (f : X → Y) (xs : List X) → Each (λ x. p (f x) ≡ q x) xs → filter p (map f xs) ≡ map f (filter q xs)
 filter-map p q f [] e = refl
-filter-map p q f (x ∷ xs) e = rw e.0 (kept_slot f (q x) x (filter p (map f xs)) (filter q xs) (filter-map p q f xs e.1))
+filter-map p q f (x ∷ xs) e = rw e.0 (map_cond f (q x) x (filter p (map f xs)) (filter q xs) (filter-map p q f xs e.1))
 
 found_first : {X Y : Type 0} (f : X → Y) (b : Bool) (x : X) (o : Option Y) (r : Option X) → o ≡ option_map f r → cond b (Some (f x)) o ≡ option_map f (cond b (Some x) r)
 found_first f true x o r e = refl

@@ -19,7 +19,7 @@ use Rattle.rule_compile.specs.Compiled.{IsCompiled, AgreeOn}
 pub record Headline (program : List Ins) (bytes slots : List ℕ) (edition : Edition) (verdict steps : ℕ) : Type 0 where
   pub message : Message
   pub valid : Valid bytes message
-  pub verified_program : WellFormed program
+  pub accepted : WellFormed program
   pub ends : Ends program (image_bytes edition message slots) verdict steps
   pub within : steps ≤ length program
   pub decides : (rule : RuleTree) (slot : Option ℕ) (owned : List ℕ → Bool) → IsCompiled rule slot program → IsSet slots → AgreeOn rule slot owned slots → edition ≡ Two

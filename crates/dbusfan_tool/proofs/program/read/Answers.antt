@@ -1,4 +1,4 @@
-use Rattle.dbusfan_tool.specs.Program.{assemble_file}
+use Rattle.dbusfan_tool.specs.Program.{assembled}
 use Rattle.dbusfan_tool.proofs.Programs.{of_file_fault, of_text_fault, fails}
 use Rattle.dbusfan_tool.proofs.program.read.Goals as goal
 
@@ -14,4 +14,4 @@ returns-in_err-program-clause-fault g c =
 pub returns-clause-found : goal.returns-clause-found
 returns-clause-found g c =
     let source = rw c.deref.ensures.value at c.in_ok-program.ensures.found in
-    assemble_file c.in_ok-text.ensures source
+    assembled c.in_ok-text.ensures source

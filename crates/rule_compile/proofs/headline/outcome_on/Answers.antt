@@ -19,7 +19,7 @@ returns c =
     record {
       message = m;
       valid = valid;
-      verified_program = c.code-code.ensures.well_formed;
+      accepted = c.code-code.ensures.well_formed;
       ends = ends;
       within = c.run.ensures.few;
       decides = λ rule slot owned compiled set agree half_number.
