@@ -113,7 +113,7 @@ fn answer_names<J: Naming, M: Mailbox + Carrier, W: Wait, R: Wait + Drop>(
 ) -> Result<(), AnswerError>
     ensures { NeverSlow request.wants_answer result }
 {
-    match queue_as_names(site.alloc, unique, names) {
+    match all_name_texts(site.alloc, unique, names) {
         Ok(texts) => connection.answer(site, home, request, Body::Texts(texts.as_slice())),
         Err(refused) => connection.refuse(site, home, request, Refused::from(refused)),
     }
@@ -209,7 +209,7 @@ fn texts_of<'a>(alloc: Global, unique: &'a [UniqueName]) -> Result<Vec<&'a str>,
     Ok(texts)
 }
 
-fn queue_as_names<'a>(
+fn all_name_texts<'a>(
     alloc: Global,
     unique: &'a [UniqueName],
     names: &'a [WellKnown],
