@@ -10,3 +10,4 @@ pub mod Holds
 pub mod Equality
 pub mod FixedTexts
 pub mod PathNamespaces
+pub mod PutTexts

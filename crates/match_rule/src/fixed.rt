@@ -1,11 +1,81 @@
 // The texts that a rule fixes by equality.
 
 ghost use Rattle.std.specs.Prelude.{◌≡◌, option_map};
-ghost use Rattle.match_rule.specs.FixedTexts.{value_in, first_text, member_asked, interface_asked, path_asked, arg0_asked};
+ghost use Rattle.match_rule.specs.FixedTexts.{value_in, first_text, member_asked, interface_asked, path_asked, arg0_asked, fixed_texts};
 
 use crate::condition::Condition;
 use crate::rule::Rule;
 use match_key::{Field, Key, Relation, Source};
+use std::marker::Model;
+
+/// A text, or none, for each of the keys `member`, `interface`, `path` and `arg0`, by which an index looks rules up.
+#[derive(Clone, Copy, Debug)]
+pub struct FixedTexts<'a> {
+    pub member: Option<&'a str>,
+    pub interface: Option<&'a str>,
+    pub path: Option<&'a str>,
+    pub arg0: Option<&'a str>,
+}
+
+impl<'a> Model for FixedTexts<'a> {
+    ghost use Rattle.std.specs.Prelude.{option_map};
+    ghost use Rattle.match_rule.specs.FixedTexts as fixed;
+
+    ghost Value = { fixed.FixedTexts };
+
+    ghost view = { λ t. record { member = option_map (λ text. text.now) t.member; interface = option_map (λ text. text.now) t.interface; path = option_map (λ text. text.now) t.path; arg0 = option_map (λ text. text.now) t.arg0 } };
+}
+
+impl<'a> FixedTexts<'a> {
+    ghost use Rattle.match_rule.specs.FixedTexts.{no_texts};
+    ghost use Rattle.match_rule.specs.PutTexts.{with_text, with_fixed};
+
+    /// No texts.
+    pub fn none() -> Self
+        ensures { result ≡ no_texts }
+    {
+        FixedTexts {
+            member: None,
+            interface: None,
+            path: None,
+            arg0: None,
+        }
+    }
+
+    /// Puts in the text that a source has to equal.
+    fn put_text(&mut self, source: Source, text: &'a str)
+        ensures { self.new ≡ with_text source text.entry.now self.old }
+    {
+        match source {
+            Source::Header(Field::Member) => self.member = Some(text),
+            Source::Header(Field::Interface) => self.interface = Some(text),
+            Source::Header(Field::Path) => self.path = Some(text),
+            Source::Header(Field::Destination) => {}
+            Source::Arg(n) => {
+                if n == 0 {
+                    self.arg0 = Some(text);
+                }
+            }
+        }
+    }
+
+    /// Puts in the text that a condition fixes, if it fixes one.
+    fn put(&mut self, condition: &'a Condition)
+        ensures { self.new ≡ with_fixed condition.entry.now self.old }
+    {
+        match condition {
+            Condition::Compares(source, Relation::Equal, value) => {
+                self.put_text(*source, value.as_str());
+            }
+            Condition::Compares(
+                _,
+                Relation::PathNamespace | Relation::NameNamespace | Relation::NestedPath,
+                _,
+            ) => {}
+            Condition::Kind(_) | Condition::Sender(_) => {}
+        }
+    }
+}
 
 /// The value of the first condition with a key.
 pub(crate) fn first_value(conditions: &[Condition], key: Key) -> Option<&str>
@@ -20,6 +90,19 @@ pub(crate) fn first_value(conditions: &[Condition], key: Key) -> Option<&str>
 }
 
 impl Rule {
+    /// The texts that the rule fixes, by one walk over its conditions: `member`, `interface`, `path` and `arg0` have one
+    /// each.
+    pub fn fixed_texts(&self) -> FixedTexts<'_>
+        ensures { result ≡ fixed_texts self.now }
+    {
+        let conditions = self.conditions();
+        let mut texts = FixedTexts::none();
+        for place in (0..conditions.len()).rev() {
+            texts.put(&conditions[place]);
+        }
+        texts
+    }
+
     /// The member name that the rule asks for, if it asks for one.
     pub fn member(&self) -> Option<&str>
         ensures { option_map (λ text. text.now) result ≡ member_asked self.now }

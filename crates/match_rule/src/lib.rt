@@ -20,6 +20,7 @@ mod weight;
 mod word;
 
 pub use condition::Condition;
+pub use fixed::FixedTexts;
 pub use laws::{equal_as_sets, found_where_it_holds, one_reading};
 pub use match_key::{Field, Key, KindName, Relation, RuleError, Source};
 pub use path_namespace::{NamespaceEnd, has_path_in, not_elsewhere_where_it_holds};
