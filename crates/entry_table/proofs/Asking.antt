@@ -39,19 +39,6 @@ same_shape shape found e same = ap (λ (b : Bool). b && are_found (texts_fixed e
 pub no_shape : (shape : ℕ) (found : FixedTexts) (e : Entry) → shape_of (texts_fixed e.filter) ≡ shape → shape ≡ 0 → is_offered shape found e ≡ true
 no_shape shape found e same none = same_shape shape found e same ∙ none_asked (texts_fixed e.filter) found (same ∙ none)
 
--- a text that a shape lacks is found anyhow
-pub no_member : (asked : FixedTexts) (shape : ℕ) (found : Option (List ℕ)) → shape_of asked ≡ shape → shape % 2 ≡ 0 → is_text_found asked.member found ≡ true
-no_member asked shape found same none = not_asked asked.member found (omega (arith, same, none, bit-low asked.member, bit-low asked.interface, bit-low asked.path, bit-low asked.arg0))
-
-pub no_interface : (asked : FixedTexts) (shape : ℕ) (found : Option (List ℕ)) → shape_of asked ≡ shape → shape / 2 % 2 ≡ 0 → is_text_found asked.interface found ≡ true
-no_interface asked shape found same none = not_asked asked.interface found (omega (arith, same, none, bit-low asked.member, bit-low asked.interface, bit-low asked.path, bit-low asked.arg0))
-
-pub no_path : (asked : FixedTexts) (shape : ℕ) (found : Option (List ℕ)) → shape_of asked ≡ shape → shape / 4 % 2 ≡ 0 → is_text_found asked.path found ≡ true
-no_path asked shape found same none = not_asked asked.path found (omega (arith, same, none, bit-low asked.member, bit-low asked.interface, bit-low asked.path, bit-low asked.arg0))
-
-pub no_arg0 : (asked : FixedTexts) (shape : ℕ) (found : Option (List ℕ)) → shape_of asked ≡ shape → shape / 8 % 2 ≡ 0 → is_text_found asked.arg0 found ≡ true
-no_arg0 asked shape found same none = not_asked asked.arg0 found (omega (arith, same, none, bit-low asked.member, bit-low asked.interface, bit-low asked.path, bit-low asked.arg0))
-
 -- an entry of a shape without argument 0 is offered whether argument 0 was read or not
 pub low_offered : (shape : ℕ) (m : Message) (e : Entry) → shape < 8 → is_offered shape (texts_read false m) e ≡ is_offered shape (texts_of m) e
 low_offered shape m e low =

@@ -6,7 +6,7 @@ use crate::shapes::Shapes;
 use crate::shelf::Shelf;
 use crate::table::MAX_ENTRIES;
 use crate::text_points::TextPoints;
-use crate::texts::{HASH_LISTS, MessageTexts, Texts, list_of};
+use crate::texts::{HASH_LISTS, MessageTexts, joined_hash, list_of, shape_of, texts_fixed};
 use message_view::View;
 use place_lists::{Lists, Walk};
 use std::alloc::{AllocError, Global};
@@ -56,11 +56,11 @@ impl Index {
     pub(crate) fn standing_of(&self, entry: &Entry) -> Standing
         ensures { result ≡ standing_of self.now.points entry.now }
     {
-        let texts = Texts::of_filter(&entry.filter);
-        let shape = texts.shape();
+        let texts = texts_fixed(&entry.filter);
+        let shape = shape_of(&texts);
         Standing {
             connection: (entry.connection % CONNECTION_LISTS as u64) as usize,
-            texts: list_of(shape, texts.hash(self.points)),
+            texts: list_of(shape, joined_hash(self.points, &texts)),
             shape,
         }
     }

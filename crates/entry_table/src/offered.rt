@@ -23,7 +23,7 @@ fn is_offered(shape: u16, found: &MessageTexts<'_>, entry: &Entry) -> bool
         return true;
     }
     match &entry.filter {
-        Filter::Rule(compiled) => found.has(shape, compiled.rule()),
+        Filter::Rule(compiled) => found.has(compiled.rule()),
         Filter::Attached(_) => true,
     }
 }

@@ -5,7 +5,7 @@ ghost use Rattle.match_rule.specs.FixedTexts.{fixed_texts};
 ghost use Rattle.match_rule.specs.PathNamespaces.{end_of, HasPathIn, IsElsewhere};
 ghost use Rattle.entry_table.specs.TextKeys.{shape_of};
 
-use crate::texts::Texts;
+use crate::texts::shape_of;
 use bpf_verify::Verified;
 use match_rule::{NamespaceEnd, Rule, has_path_in};
 use rule_compile::{CompileError, compile, compile_rest};
@@ -88,7 +88,7 @@ impl RuleProgram {
     {
         let program = compile(alloc, &rule, slot)?;
         let rest = compile_rest(alloc, &rule, slot)?;
-        let shape = Texts::of_rule(&rule).shape();
+        let shape = shape_of(&rule.fixed_texts());
         let namespace_end = end_asked(rule.path_namespace());
         let parts = Parts {
             rule,

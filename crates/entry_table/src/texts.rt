@@ -6,38 +6,20 @@ ghost use Rattle.message_value.specs.ShownArguments.{shown_arg};
 ghost use Rattle.message_view.specs.Message.{Message};
 ghost use Rattle.message_view.specs.Valid.{Valid};
 ghost use Rattle.match_rule.specs.Arguments.{text_in};
-ghost use Rattle.match_rule.specs.FixedTexts.{FixedTexts, arg0_of, fixed_texts, string_in, member_asked, interface_asked, path_asked, arg0_asked};
+ghost use Rattle.match_rule.specs.FixedTexts.{arg0_of, fixed_texts, string_in};
 ghost use Rattle.entry_table.specs.OfferedEntries.{texts_fixed};
 ghost use Rattle.entry_table.specs.FoundTexts.{is_text_found, are_found, texts_read};
 ghost use Rattle.entry_table.specs.TextKeys.{bit_of, shape_of, in_shape, where_bit, text_hash, hash_of_texts, joined_hash, list_of, hash_lists};
 
 use crate::entry::Filter;
 use crate::text_points::TextPoints;
-use match_rule::Rule;
+use match_rule::{FixedTexts, Rule};
 use message_view::{Arg, View};
 use std::marker::Model;
 use text_hash::text_hash;
 
 /// How many lists there are for entries that fix a text, by the hash of their texts.
 pub(crate) const HASH_LISTS: usize = 32768;
-
-/// The texts of the four keys member, interface, path and arg0 that an entry fixes.
-#[derive(Drop)]
-pub(crate) struct Texts<'a> {
-    member: Option<&'a str>,
-    interface: Option<&'a str>,
-    path: Option<&'a str>,
-    arg0: Option<&'a str>,
-}
-
-impl<'a> Model for Texts<'a> {
-    ghost use Rattle.std.specs.Prelude.{option_map};
-    ghost use Rattle.match_rule.specs.FixedTexts.{FixedTexts};
-
-    ghost Value = { FixedTexts };
-
-    ghost view = { λ t. record { member = option_map (λ text. text.now) t.member; interface = option_map (λ text. text.now) t.interface; path = option_map (λ text. text.now) t.path; arg0 = option_map (λ text. text.now) t.arg0 } };
-}
 
 /// The text of an argument, where it is a string.
 fn string_of<'a>(arg: Arg<'a>) -> Option<&'a str>
@@ -71,54 +53,6 @@ fn is_text_found(asked: Option<&str>, found: Option<&str>) -> bool
             Some(other) => other == text,
         },
     }
-}
-
-/// Whether the member is the one that a rule of this shape fixes, if it fixes one.
-#[tactic(auto, using(crate::proofs::Asking::no_member))]
-fn is_member_found(shape: u16, rule: &Rule, found: Option<&str>) -> bool
-    requires { shape_of (fixed_texts rule.now) ≡ shape }
-    ensures { result ≡ is_text_found (member_asked rule.now) (option_map (λ text. text.now) found.entry) }
-{
-    if shape % 2 == 0 {
-        return true;
-    }
-    is_text_found(rule.member(), found)
-}
-
-/// Whether the interface is the one that a rule of this shape fixes, if it fixes one.
-#[tactic(auto, using(crate::proofs::Asking::no_interface))]
-fn is_interface_found(shape: u16, rule: &Rule, found: Option<&str>) -> bool
-    requires { shape_of (fixed_texts rule.now) ≡ shape }
-    ensures { result ≡ is_text_found (interface_asked rule.now) (option_map (λ text. text.now) found.entry) }
-{
-    if shape / 2 % 2 == 0 {
-        return true;
-    }
-    is_text_found(rule.interface(), found)
-}
-
-/// Whether the path is the one that a rule of this shape fixes, if it fixes one.
-#[tactic(auto, using(crate::proofs::Asking::no_path))]
-fn is_path_found(shape: u16, rule: &Rule, found: Option<&str>) -> bool
-    requires { shape_of (fixed_texts rule.now) ≡ shape }
-    ensures { result ≡ is_text_found (path_asked rule.now) (option_map (λ text. text.now) found.entry) }
-{
-    if shape / 4 % 2 == 0 {
-        return true;
-    }
-    is_text_found(rule.path(), found)
-}
-
-/// Whether the argument 0 is the one that a rule of this shape fixes, if it fixes one.
-#[tactic(auto, using(crate::proofs::Asking::no_arg0))]
-fn is_arg0_found(shape: u16, rule: &Rule, found: Option<&str>) -> bool
-    requires { shape_of (fixed_texts rule.now) ≡ shape }
-    ensures { result ≡ is_text_found (arg0_asked rule.now) (option_map (λ text. text.now) found.entry) }
-{
-    if shape / 8 % 2 == 0 {
-        return true;
-    }
-    is_text_found(rule.arg0(), found)
 }
 
 /// 1 where there is a text.
@@ -164,56 +98,37 @@ pub(crate) fn list_of(shape: u16, hash: u64) -> usize
     (hash % HASH_LISTS as u64) as usize
 }
 
-impl<'a> Texts<'a> {
-    /// The texts that a rule fixes.
-    pub(crate) fn of_rule(rule: &'a Rule) -> Texts<'a>
-        ensures { result ≡ fixed_texts rule.entry.now }
-    {
-        Texts {
-            member: rule.member(),
-            interface: rule.interface(),
-            path: rule.path(),
-            arg0: rule.arg0(),
-        }
+/// The texts that a filter fixes.
+pub(crate) fn texts_fixed(filter: &Filter) -> FixedTexts<'_>
+    ensures { result ≡ texts_fixed filter.now }
+{
+    match filter {
+        Filter::Rule(compiled) => compiled.rule().fixed_texts(),
+        Filter::Attached(_) => FixedTexts::none(),
     }
+}
 
-    /// The texts that a filter fixes.
-    pub(crate) fn of_filter(filter: &'a Filter) -> Texts<'a>
-        ensures { result ≡ texts_fixed filter.entry.now }
-    {
-        match filter {
-            Filter::Rule(compiled) => Texts::of_rule(compiled.rule()),
-            Filter::Attached(_) => Texts {
-                member: None,
-                interface: None,
-                path: None,
-                arg0: None,
-            },
-        }
-    }
+/// Which keys have a text: 1 for the member, 2 for the interface, 4 for the path, 8 for arg0, added up.
+pub(crate) fn shape_of(texts: &FixedTexts<'_>) -> u16
+    ensures value { result ≡ shape_of texts.now }
+    ensures below { result < 16 }
+{
+    bit_of(texts.member)
+        + 2 * bit_of(texts.interface)
+        + 4 * bit_of(texts.path)
+        + 8 * bit_of(texts.arg0)
+}
 
-    /// Which keys have a text: 1 for the member, 2 for the interface, 4 for the path, 8 for arg0, added up.
-    pub(crate) fn shape(&self) -> u16
-        ensures value { result ≡ shape_of self.now }
-        ensures below { result < 16 }
-    {
-        bit_of(self.member)
-            + 2 * bit_of(self.interface)
-            + 4 * bit_of(self.path)
-            + 8 * bit_of(self.arg0)
-    }
-
-    /// The hash of the texts at these points.
-    pub(crate) fn hash(&self, points: TextPoints) -> u64
-        ensures { result ≡ joined_hash points self.now }
-    {
-        join_hashes(
-            hash_of(points.member, self.member),
-            hash_of(points.interface, self.interface),
-            hash_of(points.path, self.path),
-            hash_of(points.arg0, self.arg0),
-        )
-    }
+/// The hash of texts at these points.
+pub(crate) fn joined_hash(points: TextPoints, texts: &FixedTexts<'_>) -> u64
+    ensures { result ≡ joined_hash points texts.now }
+{
+    join_hashes(
+        hash_of(points.member, texts.member),
+        hash_of(points.interface, texts.interface),
+        hash_of(points.path, texts.path),
+        hash_of(points.arg0, texts.arg0),
+    )
 }
 
 /// The hash of a text where it is wanted, else 0. It is computed once.
@@ -239,10 +154,7 @@ fn hash_once(wanted: bool, known: &mut Option<u64>, point: u64, text: Option<&st
 #[derive(Drop)]
 pub(crate) struct MessageTexts<'a> {
     points: TextPoints,
-    member: Option<&'a str>,
-    interface: Option<&'a str>,
-    path: Option<&'a str>,
-    arg0: Option<&'a str>,
+    texts: FixedTexts<'a>,
     member_hash: Option<u64>,
     interface_hash: Option<u64>,
     path_hash: Option<u64>,
@@ -250,14 +162,13 @@ pub(crate) struct MessageTexts<'a> {
 }
 
 impl<'a> Model for MessageTexts<'a> {
-    ghost use Rattle.std.specs.Prelude.{option_map};
     ghost use Rattle.entry_table.specs.TextKeys.{KeyedTexts, AreHashes};
 
     ghost Value = { KeyedTexts };
 
-    ghost view = { λ m. record { points = m.points; texts = record { member = option_map (λ text. text.now) m.member; interface = option_map (λ text. text.now) m.interface; path = option_map (λ text. text.now) m.path; arg0 = option_map (λ text. text.now) m.arg0 } } };
+    ghost view = { λ m. record { points = m.points; texts = m.texts } };
 
-    ghost invariant = { λ m. AreHashes (record { points = m.points; texts = record { member = option_map (λ text. text.now) m.member; interface = option_map (λ text. text.now) m.interface; path = option_map (λ text. text.now) m.path; arg0 = option_map (λ text. text.now) m.arg0 } }) (record { member = m.member_hash; interface = m.interface_hash; path = m.path_hash; arg0 = m.arg0_hash }) };
+    ghost invariant = { λ m. AreHashes (record { points = m.points; texts = m.texts }) (record { member = m.member_hash; interface = m.interface_hash; path = m.path_hash; arg0 = m.arg0_hash }) };
 }
 
 impl<'a> MessageTexts<'a> {
@@ -267,10 +178,12 @@ impl<'a> MessageTexts<'a> {
     {
         MessageTexts {
             points,
-            member: view.member(),
-            interface: view.interface(),
-            path: view.path(),
-            arg0: if has_arg0 { arg0_of(view) } else { None },
+            texts: FixedTexts {
+                member: view.member(),
+                interface: view.interface(),
+                path: view.path(),
+                arg0: if has_arg0 { arg0_of(view) } else { None },
+            },
             member_hash: None,
             interface_hash: None,
             path_hash: None,
@@ -285,31 +198,43 @@ impl<'a> MessageTexts<'a> {
         ensures same { self.new ≡ self.old }
     {
         let at = self.points;
+        let texts = &self.texts;
         let member = hash_once(
             shape % 2 == 1,
             &mut self.member_hash,
             at.member,
-            self.member,
+            texts.member,
         );
         let interface = hash_once(
             shape / 2 % 2 == 1,
             &mut self.interface_hash,
             at.interface,
-            self.interface,
+            texts.interface,
         );
-        let path = hash_once(shape / 4 % 2 == 1, &mut self.path_hash, at.path, self.path);
-        let arg0 = hash_once(shape / 8 % 2 == 1, &mut self.arg0_hash, at.arg0, self.arg0);
+        let path = hash_once(
+            shape / 4 % 2 == 1,
+            &mut self.path_hash,
+            at.path,
+            texts.path,
+        );
+        let arg0 = hash_once(
+            shape / 8 % 2 == 1,
+            &mut self.arg0_hash,
+            at.arg0,
+            texts.arg0,
+        );
         list_of(shape, join_hashes(member, interface, path, arg0))
     }
 
-    /// Whether each of the texts that a rule of this shape fixes is the message's.
-    pub(crate) fn has(&self, shape: u16, rule: &Rule) -> bool
-        requires { shape_of (fixed_texts rule.now) ≡ shape }
+    /// Whether each of the texts that a rule fixes is the message's.
+    pub(crate) fn has(&self, rule: &Rule) -> bool
         ensures { result ≡ are_found (fixed_texts rule.now) self.now.texts }
     {
-        is_member_found(shape, rule, self.member)
-            && is_interface_found(shape, rule, self.interface)
-            && is_path_found(shape, rule, self.path)
-            && is_arg0_found(shape, rule, self.arg0)
+        let asked = rule.fixed_texts();
+        let texts = &self.texts;
+        is_text_found(asked.member, texts.member)
+            && is_text_found(asked.interface, texts.interface)
+            && is_text_found(asked.path, texts.path)
+            && is_text_found(asked.arg0, texts.arg0)
     }
 }

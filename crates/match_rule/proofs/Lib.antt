@@ -13,4 +13,4 @@ pub mod ReadRules
 pub mod Namespaces
 pub mod FixedFound
 pub mod NamespaceFound
-mod PutFixed
+pub mod PutFixed

@@ -9,7 +9,7 @@ use match_key::{Field, Key, Relation, Source};
 use std::marker::Model;
 
 /// A text, or none, for each of the keys `member`, `interface`, `path` and `arg0`, by which an index looks rules up.
-#[derive(Clone, Copy, Debug)]
+#[derive(Debug, Drop)]
 pub struct FixedTexts<'a> {
     pub member: Option<&'a str>,
     pub interface: Option<&'a str>,
@@ -92,6 +92,7 @@ pub(crate) fn first_value(conditions: &[Condition], key: Key) -> Option<&str>
 impl Rule {
     /// The texts that the rule fixes, by one walk over its conditions: `member`, `interface`, `path` and `arg0` have one
     /// each.
+    #[tactic(auto, using(crate::proofs::PutFixed::put_first))]
     pub fn fixed_texts(&self) -> FixedTexts<'_>
         ensures { result ≡ fixed_texts self.now }
     {

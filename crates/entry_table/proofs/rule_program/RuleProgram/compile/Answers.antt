@@ -11,9 +11,9 @@ use Rattle.entry_table.proofs.rule_program.RuleProgram.compile.Goals as goal
 pub invariant_of-result : goal.invariant_of-result
 invariant_of-result c =
     let fit : IsFit (record { rule = c.args.rule; slot = c.args.slot; program = c.in_ok-program.program }) = record { slot = c.requires; program = c.in_ok-program.ensures.compiled } in
-    let hints : AreHints c.args.rule c.shape-shape.result c.end_asked-namespace_end.result = record {
-      same_shape = c.shape-shape.ensures.value ∙ ap shape_of c.of_rule.ensures;
+    let hints : AreHints c.args.rule c.shape_of-shape.result c.end_asked-namespace_end.result = record {
+      same_shape = c.shape_of-shape.ensures.value ∙ ap shape_of c.fixed_texts.ensures;
       same_end = c.end_asked-namespace_end.ensures ∙ ap (option_map end_of) c.path_namespace.ensures;
     } in
     let left : IsRest c.args.rule c.args.slot c.in_ok-rest.rest = c.in_ok-rest.ensures.rest in
-    subst (λ (p : Parts). IsFit (record { rule = p.rule; slot = p.slot; program = p.program }) × IsRest p.rule p.slot p.rest × AreHints p.rule c.shape-shape.result c.end_asked-namespace_end.result) (sym c.in_ok-new.ensures.ok) (fit, left, hints)
+    subst (λ (p : Parts). IsFit (record { rule = p.rule; slot = p.slot; program = p.program }) × IsRest p.rule p.slot p.rest × AreHints p.rule c.shape_of-shape.result c.end_asked-namespace_end.result) (sym c.in_ok-new.ensures.ok) (fit, left, hints)

@@ -1,6 +1,6 @@
 use Rattle.std.proofs.Common.{◌≡◌, drop}
 use Rattle.match_rule.specs.FixedTexts.{fixed_texts}
-use Rattle.match_rule.proofs.fixed.Rule.fixed_texts.Given as goal
+use Rattle.match_rule.proofs.rule.Rule.fixed_texts.Given as goal
 
 -- the texts of the conditions from the place on
 abbrev pub invariant-loop-place : goal.invariant-loop-place
