@@ -211,18 +211,8 @@ impl<'a> MessageTexts<'a> {
             at.interface,
             texts.interface,
         );
-        let path = hash_once(
-            shape / 4 % 2 == 1,
-            &mut self.path_hash,
-            at.path,
-            texts.path,
-        );
-        let arg0 = hash_once(
-            shape / 8 % 2 == 1,
-            &mut self.arg0_hash,
-            at.arg0,
-            texts.arg0,
-        );
+        let path = hash_once(shape / 4 % 2 == 1, &mut self.path_hash, at.path, texts.path);
+        let arg0 = hash_once(shape / 8 % 2 == 1, &mut self.arg0_hash, at.arg0, texts.arg0);
         list_of(shape, join_hashes(member, interface, path, arg0))
     }
 

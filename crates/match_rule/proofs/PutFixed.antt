@@ -38,7 +38,7 @@ other : (source : Source) (r : ℕ) (value : List ℕ) (texts : FixedTexts) → 
 other source r value texts some small =
     let n = source_number source in
     of_none (eqb (3 + 4 * n + r) 7) (eqb (3 + 4 * n + r) 3) (eqb (3 + 4 * n + r) 11) (eqb (3 + 4 * n + r) 19) value texts
-        (other_relation n r 1 some small) (other_relation n r 0 some small) (other_relation n r 2 some small) (other_relation n r 4 some small)
+    (other_relation n r 1 some small) (other_relation n r 0 some small) (other_relation n r 2 some small) (other_relation n r 4 some small)
 
 pub put_first : (c : Condition) (cs : List Condition) (eavesdrops : Bool) → with_fixed c (fixed_texts (record { conditions = cs; eavesdrops = eavesdrops })) ≡ fixed_texts (record { conditions = c ∷ cs; eavesdrops = eavesdrops })
 put_first (Kind kind) cs e = refl

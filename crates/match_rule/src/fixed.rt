@@ -90,8 +90,8 @@ pub(crate) fn first_value(conditions: &[Condition], key: Key) -> Option<&str>
 }
 
 impl Rule {
-    /// The texts that the rule fixes, by one walk over its conditions: `member`, `interface`, `path` and `arg0` have one
-    /// each.
+    /// The texts that the rule fixes: of each key that of its first condition with that key. All four are found in one
+    /// walk over the conditions.
     #[tactic(auto, using(crate::proofs::PutFixed::put_first))]
     pub fn fixed_texts(&self) -> FixedTexts<'_>
         ensures { result ≡ fixed_texts self.now }
