@@ -1,4 +1,4 @@
-/* What a bus costs: clients on its Unix socket, and the processor time of its process. See README.md. */
+/* What a bus costs in one mode: clients on its Unix socket, and the processor time of its process. See README.md. */
 #define _GNU_SOURCE
 #include <errno.h>
 #include <poll.h>
@@ -14,7 +14,11 @@
 #include <unistd.h>
 
 enum { CALL = 1, RETURN = 2, FAULT = 3, SIGNAL = 4 };
-enum { WINDOW = 32, MAX_CLIENTS = 256, ROOM = 1 << 16 };
+enum { WINDOW = 32, MAX_CLIENTS = 256, ROOM = 1 << 16, MAX_TIMES = 1 << 18 };
+
+/* The seconds that are measured at least, of the bus's processor time and of the clock alike, and those that go before them. */
+#define MEASURED 0.3
+#define WARMING 0.05
 
 struct message {
     unsigned char bytes[2048];
@@ -29,7 +33,9 @@ struct client {
     uint64_t signals, answers;
 };
 
-static struct client clients[MAX_CLIENTS];
+static struct client clients[MAX_CLIENTS], sender;
+static int readers;   /* the first clients: each signal is for each of these */
+static uint64_t sent; /* signals */
 static const char *path;
 static clockid_t bus_clock;
 
@@ -76,8 +82,8 @@ static void field(struct message *m, int code, const char *type, const char *val
 }
 
 /* A message with at most one argument, a text. */
-static struct message made(int kind, uint32_t serial, const char *to, const char *object, const char *interface, const char *member,
-                           const char *argument) {
+static struct message made(int kind, uint32_t serial, const char *to, const char *object, const char *interface,
+                           const char *member, const char *argument) {
     struct message m = {.len = 0}, body = {.len = 0};
     if (argument) text(&body, argument);
     unsigned char start[4] = {'l', kind, kind == SIGNAL ? 1 : 0, 1};
@@ -179,12 +185,8 @@ static void join(struct client *c) {
 
 static void add(struct client *c, const char *rule) { call(c, "org.freedesktop.DBus", "AddMatch", rule); }
 
-static void leave(int count) {
-    for (int i = 0; i < count; i++) close(clients[i].fd);
-}
-
-/* Waits until the first `readers` clients have `signals` each. */
-static void await_signals(int readers, uint64_t signals) {
+/* Waits until each reader has this many signals. */
+static void await_signals(uint64_t signals) {
     struct pollfd fds[MAX_CLIENTS];
     for (;;) {
         int waiting = 0;
@@ -197,31 +199,57 @@ static void await_signals(int readers, uint64_t signals) {
     }
 }
 
-/* Sends in windows, and says what a broadcast cost the bus. */
-static void measure(const char *name, int readers, struct client *sender, struct message *m, int times) {
-    double shortest = 1e9, wall = 1e9;
-    uint64_t done = clients[0].signals;
-    for (int round = 0; round < 3; round++) {
-        double from = seconds(bus_clock), began = seconds(CLOCK_MONOTONIC);
-        for (int sent = 0; sent < times; sent += WINDOW) {
-            for (int i = 0; i < WINDOW; i++) {
-                uint32_t serial = ++sender->serial;
-                memcpy(m->bytes + 8, &serial, 4);
-                put(sender, m->bytes, m->len);
-            }
-            done += WINDOW;
-            if (readers) await_signals(readers, done);
-            else ping(sender);
-        }
-        double cost = seconds(bus_clock) - from, took = seconds(CLOCK_MONOTONIC) - began;
-        if (cost < shortest) shortest = cost;
-        if (took < wall) wall = took;
+/* What a number of signals cost the bus, and how long they took. */
+struct spent {
+    double cost, took;
+    uint64_t signals;
+};
+
+/* Plays a part again and again until the bus has had `least` seconds and as many have passed. The clocks are read once in `parts`
+   times. A part sends signals and waits until each reader has them. */
+static struct spent spend(void (*part)(void), int parts, double least) {
+    struct spent spent = {0};
+    uint64_t before = sent;
+    double from = seconds(bus_clock), began = seconds(CLOCK_MONOTONIC);
+    while (spent.cost < least || spent.took < least) {
+        for (int i = 0; i < parts; i++) part();
+        spent.cost = seconds(bus_clock) - from;
+        spent.took = seconds(CLOCK_MONOTONIC) - began;
     }
-    printf("%-34s %9.2f %14.0f\n", name, shortest / times * 1e6, wall > 0 ? (readers ? readers : 1) * times / wall : 0);
-    fflush(stdout);
+    spent.signals = sent - before;
+    return spent;
 }
 
-static void one_of_250(const char *name, const char *rule, const char *object, const char *member, const char *argument) {
+/* Microseconds of processor time a signal, and deliveries a second, or signals a second where nobody listens. */
+static void print(struct spent spent) {
+    printf("%.4f %.1f\n", spent.cost / spent.signals * 1e6, (readers ? readers : 1) * spent.signals / spent.took);
+}
+
+static void measure(void (*part)(void), int parts) {
+    spend(part, parts, WARMING);
+    print(spend(part, parts, MEASURED));
+}
+
+static struct message of_windows;
+
+static void window(void) {
+    for (int i = 0; i < WINDOW; i++) {
+        uint32_t serial = ++sender.serial;
+        memcpy(of_windows.bytes + 8, &serial, 4);
+        put(&sender, of_windows.bytes, of_windows.len);
+    }
+    sent += WINDOW;
+    if (readers) await_signals(sent);
+    else ping(&sender);
+}
+
+static void measure_windows(const char *object, const char *member, const char *argument) {
+    join(&sender);
+    of_windows = made(SIGNAL, 1, NULL, object, "a.b", member, argument);
+    measure(window, 8);
+}
+
+static void one_of_250(const char *rule, const char *object, const char *member, const char *argument) {
     char text[256];
     for (int i = 1; i <= 250; i++) {
         join(&clients[i]);
@@ -231,17 +259,19 @@ static void one_of_250(const char *name, const char *rule, const char *object, c
         }
     }
     /* the one that the message is for stands first */
-    struct client held = clients[0];
     clients[0] = clients[126];
-    clients[126] = held;
-    static struct client sender;
-    join(&sender);
-    struct message m = made(SIGNAL, 1, NULL, object, "a.b", member, argument);
-    measure(name, 1, &sender, &m, 8192);
-    close(sender.fd);
-    clients[126] = clients[0];
-    for (int i = 1; i <= 250; i++) close(clients[i].fd);
-    usleep(300000);
+    readers = 1;
+    measure_windows(object, member, argument);
+}
+
+static void by_member(void) { one_of_250("member='m%d'", "/a", "m500", "text"); }
+
+static void by_arg0(void) {
+    one_of_250("type='signal',interface='a.b',member='changed',arg0='com.example.N%d'", "/a", "changed", "com.example.N500");
+}
+
+static void by_path_namespace(void) {
+    one_of_250("path_namespace='/com/example/n%d'", "/com/example/n500/more", "m", "text");
 }
 
 static void all_of_100(void) {
@@ -249,49 +279,54 @@ static void all_of_100(void) {
         join(&clients[i]);
         add(&clients[i], "member='all'");
     }
-    static struct client sender;
+    readers = 100;
+    measure_windows("/a", "all", "text");
+}
+
+static void nobody_listens(void) { measure_windows("/a", "nobody", "text"); }
+
+static void one_reader(const char *rule) {
+    join(&clients[0]);
+    add(&clients[0], rule);
     join(&sender);
-    struct message m = made(SIGNAL, 1, NULL, "/a", "a.b", "all", "text");
-    measure("100 of 100", 100, &sender, &m, 2048);
-    close(sender.fd);
-    leave(100);
-    usleep(300000);
+    readers = 1;
 }
 
 static void burst(void) {
-    static struct client sender;
-    join(&clients[0]);
-    add(&clients[0], "member='burst'");
-    join(&sender);
     static unsigned char many[64 * 256];
-    double shortest = 1e9, wall = 1e9;
     const int times = 10000;
-    for (int round = 0; round < 3; round++) {
-        double from = seconds(bus_clock), began = seconds(CLOCK_MONOTONIC);
-        uint64_t done = clients[0].signals;
-        for (int sent = 0; sent < times;) {
-            size_t len = 0;
-            int part = times - sent < 64 ? times - sent : 64;
-            for (int i = 0; i < part; i++) {
-                struct message m = made(SIGNAL, ++sender.serial, NULL, "/a", "a.b", "burst", "text");
-                memcpy(many + len, m.bytes, m.len);
-                len += m.len;
-            }
-            put(&sender, many, len);
-            sent += part;
-            /* what came is read, so that at most 512 signals are under way */
-            if (sent > 512) await_signals(1, done + sent - 512);
+    for (int done = 0; done < times;) {
+        size_t len = 0;
+        int part = times - done < 64 ? times - done : 64;
+        for (int i = 0; i < part; i++) {
+            struct message m = made(SIGNAL, ++sender.serial, NULL, "/a", "a.b", "burst", "text");
+            memcpy(many + len, m.bytes, m.len);
+            len += m.len;
         }
-        await_signals(1, done + times);
-        double cost = seconds(bus_clock) - from, took = seconds(CLOCK_MONOTONIC) - began;
-        if (cost < shortest) shortest = cost;
-        if (took < wall) wall = took;
+        put(&sender, many, len);
+        done += part;
+        sent += part;
+        /* what came is read, so that at most 512 signals are under way */
+        if (done > 512) await_signals(sent - 512);
     }
-    printf("%-34s %9.2f %14.0f\n", "10,000 to one reader", shortest / times * 1e6, times / wall);
-    fflush(stdout);
-    close(sender.fd);
-    leave(1);
-    usleep(300000);
+    await_signals(sent);
+}
+
+static void bursts(void) {
+    one_reader("member='burst'");
+    measure(burst, 1);
+}
+
+static double late[MAX_TIMES];
+static size_t lates;
+
+static void one_at_a_time(void) {
+    struct message m = made(SIGNAL, ++sender.serial, NULL, "/a", "a.b", "late", "text");
+    if (lates == MAX_TIMES) fail("too many signals");
+    double began = seconds(CLOCK_MONOTONIC);
+    put(&sender, m.bytes, m.len);
+    await_signals(++sent);
+    late[lates++] = seconds(CLOCK_MONOTONIC) - began;
 }
 
 static int by_size(const void *a, const void *b) {
@@ -299,29 +334,17 @@ static int by_size(const void *a, const void *b) {
     return (x > y) - (x < y);
 }
 
+/* Prints the median and the 99th too, in microseconds. */
 static void latency(void) {
-    enum { TIMES = 5000 };
-    static double took[TIMES];
-    static struct client sender;
-    join(&clients[0]);
-    add(&clients[0], "member='late'");
-    join(&sender);
-    double from = seconds(bus_clock);
-    for (int i = 0; i < TIMES; i++) {
-        struct message m = made(SIGNAL, ++sender.serial, NULL, "/a", "a.b", "late", "text");
-        double began = seconds(CLOCK_MONOTONIC);
-        put(&sender, m.bytes, m.len);
-        await_signals(1, i + 1);
-        took[i] = seconds(CLOCK_MONOTONIC) - began;
-    }
-    double cost = seconds(bus_clock) - from;
-    qsort(took, TIMES, sizeof took[0], by_size);
-    printf("%-34s %9.2f %14s   median %.1f us, 99th %.1f us\n", "one at a time", cost / TIMES * 1e6, "", took[TIMES / 2] * 1e6, took[TIMES * 99 / 100] * 1e6);
-    close(sender.fd);
-    leave(1);
+    one_reader("member='late'");
+    spend(one_at_a_time, 64, WARMING);
+    lates = 0;
+    print(spend(one_at_a_time, 64, MEASURED));
+    qsort(late, lates, sizeof late[0], by_size);
+    printf("%.2f %.2f\n", late[lates / 2] * 1e6, late[lates * 99 / 100] * 1e6);
 }
 
-enum { PAIRS = 4, BATCH = 64, PAIR_TIMES = 40000, UNREAD = 512 };
+enum { PAIRS = 4, BATCH = 64, PAIR_TIMES = 102400, UNREAD = 512 };
 
 struct pair {
     struct client *reader, *sender;
@@ -334,7 +357,7 @@ static void *play_pair(void *given) {
     struct pair *pair = given;
     unsigned char many[BATCH * 256];
     pthread_barrier_wait(pair->start);
-    for (int sent = 0; sent < PAIR_TIMES; sent += BATCH) {
+    for (int done = 0; done < PAIR_TIMES; done += BATCH) {
         size_t len = 0;
         for (int i = 0; i < BATCH; i++) {
             struct message m = made(SIGNAL, ++pair->sender->serial, NULL, "/a", "a.b", pair->member, "text");
@@ -342,7 +365,7 @@ static void *play_pair(void *given) {
             len += m.len;
         }
         put(pair->sender, many, len);
-        while ((int)pair->reader->signals < sent + BATCH - UNREAD) fill(pair->reader);
+        while ((int)pair->reader->signals < done + BATCH - UNREAD) fill(pair->reader);
     }
     while (pair->reader->signals < PAIR_TIMES) fill(pair->reader);
     return NULL;
@@ -350,7 +373,7 @@ static void *play_pair(void *given) {
 
 /* Four senders at once, each with a reader of its own. The senders connect one after the other, so that the bus gives each to
    another worker where it has as many. */
-static void pairs(const char *name) {
+static void pairs(void) {
     pthread_barrier_t start;
     pthread_t threads[PAIRS];
     struct pair all[PAIRS];
@@ -368,29 +391,25 @@ static void pairs(const char *name) {
     double from = seconds(bus_clock), began = seconds(CLOCK_MONOTONIC);
     for (int i = 0; i < PAIRS; i++) pthread_join(threads[i], NULL);
     double cost = seconds(bus_clock) - from, took = seconds(CLOCK_MONOTONIC) - began;
-    printf("%-34s %9.2f %14.0f\n", name, cost / (PAIRS * PAIR_TIMES) * 1e6, PAIRS * PAIR_TIMES / took);
-    leave(2 * PAIRS);
+    print((struct spent){cost, took, PAIRS * PAIR_TIMES});
 }
 
+static const struct mode {
+    const char *name;
+    void (*run)(void);
+} modes[] = {
+    {"member", by_member}, {"arg0", by_arg0}, {"path_namespace", by_path_namespace}, {"all", all_of_100},
+    {"nobody", nobody_listens}, {"burst", bursts}, {"late", latency}, {"pairs", pairs},
+};
+
 int main(int words, char **word) {
-    if (words != 3 && words != 4) return fprintf(stderr, "usage: server SOCKET PID [NAME]\n"), 2;
+    if (words != 4) return fprintf(stderr, "usage: server SOCKET PID MODE\n"), 2;
     path = word[1];
     bus_clock = (clockid_t)(~(unsigned)atoi(word[2]) << 3 | 2);
-    if (words == 4) {
-        pairs(word[3]);
+    for (size_t i = 0; i < sizeof modes / sizeof modes[0]; i++) {
+        if (strcmp(modes[i].name, word[3])) continue;
+        modes[i].run();
         return 0;
     }
-    printf("%-34s %9s %14s\n", "", "us of CPU", "deliveries/s");
-    one_of_250("1 of 250 x 4 by member", "member='m%d'", "/a", "m500", "text");
-    one_of_250("1 of 250 x 4 by arg0", "type='signal',interface='a.b',member='changed',arg0='com.example.N%d'", "/a", "changed", "com.example.N500");
-    one_of_250("1 of 250 x 4 by path_namespace", "path_namespace='/com/example/n%d'", "/com/example/n500/more", "m", "text");
-    all_of_100();
-    static struct client sender;
-    join(&sender);
-    struct message m = made(SIGNAL, 1, NULL, "/a", "a.b", "nobody", "text");
-    measure("nobody listens", 0, &sender, &m, 8192);
-    close(sender.fd);
-    burst();
-    latency();
-    return 0;
+    return fprintf(stderr, "server: no such mode: %s\n", word[3]), 2;
 }
