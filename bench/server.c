@@ -17,7 +17,7 @@ enum { CALL = 1, RETURN = 2, FAULT = 3, SIGNAL = 4 };
 enum { WINDOW = 32, MAX_CLIENTS = 256, ROOM = 1 << 16, MAX_TIMES = 1 << 18 };
 
 /* The seconds that are measured at least, of the bus's processor time and of the clock alike, and those that go before them. */
-#define MEASURED 0.3
+#define MEASURED 0.1
 #define WARMING 0.05
 
 struct message {
