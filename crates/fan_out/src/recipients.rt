@@ -149,7 +149,8 @@ fn consider_offered<'a, M: Mailbox>(
     found_where_it_holds();
     let _ = view.raw();
     let owned = state.slots_of(sender);
-    let edition_two = Image::new(view, &owned, Edition::Two);
+    let mut edition_two = Image::empty();
+    edition_two.fill(view, &owned, Edition::Two);
     let mut one = None;
     let programs = Programs::new(view, &owned, &edition_two);
     consider_all(state, piece, first, others, programs, &mut one, marks)

@@ -1,4 +1,4 @@
-ghost use Rattle.std.specs.Prelude.{◌≡◌, ◌+◌, ◌<◌, ◌≤◌, ◌^◌, ◌++◌, length};
+ghost use Rattle.std.specs.Prelude.{◌≡◌, ◌+◌, ◌<◌, ◌≤◌, ◌^◌, ◌++◌, [], length};
 ghost use Rattle.bpf_code.specs.Loads.{load_byte, load_half, load_word};
 ghost use Rattle.message_view.specs.Message.{Message};
 ghost use Rattle.message_view.specs.Valid.{Valid};
@@ -7,14 +7,15 @@ ghost use Rattle.summary.specs.ImageBytes.{image_bytes};
 use crate::edition::Edition;
 use crate::pieces::Pieces;
 use crate::slots::Slots;
-use crate::summary_bytes::{Summary, summarise};
+use crate::summary_bytes::put_summary;
+use crate::words::Words;
 use message_view::View;
 use std::marker::Model;
 
 /// What a program reads: a summary and a message's bytes, side by side.
 #[derive(Drop)]
 pub struct Image<'a> {
-    summary: Summary,
+    words: Words,
     message: &'a [u8],
 }
 
@@ -23,9 +24,9 @@ impl<'a> Model for Image<'a> {
 
     ghost Value = { List ℕ };
 
-    ghost view = { λ i. i.summary ++ i.message.now };
+    ghost view = { λ i. i.words ++ i.message.now };
 
-    ghost invariant = { λ i. (length i.summary ≤ 976) × (length i.message.now ≤ 2 ^ 27) };
+    ghost invariant = { λ i. (length i.words ≤ 976) × (length i.message.now ≤ 2 ^ 27) };
 }
 
 impl<'a> Image<'a> {
@@ -34,10 +35,28 @@ impl<'a> Image<'a> {
     pub fn new(view: &View<'a>, owned: &Slots, edition: Edition) -> Image<'a>
         ensures { (m : Message) → Valid view.now m → result ≡ image_bytes edition m owned.now }
     {
+        let mut image = Image::empty();
+        image.fill(view, owned, edition);
+        image
+    }
+
+    /// No bytes. It is room for an image that is made where it stays: a summary that was just written is dear to move.
+    pub fn empty() -> Image<'a>
+        ensures { result ≡ [] }
+    {
         Image {
-            summary: summarise(view, owned, edition),
-            message: view.raw(),
+            words: Words::new(),
+            message: &[],
         }
+    }
+
+    /// Makes the image of a message, as `new` does, where there are no bytes yet.
+    pub fn fill(&mut self, view: &View<'a>, owned: &Slots, edition: Edition)
+        requires { self.old ≡ [] }
+        ensures { (m : Message) → Valid view.now m → self.new ≡ image_bytes edition m owned.now }
+    {
+        put_summary(&mut self.words, view, owned, edition);
+        self.message = view.raw();
     }
 
     /// The bytes where they lie, for many loads.
@@ -45,7 +64,7 @@ impl<'a> Image<'a> {
         ensures { result ≡ self.now }
     {
         Pieces {
-            summary: self.summary.bytes(),
+            summary: self.words.bytes(),
             message: self.message,
         }
     }

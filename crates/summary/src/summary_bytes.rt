@@ -1,4 +1,4 @@
-ghost use Rattle.std.specs.Prelude.{◌≡◌, length};
+ghost use Rattle.std.specs.Prelude.{◌≡◌, [], length};
 ghost use Rattle.message_view.specs.Message.{Message};
 ghost use Rattle.message_view.specs.Valid.{Valid};
 ghost use Rattle.summary.specs.Layout.{IsSize};
@@ -39,15 +39,24 @@ impl Summary {
     }
 }
 
+/// Writes the summary of a message whose sender owns the names of these slots, before which there are no words.
+pub(crate) fn put_summary(words: &mut Words, view: &View<'_>, owned: &Slots, edition: Edition)
+    requires { words.old ≡ [] }
+    ensures bytes { (m : Message) → Valid view.now m → words.new ≡ summary_bytes edition m owned.now }
+    ensures size { IsSize (length words.new) }
+{
+    put_head(words, view, edition);
+    put_texts(words, view, edition);
+    let count = put_arguments(words, edition, view.args());
+    words.set(COUNT_PLACE, count as u32);
+    put_rest(words, view, owned, edition);
+}
+
 /// The summary of a message whose sender owns the names of these slots. No memory is taken.
 pub fn summarise(view: &View<'_>, owned: &Slots, edition: Edition) -> Summary
     ensures { (m : Message) → Valid view.now m → result ≡ summary_bytes edition m owned.now }
 {
     let mut words = Words::new();
-    put_head(&mut words, view, edition);
-    put_texts(&mut words, view, edition);
-    let count = put_arguments(&mut words, edition, view.args());
-    words.set(COUNT_PLACE, count as u32);
-    put_rest(&mut words, view, owned, edition);
+    put_summary(&mut words, view, owned, edition);
     Summary { words }
 }
