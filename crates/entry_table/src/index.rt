@@ -95,6 +95,7 @@ impl Index {
     }
 
     /// The entries of a shelf that a message is offered to: each shape in use is looked up once.
+    #[inline(always)]
     pub(crate) fn entries_for<'a>(&'a self, shelf: &'a Shelf, view: &View<'a>) -> Offered<'a>
         requires { length self.now.by_texts.lists ≡ hash_lists + 1 }
         ensures { (m : Message) → Valid view.now m → IsLookedUp self.entry.now shelf.entry.now m result }

@@ -100,6 +100,7 @@ impl IndexedShelf {
     }
 
     /// The entries that a message is offered to.
+    #[inline(always)]
     pub(crate) fn entries_for<'a>(&'a self, view: &View<'a>) -> Offered<'a>
         ensures { (m : Message) → Valid view.now m → IdsFall self.entry.now → AreOffered (entries_of self.entry.now) m result }
     {

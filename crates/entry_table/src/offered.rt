@@ -103,6 +103,7 @@ impl<'a> Offered<'a> {
 
     /// The entries of a shelf that a message with these texts is offered to: those that fix no text, and after them
     /// those of these shapes.
+    #[inline(always)]
     pub(crate) fn new(
         shelf: &'a Shelf,
         by_texts: &'a Lists,

@@ -195,6 +195,7 @@ impl EntryTable {
 
     /// The entries that a message is offered to: attached programs, and the rules whose member, interface, path and
     /// `arg0` conditions, where there are such, hold of the message.
+    #[inline(always)]
     pub fn entries_for<'a>(&'a self, view: &View<'a>) -> Offered<'a>
         ensures { (m : Message) → Valid view.now m → AreOffered self.now.entries m result }
     {

@@ -173,6 +173,7 @@ impl<'a> Model for MessageTexts<'a> {
 
 impl<'a> MessageTexts<'a> {
     /// The texts that a message has, argument 0 only where it is wanted; no hash is known.
+    #[inline(always)]
     pub(crate) fn new(points: TextPoints, view: &View<'a>, has_arg0: bool) -> MessageTexts<'a>
         ensures { (m : Message) → Valid view.now m → result ≡ record { points = points; texts = texts_read has_arg0 m } }
     {

@@ -249,6 +249,7 @@ impl RegistrationTable {
     }
 
     /// The entries that a message is offered to.
+    #[inline(always)]
     pub(crate) fn entries_for<'a>(&'a self, view: &View<'a>) -> Offered<'a>
         ensures offered { (m : Message) → Valid view.now m → AreOffered self.now.entries m result }
         ensures sound { AreRegistrations self.now }

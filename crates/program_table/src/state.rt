@@ -332,6 +332,7 @@ impl<M: Mailbox> BusState<M> {
 
     /// The entries that a message is offered to: attached programs, and the rules whose member, interface, path and
     /// `arg0` conditions, where there are such, hold of the message.
+    #[inline(always)]
     pub fn entries_for<'a>(&'a self, view: &View<'a>) -> Offered<'a>
         ensures offered { (m : Message) → Valid view.now m → AreOffered self.now.registrations.entries m result }
         // Rules have the slots of their senders, no name has two slots, and entries are of connections.
