@@ -10,7 +10,7 @@ use Rattle.program_table.specs.Recipients.{FilterMatches}
 use Rattle.fan_out.specs.Pieces.{IsInPiece}
 use Rattle.fan_out.specs.Answers.{IsAnswer}
 use Rattle.fan_out.specs.Marks.{IsMarked, IsUnmarked, IsMarkedMore, mark_count}
-use Rattle.fan_out.specs.Marking.{IsMissed, Considers, MatchesAmong, AreDecided, AreMarked, AreMarkedSoFar}
+use Rattle.fan_out.specs.Marking.{NeedsNoRun, Considers, MatchesAmong, AreDecided, AreMarked, AreMarkedSoFar}
 use Rattle.fan_out.proofs.Places.{contains_here, contains_later, contains_cases, contains_none, none_marked, count_none, set_here, set_kept, set_cases, count_set}
 
 false_true : (b : Bool) → b ≡ false → b ≡ true → ⊥
@@ -43,14 +43,6 @@ module _ {M : Type 0} where
   marks_end s part of bytes words all runs marks sender m valid decided so_far = record {
     exact = λ n. let both = so_far.exact sender m valid decided n in ((λ marked. both.0 (inl marked)), (λ among. elim (both.1 among) [ inl marked ↦ marked | inr left ↦ absurd (among_none s sender m n left.0) ]));
   }
-
-  -- why an entry may be passed over
-  abbrev NeedsNoRun : State M → ℕ → ℕ → List ℕ → Entry → List Bool → Type 0
-  NeedsNoRun s part of bytes e marks =
-      IsMissed bytes e.filter
-      ⊎ ((IsInPiece part of e.connection → ⊥)
-      ⊎ ((is_connected e.connection s.connections ≡ false)
-      ⊎ IsMarked (numbers_of s.connections) marks e.connection))
 
   passed_marked : (s : State M) (part of : ℕ) (bytes : List ℕ) (sender : Option ℕ) (m : Message) (e : Entry) (marks : List Bool) (n : ℕ) → Valid bytes m → is_connected e.connection s.connections ≡ true → NeedsNoRun s part of bytes e marks → e.connection ≡ n → FilterMatches s.registrations sender m e.filter → IsInPiece part of n → IsMarked (numbers_of s.connections) marks n
   passed_marked s part of bytes sender m e marks n valid there why same matches inside = elim why [

@@ -36,3 +36,8 @@ pub record SaysRest (compiled : CompiledRule) (bytes words : List ℕ) (answer :
 abbrev pub IsAnswer : List ℕ → List ℕ → Filter → Bool → Type 0
 IsAnswer bytes words (Rule compiled) answer = SaysRest compiled bytes words answer
 IsAnswer bytes words (Attached attached) answer = Says attached.edition bytes words attached.program answer
+
+-- the edition of the images that the filter's program reads
+pub edition_of : Filter → Edition
+edition_of (Rule compiled) = Two
+edition_of (Attached attached) = attached.edition

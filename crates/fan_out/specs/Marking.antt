@@ -4,12 +4,13 @@ use Rattle.message_view.specs.Message.{Message}
 use Rattle.message_view.specs.Valid.{Valid}
 use Rattle.entry_table.specs.declared.entry.Entry.{Entry}
 use Rattle.entry_table.specs.declared.entry.Filter.{Filter}
+use Rattle.summary.specs.declared.edition.Edition.TheVariants.{One}
 use Rattle.program_table.specs.Registrations.{Registrations}
 use Rattle.program_table.specs.Connections.{numbers_of, is_connected}
 use Rattle.program_table.specs.State.{State}
 use Rattle.program_table.specs.Recipients.{FilterMatches, IsRecipient}
 use Rattle.fan_out.specs.Pieces.{IsInPiece}
-use Rattle.fan_out.specs.Answers.{IsAnswer}
+use Rattle.fan_out.specs.Answers.{IsAnswer, edition_of}
 use Rattle.fan_out.specs.Marks.{IsMarked, IsUnmarked, IsMarkedMore, mark_count}
 
 -- nothing was run
@@ -31,15 +32,30 @@ abbrev pub IsMissed : List ℕ → Filter → Type 0
 IsMissed bytes filter = (r : Registrations) (sender : Option ℕ) (m : Message) → Valid bytes m → FilterMatches r sender m filter → ⊥
 
 module _ {M : Type 0} where
-  -- an entry that can't match, one of another piece, of no connection, or of a connection that is marked already is
-  -- passed over
-  abbrev pub Considers : State M → ℕ → ℕ → List ℕ → List ℕ → Entry → List Bool → List Bool → ℕ → ℕ → Type 0
-  Considers s part of bytes words e before after runs later =
-      (IsPassedOver before after runs later
-      × (IsMissed bytes e.filter
+  -- why an entry may be passed over: it can't match, or is of another piece, of no connection, or of a connection that is
+  -- marked already
+  abbrev pub NeedsNoRun : State M → ℕ → ℕ → List ℕ → Entry → List Bool → Type 0
+  NeedsNoRun s part of bytes e marks =
+      IsMissed bytes e.filter
       ⊎ ((IsInPiece part of e.connection → ⊥)
       ⊎ ((is_connected e.connection s.connections ≡ false)
-      ⊎ IsMarked (numbers_of s.connections) before e.connection))))
+      ⊎ IsMarked (numbers_of s.connections) marks e.connection))
+
+  -- the entry's connection is of the piece, and isn't marked
+  pub record MayBeMarked (s : State M) (part of : ℕ) (e : Entry) (marks : List Bool) : Type 0 where
+    pub inside : IsInPiece part of e.connection
+    pub unmarked : IsUnmarked (numbers_of s.connections) marks e.connection
+
+  -- nothing was run, and the entry's program, which reads edition 1, has to be
+  pub record ReadsOne (s : State M) (part of : ℕ) (e : Entry) (before after : List Bool) (runs later : ℕ) : Type 0 where
+    pub passed : IsPassedOver before after runs later
+    pub unmarked : MayBeMarked s part of e before
+    pub edition : edition_of e.filter ≡ One
+
+  -- an entry is passed over, or its program is run
+  abbrev pub Considers : State M → ℕ → ℕ → List ℕ → List ℕ → Entry → List Bool → List Bool → ℕ → ℕ → Type 0
+  Considers s part of bytes words e before after runs later =
+      (IsPassedOver before after runs later × NeedsNoRun s part of bytes e before)
       ⊎ IsAsked (numbers_of s.connections) part of bytes words e before after runs later
 
   -- one of the entries is of this connection, and matches

@@ -1,12 +1,11 @@
 // The programs of entries, run over one message.
 
-ghost use Rattle.std.specs.Prelude.{◌≡◌, ◌+◌, ◌<◌, ℕ, true, option_map};
-ghost use Rattle.std.specs.Option.{ForSome, IsSome};
+ghost use Rattle.std.specs.Prelude.{◌≡◌, ◌+◌, ◌<◌, true, option_map};
 ghost use Rattle.message_view.specs.Message.{Message, path_of};
 ghost use Rattle.message_view.specs.Valid.{Valid};
-ghost use Rattle.summary.specs.declared.edition.Edition.TheVariants.{One, Two};
+ghost use Rattle.summary.specs.declared.edition.Edition.TheVariants.{Two};
 ghost use Rattle.program_table.specs.Answers.{max_entries};
-ghost use Rattle.fan_out.specs.Answers.{IsImage, HasVerdict, IsAnswer};
+ghost use Rattle.fan_out.specs.Answers.{IsImage, IsAnswer, edition_of};
 ghost use Rattle.fan_out.specs.Marking.{IsMissed};
 
 use crate::tally::Tally;
@@ -16,47 +15,23 @@ use match_rule::not_elsewhere_where_it_holds;
 use message_view::View;
 use summary::{Edition, Image, Slots};
 
-/// Makes the image of edition 1. It is a function of its own, since a function clears room for its values whenever it
-/// is called.
-#[inline(never)]
-fn make_one<'a>(image: &mut Option<Image<'a>>, view: &View<'a>, owned: &Slots)
-    ensures image { ForSome image.new (IsImage One view.now owned.now) }
-    ensures made { IsSome image.new }
+/// The edition of the images that a filter's program reads: 2 of a rule, its own of an attached program.
+pub(crate) fn edition_of(filter: &Filter) -> Edition
+    ensures { result ≡ edition_of filter.now }
 {
-    *image = Some(Image::new(view, owned, Edition::One));
-}
-
-/// Runs a program over the image of edition 1, which is made where it isn't there yet.
-fn run_over_one<'a>(
-    image: &mut Option<Image<'a>>,
-    view: &View<'a>,
-    owned: &Slots,
-    program: &Verified,
-    tally: &mut Tally,
-) -> u32
-    requires image { ForSome image.old (IsImage One view.now owned.now) }
-    requires room { tally.old.runs < max_entries }
-    ensures image { ForSome image.new (IsImage One view.now owned.now) }
-    ensures verdict { HasVerdict One view.now owned.now program.now result }
-    ensures counted { tally.new.runs ≡ tally.old.runs + 1 }
-{
-    if image.is_none() {
-        make_one(image, view, owned);
-    }
-    match image {
-        Some(made) => tally.run(program, made),
-        None => unreachable!(),
+    match filter {
+        Filter::Rule(_) => Edition::Two,
+        Filter::Attached(attached) => attached.edition(),
     }
 }
 
-/// The image of edition 2 of a message, which rules read, its path, and the count of the programs that were run. The
-/// image of edition 1 is made when the first program reads it, in room of the caller's, since this value is moved from
-/// call to call.
+/// A message, the slots of its sender, its image of edition 2, which rules read, its path, and the count of the programs
+/// that were run.
 #[derive(Drop)]
 pub(crate) struct Programs<'v, 'a> {
-    view: &'v View<'a>,
-    owned: &'v Slots,
-    edition_two: &'v Image<'a>,
+    pub(crate) view: &'v View<'a>,
+    pub(crate) owned: &'v Slots,
+    pub(crate) edition_two: &'v Image<'a>,
     path: Option<&'a str>,
     tally: Tally,
     ghost second: { IsImage Two view.now owned.now edition_two.now },
@@ -99,38 +74,19 @@ impl<'v, 'a> Programs<'v, 'a> {
         filter.is_elsewhere(self.path)
     }
 
-    /// The verdict of a program on the image of an edition.
-    fn verdict(&mut self, one: &mut Option<Image<'a>>, edition: Edition, program: &Verified) -> u32
+    /// Whether a filter's program has a verdict other than 0 on the image that it reads. A message that is offered to a
+    /// rule has the texts that the rule fixes, so of a rule the program of what is left beside them is run.
+    pub(crate) fn matches(&mut self, image: &Image<'a>, filter: &Filter) -> bool
         requires room { self.old.tally.runs < max_entries }
-        requires one { ForSome one.old (IsImage One self.old.view.now self.old.owned.now) }
-        ensures one { ForSome one.new (IsImage One self.old.view.now self.old.owned.now) }
-        ensures view { self.new.view.now ≡ self.old.view.now }
-        ensures owned { self.new.owned.now ≡ self.old.owned.now }
-        ensures verdict { HasVerdict edition self.old.view.now self.old.owned.now program.now result }
-        ensures counted { self.new.tally.runs ≡ self.old.tally.runs + 1 }
-    {
-        match edition {
-            Edition::One => run_over_one(one, self.view, self.owned, program, &mut self.tally),
-            Edition::Two => self.tally.run(program, self.edition_two),
-        }
-    }
-
-    /// Whether a filter's program has a verdict other than 0. A message that is offered to a rule has the texts that
-    /// the rule fixes, so of a rule the program of what is left beside them is run.
-    pub(crate) fn matches(&mut self, one: &mut Option<Image<'a>>, filter: &Filter) -> bool
-        requires room { self.old.tally.runs < max_entries }
-        requires one { ForSome one.old (IsImage One self.old.view.now self.old.owned.now) }
-        ensures one { ForSome one.new (IsImage One self.old.view.now self.old.owned.now) }
+        requires image { IsImage (edition_of filter.now) self.old.view.now self.old.owned.now image.now }
         ensures view { self.new.view.now ≡ self.old.view.now }
         ensures owned { self.new.owned.now ≡ self.old.owned.now }
         ensures answer { IsAnswer self.old.view.now self.old.owned.now filter.now result }
         ensures counted { self.new.tally.runs ≡ self.old.tally.runs + 1 }
     {
         match filter {
-            Filter::Rule(compiled) => self.verdict(one, Edition::Two, compiled.rest()) != 0,
-            Filter::Attached(attached) => {
-                self.verdict(one, attached.edition(), attached.program()) != 0
-            }
+            Filter::Rule(compiled) => self.tally.run(compiled.rest(), image) != 0,
+            Filter::Attached(attached) => self.tally.run(attached.program(), image) != 0,
         }
     }
 }

@@ -1,7 +1,6 @@
 // The search for the recipients of a message.
 
-ghost use Rattle.std.specs.Prelude.{◌≡◌, ℕ, ◌+◌, ◌<◌, ◌≤◌, [], ◌∷◌, Option, MatchBool, Contains, true, false, length, replicate};
-ghost use Rattle.std.specs.Option.{ForSome};
+ghost use Rattle.std.specs.Prelude.{◌≡◌, ◌+◌, ◌<◌, ◌≤◌, List, [], ◌∷◌, MatchBool, Contains, true, false, length, replicate};
 ghost use Rattle.message_view.specs.Message.{Message};
 ghost use Rattle.message_view.specs.Valid.{Valid};
 ghost use Rattle.summary.specs.declared.edition.Edition.TheVariants.{One};
@@ -11,14 +10,14 @@ ghost use Rattle.program_table.specs.Answers.{max_entries};
 ghost use Rattle.program_table.specs.Connections.{numbers_of, is_connected};
 ghost use Rattle.program_table.specs.IsState.{IsState};
 ghost use Rattle.program_table.specs.Candidates.{candidates};
-ghost use Rattle.fan_out.specs.Answers.{IsImage};
+ghost use Rattle.fan_out.specs.Answers.{IsImage, edition_of};
 ghost use Rattle.fan_out.specs.Marks.{mark_count, AreNoted, IsMarked, IsMarkedMore, IsUnmarked};
 ghost use Rattle.fan_out.specs.Pieces.{ArePieceRecipients};
-ghost use Rattle.fan_out.specs.Marking.{Considers, AreDecided, AreMarked, AreMarkedRecipients};
+ghost use Rattle.fan_out.specs.Marking.{MayBeMarked, NeedsNoRun, IsAsked, ReadsOne, Considers, AreMarkedSoFar, AreMarkedRecipients};
 
 use crate::marks::{MAX_RECIPIENTS, Marks};
 use crate::piece::Piece;
-use crate::programs::Programs;
+use crate::programs::{Programs, edition_of};
 use arrayvec::ArrayVec;
 use bpf_machine::ends_in_one_way;
 use entry_table::{Entry, Offered};
@@ -60,40 +59,137 @@ fn mark<M: Mailbox>(state: &BusState<M>, marks: &mut Marks, connection: u64)
     }
 }
 
-/// Marks the connection of an entry of the piece where the entry matches. The program of an entry isn't run where the
-/// message's path tells that it doesn't match, nor where its connection is marked already.
+/// Whether the program of an entry needn't be run: the message's path tells that it doesn't match, or its connection is
+/// in another piece, or is marked already.
 #[inline(always)]
-fn consider<'a, M: Mailbox>(
+fn is_passed_over<M: Mailbox>(
+    state: &BusState<M>,
+    piece: Piece,
+    entry: &Entry,
+    programs: &Programs<'_, '_>,
+    marks: &Marks,
+) -> bool
+    requires state { IsState state.now }
+    requires connected { is_connected entry.now.connection state.now.connections ≡ true }
+    requires noted { AreNoted (numbers_of state.now.connections) marks.now.places marks.now.remainders }
+    ensures { MatchBool result (NeedsNoRun state.now piece.part piece.of programs.now.view.now entry.now marks.now.places) (MayBeMarked state.now piece.part piece.of entry.now marks.now.places) }
+{
+    !piece.has(entry.connection)
+        || programs.misses(&entry.filter)
+        || is_marked(state, marks, entry.connection)
+}
+
+/// Runs the program of an entry over the image that it reads, and marks the entry's connection where it matches.
+#[inline(always)]
+fn ask<'a, M: Mailbox>(
     state: &BusState<M>,
     piece: Piece,
     entry: &Entry,
     programs: &mut Programs<'_, 'a>,
-    one: &mut Option<Image<'a>>,
+    image: &Image<'a>,
     marks: &mut Marks,
 )
     requires state { IsState state.now }
     requires connected { is_connected entry.now.connection state.now.connections ≡ true }
     requires noted { AreNoted (numbers_of state.now.connections) marks.old.places marks.old.remainders }
     requires room { programs.old.tally.runs < max_entries }
-    requires one { ForSome one.old (IsImage One programs.old.view.now programs.old.owned.now) }
-    ensures one { ForSome one.new (IsImage One programs.old.view.now programs.old.owned.now) }
+    requires image { IsImage (edition_of entry.now.filter) programs.old.view.now programs.old.owned.now image.now }
+    requires unmarked { MayBeMarked state.now piece.part piece.of entry.now marks.old.places }
+    ensures view { programs.new.view.now ≡ programs.old.view.now }
+    ensures owned { programs.new.owned.now ≡ programs.old.owned.now }
+    ensures noted { AreNoted (numbers_of state.now.connections) marks.new.places marks.new.remainders }
+    ensures asked { IsAsked (numbers_of state.now.connections) piece.part piece.of programs.old.view.now programs.old.owned.now entry.now marks.old.places marks.new.places programs.old.tally.runs programs.new.tally.runs }
+{
+    if programs.matches(image, &entry.filter) {
+        mark(state, marks, entry.connection);
+    }
+}
+
+/// Marks the connection of an entry of the piece where the entry matches, and tells whether its program still has to be
+/// run, over the image of edition 1.
+#[inline(always)]
+fn consider<'a, M: Mailbox>(
+    state: &BusState<M>,
+    piece: Piece,
+    entry: &Entry,
+    programs: &mut Programs<'_, 'a>,
+    marks: &mut Marks,
+) -> bool
+    requires state { IsState state.now }
+    requires connected { is_connected entry.now.connection state.now.connections ≡ true }
+    requires noted { AreNoted (numbers_of state.now.connections) marks.old.places marks.old.remainders }
+    requires room { programs.old.tally.runs < max_entries }
+    ensures view { programs.new.view.now ≡ programs.old.view.now }
+    ensures owned { programs.new.owned.now ≡ programs.old.owned.now }
+    ensures noted { AreNoted (numbers_of state.now.connections) marks.new.places marks.new.remainders }
+    ensures considered { MatchBool result (ReadsOne state.now piece.part piece.of entry.now marks.old.places marks.new.places programs.old.tally.runs programs.new.tally.runs) (Considers state.now piece.part piece.of programs.old.view.now programs.old.owned.now entry.now marks.old.places marks.new.places programs.old.tally.runs programs.new.tally.runs) }
+{
+    if is_passed_over(state, piece, entry, programs, marks) {
+        return false;
+    }
+    match edition_of(&entry.filter) {
+        Edition::One => true,
+        Edition::Two => {
+            let image = programs.edition_two;
+            ask(state, piece, entry, programs, image, marks);
+            false
+        }
+    }
+}
+
+/// As `consider`, with the images of both editions.
+fn consider_either<'a, M: Mailbox>(
+    state: &BusState<M>,
+    piece: Piece,
+    entry: &Entry,
+    programs: &mut Programs<'_, 'a>,
+    one: &Image<'a>,
+    marks: &mut Marks,
+)
+    requires state { IsState state.now }
+    requires connected { is_connected entry.now.connection state.now.connections ≡ true }
+    requires noted { AreNoted (numbers_of state.now.connections) marks.old.places marks.old.remainders }
+    requires room { programs.old.tally.runs < max_entries }
+    requires one { IsImage One programs.old.view.now programs.old.owned.now one.now }
     ensures view { programs.new.view.now ≡ programs.old.view.now }
     ensures owned { programs.new.owned.now ≡ programs.old.owned.now }
     ensures noted { AreNoted (numbers_of state.now.connections) marks.new.places marks.new.remainders }
     ensures considered { Considers state.now piece.part piece.of programs.old.view.now programs.old.owned.now entry.now marks.old.places marks.new.places programs.old.tally.runs programs.new.tally.runs }
 {
-    if !piece.has(entry.connection) {
-        return;
+    if consider(state, piece, entry, programs, marks) {
+        ask(state, piece, entry, programs, one, marks);
     }
-    if programs.misses(&entry.filter) {
-        return;
+}
+
+/// Considers an entry whose program reads edition 1, and all entries after it, and tells how many programs were run. It
+/// is a function of its own, since a function clears room for its values whenever it is called, and few messages need an
+/// image of edition 1.
+#[inline(never)]
+fn consider_rest<'a, M: Mailbox>(
+    state: &BusState<M>,
+    piece: Piece,
+    first: &Entry,
+    others: &mut Offered<'_>,
+    mut programs: Programs<'_, 'a>,
+    marks: &mut Marks,
+) -> u32
+    requires state { IsState state.now }
+    requires few { programs.tally.runs + (length others.old + 1) ≤ max_entries }
+    requires connected { (e : Entry) → Contains (first.now ∷ others.old) e → is_connected e.connection state.now.connections ≡ true }
+    requires noted { AreNoted (numbers_of state.now.connections) marks.old.places marks.old.remainders }
+    requires unmarked { MayBeMarked state.now piece.part piece.of first.now marks.old.places }
+    requires edition { edition_of first.now.filter ≡ One }
+    ensures marked { (all : List Entry)
+        → AreMarkedSoFar state.now piece.part piece.of programs.entry.view.now programs.entry.owned.now all (first.now ∷ others.old) marks.old.places programs.entry.tally.runs
+        → AreMarkedSoFar state.now piece.part piece.of programs.entry.view.now programs.entry.owned.now all [] marks.new.places result }
+{
+    let mut one = Image::empty();
+    one.fill(programs.view, programs.owned, Edition::One);
+    ask(state, piece, first, &mut programs, &one, marks);
+    while let Some(entry) = others.next() {
+        consider_either(state, piece, entry, &mut programs, &one, marks);
     }
-    if is_marked(state, marks, entry.connection) {
-        return;
-    }
-    if programs.matches(one, &entry.filter) {
-        mark(state, marks, entry.connection);
-    }
+    programs.runs()
 }
 
 /// Considers the entries that a message is offered to, one after the other, and tells how many programs were run.
@@ -103,27 +199,25 @@ fn consider_all<'a, M: Mailbox>(
     first: &Entry,
     others: &mut Offered<'_>,
     mut programs: Programs<'_, 'a>,
-    one: &mut Option<Image<'a>>,
     marks: &mut Marks,
 ) -> u32
     requires state { IsState state.now }
     requires few { length others.old + 1 ≤ max_entries }
     requires connected { (e : Entry) → Contains (first.now ∷ others.old) e → is_connected e.connection state.now.connections ≡ true }
     requires none_run { programs.tally.runs ≡ 0 }
-    requires one { ForSome one.old (IsImage One programs.view.now programs.owned.now) }
     requires none_marked { marks.old.places ≡ replicate MAX_RECIPIENTS false }
-    ensures few { result ≤ length others.old + 1 }
-    ensures enough { mark_count marks.new.places ≤ result }
-    ensures exact { (sender : Option ℕ) (m : Message)
-        → Valid programs.entry.view.now m
-        → AreDecided state.now sender m programs.entry.view.now programs.entry.owned.now (first.now ∷ others.old)
-        → AreMarked state.now sender m piece.part piece.of (first.now ∷ others.old) marks.new.places }
+    ensures marked { AreMarkedSoFar state.now piece.part piece.of programs.entry.view.now programs.entry.owned.now (first.now ∷ others.old) [] marks.new.places result }
 {
-    consider(state, piece, first, &mut programs, one, marks);
-    while let Some(entry) = others.next() {
-        consider(state, piece, entry, &mut programs, one, marks);
+    let mut entry = first;
+    loop {
+        if consider(state, piece, entry, &mut programs, marks) {
+            return consider_rest(state, piece, entry, others, programs, marks);
+        }
+        match others.next() {
+            Some(next) => entry = next,
+            None => return programs.runs(),
+        }
     }
-    programs.runs()
 }
 
 /// Considers the entries that a message is offered to, at least one. It is a function of its own, since a function
@@ -151,9 +245,8 @@ fn consider_offered<'a, M: Mailbox>(
     let owned = state.slots_of(sender);
     let mut edition_two = Image::empty();
     edition_two.fill(view, &owned, Edition::Two);
-    let mut one = None;
     let programs = Programs::new(view, &owned, &edition_two);
-    consider_all(state, piece, first, others, programs, &mut one, marks)
+    consider_all(state, piece, first, others, programs, marks)
 }
 
 /// Marks the recipients of a message among the connections of a piece, and tells how many programs were run. Without a

@@ -121,7 +121,7 @@ fn exchange<R: Threads + Wait + Sync>(rt: &R, alloc: Global) -> Result<Vec<Item>
 
 #[test]
 fn order_of_two_origins(rt: HostRuntime) -> Result<(), Fail> {
-    let items = exchange(&rt, rt.alloc()).expect(&rt, "memory");
+    let items = exchange(&rt, rt.alloc())?;
     assert_eq!(rt; items.len(), 200);
     assert_eq!(rt; counted(items.as_slice(), 1), 100);
     assert_eq!(rt; counted(items.as_slice(), 2), 100);
@@ -144,28 +144,23 @@ fn one_more<R: Wait + Abort>(
 #[test]
 fn full_outbox(rt: HostRuntime) -> Result<(), Fail> {
     let alloc = rt.alloc();
-    let full = Outbox::new(alloc).expect(&rt, "memory");
-    let other = Outbox::new(alloc).expect(&rt, "memory");
+    let full = Outbox::new(alloc)?;
+    let other = Outbox::new(alloc)?;
     let mut sender = Sender::new(alloc, 1);
-    assert!(rt; seat_at(alloc, &mut sender, 3, full.share().expect(&rt, "memory")));
-    assert!(rt; seat_at(alloc, &mut sender, 5, other.share().expect(&rt, "memory")));
+    assert!(rt; seat_at(alloc, &mut sender, 3, full.share()?));
+    assert!(rt; seat_at(alloc, &mut sender, 5, other.share()?));
     assert_eq!(rt; send(&rt, alloc, &mut sender, 1024), 1024);
     assert_eq!(rt;
-        one_more(&rt, alloc, &mut sender)
-            .expect(&rt, "memory")
-            .as_slice(),
+        one_more(&rt, alloc, &mut sender)?.as_slice(),
         [3].as_slice()
     );
-    let items = take_all(&rt, alloc, &other).expect(&rt, "memory");
+    let items = take_all(&rt, alloc, &other)?;
     assert_eq!(rt; items.len(), 1);
     assert_eq!(rt; items[0].bytes.as_slice(), b"one more".as_slice());
     assert_eq!(rt; items[0].mark, Some((1, 1025)));
 
     // Once it is shut the outbox stays so, also when there is room again.
-    assert_eq!(rt;
-        take_all(&rt, alloc, &full).expect(&rt, "memory").len(),
-        1024
-    );
+    assert_eq!(rt; take_all(&rt, alloc, &full)?.len(), 1024);
     assert_eq!(rt; send(&rt, alloc, &mut sender, 1), 0);
     Ok(())
 }
@@ -181,17 +176,17 @@ fn reply<R: Wait + Abort>(rt: &R, sender: &mut Sender<Line>) -> Result<Sent, Fai
 #[test]
 fn unicast(rt: HostRuntime) -> Result<(), Fail> {
     let alloc = rt.alloc();
-    let outbox = Outbox::new(alloc).expect(&rt, "memory");
+    let outbox = Outbox::new(alloc)?;
     let mut sender = Sender::new(alloc, 1);
-    assert!(rt; seat_at(alloc, &mut sender, 3, outbox.share().expect(&rt, "memory")));
-    assert_eq!(rt; reply(&rt, &mut sender).expect(&rt, "memory"), Sent::Put);
-    let items = take_all(&rt, alloc, &outbox).expect(&rt, "memory");
+    assert!(rt; seat_at(alloc, &mut sender, 3, outbox.share()?));
+    assert_eq!(rt; reply(&rt, &mut sender)?, Sent::Put);
+    let items = take_all(&rt, alloc, &outbox)?;
     assert_eq!(rt; items.len(), 1);
     assert_eq!(rt; items[0].bytes.as_slice(), b"reply".as_slice());
     assert_eq!(rt; items[0].mark, None);
 
     assert_eq!(rt; send(&rt, alloc, &mut sender, 1024), 1024);
-    assert_eq!(rt; reply(&rt, &mut sender).expect(&rt, "memory"), Sent::Full);
+    assert_eq!(rt; reply(&rt, &mut sender)?, Sent::Full);
     Ok(())
 }
 
@@ -199,10 +194,10 @@ fn unicast(rt: HostRuntime) -> Result<(), Fail> {
 #[test]
 fn written_out_once(rt: HostRuntime) -> Result<(), Fail> {
     let alloc = rt.alloc();
-    let pushed = Rc::new(alloc, Cell::new(0)).expect(&rt, "memory");
+    let pushed = Rc::new(alloc, Cell::new(0))?;
     let line = Line {
-        outbox: Outbox::new(alloc).expect(&rt, "memory"),
-        pushed: pushed.clone().expect(&rt, "memory"),
+        outbox: Outbox::new(alloc)?,
+        pushed: pushed.clone()?,
     };
     let mut sender = Sender::new(alloc, 1);
     assert!(rt; seat_with(alloc, &mut sender, 3, line));
@@ -261,18 +256,12 @@ fn route_at_gate<R: Wait + Abort>(
 #[test]
 fn gate_is_called_round_the_puts(rt: HostRuntime) -> Result<(), Fail> {
     let alloc = rt.alloc();
-    let outbox = Outbox::new(alloc).expect(&rt, "memory");
+    let outbox = Outbox::new(alloc)?;
     let calls = Calls { seen: Cell::new(0) };
     let mut sender = Sender::new(alloc, 1);
-    assert!(rt; seat_at(alloc, &mut sender, 3, outbox.share().expect(&rt, "memory")));
-    assert_eq!(rt;
-        route_at_gate(&rt, alloc, &mut sender, &calls).expect(&rt, "memory"),
-        0
-    );
+    assert!(rt; seat_at(alloc, &mut sender, 3, outbox.share()?));
+    assert_eq!(rt; route_at_gate(&rt, alloc, &mut sender, &calls)?, 0);
     assert_eq!(rt; calls.seen.get(), 12);
-    assert_eq!(rt;
-        take_all(&rt, alloc, &outbox).expect(&rt, "memory").len(),
-        1
-    );
+    assert_eq!(rt; take_all(&rt, alloc, &outbox)?.len(), 1);
     Ok(())
 }
