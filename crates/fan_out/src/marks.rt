@@ -59,6 +59,7 @@ pub(crate) struct Marks {
 
 impl Marks {
     /// No connection is marked.
+    #[inline(always)]
     pub(crate) fn new() -> Marks
         ensures { result.places ≡ replicate MAX_RECIPIENTS false }
     {
