@@ -6,13 +6,12 @@ ghost use Rattle.connections.specs.Broadcasts.{Broadcasts};
 use crate::connection::Connection;
 use crate::error::AnswerError;
 use crate::site::Site;
-use arrayvec::ArrayVec;
 use bus_messages::{BuildError, Bytes, UniqueName, name_acquired, name_lost, name_owner_changed};
 use message_view::View;
 use owners::Change;
 use program_table::Mailbox;
 use published::Naming;
-use router::Source;
+use router::{RouteLists, Source};
 use routing::Carrier;
 use std::sync::Wait;
 
@@ -149,10 +148,11 @@ impl<J: Naming, M: Mailbox + Carrier> Connection<J, M> {
             return Err(AnswerError::NoMemory);
         };
         let view = View::of_message(bytes.as_slice());
-        self.broadcast(site, Source::Bus, &view, &bytes)
+        let mut lists = RouteLists::new();
+        self.broadcast(site, Source::Bus, &view, &bytes, &mut lists)
     }
 
-    /// Routes a broadcast. The view is that of the bytes.
+    /// Routes a broadcast. The view is that of the bytes, and the lists are then of this broadcast.
     ///
     /// # Errors
     ///
@@ -163,12 +163,12 @@ impl<J: Naming, M: Mailbox + Carrier> Connection<J, M> {
         source: Source,
         view: &View<'_>,
         bytes: &Bytes,
+        lists: &mut RouteLists,
     ) -> Result<(), AnswerError>
         ensures error { IfErr result (λ error. error ≡ AnswerError.NoMemory) }
         ensures routed { Broadcasts M.outbox_of source view.now self.old.pass result self.new.pass }
         ensures name { self.new.name ≡ self.old.name }
     {
-        let mut refused = ArrayVec::new();
         let routed = site.bus.route_into(
             site.rt,
             site.alloc,
@@ -176,7 +176,7 @@ impl<J: Naming, M: Mailbox + Carrier> Connection<J, M> {
             source,
             view,
             bytes,
-            &mut refused,
+            lists,
         );
         match routed {
             Ok(()) => Ok(()),

@@ -8,6 +8,7 @@ ghost use Rattle.passes.specs.Routes.{HasRouted, IsUnrouted};
 use crate::error::BusError;
 use crate::pass::Pass;
 use crate::reading::Source;
+use crate::route_lists::RouteLists;
 use arrayvec::ArrayVec;
 use bytes::Bytes;
 use fan_out::MAX_RECIPIENTS;
@@ -78,8 +79,8 @@ fn broadcast<M: Carrier, W: Wait, G: Gate>(
 
 impl<J: Naming, M: Mailbox + Carrier> Pass<J, M> {
     /// Finds the recipients of a broadcast, leaves the published state, and puts the message into their outboxes.
-    /// Lists those whose outbox refused it, a shut one included, by rising number, into an empty list of the caller's. The
-    /// view is that of the bytes. `gate.before(0)` is called once the published state is left and the seats are there,
+    /// The caller's lists are then of this broadcast: its recipients, and those whose outbox refused it, a shut one
+    /// included. The view is that of the bytes. `gate.before(0)` is called once the published state is left and the seats are there,
     /// before the first put, and `gate.after(0)` after the last.
     ///
     /// # Errors
@@ -94,11 +95,11 @@ impl<J: Naming, M: Mailbox + Carrier> Pass<J, M> {
         view: &View<'_>,
         bytes: &Bytes,
         gate: &G,
-        refused: &mut ArrayVec<u64, MAX_RECIPIENTS>,
+        lists: &mut RouteLists,
     ) -> Result<(), BusError>
-        requires { refused.old.items ≡ [] }
-        ensures { MatchResult result (λ _. HasRouted M.outbox_of source view.now self.old refused.new.items self.new) (λ error. IsUnrouted M.outbox_of error self.old self.new) }
+        ensures { MatchResult result (λ _. HasRouted M.outbox_of source view.now self.old lists.new.refused.items self.new) (λ error. IsUnrouted M.outbox_of error self.old self.new) }
     {
+        lists.clear();
         let connection = self.connection();
         if connection == 0 || (source == Source::Own && self.is_closed()) {
             return Err(BusError::Closed);
@@ -106,18 +107,17 @@ impl<J: Naming, M: Mailbox + Carrier> Pass<J, M> {
         let mut sender = self.take_sender(alloc);
         let _ = sender.seats();
         let from = source.sender(connection);
-        let mut recipients = ArrayVec::new();
-        match self.look_for_mailboxes(alloc, &sender, from, view, &mut recipients) {
+        match self.look_for_mailboxes(alloc, &sender, from, view, &mut lists.recipients) {
             Ok(found) => {
                 let answer = broadcast(
                     rt,
                     alloc,
                     &mut sender,
-                    &recipients,
+                    &lists.recipients,
                     found,
                     bytes,
                     gate,
-                    refused,
+                    &mut lists.refused,
                 );
                 let _ = sender.seats();
                 self.put_back(sender);

@@ -10,4 +10,4 @@ mod unicasts;
 
 pub use bus::Bus;
 pub use letterbox::Letterbox;
-pub use passes::{BusError, Control, Pass, Sent, Source};
+pub use passes::{BusError, Control, Pass, RouteLists, Sent, Source};

@@ -1,6 +1,6 @@
 // Broadcasts through the bus.
 
-ghost use Rattle.std.specs.Prelude.{◌≡◌, [], MatchResult};
+ghost use Rattle.std.specs.Prelude.{MatchResult};
 ghost use Rattle.passes.specs.Routes.{HasRouted, IsUnrouted};
 
 use crate::bus::Bus;
@@ -8,7 +8,7 @@ use arrayvec::ArrayVec;
 use bytes::Bytes;
 use fan_out::MAX_RECIPIENTS;
 use message_view::View;
-use passes::{BusError, Pass, Source};
+use passes::{BusError, Pass, RouteLists, Source};
 use program_table::Mailbox;
 use published::Naming;
 use routing::{Carrier, Gate};
@@ -44,13 +44,13 @@ impl<J: Naming, M: Mailbox + Carrier, R: Wait + Drop> Bus<J, M, R> {
     ) -> Result<ArrayVec<u64, MAX_RECIPIENTS>, BusError>
         ensures { MatchResult result (λ refused. HasRouted M.outbox_of source view.now pass.old refused.items pass.new) (λ error. IsUnrouted M.outbox_of error pass.old pass.new) }
     {
-        let mut refused = ArrayVec::new();
-        self.route_into(rt, alloc, pass, source, view, bytes, &mut refused)?;
+        let mut lists = RouteLists::new();
+        self.route_into(rt, alloc, pass, source, view, bytes, &mut lists)?;
+        let RouteLists { refused, .. } = lists;
         Ok(refused)
     }
 
-    /// Routes as `route` does, and lists into an empty list of the caller's. The list has room for each connection, two
-    /// kilobytes, which needn't be cleared and copied in each call that a message goes through.
+    /// Routes as `route` does, and lists the recipients too, into lists of the caller's.
     pub fn route_into<W: Wait>(
         &self,
         rt: &W,
@@ -59,12 +59,11 @@ impl<J: Naming, M: Mailbox + Carrier, R: Wait + Drop> Bus<J, M, R> {
         source: Source,
         view: &View<'_>,
         bytes: &Bytes,
-        refused: &mut ArrayVec<u64, MAX_RECIPIENTS>,
+        lists: &mut RouteLists,
     ) -> Result<(), BusError>
-        requires { refused.old.items ≡ [] }
-        ensures { MatchResult result (λ _. HasRouted M.outbox_of source view.now pass.old refused.new.items pass.new) (λ error. IsUnrouted M.outbox_of error pass.old pass.new) }
+        ensures { MatchResult result (λ _. HasRouted M.outbox_of source view.now pass.old lists.new.refused.items pass.new) (λ error. IsUnrouted M.outbox_of error pass.old pass.new) }
     {
-        pass.broadcast(rt, alloc, source, view, bytes, &OpenGate, refused)
+        pass.broadcast(rt, alloc, source, view, bytes, &OpenGate, lists)
     }
 
     /// Routes as `route` does. `gate.before(0)` is called once the published state is left and the seats are there,
@@ -81,8 +80,9 @@ impl<J: Naming, M: Mailbox + Carrier, R: Wait + Drop> Bus<J, M, R> {
     ) -> Result<ArrayVec<u64, MAX_RECIPIENTS>, BusError>
         ensures { MatchResult result (λ refused. HasRouted M.outbox_of source view.now pass.old refused.items pass.new) (λ error. IsUnrouted M.outbox_of error pass.old pass.new) }
     {
-        let mut refused = ArrayVec::new();
-        pass.broadcast(rt, alloc, source, view, bytes, gate, &mut refused)?;
+        let mut lists = RouteLists::new();
+        pass.broadcast(rt, alloc, source, view, bytes, gate, &mut lists)?;
+        let RouteLists { refused, .. } = lists;
         Ok(refused)
     }
 }

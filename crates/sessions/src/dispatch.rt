@@ -11,7 +11,7 @@ use message_build::{StampError, stamp};
 use message_view::{Kind, View};
 use program_table::Mailbox;
 use published::Naming;
-use router::{Sent, Source};
+use router::{RouteLists, Sent, Source};
 use routing::Carrier;
 use std::alloc::Global;
 use std::sync::Wait;
@@ -35,6 +35,7 @@ pub(crate) fn treat<J: Naming, M: Mailbox + Carrier, W: Wait, R: Wait + Drop>(
     connection: &mut Connection<J, M>,
     site: &Site<'_, J, M, W, R>,
     home: &mut Home<M>,
+    lists: &mut RouteLists,
     view: &View<'_>,
 ) -> Result<(), AnswerError> {
     if is_for_bus(view) {
@@ -42,7 +43,7 @@ pub(crate) fn treat<J: Naming, M: Mailbox + Carrier, W: Wait, R: Wait + Drop>(
     }
     match (view.kind(), view.destination()) {
         (Kind::Other(_), _) => Ok(()),
-        (Kind::Signal, None) => send_broadcast(connection, site, home, view),
+        (Kind::Signal, None) => send_broadcast(connection, site, home, lists, view),
         (_, Some(name)) => send_to(connection, site, home, view, name),
         (_, None) => Ok(()),
     }
@@ -65,12 +66,13 @@ fn send_broadcast<J: Naming, M: Mailbox + Carrier, W: Wait, R: Wait + Drop>(
     connection: &mut Connection<J, M>,
     site: &Site<'_, J, M, W, R>,
     home: &mut Home<M>,
+    lists: &mut RouteLists,
     view: &View<'_>,
 ) -> Result<(), AnswerError> {
     match stamp_message(site.alloc, view, &connection.name) {
         Ok(bytes) => {
-            let stamp_message = View::of_message(bytes.as_slice());
-            connection.broadcast(site, Source::Own, &stamp_message, &bytes)
+            let stamped = View::of_message(bytes.as_slice());
+            connection.broadcast(site, Source::Own, &stamped, &bytes, lists)
         }
         Err(why) => give_up(connection, site, home, view, why),
     }

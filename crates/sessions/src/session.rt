@@ -13,7 +13,7 @@ use frames::Frames;
 use message_view::MsgError;
 use program_table::{Command, Mailbox};
 use published::{Naming, Published, Shown};
-use router::Bus;
+use router::{Bus, RouteLists};
 use routing::Carrier;
 use std::alloc::Global;
 use std::collections::LinkedList;
@@ -40,6 +40,7 @@ where
     // What is read and not treated.
     input: Frames,
     home: Home<M>,
+    lists: RouteLists,
     // None before Hello.
     connection: Option<Connection<J, M>>,
     fault: Option<SessionError>,
@@ -58,6 +59,7 @@ impl<J: Naming, M: Mailbox + Carrier> Session<J, M> {
             talk: Talk::new(guid),
             input: Frames::new(alloc),
             home: Home::new(mailbox),
+            lists: RouteLists::new(),
             connection: None,
             fault: None,
         }
@@ -153,7 +155,7 @@ impl<J: Naming, M: Mailbox + Carrier> Session<J, M> {
         };
         let len = view.raw().len();
         match &mut self.connection {
-            Some(connection) => treat(connection, site, &mut self.home, &view)?,
+            Some(connection) => treat(connection, site, &mut self.home, &mut self.lists, &view)?,
             None => {
                 let mut connection = greet(site, &mut self.home, self.identity, &view)?;
                 let welcomed = connection.welcome(site, &mut self.home, Request::of(&view));

@@ -1,0 +1,37 @@
+// The lists of a broadcast.
+
+ghost use Rattle.std.specs.Prelude.{◌≡◌, []};
+
+use arrayvec::ArrayVec;
+use fan_out::MAX_RECIPIENTS;
+
+/// The recipients of a broadcast, and those whose outbox refused it, by rising number. Each list has room for all
+/// connections of a bus, two kilobytes, so whoever sends many messages keeps the lists from one to the next: they needn't
+/// be made for each.
+#[derive(Drop)]
+pub struct RouteLists {
+    pub recipients: ArrayVec<u64, MAX_RECIPIENTS>,
+    pub refused: ArrayVec<u64, MAX_RECIPIENTS>,
+}
+
+impl RouteLists {
+    /// Lists of nobody.
+    pub fn new() -> RouteLists
+        ensures recipients { result.recipients.items ≡ [] }
+        ensures refused { result.refused.items ≡ [] }
+    {
+        RouteLists {
+            recipients: ArrayVec::new(),
+            refused: ArrayVec::new(),
+        }
+    }
+
+    /// Empties both lists.
+    pub(crate) fn clear(&mut self)
+        ensures recipients { self.new.recipients.items ≡ [] }
+        ensures refused { self.new.refused.items ≡ [] }
+    {
+        self.recipients.clear();
+        self.refused.clear();
+    }
+}
