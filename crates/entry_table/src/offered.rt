@@ -29,6 +29,7 @@ fn is_offered(shape: u16, found: &MessageTexts<'_>, entry: &Entry) -> bool
 }
 
 /// The next of the entries of a shape at these places that a message with these texts is offered to.
+#[inline(always)]
 fn next_at<'a>(
     shelf: &'a Shelf,
     found: &MessageTexts<'_>,
@@ -56,6 +57,7 @@ struct Cursor<'a> {
 }
 
 /// The next of the entries that a message is offered to.
+#[inline(always)]
 fn next_offered<'a>(
     shelf: &'a Shelf,
     by_texts: &'a Lists,
@@ -136,6 +138,7 @@ impl<'a> Iterator for Offered<'a> {
 
     ghost remaining = { item_count (λ s. s) };
 
+    #[inline(always)]
     fn next(&mut self) -> Option<&'a Entry> {
         next_offered(self.shelf, self.by_texts, &mut self.found, &mut self.at)
     }

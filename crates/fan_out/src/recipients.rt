@@ -209,7 +209,7 @@ fn consider_all<'a, M: Mailbox>(
     ensures marked { AreMarkedSoFar state.now piece.part piece.of programs.entry.view.now programs.entry.owned.now (first.now ∷ others.old) [] marks.new.places result }
 {
     let mut entry = first;
-    loop {
+    'entries: loop {
         if consider(state, piece, entry, &mut programs, marks) {
             return consider_rest(state, piece, entry, others, programs, marks);
         }
