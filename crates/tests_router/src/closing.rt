@@ -17,14 +17,14 @@ use std::sync::Wait;
 
 /// A gate that closes a pass before the first put.
 #[derive(Drop)]
-struct Closing<'a, J: Naming, W: Wait + Drop> {
+struct Closing<'a, J: Naming, W: Wait, R: Wait + Drop> {
     rt: &'a W,
-    bus: &'a Bus<J, Letterbox, W>,
+    bus: &'a Bus<J, Letterbox, R>,
     pass: Cell<Option<Pass<J, Letterbox>>>,
     closed: Cell<bool>,
 }
 
-impl<J: Naming, W: Wait + Drop> Gate for Closing<'_, J, W> {
+impl<J: Naming, W: Wait, R: Wait + Drop> Gate for Closing<'_, J, W, R> {
     fn before(&self, _piece: u32) {
         if let Some(mut pass) = self.pass.replace(None) {
             self.closed.set(self.bus.close(self.rt, &mut pass).is_ok());
@@ -42,7 +42,7 @@ fn closed_between(rt: HostRuntime) {
 fn route_and_close<J: Naming, R: Wait + Abort>(rt: &R, alloc: Global, opened: Opened<Letterbox>)
     requires { opened ≡ J.book }
 {
-    let bus = new_bus::<J, Letterbox, R>(rt, alloc, opened);
+    let bus = new_bus::<J, R>(rt, alloc, opened);
     let stays = new_letterbox(rt, alloc);
     let goes = new_letterbox(rt, alloc);
     let mut one = connect_pass(rt, &bus, new_letterbox(rt, alloc));
@@ -59,15 +59,15 @@ fn route_and_close<J: Naming, R: Wait + Abort>(rt: &R, alloc: Global, opened: Op
 }
 
 // Nobody refuses the broadcast: `close` doesn't touch the outbox.
-fn close_between<'a, J: Naming, R: Wait + Abort>(
-    rt: &'a R,
+fn close_between<J: Naming, R: Wait + Abort>(
+    rt: &R,
     alloc: Global,
-    bus: &Bus<J, Letterbox, &'a R>,
+    bus: &Bus<J, Letterbox, &R>,
     pass: &mut Pass<J, Letterbox>,
     other: Pass<J, Letterbox>,
 ) {
     let gate = Closing {
-        rt: &rt,
+        rt,
         bus,
         pass: Cell::new(Some(other)),
         closed: Cell::new(false),

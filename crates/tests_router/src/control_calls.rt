@@ -3,11 +3,12 @@
 ghost use Rattle.std.specs.Prelude.{◌≡◌};
 
 use crate::fixture::{expect_error, expect_reply, name_a, new_bus, owner_reply};
+use crate::letters::new_letterbox;
 use bpf_code::Ins;
 use owners::{Change, NameReply, Named, WellKnown};
 use program_table::Reply;
 use published::{Naming, Opened};
-use router::{Bus, BusError, Pass};
+use router::{Bus, BusError, Letterbox, Pass};
 use std::alloc::Global;
 use std::marker::Brand;
 use std::process::Abort;
@@ -16,22 +17,27 @@ use summary::Edition;
 
 #[test]
 fn each_control_call(rt: HostRuntime) {
-    make_all_calls::<Brand, _>(&rt, rt.alloc(), Opened::<()>::new());
+    make_all_calls::<Brand, _>(&rt, rt.alloc(), Opened::<Letterbox>::new());
 }
 
-fn make_all_calls<J: Naming, R: Wait + Abort>(rt: &R, alloc: Global, opened: Opened<()>)
+fn make_all_calls<J: Naming, R: Wait + Abort>(rt: &R, alloc: Global, opened: Opened<Letterbox>)
     requires { opened ≡ J.book }
 {
-    let bus = new_bus::<J, (), R>(rt, alloc, opened);
+    let bus = new_bus::<J, R>(rt, alloc, opened);
     let mut pass = bus.pass(rt).expect(rt, "a pass");
-    expect_reply(rt, bus.connect(rt, &mut pass, ()), Reply::Connected(1));
+    let connected = bus.connect(rt, &mut pass, new_letterbox(rt, alloc));
+    expect_reply(rt, connected, Reply::Connected(1));
     own_a_name(rt, &bus, &mut pass);
     attach_a_program(rt, alloc, &bus, &mut pass);
     expect_reply(rt, bus.close(rt, &mut pass), Reply::Done);
     expect_error(rt, bus.close(rt, &mut pass), BusError::Closed);
 }
 
-fn own_a_name<J: Naming, R: Wait + Abort>(rt: &R, bus: &Bus<J, (), &R>, pass: &mut Pass<J, ()>) {
+fn own_a_name<J: Naming, R: Wait + Abort>(
+    rt: &R,
+    bus: &Bus<J, Letterbox, &R>,
+    pass: &mut Pass<J, Letterbox>,
+) {
     let name = name_a(rt);
     expect_reply(
         rt,
@@ -63,8 +69,8 @@ fn no_claim_reply() -> Reply {
 fn attach_a_program<J: Naming, R: Wait + Abort>(
     rt: &R,
     alloc: Global,
-    bus: &Bus<J, (), &R>,
-    pass: &mut Pass<J, ()>,
+    bus: &Bus<J, Letterbox, &R>,
+    pass: &mut Pass<J, Letterbox>,
 ) {
     let program = return_one(rt, alloc);
     let attached = bus.attach(rt, alloc, pass, Edition::Two, program);

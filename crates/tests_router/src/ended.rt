@@ -3,9 +3,10 @@
 ghost use Rattle.std.specs.Prelude.{◌≡◌};
 
 use crate::fixture::{S1, connect_pass, expect_recipients, name_a, new_bus};
+use crate::letters::new_letterbox;
 use message_view::View;
 use published::{Naming, Opened};
-use router::{BusError, Pass, Source};
+use router::{BusError, Letterbox, Pass, Source};
 use std::alloc::Global;
 use std::marker::Brand;
 use std::process::Abort;
@@ -13,10 +14,10 @@ use std::sync::Wait;
 
 #[test]
 fn bus_is_gone(rt: HostRuntime) {
-    look_after_the_end::<Brand, _>(&rt, rt.alloc(), Opened::<()>::new());
+    look_after_the_end::<Brand, _>(&rt, rt.alloc(), Opened::<Letterbox>::new());
 }
 
-fn look_after_the_end<J: Naming, R: Wait + Abort>(rt: &R, alloc: Global, opened: Opened<()>)
+fn look_after_the_end<J: Naming, R: Wait + Abort>(rt: &R, alloc: Global, opened: Opened<Letterbox>)
     requires { opened ≡ J.book }
 {
     let mut pass = survivor::<J, R>(rt, alloc, opened);
@@ -24,17 +25,21 @@ fn look_after_the_end<J: Naming, R: Wait + Abort>(rt: &R, alloc: Global, opened:
 }
 
 // A pass whose bus has ended after it was read.
-fn survivor<J: Naming, R: Wait + Abort>(rt: &R, alloc: Global, opened: Opened<()>) -> Pass<J, ()>
+fn survivor<J: Naming, R: Wait + Abort>(
+    rt: &R,
+    alloc: Global,
+    opened: Opened<Letterbox>,
+) -> Pass<J, Letterbox>
     requires { opened ≡ J.book }
 {
-    let bus = new_bus::<J, (), R>(rt, alloc, opened);
-    let mut pass = connect_pass(rt, &bus, ());
+    let bus = new_bus::<J, R>(rt, alloc, opened);
+    let mut pass = connect_pass(rt, &bus, new_letterbox(rt, alloc));
     expect_recipients(rt, &mut pass, &[]);
     pass
 }
 
 // Each look at the published state is Closed.
-fn expect_end<J: Naming, R: Abort>(rt: &R, alloc: Global, pass: &mut Pass<J, ()>) {
+fn expect_end<J: Naming, R: Abort>(rt: &R, alloc: Global, pass: &mut Pass<J, Letterbox>) {
     let view = View::read(&S1).expect(rt, "a message");
     let found = pass.recipients(Source::Bus, &view);
     assert_eq!(rt; found.err(), Some(BusError::Closed));

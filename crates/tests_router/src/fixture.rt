@@ -1,14 +1,15 @@
 //! What the tests of the bus begin with, and what they ask of each answer. A failure ends the test at once, so that a
-//! test has one way out.
+//! test has one way out. Each bus has letterboxes, also where no test looks into them: the whole bus would be proved
+//! again for a second type of mailbox.
 
 ghost use Rattle.std.specs.Prelude.{◌≡◌};
 
 use entry_table::IndexKey;
 use message_view::View;
 use owners::{Change, NameReply, Named, WellKnown};
-use program_table::{Mailbox, Reply};
+use program_table::Reply;
 use published::{Naming, Opened};
-use router::{Bus, BusError, Pass, Source};
+use router::{Bus, BusError, Letterbox, Pass, Source};
 use std::alloc::Global;
 use std::process::Abort;
 use std::sync::Wait;
@@ -29,25 +30,25 @@ pub(crate) const S1: [u8; 64] = [
 pub(crate) const MEMBER_C: &str = "member='c'";
 
 /// A bus to which nobody is connected.
-pub(crate) fn new_bus<J: Naming, M: Mailbox, R: Wait + Abort>(
+pub(crate) fn new_bus<J: Naming, R: Wait + Abort>(
     rt: &R,
     alloc: Global,
-    opened: Opened<M>,
-) -> Bus<J, M, &R>
+    opened: Opened<Letterbox>,
+) -> Bus<J, Letterbox, &R>
     requires { opened ≡ J.book }
 {
     Bus::new(rt, alloc, KEY, opened).expect(rt, "a bus")
 }
 
 /// A pass with the next connection.
-pub(crate) fn connect_pass<J: Naming, M: Mailbox, R: Wait + Abort>(
+pub(crate) fn connect_pass<J: Naming, R: Wait + Abort>(
     rt: &R,
-    bus: &Bus<J, M, &R>,
-    mailbox: M,
-) -> Pass<J, M> {
+    bus: &Bus<J, Letterbox, &R>,
+    letterbox: Letterbox,
+) -> Pass<J, Letterbox> {
     let mut pass = bus.pass(rt).expect(rt, "a pass");
     let _ = bus
-        .connect(rt, &mut pass, mailbox)
+        .connect(rt, &mut pass, letterbox)
         .expect(rt, "a connection");
     pass
 }
@@ -80,9 +81,9 @@ pub(crate) fn expect_error<R: Abort>(rt: &R, answer: Result<Reply, BusError>, wa
 }
 
 /// The recipients of S1 as a broadcast of the pass.
-pub(crate) fn expect_recipients<J: Naming, M: Mailbox, R: Abort>(
+pub(crate) fn expect_recipients<J: Naming, R: Abort>(
     rt: &R,
-    pass: &mut Pass<J, M>,
+    pass: &mut Pass<J, Letterbox>,
     wanted: &[u64],
 ) {
     let view = View::read(&S1).expect(rt, "a message");

@@ -22,7 +22,7 @@ fn own_recipient_once(rt: HostRuntime) {
 fn route_to_itself<J: Naming, R: Wait + Abort>(rt: &R, alloc: Global, opened: Opened<Letterbox>)
     requires { opened ≡ J.book }
 {
-    let bus = new_bus::<J, Letterbox, R>(rt, alloc, opened);
+    let bus = new_bus::<J, R>(rt, alloc, opened);
     let letterbox = new_letterbox(rt, alloc);
     let mut pass = connect_with(rt, &bus, &letterbox);
     route_s1(rt, alloc, &bus, &mut pass, &[]);
@@ -41,7 +41,7 @@ fn unicast_by_names(rt: HostRuntime) {
 fn own_and_send<J: Naming, R: Wait + Abort>(rt: &R, alloc: Global, opened: Opened<Letterbox>)
     requires { opened ≡ J.book }
 {
-    let bus = new_bus::<J, Letterbox, R>(rt, alloc, opened);
+    let bus = new_bus::<J, R>(rt, alloc, opened);
     let letterbox = new_letterbox(rt, alloc);
     let mut one = connect_with(rt, &bus, &new_letterbox(rt, alloc));
     let mut second_pass = connect_with(rt, &bus, &letterbox);
@@ -76,7 +76,7 @@ fn full_outbox(rt: HostRuntime) {
 fn send_one_too_many<J: Naming, R: Wait + Abort>(rt: &R, alloc: Global, opened: Opened<Letterbox>)
     requires { opened ≡ J.book }
 {
-    let bus = new_bus::<J, Letterbox, R>(rt, alloc, opened);
+    let bus = new_bus::<J, R>(rt, alloc, opened);
     let full = new_letterbox(rt, alloc);
     let other = new_letterbox(rt, alloc);
     let mut one = connect_with(rt, &bus, &full);

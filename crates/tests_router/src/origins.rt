@@ -30,7 +30,7 @@ fn send_and_take<J: Naming + Send + Sync, R: Wait + Threads + Sync + Abort>(
 )
     requires { opened ≡ J.book }
 {
-    let bus = new_bus::<J, Letterbox, R>(rt, alloc, opened);
+    let bus = new_bus::<J, R>(rt, alloc, opened);
     let letterbox = new_letterbox(rt, alloc);
     let one = connect_with(rt, &bus, &new_letterbox(rt, alloc));
     let second_pass = connect_with(rt, &bus, &new_letterbox(rt, alloc));

@@ -5,9 +5,10 @@ ghost use Rattle.std.specs.Prelude.{◌≡◌};
 use crate::fixture::{
     MEMBER_C, connect_pass, expect_error, expect_recipients, expect_reply, new_bus,
 };
+use crate::letters::new_letterbox;
 use program_table::Reply;
 use published::{Naming, Opened};
-use router::{Bus, BusError, Pass};
+use router::{Bus, BusError, Letterbox, Pass};
 use std::alloc::Global;
 use std::marker::Brand;
 use std::process::Abort;
@@ -15,14 +16,14 @@ use std::sync::Wait;
 
 #[test]
 fn own_recipient_once(rt: HostRuntime) {
-    add_twice::<Brand, _>(&rt, rt.alloc(), Opened::<()>::new());
+    add_twice::<Brand, _>(&rt, rt.alloc(), Opened::<Letterbox>::new());
 }
 
-fn add_twice<J: Naming, R: Wait + Abort>(rt: &R, alloc: Global, opened: Opened<()>)
+fn add_twice<J: Naming, R: Wait + Abort>(rt: &R, alloc: Global, opened: Opened<Letterbox>)
     requires { opened ≡ J.book }
 {
-    let bus = new_bus::<J, (), R>(rt, alloc, opened);
-    let mut pass = connect_pass(rt, &bus, ());
+    let bus = new_bus::<J, R>(rt, alloc, opened);
+    let mut pass = connect_pass(rt, &bus, new_letterbox(rt, alloc));
     let first = bus.add_match(rt, alloc, &mut pass, MEMBER_C);
     expect_reply(rt, first, Reply::Entry(1));
     let second = bus.add_match(rt, alloc, &mut pass, MEMBER_C);
@@ -34,8 +35,8 @@ fn add_twice<J: Naming, R: Wait + Abort>(rt: &R, alloc: Global, opened: Opened<(
 fn remove_both<J: Naming, R: Wait + Abort>(
     rt: &R,
     alloc: Global,
-    bus: &Bus<J, (), &R>,
-    pass: &mut Pass<J, ()>,
+    bus: &Bus<J, Letterbox, &R>,
+    pass: &mut Pass<J, Letterbox>,
 ) {
     let first = bus.remove_match(rt, alloc, pass, MEMBER_C);
     expect_reply(rt, first, Reply::Done);
@@ -53,14 +54,14 @@ const OTHER_SPELLING: &str = r"arg0=\',arg1=\,arg2=',',arg3=\\";
 
 #[test]
 fn two_spellings_one_rule(rt: HostRuntime) {
-    spell_twice::<Brand, _>(&rt, rt.alloc(), Opened::<()>::new());
+    spell_twice::<Brand, _>(&rt, rt.alloc(), Opened::<Letterbox>::new());
 }
 
-fn spell_twice<J: Naming, R: Wait + Abort>(rt: &R, alloc: Global, opened: Opened<()>)
+fn spell_twice<J: Naming, R: Wait + Abort>(rt: &R, alloc: Global, opened: Opened<Letterbox>)
     requires { opened ≡ J.book }
 {
-    let bus = new_bus::<J, (), R>(rt, alloc, opened);
-    let mut pass = connect_pass(rt, &bus, ());
+    let bus = new_bus::<J, R>(rt, alloc, opened);
+    let mut pass = connect_pass(rt, &bus, new_letterbox(rt, alloc));
     let added = bus.add_match(rt, alloc, &mut pass, ONE_SPELLING);
     expect_reply(rt, added, Reply::Entry(1));
     let removed = bus.remove_match(rt, alloc, &mut pass, OTHER_SPELLING);

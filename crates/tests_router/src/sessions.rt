@@ -3,9 +3,10 @@
 ghost use Rattle.std.specs.Prelude.{◌≡◌};
 
 use crate::fixture::{connect_pass, expect_error, expect_reply, new_bus};
+use crate::letters::new_letterbox;
 use program_table::Reply;
 use published::{Naming, Opened};
-use router::{Bus, BusError};
+use router::{Bus, BusError, Letterbox};
 use std::alloc::Global;
 use std::marker::Brand;
 use std::process::Abort;
@@ -13,22 +14,27 @@ use std::sync::Wait;
 
 #[test]
 fn thousand_sessions(rt: HostRuntime) {
-    open_and_close::<Brand, _>(&rt, rt.alloc(), Opened::<()>::new());
+    open_and_close::<Brand, _>(&rt, rt.alloc(), Opened::<Letterbox>::new());
 }
 
-fn open_and_close<J: Naming, R: Wait + Abort>(rt: &R, alloc: Global, opened: Opened<()>)
+fn open_and_close<J: Naming, R: Wait + Abort>(rt: &R, alloc: Global, opened: Opened<Letterbox>)
     requires { opened ≡ J.book }
 {
-    let bus = new_bus::<J, (), R>(rt, alloc, opened);
+    let bus = new_bus::<J, R>(rt, alloc, opened);
     for number in 1..=1000 {
-        hold_session(rt, &bus, number);
+        hold_session(rt, alloc, &bus, number);
     }
 }
 
 // A session that connects, closes and gives its pass back.
-fn hold_session<J: Naming, R: Wait + Abort>(rt: &R, bus: &Bus<J, (), &R>, number: u64) {
+fn hold_session<J: Naming, R: Wait + Abort>(
+    rt: &R,
+    alloc: Global,
+    bus: &Bus<J, Letterbox, &R>,
+    number: u64,
+) {
     let mut pass = bus.pass(rt).expect(rt, "a pass");
-    let connected = bus.connect(rt, &mut pass, ());
+    let connected = bus.connect(rt, &mut pass, new_letterbox(rt, alloc));
     expect_reply(rt, connected, Reply::Connected(number));
     expect_reply(rt, bus.close(rt, &mut pass), Reply::Done);
     assert!(rt; pass.is_closed());
@@ -37,17 +43,17 @@ fn hold_session<J: Naming, R: Wait + Abort>(rt: &R, bus: &Bus<J, (), &R>, number
 
 #[test]
 fn connection_257(rt: HostRuntime) {
-    connect_all::<Brand, _>(&rt, rt.alloc(), Opened::<()>::new());
+    connect_all::<Brand, _>(&rt, rt.alloc(), Opened::<Letterbox>::new());
 }
 
-fn connect_all<J: Naming, R: Wait + Abort>(rt: &R, alloc: Global, opened: Opened<()>)
+fn connect_all<J: Naming, R: Wait + Abort>(rt: &R, alloc: Global, opened: Opened<Letterbox>)
     requires { opened ≡ J.book }
 {
-    let bus = new_bus::<J, (), R>(rt, alloc, opened);
+    let bus = new_bus::<J, R>(rt, alloc, opened);
     for _ in 0..256 {
-        let _ = connect_pass(rt, &bus, ());
+        let _ = connect_pass(rt, &bus, new_letterbox(rt, alloc));
     }
     let mut pass = bus.pass(rt).expect(rt, "a pass");
-    let last = bus.connect(rt, &mut pass, ());
+    let last = bus.connect(rt, &mut pass, new_letterbox(rt, alloc));
     expect_error(rt, last, BusError::ConnectionsFull);
 }

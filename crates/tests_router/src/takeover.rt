@@ -26,7 +26,7 @@ fn takeover_through_passes(rt: HostRuntime) {
 fn take_over<J: Naming, R: Wait + Threads + Abort>(rt: &R, alloc: Global, opened: Opened<Letterbox>)
     requires { opened ≡ J.book }
 {
-    let bus = new_bus::<J, Letterbox, R>(rt, alloc, opened);
+    let bus = new_bus::<J, R>(rt, alloc, opened);
     let letterbox = new_letterbox(rt, alloc);
     let mut one = connect_pass(rt, &bus, new_letterbox(rt, alloc));
     let mut second_pass = connect_with(rt, &bus, &letterbox);

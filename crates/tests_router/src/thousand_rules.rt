@@ -3,10 +3,11 @@
 ghost use Rattle.std.specs.Prelude.{◌≡◌};
 
 use crate::fixture::{connect_pass, expect_reply, new_bus};
+use crate::letters::new_letterbox;
 use message_view::View;
 use program_table::Reply;
 use published::{Naming, Opened};
-use router::{Bus, Pass, Source};
+use router::{Bus, Letterbox, Pass, Source};
 use std::alloc::Global;
 use std::marker::Brand;
 use std::process::Abort;
@@ -21,14 +22,14 @@ const M7: [u8; 64] = [
 
 #[test]
 fn index_runs(rt: HostRuntime) {
-    subscribe_all::<Brand, _>(&rt, rt.alloc(), Opened::<()>::new());
+    subscribe_all::<Brand, _>(&rt, rt.alloc(), Opened::<Letterbox>::new());
 }
 
 // 250 connections with four rules each, of the members `m0` to `m999` in order, and an empty rule of the first one.
-fn subscribe_all<J: Naming, R: Wait + Abort>(rt: &R, alloc: Global, opened: Opened<()>)
+fn subscribe_all<J: Naming, R: Wait + Abort>(rt: &R, alloc: Global, opened: Opened<Letterbox>)
     requires { opened ≡ J.book }
 {
-    let bus = new_bus::<J, (), R>(rt, alloc, opened);
+    let bus = new_bus::<J, R>(rt, alloc, opened);
     let mut one = subscriber(rt, alloc, &bus, 0);
     let mut second_pass = subscriber(rt, alloc, &bus, 1);
     for place in 2..250 {
@@ -46,10 +47,10 @@ fn subscribe_all<J: Naming, R: Wait + Abort>(rt: &R, alloc: Global, opened: Open
 fn subscriber<J: Naming, R: Wait + Abort>(
     rt: &R,
     alloc: Global,
-    bus: &Bus<J, (), &R>,
+    bus: &Bus<J, Letterbox, &R>,
     place: u16,
-) -> Pass<J, ()> {
-    let mut pass = connect_pass(rt, bus, ());
+) -> Pass<J, Letterbox> {
+    let mut pass = connect_pass(rt, bus, new_letterbox(rt, alloc));
     for number in 0..4 {
         subscribe(rt, alloc, bus, &mut pass, 4 * u32::from(place) + number);
     }
@@ -59,8 +60,8 @@ fn subscriber<J: Naming, R: Wait + Abort>(
 fn subscribe<J: Naming, R: Wait + Abort>(
     rt: &R,
     alloc: Global,
-    bus: &Bus<J, (), &R>,
-    pass: &mut Pass<J, ()>,
+    bus: &Bus<J, Letterbox, &R>,
+    pass: &mut Pass<J, Letterbox>,
     member: u32,
 ) {
     let text = format!(in alloc; "member='m{member}'").expect(rt, "a text");
@@ -69,7 +70,7 @@ fn subscribe<J: Naming, R: Wait + Abort>(
 }
 
 // The recipients of the bus's own broadcast with the member `m7`.
-fn expect_found<J: Naming, R: Abort>(rt: &R, pass: &mut Pass<J, ()>, wanted: &[u64]) {
+fn expect_found<J: Naming, R: Abort>(rt: &R, pass: &mut Pass<J, Letterbox>, wanted: &[u64]) {
     let view = View::read(&M7).expect(rt, "a message");
     let found = pass
         .recipients(Source::Bus, &view)

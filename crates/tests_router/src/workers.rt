@@ -3,40 +3,17 @@
 ghost use Rattle.std.specs.Prelude.{◌≡◌};
 
 use crate::fixture::{S1, connect_pass, new_bus};
+use crate::letters::new_letterbox;
 use fan_out::{FanError, Gate};
 use message_view::View;
-use program_table::Mailbox;
 use published::{Naming, Opened};
-use router::{BusError, Pass, Source};
+use router::{BusError, Letterbox, Pass, Source};
 use std::alloc::Global;
 use std::marker::Brand;
 use std::process::Abort;
 use std::sync::Wait;
 use std::sync::atomic::{AtomicBool, Ordering};
 use std::thread::{Threads, yield_now};
-
-/// A gate that is always open.
-struct Open;
-
-impl Gate for Open {
-    fn before(&self, _piece: u32) {}
-
-    fn after(&self, _piece: u32) {}
-}
-
-/// The recipients of S1 as a broadcast of the pass, found by `workers` workers.
-pub(crate) fn expect_by_workers<J: Naming, M: Mailbox + Sync, R: Wait + Threads + Abort>(
-    rt: &R,
-    pass: &mut Pass<J, M>,
-    workers: u32,
-    wanted: &[u64],
-) {
-    let view = View::read(&S1).expect(rt, "a message");
-    let found = pass
-        .recipients_many(rt, Source::Own, &view, workers, &Open)
-        .expect(rt, "the recipients");
-    assert_eq!(rt; found.as_slice(), wanted);
-}
 
 /// How often the first piece yields to the second.
 const TURNS: u32 = 10_000_000;
@@ -69,23 +46,54 @@ impl Gate for SecondFirst {
     }
 }
 
-#[test]
-fn workers_at_once(rt: HostRuntime) {
-    find_by_workers::<Brand, _>(&rt, rt.alloc(), Opened::<()>::new());
+// A gate that is always open: its second piece counts as done. It has no type of its own, so that what workers do is
+// proved for one type of gate.
+fn open_gate() -> SecondFirst {
+    SecondFirst {
+        second_done: AtomicBool::new(true),
+        given_up: AtomicBool::new(false),
+    }
 }
 
-fn find_by_workers<J: Naming, R: Wait + Threads + Abort>(rt: &R, alloc: Global, opened: Opened<()>)
+/// The recipients of S1 as a broadcast of the pass, found by `workers` workers.
+pub(crate) fn expect_by_workers<J: Naming, R: Wait + Threads + Abort>(
+    rt: &R,
+    pass: &mut Pass<J, Letterbox>,
+    workers: u32,
+    wanted: &[u64],
+) {
+    let view = View::read(&S1).expect(rt, "a message");
+    let gate = open_gate();
+    let found = pass
+        .recipients_many(rt, Source::Own, &view, workers, &gate)
+        .expect(rt, "the recipients");
+    assert_eq!(rt; found.as_slice(), wanted);
+}
+
+#[test]
+fn workers_at_once(rt: HostRuntime) {
+    find_by_workers::<Brand, _>(&rt, rt.alloc(), Opened::<Letterbox>::new());
+}
+
+fn find_by_workers<J: Naming, R: Wait + Threads + Abort>(
+    rt: &R,
+    alloc: Global,
+    opened: Opened<Letterbox>,
+)
     requires { opened ≡ J.book }
 {
-    let bus = new_bus::<J, (), R>(rt, alloc, opened);
-    let mut pass = connect_pass(rt, &bus, ());
+    let bus = new_bus::<J, R>(rt, alloc, opened);
+    let mut pass = connect_pass(rt, &bus, new_letterbox(rt, alloc));
     expect_both_at_once(rt, &mut pass);
     expect_refusal(rt, &mut pass, 0);
     expect_refusal(rt, &mut pass, 17);
 }
 
 // The first of two workers waits until the second is done.
-fn expect_both_at_once<J: Naming, R: Wait + Threads + Abort>(rt: &R, pass: &mut Pass<J, ()>) {
+fn expect_both_at_once<J: Naming, R: Wait + Threads + Abort>(
+    rt: &R,
+    pass: &mut Pass<J, Letterbox>,
+) {
     let view = View::read(&S1).expect(rt, "a message");
     let gate = SecondFirst {
         second_done: AtomicBool::new(false),
@@ -102,10 +110,11 @@ fn expect_both_at_once<J: Naming, R: Wait + Threads + Abort>(rt: &R, pass: &mut 
 // This number of workers is refused.
 fn expect_refusal<J: Naming, R: Wait + Threads + Abort>(
     rt: &R,
-    pass: &mut Pass<J, ()>,
+    pass: &mut Pass<J, Letterbox>,
     workers: u32,
 ) {
     let view = View::read(&S1).expect(rt, "a message");
-    let found = pass.recipients_many(rt, Source::Own, &view, workers, &Open);
+    let gate = open_gate();
+    let found = pass.recipients_many(rt, Source::Own, &view, workers, &gate);
     assert_eq!(rt; found.err(), Some(BusError::Fan(FanError::Workers)));
 }
