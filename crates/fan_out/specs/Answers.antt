@@ -38,6 +38,6 @@ IsAnswer bytes words (Rule compiled) answer = SaysRest compiled bytes words answ
 IsAnswer bytes words (Attached attached) answer = Says attached.edition bytes words attached.program answer
 
 -- the edition of the images that the filter's program reads
-pub edition_of : Filter → Edition
+abbrev pub edition_of : Filter → Edition
 edition_of (Rule compiled) = Two
 edition_of (Attached attached) = attached.edition
