@@ -1,5 +1,5 @@
 -- How marks come to be those of the recipients, entry by entry.
-use Rattle.std.proofs.Common.{◌≡◌, ◌⊎◌, inl, inr, ℕ, ◌+◌, Bool, true, false, List, [], ◌∷◌, set, Option, Some, refl, sym, ap, subst, ◌∙◌, arith}
+use Rattle.std.proofs.Common.{◌≡◌, ◌⊎◌, inl, inr, ℕ, ◌+◌, ◌≤◌, Bool, true, false, List, [], ◌∷◌, set, Option, Some, refl, sym, ap, subst, ◌∙◌, arith}
 use Rattle.std.specs.Prelude.{MatchBool, slice_get, replicate}
 use Rattle.message_view.specs.Message.{Message}
 use Rattle.message_view.specs.Valid.{Valid}
@@ -133,4 +133,11 @@ module _ {M : Type 0} where
   marks_more s part of bytes words all left e before after runs later so_far considered = elim considered [
     | inl passed ↦ rw (passed.0.kept, passed.0.none_run) (marks_pass s part of bytes words all left e before runs so_far passed.1)
     | inr asked ↦ rw asked.one_run (marks_asked s part of bytes words all left e before after runs asked.answer so_far asked.answered asked.inside asked.unmarked asked.marked)
+  ]
+
+  -- at most one program was run for an entry
+  pub considers_few : (s : State M) (part of : ℕ) (bytes words : List ℕ) (e : Entry) (before after : List Bool) (runs later : ℕ) → Considers s part of bytes words e before after runs later → later ≤ runs + 1
+  considers_few s part of bytes words e before after runs later considered = elim considered [
+    | inl passed ↦ omega (arith, passed.0.none_run)
+    | inr asked ↦ omega (arith, asked.one_run)
   ]

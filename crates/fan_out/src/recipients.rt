@@ -74,9 +74,13 @@ fn is_passed_over<M: Mailbox>(
     requires noted { AreNoted (numbers_of state.now.connections) marks.now.places marks.now.remainders }
     ensures { MatchBool result (NeedsNoRun state.now piece.part piece.of programs.now.view.now entry.now marks.now.places) (MayBeMarked state.now piece.part piece.of entry.now marks.now.places) }
 {
-    !piece.has(entry.connection)
-        || programs.misses(&entry.filter)
-        || is_marked(state, marks, entry.connection)
+    if !piece.has(entry.connection) {
+        return true;
+    }
+    if programs.misses(&entry.filter) {
+        return true;
+    }
+    is_marked(state, marks, entry.connection)
 }
 
 /// Runs the program of an entry over the image that it reads, and marks the entry's connection where it matches.

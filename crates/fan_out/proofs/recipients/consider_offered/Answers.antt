@@ -1,4 +1,5 @@
 use Rattle.std.proofs.Common.{◌∷◌, arith}
+use Rattle.fan_out.proofs.Marking.{marks_end}
 use Rattle.fan_out.proofs.Finding.{recipients_marked, offered_fit, offered_connected}
 use Rattle.fan_out.proofs.recipients.consider_offered.Goals as goal
 
@@ -14,7 +15,10 @@ consider_all-requires-clause-connected g c =
 
 pub returns-clause-exact : goal.returns-clause-exact
 returns-clause-exact g c m valid =
-    let marked = rw (c.new-programs.ensures.view, c.new-programs.ensures.owned) at c.consider_all.ensures.exact in
-    recipients_marked c.args.state.now c.args.sender m c.args.view.now c.slots_of-owned.result c.args.piece.part c.args.piece.of (c.args.first.now ∷ c.args.others.now) c.consider_all.new.marks.places
+    let s = c.args.state.now in
+    let all = c.args.first.now ∷ c.args.others.now in
+    let spelled = c.raw.ensures.spells in
+    let marked = rw (c.new-programs.ensures.view, c.new-programs.ensures.owned) at c.consider_all.ensures.marked in
+    recipients_marked s c.args.sender m c.args.view.now c.slots_of-owned.result c.args.piece.part c.args.piece.of all c.consider_all.new.marks.places
     c.requires.state c.slots_of-owned.ensures valid c.ends_in_one_way.ensures c.found_where_it_holds.ensures (c.requires.offered m valid)
-    (marked c.args.sender m valid)
+    (λ decided. marks_end s c.args.piece.part c.args.piece.of c.args.view.now c.slots_of-owned.result all c.consider_all.result c.consider_all.new.marks.places c.args.sender m valid decided marked)

@@ -13,7 +13,7 @@ invariant-loop-entry g l = record {
   few : l.programs.tally.runs + length l.others ≤ l.fn.programs.tally.runs + (length l.initial.others + 1);
   rest : (e : Entry) → Contains l.others e → Contains (l.first ∷ l.initial.others) e;
   marked : (all : List Entry)
-      → AreMarkedSoFar l.state l.piece.part l.piece.of l.fn.programs.view.now l.fn.programs.owned.now all (l.first ∷ l.initial.others) l.initial.marks.places l.fn.programs.tally.runs
+      → AreMarkedSoFar l.state l.piece.part l.piece.of l.fn.programs.view.now l.fn.programs.owned.now all (l.first ∷ l.initial.others) l.fn.marks.places l.fn.programs.tally.runs
       → AreMarkedSoFar l.state l.piece.part l.piece.of l.fn.programs.view.now l.fn.programs.owned.now all l.others l.marks.places l.programs.tally.runs;
 }
 
