@@ -1,4 +1,7 @@
 /* How long it takes to find a message's recipients, among rules of which one holds, none or all. See README.md. */
+
+/* Many, since a machine that others share changes its speed from second to second. */
+#define ROUNDS 40
 #include "measure.h"
 
 #include <string.h>
@@ -76,7 +79,9 @@ static void give(uint32_t count, uint32_t each, const char *form) {
     }
 }
 
-static uint64_t find(uint32_t turns) {
+/* The state is made anew for each call. */
+static uint64_t find(const void *on, uint32_t turns) {
+    (void)on;
     return bench_recipients_select((const uint8_t *)rules, rules_len, of_each, message, message_len, turns);
 }
 
@@ -90,37 +95,15 @@ static uint64_t read_only(const void *on, uint32_t turns) {
     return bench_recipients_read(message, message_len, turns);
 }
 
-static double time_to_find(uint32_t turns) {
-    double start = seconds();
-    find(turns);
-    return seconds() - start;
-}
-
-/* The state is made anew for each call, so what counts is how much longer a call takes that has twice the turns. */
-static double find_nanoseconds(void) {
-    double made = 1e9, once = 1e9, twice = 1e9;
-    for (int round = 0; round < 3; round++)
-        made = lesser(made, time_to_find(0));
-    uint32_t turns = 1024;
-    while (time_to_find(turns) < made + 0.2 && turns < 1u << 28)
-        turns *= 2;
-    for (int round = 0; round < ROUNDS / 3; round++) {
-        once = lesser(once, time_to_find(turns));
-        twice = lesser(twice, time_to_find(2 * turns));
-    }
-    if (twice - made < 1.25 * (once - made) || twice - made > 4 * (once - made))
-        fail("the time doesn't grow with the count");
-    return (twice - once) / turns * 1e9;
-}
-
 static void show(const char *name, const char *hex) {
     read_message(hex);
-    struct work works[] = {{.run = read_only}, {.run = make_images}};
-    measure(works, 2);
-    double found = find_nanoseconds();
+    struct work works[] = {{.run = read_only}, {.run = make_images}, {.run = find}};
+    measure(works, 3);
+    double image = works[1].nanoseconds, found = works[2].nanoseconds;
     uint32_t runs = bench_recipients_runs((const uint8_t *)rules, rules_len, of_each, message, message_len);
-    printf("%-34s %8llu %8u %8.0f %8.0f %8.0f %8.0f\n", name, (unsigned long long)find(1), runs, works[0].nanoseconds,
-           works[1].nanoseconds, found, found - works[1].nanoseconds);
+    printf("%-34s %8llu %8u %8.0f %8.0f %8.0f %8.0f\n", name, (unsigned long long)find(NULL, 1), runs, works[0].nanoseconds,
+           image, found, found - image);
+    fflush(stdout);
 }
 
 int main(void) {
