@@ -11,6 +11,7 @@ mod hello;
 mod home;
 mod identity;
 mod leaving;
+mod reach;
 mod refused;
 mod request;
 mod serial;

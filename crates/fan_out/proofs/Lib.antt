@@ -8,3 +8,4 @@ mod Finding
 mod Joining
 mod Rows
 mod Missing
+mod Reaching

@@ -12,4 +12,4 @@ mod recipients;
 pub use addressee::{Addressee, found_addressee};
 pub use listing::{Names, found_connection, found_names, found_owner, found_queue};
 pub use mailboxes::{Audience, found_mailboxes};
-pub use recipients::{found_by_workers, found_recipients};
+pub use recipients::{found_by_workers, found_reach, found_recipients};

@@ -8,6 +8,7 @@ ghost use Rattle.owners.specs.Queues.{owner_of, queue_of};
 ghost use Rattle.program_table.specs.Connections.{is_connected, numbers_of};
 ghost use Rattle.program_table.specs.History.{after, own_commands};
 ghost use Rattle.program_table.specs.Recipients.{AreRecipients};
+ghost use Rattle.fan_out.specs.Reach.{TellsReach};
 ghost use Rattle.passes.specs.Passes.{PassState, HasTaken, new_pass};
 ghost use Rattle.passes.specs.Sending.{sending};
 ghost use Rattle.lookups.specs.NameOwners.{IsOwner};
@@ -22,7 +23,7 @@ use crossbeam_utils::rule::Protocol;
 use fan_out::{FanError, Gate, MAX_RECIPIENTS, MAX_WORKERS};
 use lookups::{
     Addressee, Audience, Names, found_addressee, found_by_workers, found_connection,
-    found_mailboxes, found_names, found_owner, found_queue, found_recipients,
+    found_mailboxes, found_names, found_owner, found_queue, found_reach, found_recipients,
 };
 use message_view::View;
 use owners::WellKnown;
@@ -196,6 +197,17 @@ impl<J: Naming, M: Mailbox> Pass<J, M> {
         ensures same { self.new ≡ record self.old { seen = self.new.seen } }
     {
         let found = found_recipients(&mut self.sight, sender, view, recipients);
+        found.ok_or(BusError::Closed)
+    }
+
+    // Enters the published state for whether a message with these texts may reach anybody.
+    pub(crate) fn look_for_reach(&mut self, view: &View<'_>) -> Result<bool, BusError>
+        ensures found { MatchResult result
+            (λ found. IsPrefix self.old.seen self.new.seen × ((m : Message) → Valid view.now m → TellsReach (after self.new.seen) m found))
+            (λ error. (error ≡ BusError.Closed) × (self.new.seen ≡ self.old.seen)) }
+        ensures same { self.new ≡ record self.old { seen = self.new.seen } }
+    {
+        let found = found_reach(&mut self.sight, view);
         found.ok_or(BusError::Closed)
     }
 

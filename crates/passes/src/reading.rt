@@ -8,6 +8,7 @@ ghost use Rattle.owners.specs.Queues.{owner_of};
 ghost use Rattle.program_table.specs.Connections.{is_connected};
 ghost use Rattle.program_table.specs.History.{after};
 ghost use Rattle.program_table.specs.Recipients.{AreRecipients};
+ghost use Rattle.fan_out.specs.Reach.{TellsReach};
 ghost use Rattle.passes.specs.Passes.{PassState, sender_of};
 
 use crate::error::BusError;
@@ -64,6 +65,25 @@ impl<J: Naming, M: Mailbox> Pass<J, M> {
         let mut recipients = ArrayVec::new();
         self.look_for_recipients(sender, view, &mut recipients)?;
         Ok(recipients)
+    }
+
+    /// Whether a broadcast with the member, the interface, the path and the argument 0 of this message may reach anybody,
+    /// after a history that begins with what was seen, and is seen then. If not, nobody gets one, whoever sends it. It
+    /// costs less than to stamp a message, which changes none of the four.
+    ///
+    /// # Errors
+    ///
+    /// `Closed` where the pass was never connected, or was closed, or the bus is gone.
+    pub fn may_reach(&mut self, view: &View<'_>) -> Result<bool, BusError>
+        ensures found { MatchResult result
+            (λ found. IsPrefix self.old.seen self.new.seen × ((m : Message) → Valid view.now m → TellsReach (after self.new.seen) m found))
+            (λ error. (error ≡ BusError.Closed) × (self.new.seen ≡ self.old.seen)) }
+        ensures same { self.new ≡ record self.old { seen = self.new.seen } }
+    {
+        if self.connection() == 0 || self.is_closed() {
+            return Err(BusError::Closed);
+        }
+        self.look_for_reach(view)
     }
 
     /// The primary owner of a name, after a history that begins with what was seen, and is seen then.

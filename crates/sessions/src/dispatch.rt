@@ -62,6 +62,7 @@ fn call_bus<J: Naming, M: Mailbox + Carrier, W: Wait, R: Wait + Drop>(
     }
 }
 
+// Most broadcasts are for nobody, and aren't even stamped.
 fn send_broadcast<J: Naming, M: Mailbox + Carrier, W: Wait, R: Wait + Drop>(
     connection: &mut Connection<J, M>,
     site: &Site<'_, J, M, W, R>,
@@ -69,6 +70,9 @@ fn send_broadcast<J: Naming, M: Mailbox + Carrier, W: Wait, R: Wait + Drop>(
     lists: &mut RouteLists,
     view: &View<'_>,
 ) -> Result<(), AnswerError> {
+    if connection.reaches_nobody(view) {
+        return Ok(());
+    }
     match stamp_message(site.alloc, view, &connection.name) {
         Ok(bytes) => {
             let stamped = View::of_message(bytes.as_slice());

@@ -1,0 +1,47 @@
+-- A stamped message has the member, the interface, the path and the argument 0 of the message.
+use Rattle.std.proofs.Common.{◌≡◌, ℕ, true, List, length, Option, Some, refl, ap, ◌∙◌}
+use Rattle.std.specs.Prelude.{slice_get}
+use Rattle.signature.specs.DataType.{DataType, DataTypes, basic, variant, array, dict, struct, no_types, one_more}
+use Rattle.message_value.specs.declared.order.Order.{Order}
+use Rattle.message_value.specs.Value.{Value, Values, number, text, elements, entries, members, of_type, no_values, one_value}
+use Rattle.message_value.specs.Arguments.{argument_of, arguments_from}
+use Rattle.message_view.specs.Message.{Message, field_with}
+use Rattle.message_view.specs.Message.{text_in as field_text}
+use Rattle.message_view.specs.Spelling.{body_place, header_bytes, arguments_of}
+use Rattle.message_build.specs.Stamped.{with_sender}
+use Rattle.message_build.specs.StampedFields.{is_kept_code}
+use Rattle.message_build.proofs.KeptFields.{same_with}
+use Rattle.match_rule.specs.Arguments.{text_in}
+use Rattle.match_rule.specs.FixedTexts.{FixedTexts, texts_of, string_in}
+
+-- the text of an argument, wherever it lies
+text_in-place : (order : Order) (p q : ℕ) (type : DataType) (value : Value) → text_in (Some (argument_of order p type value)) ≡ text_in (Some (argument_of order q type value))
+text_in-place order p q (basic code) (number bits) = refl
+text_in-place order p q (basic code) (text bytes) = refl
+text_in-place order p q (basic code) (elements values) = refl
+text_in-place order p q (basic code) (entries pairs) = refl
+text_in-place order p q (basic code) (members values) = refl
+text_in-place order p q (basic code) (of_type type value) = refl
+text_in-place order p q variant value = refl
+text_in-place order p q (array element) value = refl
+text_in-place order p q (dict key content) value = refl
+text_in-place order p q (struct first others) value = refl
+
+first_text-place : (order : Order) (p q : ℕ) (types : DataTypes) (values : Values) → text_in (slice_get (arguments_from order p types values) 0) ≡ text_in (slice_get (arguments_from order q types values) 0)
+first_text-place order p q no_types no_values = refl
+first_text-place order p q no_types (one_value value values) = refl
+first_text-place order p q (one_more type types) no_values = refl
+first_text-place order p q (one_more type types) (one_value value values) = text_in-place order _ _ type value
+
+abbrev texts_from : Option Value → Option Value → Option Value → Option (ℕ × List ℕ) → FixedTexts
+texts_from member interface path first = record { member = field_text member; interface = field_text interface; path = field_text path; arg0 = string_in first }
+
+pub stamped_texts : (m : Message) (sender : List ℕ) → texts_of (with_sender m sender) ≡ texts_of m
+stamped_texts m sender =
+    let stamped = with_sender m sender in
+    let same : (code : ℕ) → is_kept_code code ≡ true → field_with code stamped.fields ≡ field_with code m.fields = λ code known. same_with code m.fields sender known in
+    let first : text_in (slice_get (arguments_of stamped) 0) ≡ text_in (slice_get (arguments_of m) 0) = first_text-place m.order (body_place (length (header_bytes stamped))) (body_place (length (header_bytes m))) m.types m.arguments in
+    ap (λ (v : Option Value). texts_from v (field_with 2 stamped.fields) (field_with 1 stamped.fields) (text_in (slice_get (arguments_of stamped) 0))) (same 3 refl)
+    ∙ ap (λ (v : Option Value). texts_from (field_with 3 m.fields) v (field_with 1 stamped.fields) (text_in (slice_get (arguments_of stamped) 0))) (same 2 refl)
+    ∙ ap (λ (v : Option Value). texts_from (field_with 3 m.fields) (field_with 2 m.fields) v (text_in (slice_get (arguments_of stamped) 0))) (same 1 refl)
+    ∙ ap (λ (v : Option (ℕ × List ℕ)). texts_from (field_with 3 m.fields) (field_with 2 m.fields) (field_with 1 m.fields) v) first
