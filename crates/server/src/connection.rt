@@ -18,6 +18,9 @@ const MESSAGES: u32 = 32;
 /// How many reads one connection gets before the others have their turn.
 const READS: u32 = 4;
 
+/// A client of which one read brings as many messages is busy.
+const BUSY: u32 = 2;
+
 /// What becomes of a connection after its turn.
 #[derive(Clone, Copy, PartialEq, Eq)]
 pub(crate) enum Turn {
@@ -87,8 +90,10 @@ impl<J: Naming> Connection<J> {
     }
 
     /// Reads into the block and treats what came, as far as it goes in one turn. A read that doesn't fill the block took
-    /// all that was there, and the poll tells of what comes later, so it is the last one; but it doesn't show whether the
-    /// client's bytes have ended, so where they may have, the end is read too.
+    /// all that was there, and the poll tells of what comes later, so it is the last one where it had few messages: while
+    /// more of them are treated, a busy client sends the next ones, and a further read is cheaper than a look at the
+    /// poll. Nor does such a read show whether the client's bytes have ended, so where they may have, the end is read
+    /// too.
     pub(crate) fn read<W: Wait, R: Wait + Drop>(
         &mut self,
         rt: &W,
@@ -101,10 +106,10 @@ impl<J: Naming> Connection<J> {
             match self.link.receive(block) {
                 Ok(0) => return Turn::Ends,
                 Ok(count) => {
-                    if self.treat(rt, alloc, hub, &block[..count]).is_err() {
+                    let Ok(treated) = self.treat(rt, alloc, hub, &block[..count]) else {
                         return Turn::Ends;
-                    }
-                    if count < block.len() && !has_ended {
+                    };
+                    if count < block.len() && treated < BUSY && !has_ended {
                         return Turn::Waits;
                     }
                 }
@@ -118,21 +123,24 @@ impl<J: Naming> Connection<J> {
         Turn::Again
     }
 
-    /// Treats the lines and messages that are whole now. What they put is written after every few of them, also before
-    /// an error.
+    /// Treats the lines and messages that are whole now, and tells how many there were. What they put is written after
+    /// every few of them, also before an error.
     fn treat<W: Wait, R: Wait + Drop>(
         &mut self,
         rt: &W,
         alloc: Global,
         hub: &Hub<J, R>,
         bytes: &[u8],
-    ) -> Result<(), SessionError> {
+    ) -> Result<u32, SessionError> {
         self.session.feed(bytes)?;
+        let mut treated = 0u32;
         for _ in rt.forever() {
-            let treated = self.treat_some(rt, alloc, hub);
+            let some = self.treat_some(rt, alloc, hub);
             self.session.push_out(rt);
-            if treated? == Step::Waits {
-                return Ok(());
+            let some = some?;
+            treated = treated.saturating_add(some);
+            if some < MESSAGES {
+                return Ok(treated);
             }
         }
         unreachable!()
@@ -143,13 +151,13 @@ impl<J: Naming> Connection<J> {
         rt: &W,
         alloc: Global,
         hub: &Hub<J, R>,
-    ) -> Result<Step, SessionError> {
-        for _ in 0..MESSAGES {
+    ) -> Result<u32, SessionError> {
+        for treated in 0..MESSAGES {
             if self.session.step(rt, alloc, &hub.bus)? == Step::Waits {
-                return Ok(Step::Waits);
+                return Ok(treated);
             }
         }
-        Ok(Step::Done)
+        Ok(MESSAGES)
     }
 
     /// Ends it: what its socket still takes is written, and the socket is closed.

@@ -1,7 +1,7 @@
 // How many programs are run.
 
 use crate::state::{M7, accept, connect, empty, subscribe};
-use fan_out::select_counted;
+use fan_out::{may_reach, select_counted};
 use match_rule::Rule;
 use message_view::View;
 use program_table::{BusState, Command};
@@ -33,6 +33,7 @@ fn expect_runs<R: Abort>(rt: &R, state: &BusState<()>, recipients: &[u64], runs:
     let counted = select_counted(state, None, &view);
     assert_eq!(rt; counted.recipients.as_slice(), recipients);
     assert_eq!(rt; counted.runs, runs);
+    assert_eq!(rt; may_reach(state, &view), runs != 0);
 }
 
 fn remove<R: Abort>(rt: &R, alloc: Global, state: &mut BusState<()>) {

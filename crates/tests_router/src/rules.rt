@@ -3,9 +3,10 @@
 ghost use Rattle.std.specs.Prelude.{◌≡◌};
 
 use crate::fixture::{
-    MEMBER_C, connect_pass, expect_error, expect_recipients, expect_reply, new_bus,
+    MEMBER_C, S1, connect_pass, expect_error, expect_recipients, expect_reply, new_bus,
 };
 use crate::letters::new_letterbox;
+use message_view::View;
 use program_table::Reply;
 use published::{Naming, Opened};
 use router::{Bus, BusError, Letterbox, Pass};
@@ -29,7 +30,14 @@ fn add_twice<J: Naming, R: Wait + Abort>(rt: &R, alloc: Global, opened: Opened<L
     let second = bus.add_match(rt, alloc, &mut pass, MEMBER_C);
     expect_reply(rt, second, Reply::Entry(2));
     expect_recipients(rt, &mut pass, &[1]);
+    expect_reach(rt, &mut pass, true);
     remove_both(rt, alloc, &bus, &mut pass);
+    expect_reach(rt, &mut pass, false);
+}
+
+fn expect_reach<J: Naming, R: Abort>(rt: &R, pass: &mut Pass<J, Letterbox>, wanted: bool) {
+    let view = View::read(&S1).expect(rt, "a message");
+    assert_eq!(rt; pass.may_reach(&view).expect(rt, "an answer"), wanted);
 }
 
 fn remove_both<J: Naming, R: Wait + Abort>(
