@@ -25,8 +25,8 @@ crlf_ends : (pieces : Pieces) → with_byte cr (with_byte lf pieces) ≡ record 
 crlf_ends pieces = rw (neither (get_or pieces.first 0 0 == lf)) refl
 
 -- a byte before pieces, by whether it is the CR of a line end
-abbrev joined : Bool → ℕ → List ℕ → List (List ℕ) → Pieces
-joined t byte piece later = cond t (record { first = []; later = drop 1 piece ∷ later }) (record { first = byte ∷ piece; later = later })
+abbrev byte_before : Bool → ℕ → List ℕ → List (List ℕ) → Pieces
+byte_before t byte piece later = cond t (record { first = []; later = drop 1 piece ∷ later }) (record { first = byte ∷ piece; later = later })
 
 -- a byte before pieces, and bytes after them
 byte_continued : (byte : ℕ) (piece : List ℕ) (later : List (List ℕ)) (bytes : List ℕ)
@@ -35,14 +35,14 @@ byte_continued byte [] [] bytes = refl
 byte_continued byte (b ∷ piece) [] bytes = go (b == lf && byte == cr) refl
   where
     go : (t : Bool) → (b == lf && byte == cr) ≡ t
-        → with_byte byte (pieces_of (b ∷ piece ++ bytes)) ≡ continue_line (joined t byte (b ∷ piece) []).first (joined t byte (b ∷ piece) []).later bytes
+        → with_byte byte (pieces_of (b ∷ piece ++ bytes)) ≡ continue_line (byte_before t byte (b ∷ piece) []).first (byte_before t byte (b ∷ piece) []).later bytes
     go true is =
         let e = both (b == lf) (byte == cr) is in
         rw (eqb-true b lf e.0, eqb-true byte cr e.1) (crlf_ends (pieces_of (piece ++ bytes)))
     go false is = refl
 byte_continued byte piece (next ∷ later) bytes = go (get_or piece 0 0 == lf && byte == cr)
   where
-    go : (t : Bool) → joined t byte piece ((continue_line next later bytes).first ∷ (continue_line next later bytes).later) ≡ continue_line (joined t byte piece (next ∷ later)).first (joined t byte piece (next ∷ later)).later bytes
+    go : (t : Bool) → byte_before t byte piece ((continue_line next later bytes).first ∷ (continue_line next later bytes).later) ≡ continue_line (byte_before t byte piece (next ∷ later)).first (byte_before t byte piece (next ∷ later)).later bytes
     go true = refl
     go false = refl
 
@@ -105,7 +105,7 @@ pieces_of-push (first ∷ next ∷ rest) byte is =
 first_test : (byte next : ℕ) (p : Pieces) → (next == lf && byte == cr) ≡ false → (get_or (with_byte next p).first 0 0 == lf && byte == cr) ≡ false
 first_test byte next p test = go (get_or p.first 0 0 == lf && next == cr)
   where
-    go : (t : Bool) → (get_or (joined t next p.first p.later).first 0 0 == lf && byte == cr) ≡ false
+    go : (t : Bool) → (get_or (byte_before t next p.first p.later).first 0 0 == lf && byte == cr) ≡ false
     go true = refl
     go false = test
 
@@ -147,12 +147,12 @@ open_dropped (byte ∷ rest) is = open_tail byte rest is
 byte_open : (byte : ℕ) (piece : List ℕ) (later : List (List ℕ)) → LastIsOpen piece later → LastIsOpen (with_byte byte (record { first = piece; later = later })).first (with_byte byte (record { first = piece; later = later })).later
 byte_open byte piece [] is = go (get_or piece 0 0 == lf && byte == cr) refl
   where
-    go : (t : Bool) → (get_or piece 0 0 == lf && byte == cr) ≡ t → LastIsOpen (joined t byte piece []).first (joined t byte piece []).later
+    go : (t : Bool) → (get_or piece 0 0 == lf && byte == cr) ≡ t → LastIsOpen (byte_before t byte piece []).first (byte_before t byte piece []).later
     go true test = open_dropped piece is
     go false test = rw (is, test) refl
 byte_open byte piece (next ∷ later) is = go (get_or piece 0 0 == lf && byte == cr)
   where
-    go : (t : Bool) → LastIsOpen (joined t byte piece (next ∷ later)).first (joined t byte piece (next ∷ later)).later
+    go : (t : Bool) → LastIsOpen (byte_before t byte piece (next ∷ later)).first (byte_before t byte piece (next ∷ later)).later
     go true = is
     go false = is
 
@@ -161,12 +161,12 @@ last_open [] = refl
 last_open (byte ∷ bytes) = byte_open byte (pieces_of bytes).first (pieces_of bytes).later (last_open bytes)
 
 -- a first piece that no line end follows is all bytes
-joined_whole : (t : Bool) (byte : ℕ) (p : Pieces) → (joined t byte p.first p.later).later ≡ [] → ((joined t byte p.first p.later).first ≡ byte ∷ p.first) × (p.later ≡ [])
-joined_whole true byte p none = absurd cc
-joined_whole false byte p none = (refl, none)
+byte_before_whole : (t : Bool) (byte : ℕ) (p : Pieces) → (byte_before t byte p.first p.later).later ≡ [] → ((byte_before t byte p.first p.later).first ≡ byte ∷ p.first) × (p.later ≡ [])
+byte_before_whole true byte p none = absurd cc
+byte_before_whole false byte p none = (refl, none)
 
 pub first_whole : (bytes : List ℕ) → (pieces_of bytes).later ≡ [] → (pieces_of bytes).first ≡ bytes
 first_whole [] none = refl
 first_whole (byte ∷ bytes) none =
-    let h = joined_whole (get_or (pieces_of bytes).first 0 0 == lf && byte == cr) byte (pieces_of bytes) none in
+    let h = byte_before_whole (get_or (pieces_of bytes).first 0 0 == lf && byte == cr) byte (pieces_of bytes) none in
     h.0 ∙ ap (λ (x : List ℕ). byte ∷ x) (first_whole bytes h.1)

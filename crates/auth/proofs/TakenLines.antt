@@ -74,13 +74,13 @@ open_talk s bytes longer n t on open_line short =
     ap (λ (x : List ℕ). talk_in s (pieces_of x)) (sym t.is) ∙ ap (talk_in s) open_line ∙ waits
 
 pub ended_len : (line bytes longer : List ℕ) (n : ℕ) → Takes line bytes longer n → 2 ≤ length longer → pieces_of longer ≡ ended_piece longer → n ≡ through_line line bytes
-ended_len line bytes longer n t two ends =
+ended_len line bytes longer n t long_enough ends =
     let pieces : pieces_of (line ++ bytes) ≡ continue_line (take (length longer - 2) longer) ([] ∷ []) (drop n bytes) =
     ap pieces_of (all_bytes line bytes longer n t) ∙ pieces_of-append longer (drop n bytes) ∙ ap (λ p. continue_line p.first p.later (drop n bytes)) ends in
     let said : through_line line bytes ≡ length (take (length longer - 2) longer) + 2 - length line = ap (len_through (length line) (length bytes)) pieces in
     let len : length (take (length longer - 2) longer) ≡ length longer - 2 = length-take-le (length longer - 2) longer (omega arith) in
     let all : length longer ≡ length line + n = longer_len line bytes longer n t in
-    omega (arith, said, len, all, two)
+    omega (arith, said, len, all, long_enough)
 
 pub ended_talk : (s : Standing) (bytes longer : List ℕ) (n : ℕ) → Takes s.line bytes longer n → is_over s.stage ≡ false → pieces_of longer ≡ ended_piece longer → by_lines s (take n bytes) ≡ hear s (take (length longer - 2) longer)
 ended_talk s bytes longer n t on ends =
@@ -112,9 +112,9 @@ full_talk s bytes longer n t on open_line full =
 -- what a whole line comes to
 pub ended_fed : (s : Standing) (bytes longer text : List ℕ) (n : ℕ) (answer : Outcome) → Takes s.line bytes longer n → is_over s.stage ≡ false → 2 ≤ length longer → pieces_of longer ≡ ended_piece longer
     → text ≡ take (length longer - 2) longer → hear (with_line s []) text ≡ answer → by_lines s (take (through_line s.line bytes) bytes) ≡ answer
-ended_fed s bytes longer text n answer t on two ends text_is gives =
+ended_fed s bytes longer text n answer t on long_enough ends text_is gives =
     let aside : hear s text ≡ hear (with_line s []) text = rw on refl in
-    ap (λ (k : ℕ). by_lines s (take k bytes)) (sym (ended_len s.line bytes longer n t two ends))
+    ap (λ (k : ℕ). by_lines s (take k bytes)) (sym (ended_len s.line bytes longer n t long_enough ends))
     ∙ ended_talk s bytes longer n t on ends
     ∙ ap (hear s) (sym text_is)
     ∙ aside

@@ -73,10 +73,10 @@ after_or_finish s k j None = refl
 after_or_finish s k j (Some v) = refl
 
 -- what an instruction leads to
-abbrev stepped : Op → Ins → List ℕ → State → Option Next
-stepped op ins image s = option_map (after s ins.k) (effect_of op ins image s.a s.x (s.words ins.k))
+abbrev next_of : Op → Ins → List ℕ → State → Option Next
+next_of op ins image s = option_map (after s ins.k) (effect_of op ins image s.a s.x (s.words ins.k))
 
-same_step : (op : Op) (ins : Ins) (image : List ℕ) (s : State) → stepped op (used_of ins (Some op)) image s ≡ stepped op ins image s
+same_step : (op : Op) (ins : Ins) (image : List ℕ) (s : State) → next_of op (used_of ins (Some op)) image s ≡ next_of op ins image s
 same_step LoadConstant ins image s = refl
 same_step (LoadImage width) ins image s = refl
 same_step (LoadIndexed width) ins image s = refl

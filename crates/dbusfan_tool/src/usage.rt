@@ -58,7 +58,7 @@ fn dbusfan<'a>(alloc: Global) -> Result<Command<'a>, AllocError> {
         .version("0.1.0")
         .about("A D-Bus broadcast bus with BPF match programs")
         .after_help(
-            "`-` as FILE is standard input. A RULE that begins with `-` is given after `--`.\n\
+            "`-` as FILE is standard input. A RULE that begins with `-` goes after `--`.\n\
             Two more commands have help of their own: `serve --help` runs a bus, `watch --help` shows what goes over one.",
         )
         .no_binary_name(true)

@@ -19,7 +19,7 @@ Usage: dbusfan watch ADDRESS RULE [--hex] [--count N]
        dbusfan watch ADDRESS --program FILE [--edition 1|2] [--hex] [--count N]
 
 ADDRESS is an address as D-Bus has it, as \"unix:path=/run/bus\" or \"tcp:host=localhost,port=1234\", or one of the
-words session and system. RULE is a match rule; one that begins with `-` is given after `--`. FILE has a program
+words session and system. RULE is a match rule; one that begins with `-` goes after `--`. FILE has a program
 as assembler text, which a bus of dbusfan's attaches. `--hex` writes messages as hexadecimal digits, for `match`
 and `run`. `--count N` ends after N messages.
 ";

@@ -52,14 +52,14 @@ low_offered shape m e low =
       | inr other ↦ ap (λ (b : Bool). b && are_found asked (texts_read false m)) other ∙ sym (ap (λ (b : Bool). b && are_found asked found) other)
     ]
 
-abbrev seen : ℕ → Placed → List Placed → Bool → Option Entry
-seen place x xs t = option_map {T = Placed} {U = Entry} (λ (y : Placed). y.1) (cond t (Some x) (find (λ (y : Placed). eqb place y.0) xs))
+abbrev entry_by_test : ℕ → Placed → List Placed → Bool → Option Entry
+entry_by_test place x xs t = option_map {T = Placed} {U = Entry} (λ (y : Placed). y.1) (cond t (Some x) (find (λ (y : Placed). eqb place y.0) xs))
 
 -- the entry at a place is one of the entries
 pub entry_among : (place : ℕ) (e : Entry) (held : List Placed) → entry_at place held ≡ Some e → Contains (entries_of held) e
 entry_among place e [] at = absurd cc
 entry_among place e (x ∷ xs) at =
     subst (λ (es : List Entry). Contains es e) (sym (entries_of-cons x xs)) (elim (cases_Bool (eqb place x.0)) [
-      | inl here ↦ subst (λ (f : Entry). Contains (entries_of xs ++ x.1 ∷ []) f) (some_one x.1 e (sym (ap (seen place x xs) here) ∙ at)) (Contains-push (entries_of xs) x.1)
-      | inr there ↦ Contains-append_left (entries_of xs) (x.1 ∷ []) e (entry_among place e xs (sym (ap (seen place x xs) there) ∙ at))
+      | inl here ↦ subst (λ (f : Entry). Contains (entries_of xs ++ x.1 ∷ []) f) (some_one x.1 e (sym (ap (entry_by_test place x xs) here) ∙ at)) (Contains-push (entries_of xs) x.1)
+      | inr there ↦ Contains-append_left (entries_of xs) (x.1 ∷ []) e (entry_among place e xs (sym (ap (entry_by_test place x xs) there) ∙ at))
     ])

@@ -228,9 +228,9 @@ IsTable-but place e held last count count' once h at less = record {
   counted = omega (arith, length-but place e held once at, h.counted, less);
 }
 
-AreBelow-given : (last : ℕ) (held : List Placed) → AreGiven last held → AreBelow (last + 1) held
-AreBelow-given last [] h = tt
-AreBelow-given last (x ∷ xs) h = (omega (arith, h.0), AreBelow-given last xs h.1)
+AreBelow-last : (last : ℕ) (held : List Placed) → AreGiven last held → AreBelow (last + 1) held
+AreBelow-last last [] h = tt
+AreBelow-last last (x ∷ xs) h = (omega (arith, h.0), AreBelow-last last xs h.1)
 
 AreGiven-more : (last : ℕ) (held : List Placed) → AreGiven last held → AreGiven (last + 1) held
 AreGiven-more last [] h = tt
@@ -239,7 +239,7 @@ AreGiven-more last (x ∷ xs) h = (omega (arith, h.0), AreGiven-more last xs h.1
 -- the table with one more entry
 pub IsTable-more : (place : ℕ) (e : Entry) (held : List Placed) (last count : ℕ) → IsTable held last count → e.id ≡ last + 1 → length held < 16384 → IsTable ((place, e) ∷ held) (last + 1) (count + 1)
 IsTable-more place e held last count h id few = record {
-  ids = (subst (λ (k : ℕ). AreBelow k held) (sym id) (AreBelow-given last held h.below_last), h.ids);
+  ids = (subst (λ (k : ℕ). AreBelow k held) (sym id) (AreBelow-last last held h.below_last), h.ids);
   below_last = (omega (arith, id), AreGiven-more last held h.below_last);
   few = omega (arith, few);
   counted = omega (arith, h.counted);

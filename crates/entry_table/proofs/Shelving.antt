@@ -41,8 +41,8 @@ lists_other : (ages : PlaceLists) (i j : ℕ) (v : List ℕ) → j ≢ i → pla
 lists_other ages i j v ne = get_or-set_other ages.lists i j v [] ne
 
 -- a place moves from a list to another
-abbrev pub moved : PlaceLists → ℕ → ℕ → ℕ → PlaceLists
-moved ages place from to =
+abbrev pub move_place : PlaceLists → ℕ → ℕ → ℕ → PlaceLists
+move_place ages place from to =
     let between : PlaceLists = record ages { lists = set ages.lists from (without place (places_in ages from)) } in
     record between { lists = set between.lists to (place ∷ places_in between to) }
 
@@ -78,14 +78,14 @@ has_place-kept p q ne (x ∷ xs) =
     ]
 
 -- an entry is put at a vacant place
-pub IsShelf-put : (cells : List (Option Entry)) (ages : PlaceLists) (place : ℕ) (e : Entry) → IsShelf cells ages → AreApart ages → has_place place (places_in ages 1) ≡ true → has_place place (places_in ages 0) ≡ false → IsShelf (set cells place (Some e)) (moved ages place 1 0)
+pub IsShelf-put : (cells : List (Option Entry)) (ages : PlaceLists) (place : ℕ) (e : Entry) → IsShelf cells ages → AreApart ages → has_place place (places_in ages 1) ≡ true → has_place place (places_in ages 0) ≡ false → IsShelf (set cells place (Some e)) (move_place ages place 1 0)
 IsShelf-put cells ages place e h apart stands out =
     let vacant : List ℕ = without place (places_in ages 1) in
     let between : PlaceLists = record ages { lists = set ages.lists 1 vacant } in
     let wide : length between.lists ≡ 2 = length-set ages.lists 1 vacant ∙ h.two_lists in
-    let first : places_in (moved ages place 1 0) 0 ≡ place ∷ places_in ages 0 =
+    let first : places_in (move_place ages place 1 0) 0 ≡ place ∷ places_in ages 0 =
     lists_at between 0 (place ∷ places_in between 0) (omega (arith, wide)) ∙ ap (λ (xs : List ℕ). place ∷ xs) (lists_other ages 1 0 vacant (λ e. omega arith)) in
-    let second : places_in (moved ages place 1 0) 1 ≡ vacant =
+    let second : places_in (move_place ages place 1 0) 1 ≡ vacant =
     lists_other between 0 1 (place ∷ places_in between 0) (λ e. omega arith) ∙ lists_at ages 1 vacant (omega (arith, h.two_lists)) in
     let low : place < room = omega (arith, apart.below 1 place (omega (arith, h.two_lists)) stands, h.places) in
     record {
@@ -101,23 +101,23 @@ IsShelf-put cells ages place e h apart stands out =
     }
 
 pub held-put : (cells : List (Option Entry)) (ages : PlaceLists) (place : ℕ) (e : Entry) → IsShelf cells ages → AreApart ages → has_place place (places_in ages 1) ≡ true → has_place place (places_in ages 0) ≡ false
-    → placed_at (set cells place (Some e)) (places_in (moved ages place 1 0) 0) ≡ (place, e) ∷ placed_at cells (places_in ages 0)
+    → placed_at (set cells place (Some e)) (places_in (move_place ages place 1 0) 0) ≡ (place, e) ∷ placed_at cells (places_in ages 0)
 held-put cells ages place e h apart stands out =
     let vacant : List ℕ = without place (places_in ages 1) in
     let between : PlaceLists = record ages { lists = set ages.lists 1 vacant } in
-    let first : places_in (moved ages place 1 0) 0 ≡ place ∷ places_in ages 0 =
+    let first : places_in (move_place ages place 1 0) 0 ≡ place ∷ places_in ages 0 =
     lists_at between 0 (place ∷ places_in between 0) (omega (arith, length-set ages.lists 1 vacant, h.two_lists)) ∙ ap (λ (xs : List ℕ). place ∷ xs) (lists_other ages 1 0 vacant (λ e. omega arith)) in
     ap (placed_at (set cells place (Some e))) first ∙ placed_at-put cells place e (places_in ages 0) (omega (arith, apart.below 1 place (omega (arith, h.two_lists)) stands, h.places, h.long)) out
 
 -- an entry is taken from its place
-pub IsShelf-take : (cells : List (Option Entry)) (ages : PlaceLists) (place : ℕ) → IsShelf cells ages → AreApart ages → has_place place (places_in ages 0) ≡ true → IsShelf (set cells place None) (moved ages place 0 1)
+pub IsShelf-take : (cells : List (Option Entry)) (ages : PlaceLists) (place : ℕ) → IsShelf cells ages → AreApart ages → has_place place (places_in ages 0) ≡ true → IsShelf (set cells place None) (move_place ages place 0 1)
 IsShelf-take cells ages place h apart stands =
     let used : List ℕ = without place (places_in ages 0) in
     let between : PlaceLists = record ages { lists = set ages.lists 0 used } in
     let wide : length between.lists ≡ 2 = length-set ages.lists 0 used ∙ h.two_lists in
-    let first : places_in (moved ages place 0 1) 0 ≡ used =
+    let first : places_in (move_place ages place 0 1) 0 ≡ used =
     lists_other between 1 0 (place ∷ places_in between 1) (λ e. omega arith) ∙ lists_at ages 0 used (omega (arith, h.two_lists)) in
-    let second : places_in (moved ages place 0 1) 1 ≡ place ∷ places_in ages 1 =
+    let second : places_in (move_place ages place 0 1) 1 ≡ place ∷ places_in ages 1 =
     lists_at between 1 (place ∷ places_in between 1) (omega (arith, wide)) ∙ ap (λ (xs : List ℕ). place ∷ xs) (lists_other ages 0 1 used (λ e. omega arith)) in
     let low : place < room = omega (arith, apart.below 0 place (omega (arith, h.two_lists)) stands, h.places) in
     record {
@@ -132,11 +132,11 @@ IsShelf-take cells ages place h apart stands =
       all = omega (arith, h.all, ap (λ (xs : List ℕ). length xs) first, ap (λ (xs : List ℕ). length xs) second, length-without place (places_in ages 0) h.once stands);
     }
 
-pub held-take : (cells : List (Option Entry)) (ages : PlaceLists) (place : ℕ) → IsShelf cells ages → placed_at (set cells place None) (places_in (moved ages place 0 1) 0) ≡ but_at place (placed_at cells (places_in ages 0))
+pub held-take : (cells : List (Option Entry)) (ages : PlaceLists) (place : ℕ) → IsShelf cells ages → placed_at (set cells place None) (places_in (move_place ages place 0 1) 0) ≡ but_at place (placed_at cells (places_in ages 0))
 held-take cells ages place h =
     let used : List ℕ = without place (places_in ages 0) in
     let between : PlaceLists = record ages { lists = set ages.lists 0 used } in
-    let first : places_in (moved ages place 0 1) 0 ≡ used =
+    let first : places_in (move_place ages place 0 1) 0 ≡ used =
     lists_other between 1 0 (place ∷ places_in between 1) (λ e. omega arith) ∙ lists_at ages 0 used (omega (arith, h.two_lists)) in
     ap (placed_at (set cells place None)) first ∙ placed_at-take cells place (places_in ages 0)
 
@@ -149,8 +149,8 @@ unused cells ages place h apart stands true is = absurd (zero-one (apart.apart 0
     zero-one e = omega arith
 
 -- a removal and a push
-pub moved-by : (ages between after : PlaceLists) (place from to : ℕ) → between ≡ record ages { lists = set ages.lists from (without place (places_in ages from)) } → after ≡ record between { lists = set between.lists to (place ∷ places_in between to) } → after ≡ moved ages place from to
-moved-by ages between after place from to first second = second ∙ ap (λ (b : PlaceLists). record b { lists = set b.lists to (place ∷ places_in b to) }) first
+pub move_place-by : (ages between after : PlaceLists) (place from to : ℕ) → between ≡ record ages { lists = set ages.lists from (without place (places_in ages from)) } → after ≡ record between { lists = set between.lists to (place ∷ places_in between to) } → after ≡ move_place ages place from to
+move_place-by ages between after place from to first second = second ∙ ap (λ (b : PlaceLists). record b { lists = set b.lists to (place ∷ places_in b to) }) first
 
 -- the front of a list
 pub has_place-front : (place : ℕ) (xs rest : List ℕ) → xs ≡ place ∷ rest → has_place place xs ≡ true

@@ -52,9 +52,9 @@ encode_bytes : (c : ℕ) → c < 1114112 → AreBytes (encode c)
 unfolding encode
 encode_bytes c small = go (nat_lt c 128) (nat_lt c 2048) (nat_lt c 65536) refl refl refl
   where
-    go : (one two three : Bool) → nat_lt c 128 ≡ one → nat_lt c 2048 ≡ two → nat_lt c 65536 ≡ three → AreBytes (cond one (c ∷ []) (cond two ((192 + c / 64) ∷ next c ∷ []) (cond three ((224 + c / 4096) ∷ next (c / 64) ∷ next c ∷ []) ((240 + c / 262144) ∷ next (c / 4096) ∷ next (c / 64) ∷ next c ∷ []))))
-    go true two three a b d = let h = ltb-true c 128 a in bytes_cons c [] (omega arith) bytes_nil
-    go false true three a b d = let h = ltb-true c 2048 b in two_bytes (192 + c / 64) (next c) (omega arith) (next_byte c)
+    go : (in_one in_two in_three : Bool) → nat_lt c 128 ≡ in_one → nat_lt c 2048 ≡ in_two → nat_lt c 65536 ≡ in_three → AreBytes (cond in_one (c ∷ []) (cond in_two ((192 + c / 64) ∷ next c ∷ []) (cond in_three ((224 + c / 4096) ∷ next (c / 64) ∷ next c ∷ []) ((240 + c / 262144) ∷ next (c / 4096) ∷ next (c / 64) ∷ next c ∷ []))))
+    go true in_two in_three a b d = let h = ltb-true c 128 a in bytes_cons c [] (omega arith) bytes_nil
+    go false true in_three a b d = let h = ltb-true c 2048 b in two_bytes (192 + c / 64) (next c) (omega arith) (next_byte c)
     go false false true a b d = let h = ltb-true c 65536 d in three_bytes (224 + c / 4096) (next (c / 64)) (next c) (omega arith) (next_byte (c / 64)) (next_byte c)
     go false false false a b d = four_bytes (240 + c / 262144) (next (c / 4096)) (next (c / 64)) (next c) (omega arith) (next_byte (c / 4096)) (next_byte (c / 64)) (next_byte c)
 

@@ -18,11 +18,11 @@ use Rattle.message_build.specs.declared.kept_fields.Begun.{Begun}
 use Rattle.message_build.specs.StampedFields.{IsAfter, LiesAt, begun_at}
 use Rattle.message_build.proofs.MovedFields.{field_spelled}
 
-abbrev pub begun : ℕ → ℕ → Begun
-begun code place = record { code = code; place = place }
+abbrev pub field_start : ℕ → ℕ → Begun
+field_start code place = record { code = code; place = place }
 
 again : (order : Order) (field : Field) (place : ℕ) (outside : MsgError) (rest : List ℕ) → IsField order place field
-    → begun_at order (at place (field_bytes order place field ++ rest) outside) ≡ Ok (begun field.code (align_up 8 place), at (place + length (field_bytes order place field)) rest outside)
+    → begun_at order (at place (field_bytes order place field ++ rest) outside) ≡ Ok (field_start field.code (align_up 8 place), at (place + length (field_bytes order place field)) rest outside)
 unfolding begun_at
 again order field place outside rest is =
     let skipped = zeros (padding 8 place) in
@@ -35,21 +35,21 @@ again order field place outside rest is =
     let grouped : field_bytes order place field ++ rest ≡ skipped ++ (field.code ∷ (sig ++ (bytes ++ rest))) = ap (λ (x : List ℕ). x ++ rest) same ∙ append_assoc skipped (field.code ∷ (sig ++ bytes)) rest ∙ ap (λ (x : List ℕ). skipped ++ (field.code ∷ x)) (append_assoc sig bytes rest) in
     let end : start + length sig + length bytes ≡ place + length (field_bytes order place field) = omega (arith, ap (λ (x : List ℕ). length x) same, length-append skipped (field.code ∷ (sig ++ bytes)), length-append sig bytes, length-zeros (padding 8 place)) in
     ap (λ (x : List ℕ). begun_at order (at place x outside)) grouped
-    ∙ rw (aligned_again 8 place outside (field.code ∷ (sig ++ (bytes ++ rest))), byte_again (align_up 8 place) field.code outside (sig ++ (bytes ++ rest)), signature_again field.type start outside (bytes ++ rest) is.typed, value_again 63 order field.type (start + length sig) outside field.value rest shaped) (ap (λ (k : ℕ). Ok (begun field.code (align_up 8 place), at k rest outside)) end)
+    ∙ rw (aligned_again 8 place outside (field.code ∷ (sig ++ (bytes ++ rest))), byte_again (align_up 8 place) field.code outside (sig ++ (bytes ++ rest)), signature_again field.type start outside (bytes ++ rest) is.typed, value_again 63 order field.type (start + length sig) outside field.value rest shaped) (ap (λ (k : ℕ). Ok (field_start field.code (align_up 8 place), at k rest outside)) end)
 
 pub begun_again : (order : Order) (array : List ℕ) (a : At) (field : Field) (more : List ℕ) → LiesAt order array a field more
-    → begun_at order a ≡ Ok (begun field.code (align_up 8 a.place), at (a.place + length (field_bytes order a.place field)) more a.outside)
+    → begun_at order a ≡ Ok (field_start field.code (align_up 8 a.place), at (a.place + length (field_bytes order a.place field)) more a.outside)
 begun_again order array a field more l =
     ap (λ (x : List ℕ). begun_at order (at a.place x a.outside)) l.rest ∙ again order field a.place a.outside more l.is
 
 pub begun_shorter : (order : Order) (a : At) (found : Begun × At) → begun_at order a ≡ Ok found → length found.1.rest < length a.rest
 unfolding begun_at
 begun_shorter order a found e =
-    let s = bind_ok (aligned_at 8 a) (λ start. byte_at start >>= λ code. signature_at code.1 >>= λ type. value_at 63 order type.0 type.1 >>= λ value. Ok (begun code.0 start.place, value.1)) found e in
-    let c = bind_ok (byte_at s.0) (λ code. signature_at code.1 >>= λ type. value_at 63 order type.0 type.1 >>= λ value. Ok (begun code.0 s.0.place, value.1)) found s.2 in
-    let t = bind_ok (signature_at c.0.1) (λ type. value_at 63 order type.0 type.1 >>= λ value. Ok (begun c.0.0 s.0.place, value.1)) found c.2 in
-    let v = bind_ok (value_at 63 order t.0.0 t.0.1) (λ value. Ok (begun c.0.0 s.0.place, value.1)) found t.2 in
-    let made : Begun × At = (begun c.0.0 s.0.place, v.0.1) in
+    let s = bind_ok (aligned_at 8 a) (λ start. byte_at start >>= λ code. signature_at code.1 >>= λ type. value_at 63 order type.0 type.1 >>= λ value. Ok (field_start code.0 start.place, value.1)) found e in
+    let c = bind_ok (byte_at s.0) (λ code. signature_at code.1 >>= λ type. value_at 63 order type.0 type.1 >>= λ value. Ok (field_start code.0 s.0.place, value.1)) found s.2 in
+    let t = bind_ok (signature_at c.0.1) (λ type. value_at 63 order type.0 type.1 >>= λ value. Ok (field_start c.0.0 s.0.place, value.1)) found c.2 in
+    let v = bind_ok (value_at 63 order t.0.0 t.0.1) (λ value. Ok (field_start c.0.0 s.0.place, value.1)) found t.2 in
+    let made : Begun × At = (field_start c.0.0 s.0.place, v.0.1) in
     let first = Takes-leaves a (zeros (padding 8 a.place)) s.0 (aligned_takes 8 a s.0 s.1).0 in
     let second = Takes-leaves s.0 (c.0.0 ∷ []) c.0.1 (byte_takes s.0 c.0 c.1).0 in
     let third = Takes-leaves c.0.1 (signature_bytes t.0.0) t.0.1 (signature_takes c.0.1 t.0 t.1).0 in
@@ -96,7 +96,7 @@ pub record Went (order : Order) (array : List ℕ) (a : At) (field : Field) (mor
 
 pub went : (order : Order) (array : List ℕ) (a : At) (field : Field) (more : List ℕ) (x : Begun) (b : At) → LiesAt order array a field more → begun_at order a ≡ Ok (x, b) → Went order array a field more x b
 went order array a field more x b l e =
-    let y : Begun × At = (begun field.code (align_up 8 a.place), at (a.place + length (field_bytes order a.place field)) more a.outside) in
+    let y : Begun × At = (field_start field.code (align_up 8 a.place), at (a.place + length (field_bytes order a.place field)) more a.outside) in
     let z : Begun × At = (x, b) in
     let same : z ≡ y = ok_is z y (sym e ∙ begun_again order array a field more l) in
     record {

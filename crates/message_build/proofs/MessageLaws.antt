@@ -37,16 +37,16 @@ use Rattle.message_build.proofs.SetFields.{set_once, required_set, signature_set
 abbrev the : Header → List ℕ → DataTypes → Values → Message
 the h s types arguments = record { order = Little; kind = h.kind; flags = h.flags; serial = h.serial; fields = fields_set h s; types = types; arguments = arguments }
 
-abbrev made : Order → Kind → ℕ → ℕ → List Field → DataTypes → Values → Message
-made order kind flags serial fields types arguments = record { order = order; kind = kind; flags = flags; serial = serial; fields = fields; types = types; arguments = arguments }
+abbrev message_with : Order → Kind → ℕ → ℕ → List Field → DataTypes → Values → Message
+message_with order kind flags serial fields types arguments = record { order = order; kind = kind; flags = flags; serial = serial; fields = fields; types = types; arguments = arguments }
 
-pub same_message : (o p : Order) (k l : Kind) (f g s t : ℕ) (x y : List Field) (types : DataTypes) (arguments : Values) → o ≡ p → k ≡ l → f ≡ g → s ≡ t → x ≡ y → made o k f s x types arguments ≡ made p l g t y types arguments
+pub same_message : (o p : Order) (k l : Kind) (f g s t : ℕ) (x y : List Field) (types : DataTypes) (arguments : Values) → o ≡ p → k ≡ l → f ≡ g → s ≡ t → x ≡ y → message_with o k f s x types arguments ≡ message_with p l g t y types arguments
 same_message o p k l f g s t x y types arguments order kind flags serial fields =
-    ap (λ (v : Order). made v k f s x types arguments) order
-    ∙ ap (λ (v : Kind). made p v f s x types arguments) kind
-    ∙ ap (λ (v : ℕ). made p l v s x types arguments) flags
-    ∙ ap (λ (v : ℕ). made p l g v x types arguments) serial
-    ∙ ap (λ (v : List Field). made p l g t v types arguments) fields
+    ap (λ (v : Order). message_with v k f s x types arguments) order
+    ∙ ap (λ (v : Kind). message_with p v f s x types arguments) kind
+    ∙ ap (λ (v : ℕ). message_with p l v s x types arguments) flags
+    ∙ ap (λ (v : ℕ). message_with p l g v x types arguments) serial
+    ∙ ap (λ (v : List Field). message_with p l g t v types arguments) fields
 
 is_the : (h : Header) (s body : List ℕ) (body_state : BodyState) (m : Message) → Asks (request_of h s body body_state) m → m ≡ the h s m.types m.arguments
 is_the h s body body_state m asks =
@@ -176,17 +176,17 @@ asked_sound h s body body_state xs is range hold whole sound allowed b =
     let values = b.1 in
     let n = length (fields_bytes Little fixed_len (fields_set h s)) in
     let parts = and_parts (kind_is_own h.kind && not (eqb h.serial 0)) (has_needed h) sound in
-    let two = and_parts (kind_is_own h.kind) (not (eqb h.serial 0)) parts.0 in
+    let own = and_parts (kind_is_own h.kind) (not (eqb h.serial 0)) parts.0 in
     let once : AreOnce (fields_of xs) = subst (λ (fs : List Field). AreOnce fs) (sym is) (set_once h s) in
     record {
       types = types;
       arguments = values;
       asks = record { order = refl; kind = refl; flags = refl; serial = refl; fields = refl; types = b.2.typed.spelled; arguments = b.2.spelled; whole = whole };
       valid = record {
-        kind = kind_is h.kind two.0;
+        kind = kind_is h.kind own.0;
         kind_fits = range.kind;
         flags = range.flags;
-        serial = above_zero h.serial two.1;
+        serial = above_zero h.serial own.1;
         serial_fits = range.serial;
         fields = subst (λ (fs : List Field). AreFields Little fixed_len fs) is (fields_are fixed_len xs hold allowed once);
         required = required_set h.kind h s ∙ parts.1;

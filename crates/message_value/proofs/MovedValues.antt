@@ -27,17 +27,17 @@ Alike-plus p q n s = record { is = go s.is }
 
 -- what holds of 1, 2, 4 and 8 holds of each alignment
 each_alignment : (P : ℕ → Type 0) → P 1 → P 2 → P 4 → P 8 → (type : DataType) → P (alignment_of type)
-each_alignment P one two four eight (basic c) = go (eqb c 121 || eqb c 103) (eqb c 110 || eqb c 113) (eqb c 120 || eqb c 116 || eqb c 100)
+each_alignment P at_1 at_2 at_4 at_8 (basic c) = go (eqb c 121 || eqb c 103) (eqb c 110 || eqb c 113) (eqb c 120 || eqb c 116 || eqb c 100)
   where
     go : (a b d : Bool) → P (cond a 1 (cond b 2 (cond d 8 4)))
-    go true b d = one
-    go false true d = two
-    go false false true = eight
-    go false false false = four
-each_alignment P one two four eight variant = one
-each_alignment P one two four eight (array t) = four
-each_alignment P one two four eight (dict k v) = four
-each_alignment P one two four eight (struct t ts) = eight
+    go true b d = at_1
+    go false true d = at_2
+    go false false true = at_8
+    go false false false = at_4
+each_alignment P at_1 at_2 at_4 at_8 variant = at_1
+each_alignment P at_1 at_2 at_4 at_8 (array t) = at_4
+each_alignment P at_1 at_2 at_4 at_8 (dict k v) = at_4
+each_alignment P at_1 at_2 at_4 at_8 (struct t ts) = at_8
 
 -- as far from the next multiple
 abbrev pub SamePadding : ℕ → ℕ → ℕ → Type 0

@@ -8,10 +8,10 @@ pub bind_ok : {A B : Type 0} (r : Result A MsgError) (f : A → Result B MsgErro
 bind_ok (Ok x) f y e = (x, refl, e)
 bind_ok (Err d) f y e = absurd cc
 
-abbrev done : {A : Type 0} → A → Result A MsgError
-done x = Ok x
+abbrev ok : {A : Type 0} → A → Result A MsgError
+ok x = Ok x
 
-pub ok_is : {A : Type 0} (x y : A) → done x ≡ done y → x ≡ y
+pub ok_is : {A : Type 0} (x y : A) → ok x ≡ ok y → x ≡ y
 ok_is x y e = cc
 
 abbrev some : {A : Type 0} → A → Option A

@@ -90,9 +90,9 @@ extent_of : (order : Order) (alignment len : ℕ) (a w s : At) (bytes : List ℕ
 extent_of order alignment len a w s bytes b first skipped start item is short are =
     let after : w.place ≡ a.place + 4 = first.place ∙ ap (λ (k : ℕ). a.place + k) (length-word_bytes order len) in
     let here : Takes w (zeros (padding alignment (a.place + 4))) s = subst (λ (k : ℕ). Takes w (zeros (padding alignment k)) s) after skipped in
-    let two = Takes-then w (zeros (padding alignment (a.place + 4))) s bytes b here item in
-    let three = Takes-then a (word_bytes order len) w (zeros (padding alignment (a.place + 4)) ++ bytes) b first two in
-    let takes : Takes a (array_bytes order alignment a.place bytes) b = subst (λ (k : ℕ). Takes a (word_bytes order k ++ (zeros (padding alignment (a.place + 4)) ++ bytes)) b) (sym is) three in
+    let tail = Takes-then w (zeros (padding alignment (a.place + 4))) s bytes b here item in
+    let whole = Takes-then a (word_bytes order len) w (zeros (padding alignment (a.place + 4)) ++ bytes) b first tail in
+    let takes : Takes a (array_bytes order alignment a.place bytes) b = subst (λ (k : ℕ). Takes a (word_bytes order k ++ (zeros (padding alignment (a.place + 4)) ++ bytes)) b) (sym is) whole in
     record { takes = takes; place = start ∙ ap (λ (k : ℕ). align_up alignment k) after; short = omega (arith, is); fits = are }
 
 pub extent_takes : (order : Order) (alignment : ℕ) (a : At) (found : At × At) → IsBytes a.rest → extent_at order alignment a ≡ Ok found → Extends order alignment a found.0 found.1

@@ -207,10 +207,10 @@ entry_takes levels order reader takes k v a found fits e =
     let key_bytes = value_bytes order start (basic k) x.0.0 in
     let tail : x.0.1.place ≡ start + length key_bytes = key_here.0.place ∙ ap (λ (p : ℕ). p + length key_bytes) first.1 in
     let value_here : Takes x.0.1 (value_bytes order (start + length key_bytes) v y.0.0) y.0.1 × ValueFits order levels (start + length key_bytes) v y.0.0 = subst (λ (p : ℕ). Takes x.0.1 (value_bytes order p v y.0.0) y.0.1 × ValueFits order levels p v y.0.0) tail value in
-    let two = Takes-then s.0 key_bytes x.0.1 (value_bytes order (start + length key_bytes) v y.0.0) y.0.1 key_here.0 value_here.0 in
-    let three = Takes-then a (zeros (padding entry_alignment a.place)) s.0 (key_bytes ++ value_bytes order (start + length key_bytes) v y.0.0) y.0.1 first.0 two in
+    let pair = Takes-then s.0 key_bytes x.0.1 (value_bytes order (start + length key_bytes) v y.0.0) y.0.1 key_here.0 value_here.0 in
+    let whole = Takes-then a (zeros (padding entry_alignment a.place)) s.0 (key_bytes ++ value_bytes order (start + length key_bytes) v y.0.0) y.0.1 first.0 pair in
     let made : (Value × Value) × At = ((x.0.0, y.0.0), y.0.1) in
-    subst (λ (f : (Value × Value) × At). Takes a (pair_bytes order k v a.place f.0) f.1 × PairFits order levels k v a.place f.0) {x = made} (ok_is made found y.2) (three, (key_here.1, value_here.1))
+    subst (λ (f : (Value × Value) × At). Takes a (pair_bytes order k v a.place f.0) f.1 × PairFits order levels k v a.place f.0) {x = made} (ok_is made found y.2) (whole, (key_here.1, value_here.1))
 
 entry_again : (levels : ℕ) (order : Order) (reader : Reader) → ReaderAgain levels order reader → (k : ℕ) (v : DataType) (place : ℕ) (outside : MsgError) (entry : Value × Value) (rest : List ℕ) → PairFits order levels k v place entry
     → entry_at reader k v (at place (pair_bytes order k v place entry ++ rest) outside) ≡ Ok (entry, at (place + length (pair_bytes order k v place entry)) rest outside)

@@ -46,22 +46,22 @@ word_of-lt Big bytes fits = omega (arith, fits 0, fits 1, fits 2, fits 3)
 -- ---- each width of a number
 
 data Size : Type 0 where
-  one : Size
-  two : Size
-  four : Size
-  eight : Size
+  size_1 : Size
+  size_2 : Size
+  size_4 : Size
+  size_8 : Size
 
 abbrev width : Size → Width
-width one = w8
-width two = w16
-width four = w32
-width eight = w64
+width size_1 = w8
+width size_2 = w16
+width size_4 = w32
+width size_8 = w64
 
 abbrev len : Size → ℕ
-len one = 1
-len two = 2
-len four = 4
-len eight = 8
+len size_1 = 1
+len size_2 = 2
+len size_4 = 4
+len size_8 = 8
 
 record Sized (code : ℕ) : Type 0 where
   size : Size
@@ -70,40 +70,40 @@ record Sized (code : ℕ) : Type 0 where
 
 size_of : (code : ℕ) → Sized code
 size_of code =
-    let size = cond (eqb code 121) one (cond (eqb code 110 || eqb code 113) two (cond (eqb code 120 || eqb code 116 || eqb code 100) eight four)) in
+    let size = cond (eqb code 121) size_1 (cond (eqb code 110 || eqb code 113) size_2 (cond (eqb code 120 || eqb code 116 || eqb code 100) size_8 size_4)) in
     record { size = size; has_width = widths (eqb code 121) (eqb code 110 || eqb code 113) (eqb code 120 || eqb code 116 || eqb code 100); has_len = lens (eqb code 121) (eqb code 110 || eqb code 113) (eqb code 120 || eqb code 116 || eqb code 100) }
   where
-    widths : (a b c : Bool) → width (cond a one (cond b two (cond c eight four))) ≡ cond a w8 (cond b w16 (cond c w64 w32))
+    widths : (a b c : Bool) → width (cond a size_1 (cond b size_2 (cond c size_8 size_4))) ≡ cond a w8 (cond b w16 (cond c w64 w32))
     widths true b c = refl
     widths false true c = refl
     widths false false true = refl
     widths false false false = refl
 
-    lens : (a b c : Bool) → len (cond a one (cond b two (cond c eight four))) ≡ cond a 1 (cond b 2 (cond c 8 4))
+    lens : (a b c : Bool) → len (cond a size_1 (cond b size_2 (cond c size_8 size_4))) ≡ cond a 1 (cond b 2 (cond c 8 4))
     lens true b c = refl
     lens false true c = refl
     lens false false true = refl
     lens false false false = refl
 
 len-size : (order : Order) (size : Size) (n : ℕ) → length (number_bytes order (width size) n) ≡ len size
-len-size Little one n = refl
-len-size Big one n = refl
-len-size Little two n = refl
-len-size Big two n = refl
-len-size Little four n = refl
-len-size Big four n = refl
-len-size Little eight n = refl
-len-size Big eight n = refl
+len-size Little size_1 n = refl
+len-size Big size_1 n = refl
+len-size Little size_2 n = refl
+len-size Big size_2 n = refl
+len-size Little size_4 n = refl
+len-size Big size_4 n = refl
+len-size Little size_8 n = refl
+len-size Big size_8 n = refl
 
 written-size : (order : Order) (size : Size) (n : ℕ) → n < 2 ^ (8 * len size) → number_of order (width size) (number_bytes order (width size) n) ≡ n
-written-size Little one n lt = omega arith
-written-size Big one n lt = omega arith
-written-size Little two n lt = from_le_bytes-to_le_bytes_2 n lt
-written-size Big two n lt = from_be_bytes-to_be_bytes_2 n lt
-written-size Little four n lt = from_le_bytes-to_le_bytes_4 n lt
-written-size Big four n lt = from_be_bytes-to_be_bytes_4 n lt
-written-size Little eight n lt = from_le_bytes-to_le_bytes_8 n lt
-written-size Big eight n lt = from_be_bytes-to_be_bytes_8 n lt
+written-size Little size_1 n lt = omega arith
+written-size Big size_1 n lt = omega arith
+written-size Little size_2 n lt = from_le_bytes-to_le_bytes_2 n lt
+written-size Big size_2 n lt = from_be_bytes-to_be_bytes_2 n lt
+written-size Little size_4 n lt = from_le_bytes-to_le_bytes_4 n lt
+written-size Big size_4 n lt = from_be_bytes-to_be_bytes_4 n lt
+written-size Little size_8 n lt = from_le_bytes-to_le_bytes_8 n lt
+written-size Big size_8 n lt = from_be_bytes-to_be_bytes_8 n lt
 
 pub one_byte : (bytes : List ℕ) → length bytes ≡ 1 → bytes ≡ get_or bytes 0 0 ∷ []
 one_byte [] e = absurd (omega arith)
@@ -116,30 +116,30 @@ same_byte bytes is fits =
     ap (λ (b : ℕ). b ∷ []) small ∙ sym (one_byte bytes is)
 
 read-size : (order : Order) (size : Size) (bytes : List ℕ) → length bytes ≡ len size → IsBytes bytes → number_bytes order (width size) (number_of order (width size) bytes) ≡ bytes
-read-size Little one bytes is fits = same_byte bytes is fits
-read-size Big one bytes is fits = same_byte bytes is fits
-read-size Little two bytes is fits = le_bytes_2 bytes _ is fits refl
-read-size Big two bytes is fits = be_bytes_2 bytes _ is fits refl
-read-size Little four bytes is fits = le_bytes_4 bytes _ is fits refl
-read-size Big four bytes is fits = be_bytes_4 bytes _ is fits refl
-read-size Little eight bytes is fits = le_bytes_8 bytes _ is fits refl
-read-size Big eight bytes is fits = be_bytes_8 bytes _ is fits refl
+read-size Little size_1 bytes is fits = same_byte bytes is fits
+read-size Big size_1 bytes is fits = same_byte bytes is fits
+read-size Little size_2 bytes is fits = le_bytes_2 bytes _ is fits refl
+read-size Big size_2 bytes is fits = be_bytes_2 bytes _ is fits refl
+read-size Little size_4 bytes is fits = le_bytes_4 bytes _ is fits refl
+read-size Big size_4 bytes is fits = be_bytes_4 bytes _ is fits refl
+read-size Little size_8 bytes is fits = le_bytes_8 bytes _ is fits refl
+read-size Big size_8 bytes is fits = be_bytes_8 bytes _ is fits refl
 
 lt-size : (order : Order) (size : Size) (bytes : List ℕ) → IsBytes bytes → number_of order (width size) bytes < 2 ^ (8 * len size)
-lt-size Little one bytes fits = omega (arith, fits 0)
-lt-size Big one bytes fits = omega (arith, fits 0)
-lt-size Little two bytes fits = omega (arith, fits 0, fits 1)
-lt-size Big two bytes fits = omega (arith, fits 0, fits 1)
-lt-size Little four bytes fits = omega (arith, fits 0, fits 1, fits 2, fits 3)
-lt-size Big four bytes fits = omega (arith, fits 0, fits 1, fits 2, fits 3)
-lt-size Little eight bytes fits = omega (arith, fits 0, fits 1, fits 2, fits 3, fits 4, fits 5, fits 6, fits 7)
-lt-size Big eight bytes fits = omega (arith, fits 0, fits 1, fits 2, fits 3, fits 4, fits 5, fits 6, fits 7)
+lt-size Little size_1 bytes fits = omega (arith, fits 0)
+lt-size Big size_1 bytes fits = omega (arith, fits 0)
+lt-size Little size_2 bytes fits = omega (arith, fits 0, fits 1)
+lt-size Big size_2 bytes fits = omega (arith, fits 0, fits 1)
+lt-size Little size_4 bytes fits = omega (arith, fits 0, fits 1, fits 2, fits 3)
+lt-size Big size_4 bytes fits = omega (arith, fits 0, fits 1, fits 2, fits 3)
+lt-size Little size_8 bytes fits = omega (arith, fits 0, fits 1, fits 2, fits 3, fits 4, fits 5, fits 6, fits 7)
+lt-size Big size_8 bytes fits = omega (arith, fits 0, fits 1, fits 2, fits 3, fits 4, fits 5, fits 6, fits 7)
 
 len-pos : (size : Size) → 0 < len size
-len-pos one = omega arith
-len-pos two = omega arith
-len-pos four = omega arith
-len-pos eight = omega arith
+len-pos size_1 = omega arith
+len-pos size_2 = omega arith
+len-pos size_4 = omega arith
+len-pos size_8 = omega arith
 
 -- ---- the number of a type
 

@@ -25,8 +25,8 @@ type_code-type_of Signature = refl
 type_code-type_of UnixFds = refl
 
 -- what is read of a field
-abbrev held : FieldCode → Value → At → (DataType × Value) × At
-held code value tail = ((basic (type_code code), value), tail)
+abbrev field_content : FieldCode → Value → At → (DataType × Value) × At
+field_content code value tail = ((basic (type_code code), value), tail)
 
 -- a variant of the field's type, and what is read of its value
 pub content_is : (order : Order) (code : FieldCode) (field_type : FieldType) (a start : At) (type : DataType) (read : Result (Value × At) MsgError) → field_type ≡ type_of code → signature_at a ≡ Ok (type, start) → is_basic_of (type_code_of field_type) type ≡ true
@@ -39,5 +39,5 @@ content_is order code field_type a start type read row signed typed valued =
     rw (signed, same, basic_again (type_code code), value) refl
 
 -- a content with a fault, and one without
-pub content_ends : (code : FieldCode) (value : Value) (tail : At) (found : Option MsgError) → found ≡ content_fault code value → or_fault (content_fault code value) (held code value tail) ≡ or_fault found (held code value tail)
-content_ends code value tail found is = ap (λ (o : Option MsgError). or_fault o (held code value tail)) (sym is)
+pub content_ends : (code : FieldCode) (value : Value) (tail : At) (found : Option MsgError) → found ≡ content_fault code value → or_fault (content_fault code value) (field_content code value tail) ≡ or_fault found (field_content code value tail)
+content_ends code value tail found is = ap (λ (o : Option MsgError). or_fault o (field_content code value tail)) (sym is)

@@ -132,14 +132,14 @@ no_check_again bytes f =
 -- ---- the whole length
 
 -- the length that the first bytes of a message say, once there are enough of them
-abbrev said : List ℕ → Option ℕ
-said bytes = cond (ltb (length bytes) fixed_len) None (Some (whole_len bytes))
+abbrev front_len : List ℕ → Option ℕ
+front_len bytes = cond (ltb (length bytes) fixed_len) None (Some (whole_len bytes))
 
-framing_by : (bytes : List ℕ) (o : Option MsgError) (x : Option ℕ) → first_failing (length bytes) (checks bytes) ≡ o → framing bytes ≡ Ok x → (o ≡ None) × (said bytes ≡ x)
+framing_by : (bytes : List ℕ) (o : Option MsgError) (x : Option ℕ) → first_failing (length bytes) (checks bytes) ≡ o → framing bytes ≡ Ok x → (o ≡ None) × (front_len bytes ≡ x)
 framing_by bytes (Some fault) x is e = absurd (let no : Err fault ≡ Ok x = rw is at e in cc)
 framing_by bytes None x is e =
-    let same : framing bytes ≡ Ok (said bytes) = rw is refl in
-    (refl, ok_is (said bytes) x (sym same ∙ e))
+    let same : framing bytes ≡ Ok (front_len bytes) = rw is refl in
+    (refl, ok_is (front_len bytes) x (sym same ∙ e))
 
 -- a length is said only of a fixed part that is whole and has no fault
 pub framing_takes : (bytes : List ℕ) (len : ℕ) → framing bytes ≡ Ok (Some len) → IsFixed bytes × (len ≡ whole_len bytes)

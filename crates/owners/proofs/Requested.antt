@@ -43,20 +43,20 @@ leaving_held slots slot owner claims e false = e
 abbrev IsShownAs : List (Option Holding) → SlotClaim → List ℕ → Type 0
 IsShownAs slots claim name = name_at (slice_get slots claim.slot) ≡ name
 
-abbrev named : List ℕ → SlotClaim → Claim
-named name claim = record { name = name; connection = claim.connection; flags = claim.flags }
+abbrev claim_on : List ℕ → SlotClaim → Claim
+claim_on name claim = record { name = name; connection = claim.connection; flags = claim.flags }
 
-claim_shown : (slots : List (Option Holding)) (claim : SlotClaim) (name : List ℕ) → IsShownAs slots claim name → named_claim slots claim ≡ named name claim
-claim_shown slots claim name s = ap (λ (n : List ℕ). named n claim) s
+claim_shown : (slots : List (Option Holding)) (claim : SlotClaim) (name : List ℕ) → IsShownAs slots claim name → named_claim slots claim ≡ claim_on name claim
+claim_shown slots claim name s = ap (λ (n : List ℕ). claim_on n claim) s
 
-last_shown : (slots : List (Option Holding)) (claim : SlotClaim) (name : List ℕ) → IsShownAs slots claim name → (claims : List SlotClaim) → map (named_claim slots) (claims ++ claim ∷ []) ≡ map (named_claim slots) claims ++ named name claim ∷ []
+last_shown : (slots : List (Option Holding)) (claim : SlotClaim) (name : List ℕ) → IsShownAs slots claim name → (claims : List SlotClaim) → map (named_claim slots) (claims ++ claim ∷ []) ≡ map (named_claim slots) claims ++ claim_on name claim ∷ []
 last_shown slots claim name s claims =
     map-append (named_claim slots) claims (claim ∷ []) ∙ ap (λ (c : Claim). map (named_claim slots) claims ++ c ∷ []) (claim_shown slots claim name s)
 
 by_tests : (slots : List (Option Holding)) (claim : SlotClaim) (name : List ℕ) → Tells slots claim.slot name → IsShownAs slots claim name → (claims : List SlotClaim) → Each (HeldAt slots) claims → (owner : ℕ) → (same replaces leaves quits waits : Bool) →
     map (named_claim slots) (step_done (if same then steps.SetFlags else if replaces then steps.Replace (if quits then Some owner else None) else if leaves then steps.Remove else if waits then steps.SetFlags else steps.PutLast) claim claims)
     ≡ (if same then with_flags name claim.connection claim.flags (map (named_claim slots) claims)
-    else if replaces then named name claim ∷ without name claim.connection (if quits then without name owner (map (named_claim slots) claims) else map (named_claim slots) claims)
+    else if replaces then claim_on name claim ∷ without name claim.connection (if quits then without name owner (map (named_claim slots) claims) else map (named_claim slots) claims)
     else if leaves then without name claim.connection (map (named_claim slots) claims)
     else if waits then with_flags name claim.connection claim.flags (map (named_claim slots) claims)
     else with_last name claim.connection claim.flags (map (named_claim slots) claims))
@@ -64,7 +64,7 @@ by_tests slots claim name t s claims e owner true replaces leaves quits waits = 
 by_tests slots claim name t s claims e owner false true leaves quits waits =
     let left = without_owner (if quits then Some owner else None) claim.slot claims in
     ap (λ (c : Claim). c ∷ map (named_claim slots) (slot_without claim.slot claim.connection left)) (claim_shown slots claim name s)
-    ∙ ap (λ (l : List Claim). named name claim ∷ l) (without_shown slots claim.slot claim.connection name t left (leaving_held slots claim.slot owner claims e quits) ∙ ap (without name claim.connection) (leaving_shown slots claim.slot owner name t claims e quits))
+    ∙ ap (λ (l : List Claim). claim_on name claim ∷ l) (without_shown slots claim.slot claim.connection name t left (leaving_held slots claim.slot owner claims e quits) ∙ ap (without name claim.connection) (leaving_shown slots claim.slot owner name t claims e quits))
 by_tests slots claim name t s claims e owner false false true quits waits = without_shown slots claim.slot claim.connection name t claims e
 by_tests slots claim name t s claims e owner false false false quits true = flags_shown slots claim.slot claim.connection claim.flags name t claims e
 by_tests slots claim name t s claims e owner false false false quits false = last_shown slots claim name s claims

@@ -127,20 +127,20 @@ changed_lists heads next prev h list head xs next' prev' c =
     }
 
 -- the lists that contracts see
-abbrev pub seen : List ℕ → List ℕ → PlaceLists
-seen heads next = record { lists = map (list_from next) heads; places = length next }
+abbrev pub view_of : List ℕ → List ℕ → PlaceLists
+view_of heads next = record { lists = map (list_from next) heads; places = length next }
 
-pub places_in-seen : (heads next : List ℕ) (i : ℕ) → i < length heads → places_in (seen heads next) i ≡ list_of heads next i
-places_in-seen heads next i low = get_or-map (list_from next) heads i end_link [] low
+pub places_in-view_of : (heads next : List ℕ) (i : ℕ) → i < length heads → places_in (view_of heads next) i ≡ list_of heads next i
+places_in-view_of heads next i low = get_or-map (list_from next) heads i end_link [] low
 
-pub pushed : (heads next prev : List ℕ) (list place : ℕ) → AreLinked heads next prev (list_of heads next) → list < length heads → place < length next → IsFree (seen heads next) place
-    → Changed heads next (place ∷ places_in (seen heads next) list) list (set heads list place) (set next place (get_or heads list end_link)) (set (set prev place end_link) (get_or heads list end_link) place)
+pub pushed : (heads next prev : List ℕ) (list place : ℕ) → AreLinked heads next prev (list_of heads next) → list < length heads → place < length next → IsFree (view_of heads next) place
+    → Changed heads next (place ∷ places_in (view_of heads next) list) list (set heads list place) (set next place (get_or heads list end_link)) (set (set prev place end_link) (get_or heads list end_link) place)
 pushed heads next prev list place h within low free =
     let head : ℕ = get_or heads list end_link in
     let xs : List ℕ = list_of heads next list in
     let next' : List ℕ = set next place head in
     let prev' : List ℕ = set (set prev place end_link) head place in
-    let out : (i : ℕ) → i < length heads → has_place place (list_of heads next i) ≡ false = λ i under. sym (ap (has_place place) (places_in-seen heads next i under)) ∙ free i (omega (arith, length-map heads (list_from next), under)) in
+    let out : (i : ℕ) → i < length heads → has_place place (list_of heads next i) ≡ false = λ i under. sym (ap (has_place place) (places_in-view_of heads next i under)) ∙ free i (omega (arith, length-map heads (list_from next), under)) in
     let outs = Out-from_test place xs (out list within) in
     let c : Changes heads next prev (list_of heads next) list place (place ∷ xs) next' prev' = record {
       within = within;
@@ -154,7 +154,7 @@ pushed heads next prev list place h within low free =
         | inr later ↦ h.apart list i k within under ne later
       ];
     } in
-    subst (λ (ys : List ℕ). Changed heads next (place ∷ ys) list (set heads list place) next' prev') (sym (places_in-seen heads next list within)) (changed_lists heads next prev h list place (place ∷ xs) next' prev' c)
+    subst (λ (ys : List ℕ). Changed heads next (place ∷ ys) list (set heads list place) next' prev') (sym (places_in-view_of heads next list within)) (changed_lists heads next prev h list place (place ∷ xs) next' prev' c)
   where
     -- the head that was is of the list, or none
     head_out : (i : ℕ) → i < length heads → list ≢ i → (xs : List ℕ) → IsLinked next prev end_link (get_or heads list end_link) xs → ((k : ℕ) → has_place k xs ≡ true → has_place k (list_of heads next i) ≡ false) → Out (get_or heads list end_link) (list_of heads next i)
@@ -167,24 +167,24 @@ pushed heads next prev list place h within low free =
     other_linked : (i : ℕ) → i < length heads → list ≢ i → IsLinked (set next place (get_or heads list end_link)) (set (set prev place end_link) (get_or heads list end_link) place) end_link (get_or heads i end_link) (list_of heads next i)
     other_linked i under ne =
         let ys : List ℕ = list_of heads next i in
-        let out = Out-from_test place ys (sym (ap (has_place place) (places_in-seen heads next i under)) ∙ free i (omega (arith, length-map heads (list_from next), under))) in
+        let out = Out-from_test place ys (sym (ap (has_place place) (places_in-view_of heads next i under)) ∙ free i (omega (arith, length-map heads (list_from next), under))) in
         linked-set_prev (set next place (get_or heads list end_link)) (set prev place end_link) end_link (get_or heads i end_link) (get_or heads list end_link) place ys
         (head_out i under ne (list_of heads next list) (h.linked list within) (λ k stands. h.apart list i k within under ne stands))
         (linked-set_prev (set next place (get_or heads list end_link)) prev end_link (get_or heads i end_link) place end_link ys out (linked-set_next next prev end_link (get_or heads i end_link) place (get_or heads list end_link) ys out (h.linked i under)))
 
 -- the place that is taken out is one of the places
-pub below : (heads next prev : List ℕ) (list place : ℕ) → AreLinked heads next prev (list_of heads next) → list < length heads → has_place place (places_in (seen heads next) list) ≡ true → place < length next
+pub below : (heads next prev : List ℕ) (list place : ℕ) → AreLinked heads next prev (list_of heads next) → list < length heads → has_place place (places_in (view_of heads next) list) ≡ true → place < length next
 below heads next prev list place h within stands =
-    linked-below next prev end_link (get_or heads list end_link) (list_of heads next list) (h.linked list within) place (sym (ap (has_place place) (places_in-seen heads next list within)) ∙ stands)
+    linked-below next prev end_link (get_or heads list end_link) (list_of heads next list) (h.linked list within) place (sym (ap (has_place place) (places_in-view_of heads next list within)) ∙ stands)
 
-pub removed : (heads next prev : List ℕ) (list place : ℕ) → AreLinked heads next prev (list_of heads next) → list < length heads → has_place place (places_in (seen heads next) list) ≡ true
-    → Changed heads next (without place (places_in (seen heads next) list)) list (set heads list (cond (eqb (get_or heads list end_link) place) (get_or next place end_link) (get_or heads list end_link))) (set next (get_or prev place end_link) (get_or next place end_link)) (set prev (get_or next place end_link) (get_or prev place end_link))
+pub removed : (heads next prev : List ℕ) (list place : ℕ) → AreLinked heads next prev (list_of heads next) → list < length heads → has_place place (places_in (view_of heads next) list) ≡ true
+    → Changed heads next (without place (places_in (view_of heads next) list)) list (set heads list (cond (eqb (get_or heads list end_link) place) (get_or next place end_link) (get_or heads list end_link))) (set next (get_or prev place end_link) (get_or next place end_link)) (set prev (get_or next place end_link) (get_or prev place end_link))
 removed heads next prev list place h within had =
     let head : ℕ = get_or heads list end_link in
     let xs : List ℕ = list_of heads next list in
     let p : ℕ = get_or prev place end_link in
     let q : ℕ = get_or next place end_link in
-    let stands : has_place place xs ≡ true = sym (ap (has_place place) (places_in-seen heads next list within)) ∙ had in
+    let stands : has_place place xs ≡ true = sym (ap (has_place place) (places_in-view_of heads next list within)) ∙ had in
     let c : Changes heads next prev (list_of heads next) list (cond (eqb head place) q head) (without place xs) (set next p q) (set prev q p) = record {
       within = within;
       as_long = length-set next p q;
@@ -199,14 +199,14 @@ removed heads next prev list place h within had =
           (linked-set_next next prev end_link there p q ys (prev_apart next prev head place xs ys h.few (h.linked list within) stands end_link there (h.linked i under) apart) (h.linked i under));
       apart = λ i k under ne remains. h.apart list i k within under ne (elim (cases_Bool (has_place k xs)) [ inl was ↦ was | inr no_more ↦ absurd (both_ways (has_place k (without place xs)) (has_place-without k place xs no_more) remains) ]);
     } in
-    subst (λ (ys : List ℕ). Changed heads next (without place ys) list (set heads list (cond (eqb head place) q head)) (set next p q) (set prev q p)) (sym (places_in-seen heads next list within)) (changed_lists heads next prev h list (cond (eqb head place) q head) (without place xs) (set next p q) (set prev q p) c)
+    subst (λ (ys : List ℕ). Changed heads next (without place ys) list (set heads list (cond (eqb head place) q head)) (set next p q) (set prev q p)) (sym (places_in-view_of heads next list within)) (changed_lists heads next prev h list (cond (eqb head place) q head) (without place xs) (set next p q) (set prev q p) c)
 
 -- what contracts see has no place twice
-pub AreApart-seen : (heads next prev : List ℕ) → AreLinked heads next prev (list_of heads next) → AreApart (seen heads next)
-AreApart-seen heads next prev h = record {
+pub AreApart-view_of : (heads next prev : List ℕ) → AreLinked heads next prev (list_of heads next) → AreApart (view_of heads next)
+AreApart-view_of heads next prev h = record {
   below = λ list place low stands. below heads next prev list place h (under list low) stands;
-  once = λ list low. subst (λ (ys : List ℕ). AreOnce ys) (sym (places_in-seen heads next list (under list low))) (h.once list (under list low));
-  apart = λ list other place low near stands also. one_list list other place (under list low) (under other near) (sym (ap (has_place place) (places_in-seen heads next list (under list low))) ∙ stands) (sym (ap (has_place place) (places_in-seen heads next other (under other near))) ∙ also);
+  once = λ list low. subst (λ (ys : List ℕ). AreOnce ys) (sym (places_in-view_of heads next list (under list low))) (h.once list (under list low));
+  apart = λ list other place low near stands also. one_list list other place (under list low) (under other near) (sym (ap (has_place place) (places_in-view_of heads next list (under list low))) ∙ stands) (sym (ap (has_place place) (places_in-view_of heads next other (under other near))) ∙ also);
 }
   where
     under : (i : ℕ) → i < length (map (list_from next) heads) → i < length heads
@@ -238,8 +238,8 @@ AreLinked-empty count places few =
       apart = λ i j place low under ne stands. absurd (false≢true stands);
     })
 
-pub seen-empty : (count places : ℕ) → places < end_link → seen (replicate count end_link) (replicate places end_link) ≡ empty_lists count places
-seen-empty count places few =
+pub view_of-empty : (count places : ℕ) → places < end_link → view_of (replicate count end_link) (replicate places end_link) ≡ empty_lists count places
+view_of-empty count places few =
     let none : map (list_from (replicate places end_link)) (replicate count end_link) ≡ replicate count [] =
     same_lists
     (map (list_from (replicate places end_link)) (replicate count end_link))
@@ -289,15 +289,15 @@ pub list_from-end : (next : List ℕ) (here : ℕ) → length next ≤ here → 
 list_from-end next here above = walk-beyond (length next) next here above
 
 -- a list that contracts see has a head
-pub within-seen : (heads next : List ℕ) (s : PlaceLists) (list : ℕ) → seen heads next ≡ s → list < length s.lists → list < length heads
-within-seen heads next s list e low = omega (arith, ap (λ (t : PlaceLists). length t.lists) e, length-map heads (list_from next))
+pub within-view_of : (heads next : List ℕ) (s : PlaceLists) (list : ℕ) → view_of heads next ≡ s → list < length s.lists → list < length heads
+within-view_of heads next s list e low = omega (arith, ap (λ (t : PlaceLists). length t.lists) e, length-map heads (list_from next))
 
 -- the writes of a push, one after the other
-pub pushed-by : (heads next prev : List ℕ) (list place head : ℕ) (next' between prev' : List ℕ) → AreLinked heads next prev (list_of heads next) → list < length heads → place < length next → IsFree (seen heads next) place
+pub pushed-by : (heads next prev : List ℕ) (list place head : ℕ) (next' between prev' : List ℕ) → AreLinked heads next prev (list_of heads next) → list < length heads → place < length next → IsFree (view_of heads next) place
     → head ≡ get_or heads list end_link → next' ≡ set next place head → between ≡ set prev place end_link → prev' ≡ set between head place
-    → Changed heads next (place ∷ places_in (seen heads next) list) list (set heads list place) next' prev'
+    → Changed heads next (place ∷ places_in (view_of heads next) list) list (set heads list place) next' prev'
 pushed-by heads next prev list place head next' between prev' h within low free is_head is_next is_between is_prev =
-    let ys : List ℕ = place ∷ places_in (seen heads next) list in
+    let ys : List ℕ = place ∷ places_in (view_of heads next) list in
     let old : ℕ = get_or heads list end_link in
     subst
     (λ (n : List ℕ). Changed heads next ys list (set heads list place) n prev')
@@ -308,12 +308,12 @@ pushed-by heads next prev list place head next' between prev' h within low free 
     (pushed heads next prev list place h within low free))
 
 -- the writes of a removal
-pub removed-by : (heads next prev : List ℕ) (list place head before after new_head : ℕ) (next' prev' : List ℕ) → AreLinked heads next prev (list_of heads next) → list < length heads → has_place place (places_in (seen heads next) list) ≡ true
+pub removed-by : (heads next prev : List ℕ) (list place head before after new_head : ℕ) (next' prev' : List ℕ) → AreLinked heads next prev (list_of heads next) → list < length heads → has_place place (places_in (view_of heads next) list) ≡ true
     → head ≡ get_or heads list end_link → before ≡ get_or prev place end_link → after ≡ get_or next place end_link
     → new_head ≡ cond (eqb head place) after head → next' ≡ set next before after → prev' ≡ set prev after before
-    → Changed heads next (without place (places_in (seen heads next) list)) list (set heads list new_head) next' prev'
+    → Changed heads next (without place (places_in (view_of heads next) list)) list (set heads list new_head) next' prev'
 removed-by heads next prev list place head before after new_head next' prev' h within stands is_head is_before is_after is_new is_next is_prev =
-    let ys : List ℕ = without place (places_in (seen heads next) list) in
+    let ys : List ℕ = without place (places_in (view_of heads next) list) in
     let old : ℕ = get_or heads list end_link in
     let p : ℕ = get_or prev place end_link in
     let q : ℕ = get_or next place end_link in
@@ -332,6 +332,6 @@ removed-by heads next prev list place head before after new_head next' prev' h w
     (removed heads next prev list place h within stands)))
 
 -- what contracts see after a change
-pub seen-changed : (heads next : List ℕ) (list : ℕ) (ys heads' next' prev' : List ℕ) → Changed heads next ys list heads' next' prev' → seen heads' next' ≡ record { lists = set (map (list_from next) heads) list ys; places = length next }
-seen-changed heads next list ys heads' next' prev' c =
+pub view_of-changed : (heads next : List ℕ) (list : ℕ) (ys heads' next' prev' : List ℕ) → Changed heads next ys list heads' next' prev' → view_of heads' next' ≡ record { lists = set (map (list_from next) heads) list ys; places = length next }
+view_of-changed heads next list ys heads' next' prev' c =
     ap (λ (ls : List (List ℕ)). record { lists = ls; places = length next' }) c.view ∙ ap (λ (n : ℕ). record { lists = set (map (list_from next) heads) list ys; places = n }) c.as_many

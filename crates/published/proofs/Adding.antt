@@ -14,15 +14,15 @@ use Rattle.published.specs.Steps.{Adds}
 use Rattle.published.proofs.Fronts.{prefix_whole}
 
 module _ {M : Type 0} where
-  abbrev pub shown : List (Command M) → List (Command M)
-  shown log = []
+  abbrev pub shows_none : List (Command M) → List (Command M)
+  shows_none log = []
 
-  abbrev pub moved : List (Command M) → List (Command M) → ℕ → Type 0
-  moved xs ys n = Unit {0}
+  abbrev pub moves_any : List (Command M) → List (Command M) → ℕ → Type 0
+  moves_any xs ys n = Unit {0}
 
   pub adds_goes : (log v : List (Command M)) (e : Command M) (old : ℕ) → length v ≡ old → is_accepted (after v) e ≡ true → IsHistory log → IsPrefix v log
       → (b : Bool) → (length log == old) ≡ b
-      → Goes IsKept shown moved 0 (v, (no_nib, None)) (λ n. either (n == old) (old + 1) n) (Adds (step 0 old (old + 1) e) (v, (no_nib, None))) ((length log, true) ∷ (0, true) ∷ []) log
+      → Goes IsKept shows_none moves_any 0 (v, (no_nib, None)) (λ n. either (n == old) (old + 1) n) (Adds (step 0 old (old + 1) e) (v, (no_nib, None))) ((length log, true) ∷ (0, true) ∷ []) log
   adds_goes log v e old len may legal pre true is =
       let here : length log ≡ old = grind (arith, nat_tests) in
       let same : v ≡ log = prefix_whole v log pre (omega arith) in
@@ -52,7 +52,7 @@ module _ {M : Type 0} where
 
   -- whatever the history is, the exchange adds the command to all that was seen, or finds that it is longer
   pub adds_moves : (v : List (Command M)) (e : Command M) (old : ℕ) → length v ≡ old → is_accepted (after v) e ≡ true
-      → Moves IsKept shown moved 0 (v, (no_nib, None)) (λ n. either (n == old) (old + 1) n) (Adds (step 0 old (old + 1) e) (v, (no_nib, None)))
+      → Moves IsKept shows_none moves_any 0 (v, (no_nib, None)) (λ n. either (n == old) (old + 1) n) (Adds (step 0 old (old + 1) e) (v, (no_nib, None)))
   adds_moves v e old len may cs log kept pre away =
-      let P : List Cell → Type 0 = λ c. (0 < length c) × ((cell c 0).1 ≡ true) × Goes IsKept shown moved 0 (v, (no_nib, None)) (λ n. either (n == old) (old + 1) n) (Adds (step 0 old (old + 1) e) (v, (no_nib, None))) c log in
+      let P : List Cell → Type 0 = λ c. (0 < length c) × ((cell c 0).1 ≡ true) × Goes IsKept shows_none moves_any 0 (v, (no_nib, None)) (λ n. either (n == old) (old + 1) n) (Adds (step 0 old (old + 1) e) (v, (no_nib, None))) c log in
       subst P (sym kept.words) (omega arith, refl, adds_goes log v e old len may kept.accepted pre (length log == old) refl)

@@ -107,26 +107,26 @@ turn_is_text image at (Some text) value tells bytes =
 -- ---- the text is in a namespace
 
 -- the value is all of the text, or the separator follows it
-abbrev closed : ℕ → ℕ → ℕ → List Ins → List Ins
-closed at n separator rest = may_end at n rest (load_indexed Byte n ∷ want Equal separator rest)
+abbrev end_or_separator : ℕ → ℕ → ℕ → List Ins → List Ins
+end_or_separator at n separator rest = may_end at n rest (load_indexed Byte n ∷ want Equal separator rest)
 
-extends_closed : (at n separator : ℕ) → Extends (closed at n separator)
-extends_closed at n separator =
+extends_end_or_separator : (at n separator : ℕ) → Extends (end_or_separator at n separator)
+extends_end_or_separator at n separator =
     extends_settle (λ rest. load_indexed Byte n ∷ want Equal separator rest) (at + 4) Equal n (extends_indexed Byte n separator)
 
-extends_named : (at separator : ℕ) (value : List ℕ) → Extends (λ rest. same_bytes 0 value (closed at (length value) separator rest))
+extends_named : (at separator : ℕ) (value : List ℕ) → Extends (λ rest. same_bytes 0 value (end_or_separator at (length value) separator rest))
 extends_named at separator value =
-    extends_then (same_bytes 0 value) (closed at (length value) separator) (extends_same_bytes 0 value) (extends_closed at (length value) separator)
+    extends_then (same_bytes 0 value) (end_or_separator at (length value) separator) (extends_same_bytes 0 value) (extends_end_or_separator at (length value) separator)
 
 pub extends_in_namespace : (at separator : ℕ) (value : List ℕ) → Extends (in_namespace at separator value)
 extends_in_namespace at separator value =
-    extends_index_text (λ rest. same_bytes 0 value (closed at (length value) separator rest)) at (extends_named at separator value)
+    extends_index_text (λ rest. same_bytes 0 value (end_or_separator at (length value) separator rest)) at (extends_named at separator value)
 
 abbrev Separated : List ℕ → ℕ → ℕ → Type 0
 Separated text n separator = (n < length text) × (slice_index text n ≡ separator)
 
-tests_closed : (image : List ℕ) (at : ℕ) (text : List ℕ) (n separator : ℕ) → (tells : Tells image at text) → n ≤ length text → Tests image (At tells.place) ((eqb (length text) n ≡ true) ⊎ Separated text n separator) (closed at n separator)
-tests_closed image at text n separator tells few =
+tests_end_or_separator : (image : List ℕ) (at : ℕ) (text : List ℕ) (n separator : ℕ) → (tells : Tells image at text) → n ≤ length text → Tests image (At tells.place) ((eqb (length text) n ≡ true) ⊎ Separated text n separator) (end_or_separator at n separator)
+tests_end_or_separator image at text n separator tells few =
     tests_settle image (At tells.place) (Separated text n separator) (λ rest. load_indexed Byte n ∷ want Equal separator rest) (at + 4) (length text) Equal n tells.len_word (extends_indexed Byte n separator) (
     λ differs. let less : n < length text = let ne = eqb-false (length text) n differs in omega arith in
     tests_same image (At tells.place) _ _ (λ rest. load_indexed Byte n ∷ want Equal separator rest) (λ e. (less, e), λ both. both.1) (tests_byte image tells.place text n separator tells.lies (omega arith))
@@ -178,4 +178,4 @@ turn_in_namespace image at separator (Some text) value tells bytes =
     turn_same image _ _ (has_text_len AtLeast (length value) at) (in_namespace at separator value) (
       λ looked. (text, refl, looked_named text value separator looked),
       λ p. named_looked text value separator (subst (λ (t : List ℕ). Named t value separator) (sym (some_same text p.0 p.1)) p.2),
-    ) (turn_text image (Stands text 0 value × ((eqb (length text) (length value) ≡ true) ⊎ Separated text (length value) separator)) AtLeast (length value) at text (λ rest. same_bytes 0 value (closed at (length value) separator rest)) tells (extends_named at separator value) (λ e. let l = leb-true (length value) (length text) e in tests_then image (At tells.place) _ _ (same_bytes 0 value) (closed at (length value) separator) (tests_same_bytes image tells.place text 0 value tells.lies tells.bytes bytes (omega arith)) (extends_closed at (length value) separator) (λ _. tests_closed image at text (length value) separator tells l)))
+    ) (turn_text image (Stands text 0 value × ((eqb (length text) (length value) ≡ true) ⊎ Separated text (length value) separator)) AtLeast (length value) at text (λ rest. same_bytes 0 value (end_or_separator at (length value) separator rest)) tells (extends_named at separator value) (λ e. let l = leb-true (length value) (length text) e in tests_then image (At tells.place) _ _ (same_bytes 0 value) (end_or_separator at (length value) separator) (tests_same_bytes image tells.place text 0 value tells.lies tells.bytes bytes (omega arith)) (extends_end_or_separator at (length value) separator) (λ _. tests_end_or_separator image at text (length value) separator tells l)))

@@ -33,7 +33,7 @@ fn attach(alloc: Global, member: &str, signature: &[u8], body: &[u8]) -> Result<
 }
 
 // The edition and the program of an attachment.
-fn attached(alloc: Global, bytes: &[u8]) -> Result<(Edition, Vec<Ins>), Fail> {
+fn attachment_of(alloc: Global, bytes: &[u8]) -> Result<(Edition, Vec<Ins>), Fail> {
     match Call::read(alloc, &View::read(bytes)?)? {
         Call::Attach(edition, program) => Ok((edition, program)),
         _ => Err(Fail::from("no attachment")),
@@ -43,7 +43,7 @@ fn attached(alloc: Global, bytes: &[u8]) -> Result<(Edition, Vec<Ins>), Fail> {
 #[test]
 fn edition_one(rt: HostRuntime) -> Result<(), Fail> {
     let bytes = attach(rt.alloc(), "Attach", b"a(qyyu)", PROGRAM)?;
-    let (edition, program) = attached(rt.alloc(), &bytes)?;
+    let (edition, program) = attachment_of(rt.alloc(), &bytes)?;
     assert_eq!(rt; edition, Edition::One);
     assert_eq!(rt; program.as_slice(), INSTRUCTIONS.as_slice());
     Ok(())
@@ -61,7 +61,7 @@ const BIG_EDITION: &str =
 fn big_endian(rt: HostRuntime) -> Result<(), Fail> {
     for (text, wanted) in [(BIG, Edition::One), (BIG_EDITION, Edition::Two)] {
         let bytes = hex::decode(rt.alloc(), text)?;
-        let (edition, program) = attached(rt.alloc(), &bytes)?;
+        let (edition, program) = attachment_of(rt.alloc(), &bytes)?;
         assert_eq!(rt; edition, wanted);
         assert_eq!(rt; program.as_slice(), INSTRUCTIONS.as_slice());
     }
@@ -82,7 +82,7 @@ fn no_edition(rt: HostRuntime) -> Result<(), Fail> {
 #[test]
 fn empty_program(rt: HostRuntime) -> Result<(), Fail> {
     let bytes = attach(rt.alloc(), "Attach", b"a(qyyu)", b"\0\0\0\0\0\0\0\0")?;
-    let (edition, program) = attached(rt.alloc(), &bytes)?;
+    let (edition, program) = attachment_of(rt.alloc(), &bytes)?;
     assert_eq!(rt; edition, Edition::One);
     assert!(rt; program.is_empty());
     Ok(())

@@ -37,7 +37,7 @@ fn message(
 }
 
 // A call's name, its text and its number.
-fn shown<'a>(call: &Call<'a>) -> (&'static str, &'a str, u32) {
+fn parts_of<'a>(call: &Call<'a>) -> (&'static str, &'a str, u32) {
     match call {
         Call::Hello => ("Hello", "", 0),
         Call::AddMatch(rule) => ("AddMatch", *rule, 0),
@@ -51,11 +51,11 @@ fn shown<'a>(call: &Call<'a>) -> (&'static str, &'a str, u32) {
         Call::Attach(_, _) => ("Attach", "", 0),
         Call::Detach(id) => ("Detach", "", *id),
         Call::StartServiceByName(name) => ("StartServiceByName", *name, 0),
-        _ => shown_rest(call),
+        _ => rest_of(call),
     }
 }
 
-fn shown_rest<'a>(call: &Call<'a>) -> (&'static str, &'a str, u32) {
+fn rest_of<'a>(call: &Call<'a>) -> (&'static str, &'a str, u32) {
     match call {
         Call::ListActivatableNames => ("ListActivatableNames", "", 0),
         Call::ListQueuedOwners(name) => ("ListQueuedOwners", *name, 0),
@@ -107,7 +107,7 @@ fn each_call(rt: HostRuntime) -> Result<(), Fail> {
     for (interface, member, signature, body, text, number) in &CALLS {
         let bytes = message(alloc, interface, member, signature, body)?;
         let call = Call::read(alloc, &View::read(&bytes)?)?;
-        let (name, argument, count) = shown(&call);
+        let (name, argument, count) = parts_of(&call);
         assert_eq!(rt; name, *member);
         assert_eq!(rt; argument, *text);
         assert_eq!(rt; count, *number);
@@ -121,7 +121,7 @@ fn each_call_without_interface(rt: HostRuntime) -> Result<(), Fail> {
     for (_, member, signature, body, _, _) in &CALLS {
         let bytes = message(alloc, "", member, signature, body)?;
         let call = Call::read(alloc, &View::read(&bytes)?)?;
-        assert_eq!(rt; shown(&call).0, *member);
+        assert_eq!(rt; parts_of(&call).0, *member);
     }
     Ok(())
 }

@@ -42,7 +42,7 @@ pub(crate) fn empty<R: Abort>(rt: &R, alloc: Global) -> BusState<()> {
 }
 
 /// A rule with its program. The sender that it asks for, if any, has slot 0.
-fn compiled<R: Abort>(rt: &R, alloc: Global, text: &str) -> RuleProgram {
+fn compile<R: Abort>(rt: &R, alloc: Global, text: &str) -> RuleProgram {
     let rule = Rule::read(alloc, text).expect(rt, "a rule");
     if rule.sender_name().is_some() {
         RuleProgram::compile(alloc, rule, Some(0)).expect(rt, "its program")
@@ -72,6 +72,6 @@ pub(crate) fn subscribe<R: Abort>(
     connection: u64,
     text: &str,
 ) {
-    let command = Command::AddRule(connection, compiled(rt, alloc, text));
+    let command = Command::AddRule(connection, compile(rt, alloc, text));
     accept(rt, state, &command);
 }

@@ -44,7 +44,7 @@ const WORDS_IN_TWO: [(usize, u32); 12] = [
 ];
 
 /// The bytes of words at their places, the highest byte of each first.
-fn joined(alloc: Global, len: usize, words: &[(usize, u32)]) -> Result<Vec<u8>, Fail> {
+fn image_of(alloc: Global, len: usize, words: &[(usize, u32)]) -> Result<Vec<u8>, Fail> {
     let mut bytes = Vec::new(alloc);
     for (place, word) in words {
         bytes.resize(*place, 0)?;
@@ -59,14 +59,14 @@ fn s1_summaries(rt: HostRuntime) -> Result<(), Fail> {
     let view = View::read(S1)?;
     let mut owned = Slots::empty();
     let summary = summarise(&view, &owned, Edition::One);
-    let bytes = joined(rt.alloc(), SUMMARY_LEN[0], &WORDS)?;
+    let bytes = image_of(rt.alloc(), SUMMARY_LEN[0], &WORDS)?;
     assert_eq!(rt; summary.bytes(), bytes.as_slice());
     owned.insert(0);
     owned.insert(1023);
     assert!(rt; owned.contains(1023));
     assert!(rt; !owned.contains(1022));
     let summary = summarise(&view, &owned, Edition::Two);
-    let bytes = joined(rt.alloc(), SUMMARY_LEN[1], &WORDS_IN_TWO)?;
+    let bytes = image_of(rt.alloc(), SUMMARY_LEN[1], &WORDS_IN_TWO)?;
     assert_eq!(rt; summary.bytes(), bytes.as_slice());
     Ok(())
 }

@@ -91,7 +91,7 @@ fn take_all<R: Wait>(rt: &R, alloc: Global, outbox: &Outbox) -> Result<Vec<Item>
 }
 
 // How many of the items are the origin's broadcasts, where their counts are 1, 2, 3 and so on; else 0.
-fn counted(items: &[Item], origin: u64) -> u64 {
+fn count_of(items: &[Item], origin: u64) -> u64 {
     let mut count = 0u64;
     for item in items {
         if let Some((from, number)) = item.mark
@@ -123,8 +123,8 @@ fn exchange<R: Threads + Wait + Sync>(rt: &R, alloc: Global) -> Result<Vec<Item>
 fn order_of_two_origins(rt: HostRuntime) -> Result<(), Fail> {
     let items = exchange(&rt, rt.alloc())?;
     assert_eq!(rt; items.len(), 200);
-    assert_eq!(rt; counted(items.as_slice(), 1), 100);
-    assert_eq!(rt; counted(items.as_slice(), 2), 100);
+    assert_eq!(rt; count_of(items.as_slice(), 1), 100);
+    assert_eq!(rt; count_of(items.as_slice(), 2), 100);
     Ok(())
 }
 

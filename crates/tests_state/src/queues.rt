@@ -9,7 +9,7 @@ fn name() -> Result<WellKnown, ClaimError> {
 }
 
 /// The answer with a change of the name's owner.
-fn changed(answer: NameReply, name: &WellKnown, old: Option<u64>, new: Option<u64>) -> Named {
+fn change_of(answer: NameReply, name: &WellKnown, old: Option<u64>, new: Option<u64>) -> Named {
     Named {
         answer,
         change: Some(Change {
@@ -20,7 +20,7 @@ fn changed(answer: NameReply, name: &WellKnown, old: Option<u64>, new: Option<u6
     }
 }
 
-fn unchanged(answer: NameReply) -> Named {
+fn no_change(answer: NameReply) -> Named {
     Named {
         answer,
         change: None,
@@ -34,25 +34,25 @@ fn queue_of_one_name(rt: HostRuntime) -> Result<(), Fail> {
     let first = claims.request(&name, 1, 0).expect(&rt, "a reply");
     assert_eq!(rt;
         first,
-        changed(NameReply::PrimaryOwner, &name, None, Some(1))
+        change_of(NameReply::PrimaryOwner, &name, None, Some(1))
     );
     let waits = claims.request(&name, 2, 2).expect(&rt, "a reply");
-    assert_eq!(rt; waits, unchanged(NameReply::InQueue));
+    assert_eq!(rt; waits, no_change(NameReply::InQueue));
     let quits = claims.request(&name, 2, 4).expect(&rt, "a reply");
-    assert_eq!(rt; quits, unchanged(NameReply::Exists));
+    assert_eq!(rt; quits, no_change(NameReply::Exists));
     let again = claims.request(&name, 2, 0).expect(&rt, "a reply");
-    assert_eq!(rt; again, unchanged(NameReply::InQueue));
+    assert_eq!(rt; again, no_change(NameReply::InQueue));
     let released = claims.release(&name, 1);
     assert_eq!(rt;
         released,
-        changed(NameReply::Released, &name, Some(1), Some(2))
+        change_of(NameReply::Released, &name, Some(1), Some(2))
     );
     let other = claims.release(&name, 1);
-    assert_eq!(rt; other, unchanged(NameReply::NotOwner));
+    assert_eq!(rt; other, no_change(NameReply::NotOwner));
     let last = claims.release(&name, 2);
-    assert_eq!(rt; last, changed(NameReply::Released, &name, Some(2), None));
+    assert_eq!(rt; last, change_of(NameReply::Released, &name, Some(2), None));
     let nobody = claims.release(&name, 2);
-    assert_eq!(rt; nobody, unchanged(NameReply::NonExistent));
+    assert_eq!(rt; nobody, no_change(NameReply::NonExistent));
     Ok(())
 }
 
@@ -63,15 +63,15 @@ fn leaves_when_replaced(rt: HostRuntime) -> Result<(), Fail> {
     let first = claims.request(&name, 1, 5).expect(&rt, "a reply");
     assert_eq!(rt;
         first,
-        changed(NameReply::PrimaryOwner, &name, None, Some(1))
+        change_of(NameReply::PrimaryOwner, &name, None, Some(1))
     );
     let replaces = claims.request(&name, 2, 2).expect(&rt, "a reply");
     assert_eq!(rt;
         replaces,
-        changed(NameReply::PrimaryOwner, &name, Some(1), Some(2))
+        change_of(NameReply::PrimaryOwner, &name, Some(1), Some(2))
     );
     let gone = claims.release(&name, 1);
-    assert_eq!(rt; gone, unchanged(NameReply::NotOwner));
+    assert_eq!(rt; gone, no_change(NameReply::NotOwner));
     Ok(())
 }
 
@@ -83,13 +83,13 @@ fn takeover_and_close(rt: HostRuntime) -> Result<(), Fail> {
     let first = claims.request(&name, 1, 1).expect(&rt, "a reply");
     assert_eq!(rt;
         first,
-        changed(NameReply::PrimaryOwner, &name, None, Some(1))
+        change_of(NameReply::PrimaryOwner, &name, None, Some(1))
     );
     assert_eq!(rt; claims.owner_of("com.example.A"), Some(1));
     let replaces = claims.request(&name, 2, 2).expect(&rt, "a reply");
     assert_eq!(rt;
         replaces,
-        changed(NameReply::PrimaryOwner, &name, Some(1), Some(2))
+        change_of(NameReply::PrimaryOwner, &name, Some(1), Some(2))
     );
     assert_eq!(rt; claims.owner_of("com.example.A"), Some(2));
     let mut queue = claims.queue_of("com.example.A");

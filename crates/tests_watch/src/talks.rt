@@ -6,7 +6,7 @@ use std::process::Abort;
 use std::test::Fail;
 
 /// What a bus says up to its answer to Hello, after these lines.
-fn said(alloc: Global, lines: &[u8]) -> Result<Vec<u8>, Fail> {
+fn bus_bytes(alloc: Global, lines: &[u8]) -> Result<Vec<u8>, Fail> {
     let mut says = Vec::new(alloc);
     says.extend_from_slice(lines)?;
     put_answer(alloc, &mut says, 1, None)?;
@@ -21,7 +21,7 @@ fn comes_in(
     at_once: usize,
     words: &[u8],
 ) -> Result<(), Fail> {
-    let says = said(alloc, lines)?;
+    let says = bus_bytes(alloc, lines)?;
     match Client::open(alloc, Script::new(alloc, &says, at_once)) {
         Ok(mut client) => assert!(rt; client.stream_mut().written.starts_with(words)),
         Err(_) => assert!(rt; false),
@@ -58,7 +58,7 @@ fn gone(rt: HostRuntime) {
 
 // What a bus says to a client that adds a rule: a signal comes before the answer and one after it.
 fn bus_with_signals(alloc: Global, error: Option<&str>) -> Result<Vec<u8>, Fail> {
-    let mut says = said(alloc, b"OK 0123\r\n")?;
+    let mut says = bus_bytes(alloc, b"OK 0123\r\n")?;
     put_signal(alloc, &mut says, "First")?;
     put_answer(alloc, &mut says, 2, error)?;
     put_signal(alloc, &mut says, "Second")?;
@@ -102,7 +102,7 @@ fn refused_rule(rt: HostRuntime) -> Result<(), Fail> {
 
 #[test]
 fn garbage(rt: HostRuntime) -> Result<(), Fail> {
-    let mut says = said(rt.alloc(), b"OK 0123\r\n")?;
+    let mut says = bus_bytes(rt.alloc(), b"OK 0123\r\n")?;
     says.extend_from_slice(b"hello, this is no message")?;
     let mut client = Client::open(rt.alloc(), Script::new(rt.alloc(), &says, 4096))?;
     assert!(rt; matches!(client.next(), Err(ClientError::Message(_))));

@@ -11,8 +11,8 @@ use Rattle.message_value.proofs.ArrayTurns.{all_left, goes_on, stops, at_end}
 use Rattle.message_value.proofs.MemberTurns.{all_members, next_member, no_more}
 use Rattle.message_value.proofs.value.+check.Goals as goal
 
-abbrev done : Result ℕ MsgError
-done = Ok 0
+abbrev ok_unit : Result ℕ MsgError
+ok_unit = Ok 0
 
 -- ---- arrays
 
@@ -99,7 +99,7 @@ check_dict-returns-in_err-check_entry t c = λ type is.
 
 pub check_dict-returns : goal.check_dict-returns
 check_dict-returns t c = λ type is.
-    after_dict_extent done c.extent.new.self (value_at c.args.levels c.args.order) c.args.order (byte_of c.args.key) type c.args.cursor.now c.in_ok-inner.inner c.in_ok-inner.ensures
+    after_dict_extent ok_unit c.extent.new.self (value_at c.args.levels c.args.order) c.args.order (byte_of c.args.key) type c.args.cursor.now c.in_ok-inner.inner c.in_ok-inner.ensures
     (at_end (entry_at (value_at c.args.levels c.args.order) (byte_of c.args.key) type) c.loop-inner.inner _ (c.loop-inner.invariant type is) (sym c.loop-inner-test.ensures))
 
 pub check_entry-returns-in_err-align : goal.check_entry-returns-in_err-align

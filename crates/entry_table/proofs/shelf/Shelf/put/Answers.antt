@@ -3,7 +3,7 @@ use Rattle.std.proofs.Math.ListN.{set}
 use Rattle.std.specs.Prelude.{Some}
 use Rattle.place_lists.specs.PlaceLists.{PlaceLists, IsFree, places_in, has_place}
 use Rattle.entry_table.specs.PlacedEntries.{Placed, placed_at, places_of, IsShelf}
-use Rattle.entry_table.proofs.Shelving.{some_vacant, IsFree-between, IsShelf-put, held-put, places-held, unused, moved-by, moved, has_place-front}
+use Rattle.entry_table.proofs.Shelving.{some_vacant, IsFree-between, IsShelf-put, held-put, places-held, unused, move_place-by, move_place, has_place-front}
 use Rattle.entry_table.proofs.shelf.Shelf.put.Goals as goal
 
 pub unreachable-requires : goal.unreachable-requires
@@ -35,8 +35,8 @@ invariant_of-self c =
     let place = c.in-Some.place in
     let stands = has_place-front place (places_in ages 1) c.next.new.self (sym c.walk.ensures.value ∙ c.in-Some.ensures.steps) in
     let out = unused cells ages place c.self.invariant c.walk.ensures.apart stands (has_place place (places_in ages 0)) refl in
-    subst (λ (s : PlaceLists). IsShelf (set cells c.from.result (Some c.args.entry)) s) (sym (moved-by ages c.remove.new.self c.push.new.self place 1 0 c.remove.ensures.removed c.push.ensures.pushed))
-    (subst (λ (k : ℕ). IsShelf (set cells k (Some c.args.entry)) (moved ages place 1 0)) (sym c.from.ensures) (IsShelf-put cells ages place c.args.entry c.self.invariant c.walk.ensures.apart stands out))
+    subst (λ (s : PlaceLists). IsShelf (set cells c.from.result (Some c.args.entry)) s) (sym (move_place-by ages c.remove.new.self c.push.new.self place 1 0 c.remove.ensures.removed c.push.ensures.pushed))
+    (subst (λ (k : ℕ). IsShelf (set cells k (Some c.args.entry)) (move_place ages place 1 0)) (sym c.from.ensures) (IsShelf-put cells ages place c.args.entry c.self.invariant c.walk.ensures.apart stands out))
 
 pub returns-clause-put : goal.returns-clause-put
 returns-clause-put c =
@@ -45,8 +45,8 @@ returns-clause-put c =
     let place = c.in-Some.place in
     let stands = has_place-front place (places_in ages 1) c.next.new.self (sym c.walk.ensures.value ∙ c.in-Some.ensures.steps) in
     let out = unused cells ages place c.self.invariant c.walk.ensures.apart stands (has_place place (places_in ages 0)) refl in
-    ap (λ (s : PlaceLists). placed_at (set cells c.from.result (Some c.args.entry)) (places_in s 0)) (moved-by ages c.remove.new.self c.push.new.self place 1 0 c.remove.ensures.removed c.push.ensures.pushed)
-    ∙ ap (λ (k : ℕ). placed_at (set cells k (Some c.args.entry)) (places_in (moved ages place 1 0) 0)) c.from.ensures
+    ap (λ (s : PlaceLists). placed_at (set cells c.from.result (Some c.args.entry)) (places_in s 0)) (move_place-by ages c.remove.new.self c.push.new.self place 1 0 c.remove.ensures.removed c.push.ensures.pushed)
+    ∙ ap (λ (k : ℕ). placed_at (set cells k (Some c.args.entry)) (places_in (move_place ages place 1 0) 0)) c.from.ensures
     ∙ held-put cells ages place c.args.entry c.self.invariant c.walk.ensures.apart stands out
     ∙ ap (λ (held : List Placed). (place, c.args.entry) ∷ held) c.self.view_is
 

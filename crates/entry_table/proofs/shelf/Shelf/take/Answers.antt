@@ -6,7 +6,7 @@ use Rattle.std.specs.Prelude.{Option, None, is_some}
 use Rattle.place_lists.specs.PlaceLists.{PlaceLists, IsFree, places_in, has_place}
 use Rattle.entry_table.specs.declared.entry.Entry.{Entry}
 use Rattle.entry_table.specs.PlacedEntries.{Placed, placed_at, places_of, entry_at, but_at, IsShelf}
-use Rattle.entry_table.proofs.Shelving.{IsFree-between, IsShelf-take, held-take, entry-held, places-held, moved-by, moved}
+use Rattle.entry_table.proofs.Shelving.{IsFree-between, IsShelf-take, held-take, entry-held, places-held, move_place-by, move_place}
 use Rattle.entry_table.proofs.shelf.Shelf.take.Goals as goal
 
 pub remove-requires-clause-stands : goal.remove-requires-clause-stands
@@ -42,9 +42,9 @@ invariant_of-self c =
     let cells = c.self.inside.cells.items in
     let ages = c.self.inside.ages in
     let stands = ap (has_place c.args.place) (sym (places-held cells ages c.self.invariant)) ∙ ap (λ (held : List Placed). has_place c.args.place (places_of held)) c.self.view_is ∙ c.requires in
-    subst (λ (s : PlaceLists). IsShelf (set cells c.from.result c.take-cell.new.self) s) (sym (moved-by ages c.remove.new.self c.push.new.self c.args.place 0 1 c.remove.ensures.removed c.push.ensures.pushed))
-    (subst (λ (k : ℕ). IsShelf (set cells k c.take-cell.new.self) (moved ages c.args.place 0 1)) (sym c.from.ensures)
-    (subst (λ (o : Option Entry). IsShelf (set cells c.args.place o) (moved ages c.args.place 0 1)) (sym c.take-cell.ensures.after) (IsShelf-take cells ages c.args.place c.self.invariant c.remove.ensures.apart stands)))
+    subst (λ (s : PlaceLists). IsShelf (set cells c.from.result c.take-cell.new.self) s) (sym (move_place-by ages c.remove.new.self c.push.new.self c.args.place 0 1 c.remove.ensures.removed c.push.ensures.pushed))
+    (subst (λ (k : ℕ). IsShelf (set cells k c.take-cell.new.self) (move_place ages c.args.place 0 1)) (sym c.from.ensures)
+    (subst (λ (o : Option Entry). IsShelf (set cells c.args.place o) (move_place ages c.args.place 0 1)) (sym c.take-cell.ensures.after) (IsShelf-take cells ages c.args.place c.self.invariant c.remove.ensures.apart stands)))
 
 pub returns-clause-entry : goal.returns-clause-entry
 returns-clause-entry c =
@@ -58,8 +58,8 @@ pub returns-clause-rest : goal.returns-clause-rest
 returns-clause-rest c =
     let cells = c.self.inside.cells.items in
     let ages = c.self.inside.ages in
-    ap (λ (s : PlaceLists). placed_at (set cells c.from.result c.take-cell.new.self) (places_in s 0)) (moved-by ages c.remove.new.self c.push.new.self c.args.place 0 1 c.remove.ensures.removed c.push.ensures.pushed)
-    ∙ ap (λ (k : ℕ). placed_at (set cells k c.take-cell.new.self) (places_in (moved ages c.args.place 0 1) 0)) c.from.ensures
-    ∙ ap (λ (o : Option Entry). placed_at (set cells c.args.place o) (places_in (moved ages c.args.place 0 1) 0)) c.take-cell.ensures.after
+    ap (λ (s : PlaceLists). placed_at (set cells c.from.result c.take-cell.new.self) (places_in s 0)) (move_place-by ages c.remove.new.self c.push.new.self c.args.place 0 1 c.remove.ensures.removed c.push.ensures.pushed)
+    ∙ ap (λ (k : ℕ). placed_at (set cells k c.take-cell.new.self) (places_in (move_place ages c.args.place 0 1) 0)) c.from.ensures
+    ∙ ap (λ (o : Option Entry). placed_at (set cells c.args.place o) (places_in (move_place ages c.args.place 0 1) 0)) c.take-cell.ensures.after
     ∙ held-take cells ages c.args.place c.self.invariant
     ∙ ap (but_at c.args.place) c.self.view_is
