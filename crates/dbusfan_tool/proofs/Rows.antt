@@ -14,7 +14,7 @@ use Rattle.std.proofs.lemmas.Bool.Decides.{Decides-ltb}
 use Rattle.std.proofs.lemmas.Slice.Eq.{bytes_eq-Decides}
 use Rattle.dbusfan_tool.specs.CommandRow.{match_word, asm_word, check_word, compile_word, run_word, owns_word, edition_word, word_of_edition, end_word, is_option, is_input, Options, no_options, Spells, nothing, ended, named, owned, in_edition, Asked, to_match, to_asm, to_check, to_compile, to_run, IsRow, match_row, asm_row, check_row, compile_row, run_row}
 use Rattle.dbusfan_tool.specs.Views.{asked_by}
-use Rattle.dbusfan_tool.specs.RowReading.{Gathering, no_words, with_name, with_owns, with_edition, edition_of, gathered, match_of, only_word, run_of, asked_of, asked_in}
+use Rattle.dbusfan_tool.specs.RowReading.{Gathering, no_words, with_name, with_owns, with_edition, edition_of, gather, match_of, only_word, run_of, asked_of, asked_in}
 
 abbrev Words : Type 0
 Words = List (List ℕ)
@@ -57,7 +57,7 @@ word_said word edition e =
     ]
 
 -- after `--`
-ended_names : (front words : Words) (owns : Bool) (edition : Option Edition) → length front + length words ≤ 2 → gathered (having front owns edition NameAlone) words ≡ Some (having (front ++ words) owns edition NameAlone)
+ended_names : (front words : Words) (owns : Bool) (edition : Option Edition) → length front + length words ≤ 2 → gather (having front owns edition NameAlone) words ≡ Some (having (front ++ words) owns edition NameAlone)
 ended_names front [] owns edition fits = ap (λ all. Some (having all owns edition NameAlone)) (sym (append-nil front))
 ended_names front (word ∷ words) owns edition fits =
     let room : nat_lt (length front) 2 ≡ true = (Decides-ltb (length front) 2).1 (omega arith) in
@@ -70,7 +70,7 @@ other_word word known option plain =
     false_from_ne_true (bytes_eq word known) (λ same. let e = (bytes_eq-Decides word known).0 same in cc)
 
 -- The words after a command are gathered as they are spelled, with a front and options that were gathered before.
-spelled : {options : Options} {names words : Words} → Spells options names words → (front : Words) (owns : Bool) (edition : Option Edition) → length front + length names ≤ 2 → (owns && options.owns) ≡ false → (is_some edition && is_some options.edition) ≡ false → (awaited : Awaited) × (gathered (having front owns edition AnyWord) words ≡ Some (having (front ++ names) (owns || options.owns) (either edition options.edition) awaited))
+spelled : {options : Options} {names words : Words} → Spells options names words → (front : Words) (owns : Bool) (edition : Option Edition) → length front + length names ≤ 2 → (owns && options.owns) ≡ false → (is_some edition && is_some options.edition) ≡ false → (awaited : Awaited) × (gather (having front owns edition AnyWord) words ≡ Some (having (front ++ names) (owns || options.owns) (either edition options.edition) awaited))
 spelled nothing front owns edition fits once apart = (AnyWord, rw (append-nil front, or-false owns, either-none edition) refl)
 spelled (ended {words = words}) front owns edition fits once apart = (NameAlone, rw (or-false owns, either-none edition) (ended_names front words owns edition fits))
 spelled (named {options = options} {word = word} {names = names} plain rest) front owns edition fits once apart =
@@ -99,7 +99,7 @@ record Found (front : Words) (owns : Bool) (edition : Option Edition) (words : W
   apart : (is_some edition && is_some options.edition) ≡ false
 
 abbrev IsFound : Words → Type 0
-IsFound words = (front : Words) (owns : Bool) (edition : Option Edition) (all : Gathering) → gathered (having front owns edition AnyWord) words ≡ Some all → Found front owns edition words all
+IsFound words = (front : Words) (owns : Bool) (edition : Option Edition) (all : Gathering) → gather (having front owns edition AnyWord) words ≡ Some all → Found front owns edition words all
 
 -- a front, and the word of an edition
 record FoundAfter (front : Words) (owns : Bool) (words : Words) (all : Gathering) : Type 0 where
@@ -109,9 +109,9 @@ record FoundAfter (front : Words) (owns : Bool) (words : Words) (all : Gathering
   rest : Found front owns (Some edition) tail all
 
 abbrev IsFoundAfter : Words → Type 0
-IsFoundAfter words = (front : Words) (owns : Bool) (all : Gathering) → gathered (having front owns None EditionWord) words ≡ Some all → FoundAfter front owns words all
+IsFoundAfter words = (front : Words) (owns : Bool) (all : Gathering) → gather (having front owns None EditionWord) words ≡ Some all → FoundAfter front owns words all
 
-ended_found : (front words : Words) (owns : Bool) (edition : Option Edition) (all : Gathering) → gathered (having front owns edition NameAlone) words ≡ Some all → (all.names ≡ front ++ words) × (all.owns ≡ owns) × (all.edition ≡ edition)
+ended_found : (front words : Words) (owns : Bool) (edition : Option Edition) (all : Gathering) → gather (having front owns edition NameAlone) words ≡ Some all → (all.names ≡ front ++ words) × (all.owns ≡ owns) × (all.edition ≡ edition)
 ended_found front [] owns edition all e = (rw append-nil (cc), cc, cc)
 ended_found front (word ∷ words) owns edition all e =
     elim (cases_Bool (nat_lt (length front) 2)) [
@@ -125,12 +125,12 @@ and_false : (b : Bool) → (b && false) ≡ false
 and_false true = refl
 and_false false = refl
 
-end_found : (front words : Words) (owns : Bool) (edition : Option Edition) (all : Gathering) → gathered (having front owns edition NameAlone) words ≡ Some all → Found front owns edition (end_word ∷ words) all
+end_found : (front words : Words) (owns : Bool) (edition : Option Edition) (all : Gathering) → gather (having front owns edition NameAlone) words ≡ Some all → Found front owns edition (end_word ∷ words) all
 end_found front words owns edition all e =
     let rest = ended_found front words owns edition all e in
     record { options = no_options; names = words; spells = ended; all_names = rest.0; all_owns = rest.1 ∙ sym (or-false owns); all_edition = rest.2 ∙ sym (either-none edition); once = and_false owns; apart = and_false (is_some edition) }
 
-owns_found : (front words : Words) (owns : Bool) (edition : Option Edition) (all : Gathering) → IsFound words → option_and_then (λ next. gathered next words) (with_owns (having front owns edition AnyWord)) ≡ Some all → Found front owns edition (owns_word ∷ words) all
+owns_found : (front words : Words) (owns : Bool) (edition : Option Edition) (all : Gathering) → IsFound words → option_and_then (λ next. gather next words) (with_owns (having front owns edition AnyWord)) ≡ Some all → Found front owns edition (owns_word ∷ words) all
 owns_found front words true edition all rest e = absurd (cc)
 owns_found front words false edition all rest e =
     let tail = rest front true edition all e in
@@ -141,7 +141,7 @@ none_beside : (edition : Option Edition) → (true && is_some edition) ≡ false
 none_beside None alone = refl
 none_beside (Some edition) alone = absurd (cc)
 
-edition_found : (front words : Words) (owns : Bool) (edition : Option Edition) (all : Gathering) → IsFoundAfter words → option_and_then (λ next. gathered next words) (with_edition (having front owns edition AnyWord)) ≡ Some all → Found front owns edition (edition_word ∷ words) all
+edition_found : (front words : Words) (owns : Bool) (edition : Option Edition) (all : Gathering) → IsFoundAfter words → option_and_then (λ next. gather next words) (with_edition (having front owns edition AnyWord)) ≡ Some all → Found front owns edition (edition_word ∷ words) all
 edition_found front words owns (Some edition) all rest e = absurd (cc)
 edition_found front words owns None all rest e =
     let said = rest front owns all e in
@@ -149,7 +149,7 @@ edition_found front words owns None all rest e =
     let spells : Spells (record { owns = tail.options.owns; edition = Some said.edition }) tail.names (edition_word ∷ word_of_edition said.edition ∷ said.tail) = in_edition (none_beside tail.options.edition tail.apart) tail.spells in
     record { options = record { owns = tail.options.owns; edition = Some said.edition }; names = tail.names; spells = subst (λ (words : Words). Spells (record { owns = tail.options.owns; edition = Some said.edition }) tail.names (edition_word ∷ words)) (sym said.words_are) spells; all_names = tail.all_names; all_owns = tail.all_owns; all_edition = tail.all_edition; once = tail.once; apart = refl }
 
-name_found : (front : Words) (word : List ℕ) (words : Words) (owns : Bool) (edition : Option Edition) (all : Gathering) → is_option word ≡ false → IsFound words → option_and_then (λ next. gathered next words) (with_name word (having front owns edition AnyWord)) ≡ Some all → Found front owns edition (word ∷ words) all
+name_found : (front : Words) (word : List ℕ) (words : Words) (owns : Bool) (edition : Option Edition) (all : Gathering) → is_option word ≡ false → IsFound words → option_and_then (λ next. gather next words) (with_name word (having front owns edition AnyWord)) ≡ Some all → Found front owns edition (word ∷ words) all
 name_found front word words owns edition all plain rest e =
     elim (cases_Bool (nat_lt (length front) 2)) [
       | inl room ↦
@@ -180,7 +180,7 @@ any_found word words rest tail front owns edition all e =
       ]
     ]
 
-said_found : (front : Words) (word : List ℕ) (words : Words) (owns : Bool) (said : Option Edition) (all : Gathering) → edition_of word ≡ said → IsFound words → option_and_then (λ next. gathered next words) (option_map (λ edition. having front owns (Some edition) AnyWord) said) ≡ Some all → FoundAfter front owns (word ∷ words) all
+said_found : (front : Words) (word : List ℕ) (words : Words) (owns : Bool) (said : Option Edition) (all : Gathering) → edition_of word ≡ said → IsFound words → option_and_then (λ next. gather next words) (option_map (λ edition. having front owns (Some edition) AnyWord) said) ≡ Some all → FoundAfter front owns (word ∷ words) all
 said_found front word words owns None all is rest e = absurd (cc)
 said_found front word words owns (Some edition) all is rest e =
     record { edition = edition; tail = words; words_are = ap (λ (x : List ℕ). x ∷ words) (word_said word edition is); rest = rest front owns (Some edition) all e }
@@ -282,14 +282,14 @@ row_of_asked asked command words all found e =
       ]
     ]
 
-row_of_gathered : (asked : Asked) (command : List ℕ) (words : Words) (all : Option Gathering) → gathered no_words words ≡ all → option_and_then (asked_of command) all ≡ Some asked → IsRow asked (command ∷ words)
+row_of_gathered : (asked : Asked) (command : List ℕ) (words : Words) (all : Option Gathering) → gather no_words words ≡ all → option_and_then (asked_of command) all ≡ Some asked → IsRow asked (command ∷ words)
 row_of_gathered asked command words None is e = absurd (cc)
 row_of_gathered asked command words (Some all) is e = row_of_asked asked command words all ((found words).0 [] false None all is) e
 
 -- What is read is a row.
 pub row_of_read : (asked : Asked) (words : Words) → asked_in words ≡ Some asked → IsRow asked words
 row_of_read asked [] e = absurd (cc)
-row_of_read asked (word ∷ words) e = row_of_gathered asked word words (gathered no_words words) refl e
+row_of_read asked (word ∷ words) e = row_of_gathered asked word words (gather no_words words) refl e
 
 -- A row is read.
 pub read_of_row : (asked : Asked) (words : Words) → IsRow asked words → asked_in words ≡ Some asked

@@ -12,5 +12,5 @@ module _ {W : Type 0} (takes : W → List ℕ → W → Type 0) (flushes : W →
   -- fails for a writer's fault alone: no writer that may not fail makes it fail.
   pub record Puts (before after : Output W) (bytes : List ℕ) : Type 0 where
     pub fine : after.has_failed ≡ false → before.has_failed ≡ false
-    pub given : after.has_failed ≡ false → IsGiven before.writer after.writer bytes
+    pub delivery : after.has_failed ≡ false → IsGiven before.writer after.writer bytes
     pub failed : after.has_failed ≡ true → (before.has_failed ≡ true) ⊎ may_fail before.writer

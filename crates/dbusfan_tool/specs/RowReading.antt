@@ -67,9 +67,9 @@ at_end EditionWord so_far = None
 at_end _ so_far = Some so_far
 
 -- the words that are left
-abbrev pub gathered : Gathering → List (List ℕ) → Option Gathering
-gathered so_far [] = at_end so_far.awaited so_far
-gathered so_far (word ∷ words) = option_and_then (λ next. gathered next words) (with_word word so_far)
+abbrev pub gather : Gathering → List (List ℕ) → Option Gathering
+gather so_far [] = at_end so_far.awaited so_far
+gather so_far (word ∷ words) = option_and_then (λ next. gather next words) (with_word word so_far)
 
 -- what `match` and two words ask for
 abbrev pub match_of : List (List ℕ) → Bool → Option Edition → Option Asked
@@ -100,4 +100,4 @@ asked_of command all =
 -- what some words ask for, if they are a row
 abbrev pub asked_in : List (List ℕ) → Option Asked
 asked_in [] = None
-asked_in (word ∷ words) = option_and_then (asked_of word) (gathered no_words words)
+asked_in (word ∷ words) = option_and_then (asked_of word) (gather no_words words)

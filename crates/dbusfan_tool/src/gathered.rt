@@ -38,7 +38,7 @@ impl<'a> Gathered<'a> {
     ghost use Rattle.std.specs.Prelude.{◌≡◌, map};
     ghost use Rattle.std.specs.Option.{option_map};
     ghost use Rattle.dbusfan_tool.specs.Views.{asked_by, names_of, gathering_of};
-    ghost use Rattle.dbusfan_tool.specs.RowReading.{no_words, with_name, with_owns, with_edition, with_edition_word, with_any, with_word, gathered, match_of, only_word, run_of};
+    ghost use Rattle.dbusfan_tool.specs.RowReading.{no_words, with_name, with_owns, with_edition, with_edition_word, with_any, with_word, gather, match_of, only_word, run_of};
 
     fn nothing() -> Gathered<'a>
         ensures { gathering_of result ≡ no_words }
@@ -53,7 +53,7 @@ impl<'a> Gathered<'a> {
 
     /// What some words say, if they are at most two names and known options.
     pub(crate) fn read(words: &[&'a str]) -> Option<Gathered<'a>>
-        ensures { option_map gathering_of result ≡ gathered no_words (map (λ word. word.now) words.now) }
+        ensures { option_map gathering_of result ≡ gather no_words (map (λ word. word.now) words.now) }
     {
         let mut so_far = Gathered::nothing();
         for i in 0..words.len() {

@@ -208,18 +208,18 @@ read_by_shapes : (held : List Placed) (m : Message) (has_arg0 : Bool) (shapes : 
 read_by_shapes held m true shapes low = refl
 read_by_shapes held m false shapes low = low_by_shapes held m shapes (low refl)
 
-low_in_use : {index : Index} {held : List Placed} {m : Message} {offered : List Entry} (up : IsLookedUp index held m offered) → up.has_arg0 ≡ false → (shape : ℕ) → has_place shape (0 ∷ up.used) ≡ true → shape < 8
+low_in_use : {index : Index} {held : List Placed} {m : Message} {offers : List Entry} (up : IsLookedUp index held m offers) → up.has_arg0 ≡ false → (shape : ℕ) → has_place shape (0 ∷ up.used) ≡ true → shape < 8
 low_in_use up none shape has = elim (or_cases (eqb shape 0) (has_place shape up.used) has) [
   | inl zero ↦ omega (arith, eqb-true shape 0 zero)
   | inr later ↦ up.without none shape (sym (up.same shape) ∙ later)
 ]
 
 -- exactly the entries that a message is offered to, each once
-pub AreOffered-index : (index : Index) (held : List Placed) (m : Message) (offered : List Entry) → IsIndexed index held → IdsFall held → IsLookedUp index held m offered → AreOffered (entries_of held) m offered
-AreOffered-index index held m offered h falls up =
+pub AreOffered-index : (index : Index) (held : List Placed) (m : Message) (offers : List Entry) → IsIndexed index held → IdsFall held → IsLookedUp index held m offers → AreOffered (entries_of held) m offers
+AreOffered-index index held m offers h falls up =
     let found : KeyedTexts = record { points = index.points; texts = texts_read up.has_arg0 m } in
     let shapes : List ℕ = 0 ∷ up.used in
-    let is : offered ≡ by_shapes held (texts_of m) shapes = up.is ∙ offered_of-by_shapes held index.by_texts found h.once h.texts shapes ∙ read_by_shapes held m up.has_arg0 shapes (λ none shape has. low_in_use up none shape has) in
+    let is : offers ≡ by_shapes held (texts_of m) shapes = up.is ∙ offered_of-by_shapes held index.by_texts found h.once h.texts shapes ∙ read_by_shapes held m up.has_arg0 shapes (λ none shape has. low_in_use up none shape has) in
     let zero_out : has_place 0 up.used ≡ false = up.same 0 in
     record {
       exact = λ e. (

@@ -7,7 +7,7 @@ use Rattle.match_rule.specs.FixedTexts.{FixedTexts, texts_of}
 use Rattle.place_lists.specs.PlaceLists.{PlaceLists, places_in, has_place, AreOnce}
 use Rattle.entry_table.specs.declared.entry.Entry.{Entry}
 use Rattle.entry_table.specs.declared.index.Index.{Index}
-use Rattle.entry_table.specs.declared.offered.Cursor.{Cursor}
+use Rattle.entry_table.specs.declared.offers.Cursor.{Cursor}
 use Rattle.entry_table.specs.OfferedEntries.{texts_fixed}
 use Rattle.entry_table.specs.PlacedEntries.{Placed, entry_at}
 use Rattle.entry_table.specs.ShapeCounts.{is_in_use}
@@ -47,11 +47,11 @@ texts_read true m = texts_of m
 texts_read false m = record { member = member_of m; interface = interface_of m; path = path_of m; arg0 = None }
 
 -- what is still to come at the start: those of shape 0, and those of each shape in use
-pub record IsLookedUp (index : Index) (held : List Placed) (m : Message) (offered : List Entry) : Type 0 where
+pub record IsLookedUp (index : Index) (held : List Placed) (m : Message) (offers : List Entry) : Type 0 where
   pub used : List ℕ
   pub once : AreOnce used
   pub same : (shape : ℕ) → has_place shape used ≡ is_in_use shape index.shapes
   -- argument 0 is read, or no shape in use has it
   pub has_arg0 : Bool
   pub without : has_arg0 ≡ false → (shape : ℕ) → is_in_use shape index.shapes ≡ true → shape < 8
-  pub is : offered ≡ coming held index.by_texts (record { points = index.points; texts = texts_read has_arg0 m }) (record { shape = 0; places = places_in index.by_texts hash_lists; shapes = used })
+  pub is : offers ≡ coming held index.by_texts (record { points = index.points; texts = texts_read has_arg0 m }) (record { shape = 0; places = places_in index.by_texts hash_lists; shapes = used })

@@ -17,6 +17,6 @@ abbrev pub IsOffered : Message → Entry → Type 0
 IsOffered m e = AreFound (texts_fixed e.filter) (texts_of m)
 
 -- exactly those of the entries that a message is offered to, each once
-pub record AreOffered (entries : List Entry) (m : Message) (offered : List Entry) : Type 0 where
-  pub exact : (e : Entry) → Contains offered e ↔ (Contains entries e × IsOffered m e)
-  pub once : AllPairs (λ (e f : Entry). e.id ≢ f.id) offered
+pub record AreOffered (entries : List Entry) (m : Message) (offers : List Entry) : Type 0 where
+  pub exact : (e : Entry) → Contains offers e ↔ (Contains entries e × IsOffered m e)
+  pub once : AllPairs (λ (e f : Entry). e.id ≢ f.id) offers

@@ -1,7 +1,7 @@
 // The lists by which entries are looked up.
 
 use crate::entry::Entry;
-use crate::offered::Offered;
+use crate::offers::Offers;
 use crate::shapes::Shapes;
 use crate::shelf::Shelf;
 use crate::table::MAX_ENTRIES;
@@ -96,12 +96,12 @@ impl Index {
 
     /// The entries of a shelf that a message is offered to: each shape in use is looked up once.
     #[inline(always)]
-    pub(crate) fn entries_for<'a>(&'a self, shelf: &'a Shelf, view: &View<'a>) -> Offered<'a>
+    pub(crate) fn entries_for<'a>(&'a self, shelf: &'a Shelf, view: &View<'a>) -> Offers<'a>
         requires { length self.now.by_texts.lists ≡ hash_lists + 1 }
         ensures { (m : Message) → Valid view.now m → IsLookedUp self.entry.now shelf.entry.now m result }
     {
         let has_arg0 = self.shapes.has_arg0();
         let found = MessageTexts::new(self.points, view, has_arg0);
-        Offered::new(shelf, &self.by_texts, found, self.shapes.in_use())
+        Offers::new(shelf, &self.by_texts, found, self.shapes.in_use())
     }
 }

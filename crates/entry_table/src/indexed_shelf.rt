@@ -3,7 +3,7 @@
 use crate::entry::Entry;
 use crate::index::Index;
 use crate::index_key::IndexKey;
-use crate::offered::Offered;
+use crate::offers::Offers;
 use crate::shelf::Shelf;
 use message_view::View;
 use place_lists::Walk;
@@ -101,7 +101,7 @@ impl IndexedShelf {
 
     /// The entries that a message is offered to.
     #[inline(always)]
-    pub(crate) fn entries_for<'a>(&'a self, view: &View<'a>) -> Offered<'a>
+    pub(crate) fn entries_for<'a>(&'a self, view: &View<'a>) -> Offers<'a>
         ensures { (m : Message) → Valid view.now m → IdsFall self.entry.now → AreOffered (entries_of self.entry.now) m result }
     {
         self.index.entries_for(&self.shelf, view)

@@ -1,5 +1,5 @@
 //! The entries of the bus: rules with their programs, and attached programs. The layers above use that the calls of
-//! `EntryTable` are edits of a list of entries by rising id, and that `EntryTable::offered` gives exactly the entries
+//! `EntryTable` are edits of a list of entries by rising id, and that `EntryTable::entries_for` gives exactly the entries
 //! that a message is offered to. An index finds them: entries stand in lists by the texts that they fix, and a message
 //! is looked up once for each shape in use, that is for each choice of keys that some entry fixes. What is done for one
 //! connection goes over the list of that connection.
@@ -10,7 +10,7 @@ mod entry;
 mod index;
 mod index_key;
 mod indexed_shelf;
-mod offered;
+mod offers;
 mod rule_program;
 mod search;
 mod shapes;
@@ -22,6 +22,6 @@ mod texts;
 pub use attachment::Attachment;
 pub use entry::{Entry, Filter};
 pub use index_key::IndexKey;
-pub use offered::Offered;
+pub use offers::Offers;
 pub use rule_program::RuleProgram;
 pub use table::{EntryTable, MAX_ENTRIES};

@@ -3,7 +3,7 @@
 use crate::entry::{Entry, Filter};
 use crate::index_key::IndexKey;
 use crate::indexed_shelf::IndexedShelf;
-use crate::offered::Offered;
+use crate::offers::Offers;
 use crate::search::{Wanted, first_place, last_place};
 use match_rule::Rule;
 use message_view::View;
@@ -196,7 +196,7 @@ impl EntryTable {
     /// The entries that a message is offered to: attached programs, and the rules whose member, interface, path and
     /// `arg0` conditions, where there are such, hold of the message.
     #[inline(always)]
-    pub fn entries_for<'a>(&'a self, view: &View<'a>) -> Offered<'a>
+    pub fn entries_for<'a>(&'a self, view: &View<'a>) -> Offers<'a>
         ensures { (m : Message) → Valid view.now m → AreOffered self.now.entries m result }
     {
         self.shelf.entries_for(view)

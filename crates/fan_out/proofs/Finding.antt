@@ -39,38 +39,38 @@ in_whole n = omega arith
 
 module _ {M : Type 0} where
   -- the programs of the entries that a message is offered to tell which of them match
-  offered_decided : (s : State M) (sender : Option ℕ) (m : Message) (bytes words : List ℕ) (offered : List Entry) → IsState s → AreOwnedSlots s.registrations sender words → Valid bytes m → EndInOneWay → AreOffered s.registrations.entries m offered → AreDecided s sender m bytes words offered
-  offered_decided s sender m bytes words offered is owned valid one_way are = record {
+  offered_decided : (s : State M) (sender : Option ℕ) (m : Message) (bytes words : List ℕ) (offers : List Entry) → IsState s → AreOwnedSlots s.registrations sender words → Valid bytes m → EndInOneWay → AreOffered s.registrations.entries m offers → AreDecided s sender m bytes words offers
+  offered_decided s sender m bytes words offers is owned valid one_way are = record {
     connected = λ e there. all_at (λ (x : Entry). is_connected x.connection s.connections) e s.registrations.entries is.of_connections ((are.exact e).0 there).0;
     decided = λ e there answer answered. filter_decided s.registrations sender words owned bytes m valid one_way e.filter answer (all_at (has_own_slot s.registrations.slots) e s.registrations.entries is.registrations.own_slots ((are.exact e).0 there).0) ((are.exact e).0 there).1 answered;
   }
 
-  pub recipients_marked : (s : State M) (sender : Option ℕ) (m : Message) (bytes words : List ℕ) (part of : ℕ) (offered : List Entry) (marks : List Bool) → IsState s → AreOwnedSlots s.registrations sender words → Valid bytes m → EndInOneWay → FoundWhereItHolds → AreOffered s.registrations.entries m offered → (AreDecided s sender m bytes words offered → AreMarked s sender m part of offered marks) → AreMarkedRecipients s sender m part of marks
-  recipients_marked s sender m bytes words part of offered marks is owned valid one_way found are marked =
-      let exact = (marked (offered_decided s sender m bytes words offered is owned valid one_way are)).exact in
+  pub recipients_marked : (s : State M) (sender : Option ℕ) (m : Message) (bytes words : List ℕ) (part of : ℕ) (offers : List Entry) (marks : List Bool) → IsState s → AreOwnedSlots s.registrations sender words → Valid bytes m → EndInOneWay → FoundWhereItHolds → AreOffered s.registrations.entries m offers → (AreDecided s sender m bytes words offers → AreMarked s sender m part of offers marks) → AreMarkedRecipients s sender m part of marks
+  recipients_marked s sender m bytes words part of offers marks is owned valid one_way found are marked =
+      let exact = (marked (offered_decided s sender m bytes words offers is owned valid one_way are)).exact in
       record {
-        exact = λ n. let same = among_offered s sender m offered n found are in (
+        exact = λ n. let same = among_offered s sender m offers n found are in (
           (λ mark. let here = (exact n).0 mark in (same.0 here.0, here.1)),
           (λ here. (exact n).1 (same.1 here.0, here.1)),
         );
       }
 
   -- each entry that a message is offered to is of a connection
-  pub offered_connected : (s : State M) (m : Message) (offered : List Entry) → IsState s → AreOffered s.registrations.entries m offered → (e : Entry) → Contains offered e → is_connected e.connection s.connections ≡ true
-  offered_connected s m offered is are e there = all_at (λ (x : Entry). is_connected x.connection s.connections) e s.registrations.entries is.of_connections ((are.exact e).0 there).0
+  pub offered_connected : (s : State M) (m : Message) (offers : List Entry) → IsState s → AreOffered s.registrations.entries m offers → (e : Entry) → Contains offers e → is_connected e.connection s.connections ≡ true
+  offered_connected s m offers is are e there = all_at (λ (x : Entry). is_connected x.connection s.connections) e s.registrations.entries is.of_connections ((are.exact e).0 there).0
 
   -- a message that is offered to no entry has no recipient
-  pub nobody_marked : (s : State M) (sender : Option ℕ) (m : Message) (part of size : ℕ) (offered : List Entry) (marks : List Bool) → FoundWhereItHolds → AreOffered s.registrations.entries m offered → offered ≡ [] → marks ≡ replicate size false → AreMarkedRecipients s sender m part of marks
-  nobody_marked s sender m part of size offered marks found are none e = record {
+  pub nobody_marked : (s : State M) (sender : Option ℕ) (m : Message) (part of size : ℕ) (offers : List Entry) (marks : List Bool) → FoundWhereItHolds → AreOffered s.registrations.entries m offers → offers ≡ [] → marks ≡ replicate size false → AreMarkedRecipients s sender m part of marks
+  nobody_marked s sender m part of size offers marks found are none e = record {
     exact = λ n. (
       (λ marked. absurd (none_marked size marked.0 (sym (ap (λ (ms : List Bool). slice_get ms marked.0) e) ∙ marked.2))),
-      (λ here. let among = (among_offered s sender m offered n found are).1 here.0 in absurd (contains_none among.0 (subst (λ (es : List Entry). Contains es among.0) none among.1))),
+      (λ here. let among = (among_offered s sender m offers n found are).1 here.0 in absurd (contains_none among.0 (subst (λ (es : List Entry). Contains es among.0) none among.1))),
     );
   }
 
-  pub offered_fit : (s : State M) (m : Message) (offered : List Entry) → IsState s → AreOffered s.registrations.entries m offered → length offered ≤ 16384
-  offered_fit s m offered is are =
-      let few = offered_few s m offered are in
+  pub offered_fit : (s : State M) (m : Message) (offers : List Entry) → IsState s → AreOffered s.registrations.entries m offers → length offers ≤ 16384
+  offered_fit s m offers is are =
+      let few = offered_few s m offers are in
       let kept = length-filter (λ (e : Entry). is_candidate m e.filter) s.registrations.entries in
       let most = count_by-le-length (λ (e : Entry). is_candidate m e.filter) s.registrations.entries in
       omega (arith, few, kept, most, is.registrations.few_entries)

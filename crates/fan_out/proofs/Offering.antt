@@ -33,8 +33,8 @@ matches_offered r sender m (Rule compiled) found matches = found compiled.rule m
 matches_offered r sender m (Attached attached) found matches = record { member = tt; interface = tt; path = tt; arg0 = tt }
 
 module _ {M : Type 0} where
-  pub among_offered : (s : State M) (sender : Option ℕ) (m : Message) (offered : List Entry) (n : ℕ) → FoundWhereItHolds → AreOffered s.registrations.entries m offered → (MatchesAmong s sender m offered n ↔ IsRecipient s sender m n)
-  among_offered s sender m offered n found are = (
+  pub among_offered : (s : State M) (sender : Option ℕ) (m : Message) (offers : List Entry) (n : ℕ) → FoundWhereItHolds → AreOffered s.registrations.entries m offers → (MatchesAmong s sender m offers n ↔ IsRecipient s sender m n)
+  among_offered s sender m offers n found are = (
     (λ (e, there, of, matches). (e, ((are.exact e).0 there).0, of, matches)),
     (λ (e, there, of, matches). (e, (are.exact e).1 (there, matches_offered s.registrations sender m e.filter found matches), of, matches)),
   )
@@ -105,8 +105,8 @@ few_among some others once among =
     omega (arith, few, length-map some (λ (x : Entry). x.id), length-map others (λ (x : Entry). x.id))
 
 module _ {M : Type 0} where
-  pub offered_few : (s : State M) (m : Message) (offered : List Entry) → AreOffered s.registrations.entries m offered → length offered ≤ length (candidates s m)
-  offered_few s m offered are =
-      few_among offered (candidates s m) are.once (λ e there.
+  pub offered_few : (s : State M) (m : Message) (offers : List Entry) → AreOffered s.registrations.entries m offers → length offers ≤ length (candidates s m)
+  offered_few s m offers are =
+      few_among offers (candidates s m) are.once (λ e there.
       let of = (are.exact e).0 there in
       kept_in (λ (x : Entry). is_candidate m x.filter) e s.registrations.entries of.0 (offered_candidate m e.filter of.1))

@@ -20,7 +20,7 @@ use crate::piece::Piece;
 use crate::programs::{Programs, edition_of};
 use arrayvec::ArrayVec;
 use bpf_machine::ends_in_one_way;
-use entry_table::{Entry, Offered};
+use entry_table::{Entry, Offers};
 use match_rule::found_where_it_holds;
 use message_view::View;
 use program_table::{BusState, Mailbox};
@@ -173,7 +173,7 @@ fn consider_rest<'a, M: Mailbox>(
     state: &BusState<M>,
     piece: Piece,
     first: &Entry,
-    others: &mut Offered<'_>,
+    others: &mut Offers<'_>,
     mut programs: Programs<'_, 'a>,
     marks: &mut Marks,
 ) -> u32
@@ -201,7 +201,7 @@ fn consider_all<'a, M: Mailbox>(
     state: &BusState<M>,
     piece: Piece,
     first: &Entry,
-    others: &mut Offered<'_>,
+    others: &mut Offers<'_>,
     mut programs: Programs<'_, 'a>,
     marks: &mut Marks,
 ) -> u32
@@ -233,11 +233,11 @@ fn consider_offered<'a, M: Mailbox>(
     view: &View<'a>,
     piece: Piece,
     first: &Entry,
-    others: &mut Offered<'_>,
+    others: &mut Offers<'_>,
     marks: &mut Marks,
 ) -> u32
     requires state { IsState state.now }
-    requires offered { (m : Message) → Valid view.now m → AreOffered state.now.registrations.entries m (first.now ∷ others.old) }
+    requires offers { (m : Message) → Valid view.now m → AreOffered state.now.registrations.entries m (first.now ∷ others.old) }
     requires none_marked { marks.old.places ≡ replicate MAX_RECIPIENTS false }
     ensures exact { (m : Message) → Valid view.now m → AreMarkedRecipients state.now sender m piece.part piece.of marks.new.places }
     ensures most { result ≤ length others.old + 1 }
@@ -269,10 +269,10 @@ pub(crate) fn mark_recipients<'a, M: Mailbox>(
     ensures state { IsState state.entry.now }
 {
     found_where_it_holds();
-    let mut offered = state.entries_for(view);
-    match offered.next() {
+    let mut offers = state.entries_for(view);
+    match offers.next() {
         None => 0,
-        Some(first) => { consider_offered(state, sender, view, piece, first, &mut offered, marks) }
+        Some(first) => { consider_offered(state, sender, view, piece, first, &mut offers, marks) }
     }
 }
 

@@ -26,7 +26,7 @@ use Rattle.message_build.specs.declared.error.BuildError.TheVariants.{NoMemory}
 use Rattle.message_build.specs.declared.field.HeaderField.{HeaderField}
 use Rattle.message_build.specs.declared.body_state.BodyState.{BodyState}
 use Rattle.message_build.specs.declared.header.Header.{Header}
-use Rattle.message_build.specs.MessageBytes.{IsBody, fixed_bytes, spelled}
+use Rattle.message_build.specs.MessageBytes.{IsBody, fixed_bytes, whole_bytes}
 use Rattle.message_build.specs.Headers.{InRange, request_of, fields_set, is_sound_header, kind_is_own, has_needed}
 use Rattle.message_build.specs.HeaderFields.{HoldEach, fields_of, are_allowed}
 use Rattle.message_build.proofs.AllowedFields.{AreOnce, fields_are, fields_were}
@@ -62,7 +62,7 @@ body_is h s body types arguments is =
     members_moved Little (body_place n) 0 (body_alike n) types arguments ∙ sym is
 
 -- the bytes of the message that was asked for
-bytes_are : (h : Header) (s body : List ℕ) (types : DataTypes) (arguments : Values) → body ≡ members_bytes Little 0 types arguments → message_bytes (the h s types arguments) ≡ spelled h (fields_set h s) body
+bytes_are : (h : Header) (s body : List ℕ) (types : DataTypes) (arguments : Values) → body ≡ members_bytes Little 0 types arguments → message_bytes (the h s types arguments) ≡ whole_bytes h (fields_set h s) body
 bytes_are h s body types arguments is =
     let all = fields_bytes Little fixed_len (fields_set h s) in
     let same = body_is h s body types arguments is in
@@ -148,13 +148,13 @@ body_refused h s body body_state refute m asks valid =
 same_padding : (n : ℕ) → padding 8 (fixed_len + n) ≡ padding 8 n
 same_padding n = omega arith
 
-length-spelled : (h : Header) (fs : List Field) (body : List ℕ) → length (spelled h fs body) ≡ fixed_len + length (fields_bytes Little fixed_len fs) + padding 8 (length (fields_bytes Little fixed_len fs)) + length body
-length-spelled h fs body =
+length-whole_bytes : (h : Header) (fs : List Field) (body : List ℕ) → length (whole_bytes h fs body) ≡ fixed_len + length (fields_bytes Little fixed_len fs) + padding 8 (length (fields_bytes Little fixed_len fs)) + length body
+length-whole_bytes h fs body =
     let all = fields_bytes Little fixed_len fs in
     let pad = zeros (padding 8 (length all)) in
     omega (arith, length-append (fixed_bytes Little h (length all) (length body)) (all ++ (pad ++ body)), length-append all (pad ++ body), length-append pad body, length-zeros (padding 8 (length all)))
 
-asked_bytes : (h : Header) (s body : List ℕ) (body_state : BodyState) (m : Message) → Asks (request_of h s body body_state) m → message_bytes m ≡ spelled h (fields_set h s) body
+asked_bytes : (h : Header) (s body : List ℕ) (body_state : BodyState) (m : Message) → Asks (request_of h s body body_state) m → message_bytes m ≡ whole_bytes h (fields_set h s) body
 asked_bytes h s body body_state m asks = ap (λ (x : Message). message_bytes x) (is_the h s body body_state m asks) ∙ bytes_are h s body m.types m.arguments asks.arguments
 
 -- ---- what is asked for
@@ -213,7 +213,7 @@ asked_len : (h : Header) (s body : List ℕ) (body_state : BodyState) (m : Messa
 asked_len h s body body_state m end asks is =
     let n = length (fields_bytes Little fixed_len (fields_set h s)) in
     let same : padding 8 end ≡ padding 8 n = ap (λ (k : ℕ). padding 8 k) is ∙ same_padding n in
-    let len : length (message_bytes m) ≡ fixed_len + n + padding 8 n + length body = ap (λ (l : List ℕ). length l) (asked_bytes h s body body_state m asks) ∙ length-spelled h (fields_set h s) body in
+    let len : length (message_bytes m) ≡ fixed_len + n + padding 8 n + length body = ap (λ (l : List ℕ). length l) (asked_bytes h s body body_state m asks) ∙ length-whole_bytes h (fields_set h s) body in
     omega arith
 
 pub message_too_large : (h : Header) (s body : List ℕ) (body_state : BodyState) (end : ℕ) → Sound h s body body_state → end ≡ fixed_len + length (fields_bytes Little fixed_len (fields_set h s)) → max_message_len - (end + padding 8 end) < length body
@@ -245,7 +245,7 @@ sized m v short fits = record {
 
 pub built_valid : (h : Header) (s body : List ℕ) (body_state : BodyState) (end : ℕ) (bytes : List ℕ) → Sound h s body body_state
     → end ≡ fixed_len + length (fields_bytes Little fixed_len (fields_set h s)) → end ≤ fixed_len + max_array_len → length body ≤ max_message_len - (end + padding 8 end)
-    → bytes ≡ spelled h (fields_set h s) body → AreAsked (request_of h s body body_state) bytes
+    → bytes ≡ whole_bytes h (fields_set h s) body → AreAsked (request_of h s body body_state) bytes
 built_valid h s body body_state end bytes m is short fits spelt =
     let message = the h s m.types m.arguments in
     let len = asked_len h s body body_state message end m.asks is in
@@ -261,7 +261,7 @@ no_memory a (Err e) is request_of = subst (λ (x : BuildError). Finishes a (Err 
 
 pub assembled : (h : Header) (fs : List Field) (body b0 b1 b2 b3 b4 : List ℕ) (end : ℕ) → end ≡ fixed_len + length (fields_bytes Little fixed_len fs) → b0 ≡ []
     → b1 ≡ b0 ++ fixed_bytes Little h (end - 16) (length body) → b2 ≡ b1 ++ fields_bytes Little (length b1) fs → b3 ≡ b2 ++ zeros (padding 8 (length b2)) → b4 ≡ b3 ++ body
-    → b4 ≡ spelled h fs body
+    → b4 ≡ whole_bytes h fs body
 assembled h fs body b0 b1 b2 b3 b4 end is e0 e1 e2 e3 e4 =
     let all = fields_bytes Little fixed_len fs in
     let n = length all in

@@ -28,7 +28,7 @@ fixed_bytes order h fields_len body_len =
     (order_byte order ∷ kind_byte h.kind ∷ h.flags ∷ 1 ∷ []) ++ (word_bytes order body_len ++ (word_bytes order h.serial ++ word_bytes order fields_len))
 
 -- a message of these fields
-abbrev pub spelled : Header → List Field → List ℕ → List ℕ
-spelled h fields body =
+abbrev pub whole_bytes : Header → List Field → List ℕ → List ℕ
+whole_bytes h fields body =
     let all = fields_bytes Little fixed_len fields in
     fixed_bytes Little h (length all) (length body) ++ (all ++ (zeros (padding 8 (length all)) ++ body))

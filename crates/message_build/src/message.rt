@@ -7,7 +7,7 @@ ghost use Rattle.message_value.specs.Order.{order_byte};
 ghost use Rattle.message_view.specs.Spelling.{fixed_len, fields_bytes};
 ghost use Rattle.message_build.specs.Building.{Finishes, listed_bytes};
 ghost use Rattle.message_build.specs.Growing.{Appends};
-ghost use Rattle.message_build.specs.MessageBytes.{fixed_bytes, spelled};
+ghost use Rattle.message_build.specs.MessageBytes.{fixed_bytes, whole_bytes};
 ghost use Rattle.message_build.specs.Headers.{request_of};
 ghost use Rattle.message_build.specs.HeaderFields.{fields_of, are_allowed};
 
@@ -63,7 +63,7 @@ fn message(
     requires end { end ≡ fixed_len + length (fields_bytes Little fixed_len (fields_of fields.now)) }
     requires short { end ≤ fixed_len + max_array_len }
     requires body { length body.now ≤ 134217728 }
-    ensures { IfOk result (λ v. v.items ≡ spelled header.now (fields_of fields.now) body.now) }
+    ensures { IfOk result (λ v. v.items ≡ whole_bytes header.now (fields_of fields.now) body.now) }
 {
     let mut bytes = Vec::with_capacity(alloc, end + padding(8, end) + body.len())?;
     push_fixed(

@@ -90,7 +90,7 @@ impl<J: Naming, M: Mailbox, R: Wait + Drop> Control<J, M, R> {
             (λ told_history. (told_history ≡ self.now.history) × IsPrefix pass.old.seen told_history × (pass.new ≡ record pass.old { seen = told_history }))
             (λ error. (error ≡ BusError.Closed) × (length self.now.history < length pass.old.seen) × (pass.new ≡ pass.old)) }
     {
-        match self.publisher.value.tell(pass.seen()) {
+        match self.publisher.value.tell(pass.history()) {
             Some(told_history) => {
                 pass.take_over(told_history.again());
                 Ok(told_history)

@@ -80,10 +80,10 @@ impl<J: Naming, M: Mailbox> Pass<J, M> {
     }
 
     /// The history that was seen.
-    pub fn seen(&self) -> &Front<J, M>
+    pub fn history(&self) -> &Front<J, M>
         ensures { result.now ≡ self.now.seen }
     {
-        self.sight.seen()
+        self.sight.history()
     }
 
     /// The number of the connection that the pass's `connect` made, 0 before that.

@@ -6,7 +6,7 @@ ghost use Rattle.program_table.specs.SlotSearch.{claim_refusal};
 use crate::command::Reply;
 use crate::refusal::Refusal;
 use crate::removal::{self, sender_of};
-use entry_table::{Attachment, EntryTable, Filter, IndexKey, Offered, RuleProgram};
+use entry_table::{Attachment, EntryTable, Filter, IndexKey, Offers, RuleProgram};
 use match_rule::Rule;
 use message_view::View;
 use owners::{ClaimError, Claims, Dropped, Queue, WellKnown};
@@ -250,8 +250,8 @@ impl RegistrationTable {
 
     /// The entries that a message is offered to.
     #[inline(always)]
-    pub(crate) fn entries_for<'a>(&'a self, view: &View<'a>) -> Offered<'a>
-        ensures offered { (m : Message) → Valid view.now m → AreOffered self.now.entries m result }
+    pub(crate) fn entries_for<'a>(&'a self, view: &View<'a>) -> Offers<'a>
+        ensures offers { (m : Message) → Valid view.now m → AreOffered self.now.entries m result }
         ensures sound { AreRegistrations self.now }
     {
         self.entries.entries_for(view)

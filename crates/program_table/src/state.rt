@@ -6,7 +6,7 @@ use crate::connections::Connections;
 use crate::mailbox::Mailbox;
 use crate::refusal::Refusal;
 use crate::registration_table::RegistrationTable;
-use entry_table::{IndexKey, Offered};
+use entry_table::{IndexKey, Offers};
 use match_rule::Rule;
 use message_view::View;
 use owners::{Queue, WellKnown};
@@ -333,8 +333,8 @@ impl<M: Mailbox> BusState<M> {
     /// The entries that a message is offered to: attached programs, and the rules whose member, interface, path and
     /// `arg0` conditions, where there are such, hold of the message.
     #[inline(always)]
-    pub fn entries_for<'a>(&'a self, view: &View<'a>) -> Offered<'a>
-        ensures offered { (m : Message) → Valid view.now m → AreOffered self.now.registrations.entries m result }
+    pub fn entries_for<'a>(&'a self, view: &View<'a>) -> Offers<'a>
+        ensures offers { (m : Message) → Valid view.now m → AreOffered self.now.registrations.entries m result }
         // Rules have the slots of their senders, no name has two slots, and entries are of connections.
         ensures state { IsState self.now }
     {

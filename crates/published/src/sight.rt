@@ -60,7 +60,7 @@ impl<J: Naming, M: Mailbox> Sight<J, M> {
     }
 
     /// What was seen.
-    pub fn seen(&self) -> &Front<J, M>
+    pub fn history(&self) -> &Front<J, M>
         ensures { result.now ≡ self.now }
     {
         &self.front

@@ -60,7 +60,7 @@ fn publish_two<J: Naming, R: Wait + Abort>(rt: &R, publisher: &mut Publisher<J, 
 
 // A reader that enters sees both.
 fn enter<J: Naming, R: Abort>(rt: &R, mut reader: Sight<J, ()>) {
-    assert!(rt; reader.seen().is_empty());
+    assert!(rt; reader.history().is_empty());
     let visit = reader.enter().expect(rt, "the published state");
     // Nobody enters twice.
     if let Some(again) = reader.enter() {
@@ -70,7 +70,7 @@ fn enter<J: Naming, R: Abort>(rt: &R, mut reader: Sight<J, ()>) {
     let owner = visit.state().owner_of("com.example.A");
     reader.leave(visit);
     assert_eq!(rt; owner, Some(1));
-    assert_eq!(rt; reader.seen().len(), 2);
+    assert_eq!(rt; reader.history().len(), 2);
 }
 
 // So does one that is told.
@@ -80,7 +80,7 @@ fn learn<J: Naming, R: Wait + Abort>(
     mut reader: Sight<J, ()>,
 ) {
     assert_eq!(rt; publisher.state().owner_of("com.example.A"), Some(1));
-    let told_history = publisher.tell(reader.seen()).expect(rt, "the history");
+    let told_history = publisher.tell(reader.history()).expect(rt, "the history");
     reader.learn(&told_history);
-    assert_eq!(rt; reader.seen().len(), 2);
+    assert_eq!(rt; reader.history().len(), 2);
 }

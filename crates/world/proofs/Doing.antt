@@ -11,7 +11,7 @@ use Rattle.world.proofs.Next.{next_world, next_answer}
 -- no event is done, and nothing is answered
 pub done_none : (w : WorldState) (answers : List Answer) → AreDone [] w w answers answers
 done_none w answers = record {
-  given = [];
+  answers = [];
   added = sym (append-nil answers);
   counted = omega arith;
   world = λ all was. subst (λ events. IsWorld events w) (sym (append-nil all)) was;
@@ -21,7 +21,7 @@ done_none w answers = record {
 pub done_one : (event : Event) (before after : WorldState) (answer : Option Answer) (old new : List Answer)
     → IsNext event before after answer → new ≡ old ++ option_to_list answer → AreDone (event ∷ []) before after old new
 done_one event before after answer old new next added = record {
-  given = option_to_list answer;
+  answers = option_to_list answer;
   added = added;
   counted = next.counted;
   world = λ all was. next_world all before after was event answer next;
@@ -44,11 +44,11 @@ answers_end all (event ∷ events) more first second answers rest = (
 pub done_more : (events more : List Event) (first second third : WorldState) (old next new : List Answer)
     → AreDone events first second old next → AreDone more second third next new → AreDone (events ++ more) first third old new
 done_more events more first second third old next new done then = record {
-  given = done.given ++ then.given;
-  added = then.added ∙ ap (λ answers. answers ++ then.given) done.added ∙ append_assoc old done.given then.given;
+  answers = done.answers ++ then.answers;
+  added = then.added ∙ ap (λ answers. answers ++ then.answers) done.added ∙ append_assoc old done.answers then.answers;
   counted = counted;
   world = λ all was. subst (λ before. IsWorld before third) (append_assoc all events more) (then.world (all ++ events) (done.world all was));
-  answered = λ all was. answers_end all events more done.given then.given (done.answered all was) (then.answered (all ++ events) (done.world all was));
+  answered = λ all was. answers_end all events more done.answers then.answers (done.answered all was) (then.answered (all ++ events) (done.world all was));
 }
   where
     counted : third.events ≡ first.events + length (events ++ more)

@@ -24,8 +24,8 @@ pub record IsWorld (all : List Event) (w : WorldState) : Type 0 where
 
 -- The events are done and their answers are added, whatever events were before.
 pub record AreDone (events : List Event) (before after : WorldState) (old new : List Answer) : Type 0 where
-  pub given : List Answer
-  pub added : new ≡ old ++ given
+  pub answers : List Answer
+  pub added : new ≡ old ++ answers
   pub counted : after.events ≡ before.events + length events
   pub world : (all : List Event) → IsWorld all before → IsWorld (all ++ events) after
-  pub answered : (all : List Event) → IsWorld all before → AreAnswers all events given
+  pub answered : (all : List Event) → IsWorld all before → AreAnswers all events answers

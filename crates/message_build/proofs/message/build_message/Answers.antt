@@ -1,6 +1,6 @@
 use Rattle.std.proofs.Common.{◌≡◌, true, List, refl, sym, ap, ◌∙◌, arith}
 use Rattle.message_view.specs.Message.{Field}
-use Rattle.message_build.specs.MessageBytes.{spelled}
+use Rattle.message_build.specs.MessageBytes.{whole_bytes}
 use Rattle.message_build.specs.Headers.{fields_set, is_sound_header}
 use Rattle.message_build.specs.HeaderFields.{are_allowed}
 use Rattle.message_build.proofs.MessageLaws.{header_refused, fields_refused, body_refused, asked_sound, fields_above, fields_end_is, fields_too_large, message_too_large, built_valid, no_memory}
@@ -40,7 +40,7 @@ returns-in_err-message c =
     let allowed : are_allowed c.fields-fields.result ≡ true = sym c.if-not-are_allowed.ensures in
     let request_of = asked_sound c.args.header.now c.args.signature.now c.args.body.now c.args.body_state c.fields-fields.result fields c.is_sound.ensures.in_range c.fields-fields.ensures.hold (sym c.if-is_spoiled.ensures) sound allowed (c.is_body.ensures.yes c.if-not-is_body.false) in
     let pad = c.padding.ensures in
-    let bytes = spelled c.args.header.now (fields_set c.args.header.now c.args.signature.now) c.args.body.now in
+    let bytes = whole_bytes c.args.header.now (fields_set c.args.header.now c.args.signature.now) c.args.body.now in
     let valid = built_valid c.args.header.now c.args.signature.now c.args.body.now c.args.body_state c.in-Some.end bytes request_of (fields_end_is fields c.in-Some.ensures.0) c.in-Some.ensures.1 (omega arith) refl in
     no_memory _ c.from_residual.result c.from_residual.ensures.1 (bytes, valid)
 
@@ -51,5 +51,5 @@ returns c =
     let allowed : are_allowed c.fields-fields.result ≡ true = sym c.if-not-are_allowed.ensures in
     let request_of = asked_sound c.args.header.now c.args.signature.now c.args.body.now c.args.body_state c.fields-fields.result fields c.is_sound.ensures.in_range c.fields-fields.ensures.hold (sym c.if-is_spoiled.ensures) sound allowed (c.is_body.ensures.yes c.if-not-is_body.false) in
     let pad = c.padding.ensures in
-    let spelt = c.in_ok-message.ensures ∙ ap (λ (fs : List Field). spelled c.args.header.now fs c.args.body.now) fields in
+    let spelt = c.in_ok-message.ensures ∙ ap (λ (fs : List Field). whole_bytes c.args.header.now fs c.args.body.now) fields in
     built_valid c.args.header.now c.args.signature.now c.args.body.now c.args.body_state c.in-Some.end c.in_ok-message.field-0.items request_of (fields_end_is fields c.in-Some.ensures.0) c.in-Some.ensures.1 (omega arith) spelt

@@ -1,6 +1,6 @@
 use Rattle.std.proofs.Common.{◌≡◌, length}
 use Rattle.entry_table.specs.FoundTexts.{offered_at}
-use Rattle.entry_table.proofs.offered.next_at.Given as goal
+use Rattle.entry_table.proofs.offers.next_at.Given as goal
 
 -- none was offered so far
 abbrev pub invariant-loop-place : goal.invariant-loop-place

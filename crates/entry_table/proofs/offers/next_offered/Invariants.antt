@@ -1,6 +1,6 @@
 use Rattle.std.proofs.Common.{◌≡◌, length}
 use Rattle.entry_table.specs.FoundTexts.{coming}
-use Rattle.entry_table.proofs.offered.next_offered.Given as goal
+use Rattle.entry_table.proofs.offers.next_offered.Given as goal
 
 -- none was offered so far
 abbrev pub invariant-shapes : goal.invariant-shapes

@@ -80,14 +80,14 @@ fn next_offered<'a>(
 
 /// The entries that a message is offered to, one after the other. Contracts see the list that is still to come.
 #[derive(Drop)]
-pub struct Offered<'a> {
+pub struct Offers<'a> {
     shelf: &'a Shelf,
     by_texts: &'a Lists,
     found: MessageTexts<'a>,
     at: Cursor<'a>,
 }
 
-impl<'a> Model for Offered<'a> {
+impl<'a> Model for Offers<'a> {
     ghost use Rattle.std.specs.Prelude.{◌≡◌, ◌+◌, List, length};
     ghost use Rattle.entry_table.specs.declared.entry.Entry.{Entry};
     ghost use Rattle.entry_table.specs.TextKeys.{hash_lists};
@@ -100,7 +100,7 @@ impl<'a> Model for Offered<'a> {
     ghost invariant = { λ o. length o.by_texts.now.lists ≡ hash_lists + 1 };
 }
 
-impl<'a> Offered<'a> {
+impl<'a> Offers<'a> {
     ghost use Rattle.place_lists.specs.PlaceLists.{places_in};
 
     /// The entries of a shelf that a message with these texts is offered to: those that fix no text, and after them
@@ -111,7 +111,7 @@ impl<'a> Offered<'a> {
         by_texts: &'a Lists,
         found: MessageTexts<'a>,
         shapes: Walk<'a>,
-    ) -> Offered<'a>
+    ) -> Offers<'a>
         requires { length by_texts.now.lists ≡ hash_lists + 1 }
         ensures { result ≡ coming shelf.entry.now by_texts.entry.now found.entry (record { shape = 0; places = places_in by_texts.entry.now hash_lists; shapes = shapes.entry }) }
     {
@@ -120,7 +120,7 @@ impl<'a> Offered<'a> {
             places: by_texts.walk(HASH_LISTS),
             shapes,
         };
-        Offered {
+        Offers {
             shelf,
             by_texts,
             found,
@@ -129,7 +129,7 @@ impl<'a> Offered<'a> {
     }
 }
 
-impl<'a> Iterator for Offered<'a> {
+impl<'a> Iterator for Offers<'a> {
     ghost use Rattle.std.specs.Iterator.{YieldsFirstRef, item_count};
 
     type Item = &'a Entry;
