@@ -15,7 +15,7 @@ use Rattle.bpf_verify.specs.declared.error.VerifyError.{VerifyError}
 use Rattle.bpf_verify.specs.declared.error.VerifyError.TheVariants.{Code, ZeroDivisor, Shift, Scratch, Jump, Ancillary}
 use Rattle.bpf_code.specs.Flow.{At}
 use Rattle.bpf_code.specs.Program.{IsFine}
-use Rattle.bpf_verify.specs.Fault.{row_fault, code_fault, own_fault, FineBefore, IsFirstFault, IsFault}
+use Rattle.bpf_verify.specs.FirstFault.{row_fault, code_fault, own_fault, FineBefore, IsFirstFault, IsFault}
 
 -- ---- one instruction's fault names its place
 

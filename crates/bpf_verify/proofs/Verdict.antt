@@ -14,7 +14,7 @@ use Rattle.bpf_verify.specs.declared.error.VerifyError.{VerifyError}
 use Rattle.bpf_verify.specs.declared.error.VerifyError.TheVariants.{Empty, TooMany, Code, ZeroDivisor, Shift, Scratch, Jump, Last, Unset, Ancillary, NoMemory}
 use Rattle.bpf_code.specs.Flow.{At, stored_on}
 use Rattle.bpf_code.specs.Program.{IsFine, IsReturn, WellFormed}
-use Rattle.bpf_verify.specs.Fault.{row_fault, own_fault, FineBefore, IsFirstFault, ReadsUnset, IsFault}
+use Rattle.bpf_verify.specs.FirstFault.{row_fault, own_fault, FineBefore, IsFirstFault, ReadsUnset, IsFault}
 use Rattle.bpf_verify.proofs.Faults.{at_row, fine_row}
 
 -- ---- a well formed program has no fault

@@ -14,7 +14,7 @@ use Rattle.bpf_code.specs.Table.{op_of}
 use Rattle.bpf_code.specs.Flow.{At, Leads, Follows, IsPath, Reads, stores, stores_at, stored_on}
 use Rattle.bpf_verify.specs.Masks.{AreBelow, mask_after, merge_into_successors, merge_at}
 use Rattle.bpf_code.specs.Program.{IsScratchFine, IsFine, IsReturn}
-use Rattle.bpf_verify.specs.Fault.{FineBefore, ReadsUnset, IsFirstUnset}
+use Rattle.bpf_verify.specs.FirstFault.{FineBefore, ReadsUnset, IsFirstUnset}
 use Rattle.bpf_verify.proofs.Faults.{At_in, At_out, at_row, fine_row, below_next}
 
 -- ---- bits

@@ -1,3 +1,3 @@
-pub mod Fault
+pub mod FirstFault
 pub mod Masks
 pub mod Numbers

@@ -1,5 +1,5 @@
 ghost use Rattle.std.specs.Prelude.{◌≡◌, ◌↔◌, IsOk, IfOk, IfErr, MatchOption};
-ghost use Rattle.bpf_verify.specs.Fault.{IsFault};
+ghost use Rattle.bpf_verify.specs.FirstFault.{IsFault};
 ghost use Rattle.bpf_code.specs.Program.{WellFormed};
 
 use crate::error::VerifyError;

@@ -1,5 +1,5 @@
 ghost use Rattle.std.specs.Prelude.{◌≡◌, ◌<◌, ◌≤◌, ℕ, length, Some, None, MatchOption};
-ghost use Rattle.bpf_verify.specs.Fault.{FineBefore, IsFirstFault, IsFault, own_fault, row_fault};
+ghost use Rattle.bpf_verify.specs.FirstFault.{FineBefore, IsFirstFault, IsFault, own_fault, row_fault};
 ghost use Rattle.std.specs.Prelude.{IsTrue, ◌↔◌};
 ghost use Rattle.std.specs.Option.{IsSomeAnd};
 ghost use Rattle.bpf_code.specs.Table.{op_of};

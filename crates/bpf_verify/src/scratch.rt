@@ -1,7 +1,7 @@
 ghost use Rattle.std.specs.Prelude.{◌≡◌, ◌<◌, ◌≤◌, ◌+◌, ◌-◌, ℕ, length, IsTrue, ◌↔◌, MatchOption, slice_index};
 ghost use Rattle.std.specs.Int.{bit_at};
 ghost use Rattle.bpf_code.specs.Flow.{At, Reads};
-ghost use Rattle.bpf_verify.specs.Fault.{FineBefore, IsFirstUnset, ReadsUnset};
+ghost use Rattle.bpf_verify.specs.FirstFault.{FineBefore, IsFirstUnset, ReadsUnset};
 ghost use Rattle.bpf_verify.specs.Masks.{AreBelow, mask_after, merge_into_successors, merge_at};
 ghost use Rattle.bpf_code.specs.Program.{IsReturn, IsScratchFine};
 

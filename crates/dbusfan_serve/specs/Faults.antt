@@ -1,7 +1,7 @@
 -- Inner: the status of each fault.
 use Rattle.std.specs.Prelude.{ℕ}
-use Rattle.dbusfan_serve.specs.declared.fault.Fault.{Fault}
-use Rattle.dbusfan_serve.specs.declared.fault.Fault.TheVariants.{Usage, File, Socket, Memory}
+use Rattle.dbusfan_serve.specs.declared.error.Fault.{Fault}
+use Rattle.dbusfan_serve.specs.declared.error.Fault.TheVariants.{Usage, File, Socket, Memory}
 
 abbrev pub status_of : Fault → ℕ
 status_of Usage = 3

@@ -2,7 +2,7 @@
 
 ghost use Rattle.dbusfan_serve.specs.Status.{IsStatus};
 
-use crate::fault::Fault;
+use crate::error::Fault;
 use crate::machine::machine_id;
 use crate::options::Options;
 use dbusfan_tool::{Output, Writer};

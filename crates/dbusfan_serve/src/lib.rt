@@ -3,7 +3,7 @@
 #![tactic(auto)]
 
 mod entry;
-mod fault;
+mod error;
 mod machine;
 mod options;
 

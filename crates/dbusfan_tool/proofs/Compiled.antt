@@ -7,8 +7,8 @@ use Rattle.bpf_code.specs.Program.{WellFormed}
 use Rattle.bpf_text.specs.Printing.{IsPrintFault}
 use Rattle.bpf_text.specs.Source.{SourceText}
 use Rattle.bpf_text.specs.Used.{with_unused_zero}
-use Rattle.match_key.specs.declared.fault.RuleError.{RuleError}
-use Rattle.match_key.specs.declared.fault.RuleError.TheVariants.{TooLong, UnknownKey, KeyTwice, BadValue, Unquoted, PathTwice, ArgNumber, NoMemory}
+use Rattle.match_key.specs.declared.error.RuleError.{RuleError}
+use Rattle.match_key.specs.declared.error.RuleError.TheVariants.{TooLong, UnknownKey, KeyTwice, BadValue, Unquoted, PathTwice, ArgNumber, NoMemory}
 use Rattle.match_rule.specs.RuleTree.{RuleTree, sender_name_of}
 use Rattle.match_rule.specs.Grammar.{ReadsAs}
 use Rattle.match_rule.specs.Reading.{rule_at}
@@ -16,9 +16,9 @@ use Rattle.summary.specs.Sets.{has_slot}
 use Rattle.rule_compile.specs.declared.error.CompileError.{CompileError}
 use Rattle.rule_compile.specs.declared.error.CompileError.TheVariants as of_compile
 use Rattle.rule_compile.specs.Compiled.{AgreeOn, IsCompiled, IsRefusal}
-use Rattle.dbusfan_tool.specs.declared.fault.Fault.{Fault}
-use Rattle.dbusfan_tool.specs.declared.fault.Fault.TheVariants.{Memory}
-use Rattle.dbusfan_tool.specs.Fault.{fault_of_rule, fault_of_compile, fault_of_code}
+use Rattle.dbusfan_tool.specs.declared.error.Fault.{Fault}
+use Rattle.dbusfan_tool.specs.declared.error.Fault.TheVariants.{Memory}
+use Rattle.dbusfan_tool.specs.Errors.{fault_of_rule, fault_of_compile, fault_of_code}
 use Rattle.dbusfan_tool.specs.Compiling.{Compiles, no_rule, too_long, compiled, slot_for}
 use Rattle.dbusfan_tool.proofs.UnusedFields.{ends_as_before, accepted_as_before}
 use Rattle.dbusfan_tool.proofs.AcceptedTexts.{only_memory}

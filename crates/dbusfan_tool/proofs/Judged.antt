@@ -3,14 +3,14 @@ use Rattle.std.proofs.Common.{◌≡◌, ◌⊎◌, ◌↔◌, ℕ, ◌<◌, Boo
 use Rattle.std.specs.Result.{IsErrAnd}
 use Rattle.std.proofs.lemmas.Bool.{cases_eq, eq-eqb, ne_eqb}
 use Rattle.std.specs.Global.{Vec}
-use Rattle.dbusfan_tool.specs.declared.fault.Fault.{Fault}
-use Rattle.dbusfan_tool.specs.declared.fault.Fault.TheVariants.{Memory, Message as BadMessage}
-use Rattle.message_value.specs.declared.fault.MsgError.{MsgError}
+use Rattle.dbusfan_tool.specs.declared.error.Fault.{Fault}
+use Rattle.dbusfan_tool.specs.declared.error.Fault.TheVariants.{Memory, Message as BadMessage}
+use Rattle.message_value.specs.declared.error.MsgError.{MsgError}
 use Rattle.message_view.specs.Message.{Message}
 use Rattle.message_view.specs.Valid.{Valid}
 use Rattle.message_view.specs.Reading.{message_at}
-use Rattle.match_key.specs.declared.fault.RuleError.{RuleError}
-use Rattle.match_key.specs.declared.fault.RuleError.TheVariants.{TooLong, UnknownKey, KeyTwice, BadValue, Unquoted, PathTwice, ArgNumber, NoMemory}
+use Rattle.match_key.specs.declared.error.RuleError.{RuleError}
+use Rattle.match_key.specs.declared.error.RuleError.TheVariants.{TooLong, UnknownKey, KeyTwice, BadValue, Unquoted, PathTwice, ArgNumber, NoMemory}
 use Rattle.match_rule.specs.RuleTree.{RuleTree, sender_name_of}
 use Rattle.match_rule.specs.Grammar.{ReadsAs}
 use Rattle.match_rule.specs.Reading.{rule_at}
@@ -28,7 +28,7 @@ use Rattle.dbusfan_tool.specs.declared.files.FileError.{FileError}
 use Rattle.dbusfan_tool.specs.declared.files.FileError.TheVariants as of_file
 use Rattle.dbusfan_tool.specs.declared.hex_text.HexError.{HexError}
 use Rattle.dbusfan_tool.specs.declared.hex_text.HexError.TheVariants as of_hex
-use Rattle.dbusfan_tool.specs.Fault.{fault_of_rule, fault_of_compile, fault_of_file, fault_of_hex}
+use Rattle.dbusfan_tool.specs.Errors.{fault_of_rule, fault_of_compile, fault_of_file, fault_of_hex}
 use Rattle.dbusfan_tool.specs.Files.{FileRead, ReadsFile, one_read}
 use Rattle.dbusfan_tool.specs.HexText.{bytes_of_hex}
 use Rattle.dbusfan_tool.specs.Tool.{Judges, no_rule, too_long, no_file, no_hex, no_message, judged}

@@ -7,20 +7,20 @@ use Rattle.bpf_code.specs.declared.instruction.Ins.{Ins}
 use Rattle.bpf_code.specs.Program.{WellFormed}
 use Rattle.bpf_code.specs.Steps.{Ends}
 use Rattle.bpf_machine.specs.declared.machine.Outcome.{Outcome}
-use Rattle.message_value.specs.declared.fault.MsgError.{MsgError}
+use Rattle.message_value.specs.declared.error.MsgError.{MsgError}
 use Rattle.message_view.specs.Message.{Message}
 use Rattle.message_view.specs.Valid.{Valid}
 use Rattle.message_view.specs.Reading.{message_at}
 use Rattle.summary.specs.declared.edition.Edition.{Edition}
 use Rattle.summary.specs.ImageBytes.{image_bytes}
 use Rattle.summary.specs.Sets.{has_slot, IsSet}
-use Rattle.dbusfan_tool.specs.declared.fault.Fault.{Fault}
-use Rattle.dbusfan_tool.specs.declared.fault.Fault.TheVariants.{Memory, Message as BadMessage}
+use Rattle.dbusfan_tool.specs.declared.error.Fault.{Fault}
+use Rattle.dbusfan_tool.specs.declared.error.Fault.TheVariants.{Memory, Message as BadMessage}
 use Rattle.dbusfan_tool.specs.declared.files.FileError.{FileError}
 use Rattle.dbusfan_tool.specs.declared.files.FileError.TheVariants as of_file
 use Rattle.dbusfan_tool.specs.declared.hex_text.HexError.{HexError}
 use Rattle.dbusfan_tool.specs.declared.hex_text.HexError.TheVariants as of_hex
-use Rattle.dbusfan_tool.specs.Fault.{fault_of_file, fault_of_hex}
+use Rattle.dbusfan_tool.specs.Errors.{fault_of_file, fault_of_hex}
 use Rattle.dbusfan_tool.specs.Files.{FileRead, ReadsFile, one_read, two_reads}
 use Rattle.dbusfan_tool.specs.HexText.{bytes_of_hex}
 use Rattle.dbusfan_tool.specs.Program.{Assembles, Checks, no_program as unassembled, refused as unaccepted}

@@ -4,14 +4,14 @@ use Rattle.std.specs.Option.{option_map}
 use Rattle.bpf_code.specs.declared.instruction.Ins.{Ins}
 use Rattle.bpf_code.specs.Program.{WellFormed}
 use Rattle.bpf_text.specs.Source.{SourceText}
-use Rattle.match_key.specs.declared.fault.RuleError.{RuleError}
-use Rattle.match_key.specs.declared.fault.RuleError.TheVariants.{TooLong}
+use Rattle.match_key.specs.declared.error.RuleError.{RuleError}
+use Rattle.match_key.specs.declared.error.RuleError.TheVariants.{TooLong}
 use Rattle.match_rule.specs.RuleTree.{RuleTree, sender_name_of, weight_of}
 use Rattle.match_rule.specs.Grammar.{ReadsAs}
 use Rattle.match_rule.specs.Reading.{rule_at}
 use Rattle.rule_compile.specs.Compiled.{IsCompiled}
-use Rattle.dbusfan_tool.specs.declared.fault.Fault.{Fault}
-use Rattle.dbusfan_tool.specs.declared.fault.Fault.TheVariants.{Rule}
+use Rattle.dbusfan_tool.specs.declared.error.Fault.{Fault}
+use Rattle.dbusfan_tool.specs.declared.error.Fault.TheVariants.{Rule}
 
 -- the slot of a rule's well-known sender, if it asks for one
 abbrev pub slot_for : RuleTree → Option ℕ

@@ -4,7 +4,7 @@ pub mod Views
 pub mod HexText
 pub mod Files
 pub mod Output
-pub mod Fault
+pub mod Errors
 pub mod Listing
 pub mod Program
 pub mod Running

@@ -4,16 +4,16 @@ use Rattle.bpf_code.specs.declared.instruction.Ins.{Ins}
 use Rattle.bpf_code.specs.Program.{WellFormed}
 use Rattle.bpf_code.specs.Steps.{Ends}
 use Rattle.bpf_verify.specs.declared.error.VerifyError.{VerifyError}
-use Rattle.bpf_verify.specs.Fault.{IsFault}
+use Rattle.bpf_verify.specs.FirstFault.{IsFault}
 use Rattle.bpf_machine.specs.declared.machine.Outcome.{Outcome}
-use Rattle.message_value.specs.declared.fault.MsgError.{MsgError}
+use Rattle.message_value.specs.declared.error.MsgError.{MsgError}
 use Rattle.message_view.specs.Message.{Message}
 use Rattle.message_view.specs.Valid.{Valid}
 use Rattle.message_view.specs.Reading.{message_at}
 use Rattle.summary.specs.declared.edition.Edition.{Edition}
 use Rattle.summary.specs.ImageBytes.{image_bytes}
-use Rattle.dbusfan_tool.specs.declared.fault.Fault.{Fault}
-use Rattle.dbusfan_tool.specs.declared.fault.Fault.TheVariants.{Message as BadMessage, Hex, Program, File}
+use Rattle.dbusfan_tool.specs.declared.error.Fault.{Fault}
+use Rattle.dbusfan_tool.specs.declared.error.Fault.TheVariants.{Message as BadMessage, Hex, Program, File}
 use Rattle.dbusfan_tool.specs.Files.{FileRead, one_read, two_reads}
 use Rattle.dbusfan_tool.specs.HexText.{bytes_of_hex}
 use Rattle.dbusfan_tool.specs.Program.{Assembles}

@@ -1,13 +1,13 @@
 -- What the rows of the command line come to (own).
 use Rattle.std.specs.Prelude.{◌≡◌, ◌<◌, ◌⊎◌, ◌↔◌, ℕ, Bool, List, [], Some, None, Result, Ok, Err, IsTrue}
-use Rattle.dbusfan_tool.specs.declared.fault.Fault.{Fault}
-use Rattle.dbusfan_tool.specs.declared.fault.Fault.TheVariants.{Rule, Message as BadMessage, Hex, File, Memory}
-use Rattle.message_value.specs.declared.fault.MsgError.{MsgError}
+use Rattle.dbusfan_tool.specs.declared.error.Fault.{Fault}
+use Rattle.dbusfan_tool.specs.declared.error.Fault.TheVariants.{Rule, Message as BadMessage, Hex, File, Memory}
+use Rattle.message_value.specs.declared.error.MsgError.{MsgError}
 use Rattle.message_view.specs.Message.{Message}
 use Rattle.message_view.specs.Valid.{Valid}
 use Rattle.message_view.specs.Reading.{message_at}
-use Rattle.match_key.specs.declared.fault.RuleError.{RuleError}
-use Rattle.match_key.specs.declared.fault.RuleError.TheVariants.{TooLong}
+use Rattle.match_key.specs.declared.error.RuleError.{RuleError}
+use Rattle.match_key.specs.declared.error.RuleError.TheVariants.{TooLong}
 use Rattle.match_rule.specs.RuleTree.{RuleTree, weight_of}
 use Rattle.match_rule.specs.Grammar.{ReadsAs}
 use Rattle.match_rule.specs.Reading.{rule_at}

@@ -3,7 +3,7 @@ use Rattle.std.specs.Prelude.{◌≡◌, ◌⊎◌, ◌||◌, ℕ, Bool, true, L
 use Rattle.std.specs.List.{list_any}
 use Rattle.std.specs.Str.{bytes_eq}
 use Rattle.std.specs.Borrow.{Bor}
-use Rattle.dbusfan_tool.specs.declared.fault.Fault.TheVariants.{Usage}
+use Rattle.dbusfan_tool.specs.declared.error.Fault.TheVariants.{Usage}
 use Rattle.dbusfan_tool.specs.Answer.{Said, failing}
 
 -- a word that asks for help or the version

@@ -5,7 +5,7 @@ ghost use Rattle.dbusfan_tool.specs.Answer.{Tells};
 ghost use Rattle.dbusfan_tool.specs.Views.{said_by};
 ghost use Rattle.dbusfan_tool.specs.Output.{Puts};
 
-use crate::fault::Fault;
+use crate::error::Fault;
 use crate::output::Output;
 use crate::writer::Writer;
 

@@ -10,7 +10,7 @@ ghost use Rattle.dbusfan_tool.specs.Answer.{failing};
 ghost use Rattle.dbusfan_tool.specs.Views.{said_by};
 
 use crate::answer::Answer;
-use crate::fault::Fault;
+use crate::error::Fault;
 use crate::files::Files;
 use crate::program;
 use bpf_code::{Ins, bytes_of};

@@ -3,13 +3,13 @@
 ghost use Rattle.std.specs.Prelude.{◌≡◌, ◌⊎◌, ℕ, List, Result, Ok, Err, IfOk, IfErr, string_bytes};
 ghost use Rattle.bpf_code.specs.Program.{WellFormed};
 ghost use Rattle.rule_compile.specs.Compiled.{IsCompiled, IsRefusal};
-ghost use Rattle.dbusfan_tool.specs.declared.fault.Fault.{Fault};
+ghost use Rattle.dbusfan_tool.specs.declared.error.Fault.{Fault};
 ghost use Rattle.dbusfan_tool.specs.Compiling.{Compiles, slot_for};
 ghost use Rattle.dbusfan_tool.specs.Answer.{said_of, saying, failing};
 ghost use Rattle.dbusfan_tool.specs.Views.{said_by};
 
 use crate::answer::Answer;
-use crate::fault::Fault;
+use crate::error::Fault;
 use bpf_text::print;
 use bpf_verify::Verified;
 use match_rule::Rule;

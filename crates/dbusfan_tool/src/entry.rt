@@ -11,7 +11,7 @@ ghost use Rattle.dbusfan_tool.specs.Output.{Puts};
 
 use crate::answer::Answer;
 use crate::command_line::CommandRow;
-use crate::fault::Fault;
+use crate::error::Fault;
 use crate::files::Files;
 use crate::output::Output;
 use crate::writer::Writer;

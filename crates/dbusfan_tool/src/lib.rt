@@ -8,7 +8,7 @@ mod checking;
 mod command_line;
 mod compiling;
 mod entry;
-mod fault;
+mod error;
 mod files;
 mod gathered;
 mod hex_text;
@@ -20,7 +20,7 @@ mod usage;
 mod writer;
 
 pub use entry::tool;
-pub use fault::Fault;
+pub use error::Fault;
 pub use files::{FileError, Files};
 pub use output::Output;
 pub use writer::Writer;

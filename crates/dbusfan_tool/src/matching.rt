@@ -10,7 +10,7 @@ ghost use Rattle.dbusfan_tool.specs.Views.{said_by};
 
 use crate::answer::Answer;
 use crate::compiling::{SENDER_SLOT, program_of};
-use crate::fault::Fault;
+use crate::error::Fault;
 use crate::files::Files;
 use crate::hex_text::decode;
 use bpf_machine::run;

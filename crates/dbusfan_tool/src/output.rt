@@ -2,7 +2,7 @@
 
 ghost use Rattle.std.specs.Prelude.{◌≡◌, false};
 
-use crate::fault::Fault;
+use crate::error::Fault;
 use crate::writer::Writer;
 
 /// A writer, and whether a call of it has failed.
@@ -14,7 +14,7 @@ pub struct Output<W> {
 
 impl<W: Writer> Output<W> {
     ghost use Rattle.dbusfan_tool.specs.Output.{Puts};
-    ghost use Rattle.dbusfan_tool.specs.Fault.{fault_line};
+    ghost use Rattle.dbusfan_tool.specs.Errors.{fault_line};
 
     /// Output to a writer of which no call has failed.
     pub fn new(writer: W) -> Output<W>

@@ -4,7 +4,7 @@ ghost use Rattle.std.specs.Prelude.{◌≡◌, ◌⊎◌, Ok, Err, IfOk, IfErr};
 ghost use Rattle.bpf_code.specs.Program.{WellFormed};
 ghost use Rattle.dbusfan_tool.specs.Program.{Assembles, Checks};
 
-use crate::fault::Fault;
+use crate::error::Fault;
 use crate::files::Files;
 use bpf_code::Ins;
 use bpf_text::assemble_bytes;

@@ -9,7 +9,7 @@ ghost use Rattle.dbusfan_tool.specs.Answer.{said_of_run, failing};
 ghost use Rattle.dbusfan_tool.specs.Views.{said_by};
 
 use crate::answer::Answer;
-use crate::fault::Fault;
+use crate::error::Fault;
 use crate::files::Files;
 use crate::hex_text::decode;
 use crate::program;

@@ -6,7 +6,7 @@ ghost use Rattle.dbusfan_tool.specs.Views.{said_by};
 ghost use Rattle.dbusfan_tool.specs.Usage.{SaysUsage, asks_for_text, is_request};
 
 use crate::answer::Answer;
-use crate::fault::Fault;
+use crate::error::Fault;
 use clap::error::ErrorKind;
 use clap::{Arg, ArgAction, ArgMatches, Command, Error};
 use std::alloc::{AllocError, Global};

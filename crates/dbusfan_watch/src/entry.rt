@@ -1,6 +1,6 @@
 // The command.
 
-use crate::fault::Fault;
+use crate::error::Fault;
 use crate::options::{Options, Wanted};
 use crate::printing::print_messages;
 use bpf_code::encode;

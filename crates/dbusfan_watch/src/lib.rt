@@ -3,11 +3,11 @@
 #![tactic(auto)]
 
 mod entry;
-mod fault;
+mod error;
 mod options;
 mod printing;
 mod words;
 
 pub use entry::watch;
-pub use fault::Fault;
+pub use error::Fault;
 pub use options::{Options, Wanted};

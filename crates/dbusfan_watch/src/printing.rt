@@ -1,6 +1,6 @@
 // Messages on standard output.
 
-use crate::fault::Fault;
+use crate::error::Fault;
 use crate::options::Options;
 use bus_client::Client;
 use dbusfan_tool::{Output, Writer};

@@ -5,7 +5,7 @@ use Rattle.std.proofs.lemmas.Bool.{leb-true, leb-false, le-leb}
 use Rattle.std.proofs.lemmas.List.{append_assoc, get_or_append_left, take-append-le, drop-append-le, length-drop}
 use Rattle.message_value.specs.declared.order.Order.{Order}
 use Rattle.message_value.specs.declared.order.Order.TheVariants.{Little, Big}
-use Rattle.message_value.specs.declared.fault.MsgError.{MsgError}
+use Rattle.message_value.specs.declared.error.MsgError.{MsgError}
 use Rattle.message_value.specs.Order.{order_of, word_of}
 use Rattle.message_value.specs.Fits.{max_array_len}
 use Rattle.message_view.specs.Header.{kind_of}

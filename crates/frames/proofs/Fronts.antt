@@ -2,7 +2,7 @@
 use Rattle.std.proofs.Common.{◌≡◌, ℕ, ◌≤◌, List, ◌++◌, take, drop, length, Option, Some, None, Result, Ok, Err, sym, ap, ◌∙◌}
 use Rattle.std.specs.Prelude.{IfOk, IfSome}
 use Rattle.std.proofs.lemmas.List.{take-append-drop}
-use Rattle.message_value.specs.declared.fault.MsgError.{MsgError}
+use Rattle.message_value.specs.declared.error.MsgError.{MsgError}
 use Rattle.frames.specs.Stream.{IsMessage}
 
 pub front_message : (unread bytes : List ℕ) (fault : Option MsgError) (front : Result (Option (List ℕ)) MsgError) → bytes ≡ unread → fault ≡ None

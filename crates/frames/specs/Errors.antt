@@ -1,6 +1,6 @@
 -- The names of the errors of a stream (own).
 use Rattle.std.specs.Prelude.{ℕ, List, codes}
-use Rattle.message_value.specs.FaultName as faults
+use Rattle.message_value.specs.Errors as faults
 use Rattle.frames.specs.declared.error.FrameError.{FrameError}
 use Rattle.frames.specs.declared.error.FrameError.TheVariants.{Message, NoMemory}
 

@@ -1,7 +1,7 @@
 // Laws about streams.
 
 ghost use Rattle.std.specs.Prelude.{◌≡◌, ◌++◌, ℕ, List, Option, Some};
-ghost use Rattle.message_value.specs.declared.fault.MsgError.{MsgError};
+ghost use Rattle.message_value.specs.declared.error.MsgError.{MsgError};
 ghost use Rattle.frames.specs.Stream.{IsCut, FramesOf};
 
 /// Messages that were cut off a stream's front are the first ones of the stream, whatever comes after it.

@@ -1,7 +1,7 @@
 // A stream that comes in cuts.
 
 ghost use Rattle.std.specs.Prelude.{◌≡◌, ◌==◌, ◌++◌, ◌≤◌, ℕ, List, [], None, Some, Err, length, drop, IfOk, IfErr, IfSome, IfNone, IsOk, OnOk, OnErr};
-ghost use Rattle.message_value.specs.declared.fault.MsgError.{MsgError};
+ghost use Rattle.message_value.specs.declared.error.MsgError.{MsgError};
 ghost use Rattle.frames.specs.Stream.{IsMessage, BeginsWithMessage, IsUnfinished, IsFault};
 
 use crate::error::FrameError;

@@ -1,8 +1,8 @@
 -- The keys of rules (D-Bus Specification, "Match Rules").
 use Rattle.std.specs.Prelude.{ℕ, ◌+◌, ◌-◌, ◌*◌, Bool, false, ◌&&◌, ◌||◌, List, [], ◌∷◌, drop, length, Option, Some, None, Result, Ok, Err, codes, nat_le, ◌==◌, if◌then◌else◌}
 use Rattle.signature.specs.Name.{is_digit}
-use Rattle.match_key.specs.declared.fault.RuleError.{RuleError}
-use Rattle.match_key.specs.declared.fault.RuleError.TheVariants.{UnknownKey, ArgNumber}
+use Rattle.match_key.specs.declared.error.RuleError.{RuleError}
+use Rattle.match_key.specs.declared.error.RuleError.TheVariants.{UnknownKey, ArgNumber}
 use Rattle.match_key.specs.declared.source.Field.{Field}
 use Rattle.match_key.specs.declared.source.Field.TheVariants.{Interface, Member, Path, Destination}
 use Rattle.match_key.specs.declared.source.Source.{Source}

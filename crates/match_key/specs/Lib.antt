@@ -1,4 +1,4 @@
 pub mod Rows
-pub mod Fault
+pub mod Errors
 pub mod Key
 pub mod Kinds

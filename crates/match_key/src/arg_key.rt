@@ -6,7 +6,7 @@ ghost use Rattle.signature.specs.Name.{is_digit};
 ghost use Rattle.match_key.specs.Rows.{row_of};
 ghost use Rattle.match_key.specs.Key.{arg_suffixes, digits_of, after_digits, up_to_max, arg_number, numbered_key, arg_key, is_of_arg};
 
-use crate::fault::RuleError;
+use crate::error::RuleError;
 use crate::key::Key;
 use crate::relation::Relation;
 use crate::source::Source;

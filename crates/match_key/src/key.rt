@@ -5,7 +5,7 @@ ghost use Rattle.match_key.specs.Rows.{row_of};
 ghost use Rattle.match_key.specs.Key.{key_words, key_named, key_number, once_key, is_twice, path_key, path_namespace_key, is_path_twice};
 
 use crate::arg_key::{after_arg, arg_key};
-use crate::fault::RuleError;
+use crate::error::RuleError;
 use crate::relation::Relation;
 use crate::source::{Field, Source};
 

@@ -4,13 +4,13 @@
 #![tactic(auto)]
 
 mod arg_key;
-mod fault;
+mod error;
 mod key;
 mod kind_name;
 mod relation;
 mod source;
 
-pub use fault::RuleError;
+pub use error::RuleError;
 pub use key::Key;
 pub use kind_name::KindName;
 pub use relation::Relation;

@@ -4,7 +4,7 @@ use Rattle.std.specs.Prelude.{Ok, Option, Some, None, not, nat_lt, ◌==◌, ◌
 use Rattle.std.specs.List.{list_all}
 use Rattle.std.proofs.lemmas.Bool.{eqb-true, ltb-false}
 use Rattle.std.proofs.lemmas.List.{append-nil}
-use Rattle.match_key.specs.declared.fault.RuleError.TheVariants.{TooLong}
+use Rattle.match_key.specs.declared.error.RuleError.TheVariants.{TooLong}
 use Rattle.match_rule.specs.declared.term.Term.{Term}
 use Rattle.match_rule.specs.declared.quoting.Quoting.TheVariants.{Outside, Inside, Escaped}
 use Rattle.match_rule.specs.declared.quoting.Step.TheVariants.{End, Skip, Take}

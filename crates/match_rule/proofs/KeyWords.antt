@@ -6,7 +6,7 @@ use Rattle.std.proofs.lemmas.Bool.{eqb-true}
 use Rattle.std.proofs.lemmas.Bool.Decides.{nat_tests}
 use Rattle.std.proofs.lemmas.List.Folds.{list_all-append}
 use Rattle.signature.specs.Name.{is_digit}
-use Rattle.match_key.specs.declared.fault.RuleError.TheVariants.{UnknownKey}
+use Rattle.match_key.specs.declared.error.RuleError.TheVariants.{UnknownKey}
 use Rattle.match_key.specs.declared.key.Key.{Key}
 use Rattle.match_key.specs.declared.relation.Relation.{Relation}
 use Rattle.match_key.specs.Rows.{row_of}

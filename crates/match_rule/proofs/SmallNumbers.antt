@@ -1,7 +1,7 @@
 -- A rule that was read asks for arguments with small numbers.
 use Rattle.std.proofs.Common.{◌≡◌, ℕ, ◌+◌, ◌-◌, ◌*◌, Bool, true, false, cond, List, [], ◌∷◌, drop, length, refl, ap, ◌∙◌}
 use Rattle.std.specs.Prelude.{Option, Some, None, Ok, Err, nat_le, ◌==◌}
-use Rattle.match_key.specs.declared.fault.RuleError.TheVariants.{UnknownKey, ArgNumber}
+use Rattle.match_key.specs.declared.error.RuleError.TheVariants.{UnknownKey, ArgNumber}
 use Rattle.match_key.specs.declared.relation.Relation.{Relation}
 use Rattle.match_key.specs.declared.source.Source.TheVariants.{Arg}
 use Rattle.match_key.specs.declared.key.Key.{Key}

@@ -2,8 +2,8 @@
 use Rattle.std.proofs.Common.{◌≡◌, ℕ, ◌+◌, ◌<◌, List, [], ◌∷◌, ◌++◌, length, get_or, drop, refl, sym, ap, ◌∙◌, append_assoc, arith, take, ◌-◌, length-drop}
 use Rattle.std.specs.Prelude.{Result, Ok, Err, IsErrAnd}
 use Rattle.std.proofs.lemmas.List.{at_drop_more, take_all}
-use Rattle.match_key.specs.declared.fault.RuleError.{RuleError}
-use Rattle.match_key.specs.declared.fault.RuleError.TheVariants.{NoMemory}
+use Rattle.match_key.specs.declared.error.RuleError.{RuleError}
+use Rattle.match_key.specs.declared.error.RuleError.TheVariants.{NoMemory}
 use Rattle.match_rule.specs.declared.quoting.Quoting.{Quoting}
 use Rattle.match_rule.specs.declared.quoting.Step.TheVariants.{Skip, Take}
 use Rattle.match_rule.specs.Bytes.{begins_with}

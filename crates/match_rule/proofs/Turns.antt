@@ -2,7 +2,7 @@
 use Rattle.std.proofs.Common.{◌≡◌, ℕ, zero, suc, ◌+◌, ◌*◌, ◌≤◌, Bool, true, false, cond, List, [], ◌∷◌, ◌++◌, length, refl, sym, ap, ◌∙◌, arith}
 use Rattle.std.specs.Prelude.{Result, Ok, Err, sum_by, ◌==◌}
 use Rattle.std.proofs.lemmas.List.Sums.{sum_by-append, sum_by-cons}
-use Rattle.match_key.specs.declared.fault.RuleError.{RuleError}
+use Rattle.match_key.specs.declared.error.RuleError.{RuleError}
 use Rattle.match_rule.specs.declared.condition.Condition.TheVariants.{Kind, Sender, Compares}
 use Rattle.match_key.specs.declared.relation.Relation.{Relation}
 use Rattle.match_key.specs.declared.relation.Relation.TheVariants.{NestedPath}

@@ -1,8 +1,8 @@
 -- Reading a rule's text from left to right, with the first fault that is met (own; which texts are rules is in
 -- Grammar.antt).
 use Rattle.std.specs.Prelude.{◌≡◌, ◌≢◌, ℕ, zero, suc, Bool, List, [], ◌∷◌, ◌++◌, length, Option, Some, None, option_map, Result, Ok, Err, nat_lt, ◌==◌, if◌then◌else◌}
-use Rattle.match_key.specs.declared.fault.RuleError.{RuleError}
-use Rattle.match_key.specs.declared.fault.RuleError.TheVariants.{TooLong, UnknownKey, KeyTwice, BadValue, Unquoted, PathTwice, NoMemory}
+use Rattle.match_key.specs.declared.error.RuleError.{RuleError}
+use Rattle.match_key.specs.declared.error.RuleError.TheVariants.{TooLong, UnknownKey, KeyTwice, BadValue, Unquoted, PathTwice, NoMemory}
 use Rattle.match_key.specs.declared.key.Key.{Key}
 use Rattle.match_rule.specs.declared.quoting.Quoting.{Quoting}
 use Rattle.match_rule.specs.declared.quoting.Quoting.TheVariants.{Outside, Inside, Escaped}

@@ -2,7 +2,7 @@
 
 ghost use Rattle.std.specs.Prelude.{◌≡◌, OnOk, IfErr, None, []};
 ghost use Rattle.std.specs.List.{list_any};
-ghost use Rattle.match_key.specs.declared.fault.RuleError.TheVariants.{NoMemory};
+ghost use Rattle.match_key.specs.declared.error.RuleError.TheVariants.{NoMemory};
 ghost use Rattle.match_key.specs.Key.{is_twice, is_path_twice};
 ghost use Rattle.match_rule.specs.Condition.{key_of, has_key, has_path};
 ghost use Rattle.match_rule.specs.Reading.{own_key};

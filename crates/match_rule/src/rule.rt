@@ -38,7 +38,7 @@ impl Rule {
     ghost use Rattle.message_value.specs.Bytes.{AreBytes};
     ghost use Rattle.message_view.specs.Message.{Message};
     ghost use Rattle.message_view.specs.Valid.{Valid};
-    ghost use Rattle.match_key.specs.declared.fault.RuleError.TheVariants.{NoMemory};
+    ghost use Rattle.match_key.specs.declared.error.RuleError.TheVariants.{NoMemory};
     ghost use Rattle.match_rule.specs.RuleTree.{RuleTree, sender_name_of, weight_of};
     ghost use Rattle.match_rule.specs.Parts.{has_one_sender};
     ghost use Rattle.match_rule.specs.Holds.{Holds, Agrees};

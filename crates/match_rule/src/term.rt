@@ -2,7 +2,7 @@
 
 ghost use Rattle.std.specs.Prelude.{◌≡◌};
 ghost use Rattle.std.specs.String.{string_bytes};
-ghost use Rattle.match_key.specs.declared.fault.RuleError.TheVariants.{BadValue};
+ghost use Rattle.match_key.specs.declared.error.RuleError.TheVariants.{BadValue};
 ghost use Rattle.match_rule.specs.Condition.{flag_named, is_field_value, is_arg_value, is_value, asks_if, term_of, term_with};
 ghost use Rattle.match_rule.specs.Reading.{Gives, or_fault};
 

@@ -3,7 +3,7 @@ use Rattle.std.proofs.Common.{◌≡◌, ℕ, ◌+◌, ◌^◌, ◌<◌, List, [
 use Rattle.signature.specs.DataType.{DataTypes, SigText}
 use Rattle.signature.proofs.Signatures.{SigText-unique}
 use Rattle.message_value.specs.declared.order.Order.TheVariants.{Little}
-use Rattle.message_value.specs.declared.fault.MsgError.{MsgError}
+use Rattle.message_value.specs.declared.error.MsgError.{MsgError}
 use Rattle.message_value.specs.Value.{Values}
 use Rattle.message_value.specs.Spelling.{members_bytes}
 use Rattle.message_value.specs.Fits.{max_levels, MembersFit}

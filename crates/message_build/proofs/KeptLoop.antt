@@ -2,7 +2,7 @@
 use Rattle.std.proofs.Common.{◌≡◌, ℕ, ◌+◌, ◌<◌, Bool, true, false, cond, List, [], ◌∷◌, ◌++◌, length, drop, filter, Option, Some, None, refl, sym, ap, subst, ◌∙◌, append_assoc, arith}
 use Rattle.std.proofs.lemmas.List.{length-append, append-nil, drop-drop, drop_at}
 use Rattle.message_value.specs.declared.order.Order.{Order}
-use Rattle.message_value.specs.declared.fault.MsgError.{MsgError}
+use Rattle.message_value.specs.declared.error.MsgError.{MsgError}
 use Rattle.message_value.specs.Reading.{At}
 use Rattle.message_value.specs.Spelling.{padding, zeros}
 use Rattle.message_value.proofs.ReadItems.{at}

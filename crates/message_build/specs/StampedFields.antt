@@ -1,7 +1,7 @@
 -- Inner: the fields of a message, kept one after the other for its stamp.
 use Rattle.std.specs.Prelude.{◌≡◌, ◌+◌, ◌<◌, ◌≤◌, ℕ, Bool, not, ◌&&◌, List, [], ◌∷◌, ◌++◌, length, drop, is_some, ◌==◌, Option, Some, None, Result, Ok, Err, filter, if◌then◌else◌}
 use Rattle.message_value.specs.declared.order.Order.{Order}
-use Rattle.message_value.specs.declared.fault.MsgError.{MsgError}
+use Rattle.message_value.specs.declared.error.MsgError.{MsgError}
 use Rattle.message_value.specs.Fits.{max_array_len}
 use Rattle.message_value.specs.Spelling.{padding, zeros}
 use Rattle.message_value.specs.Reading.{◌>>=◌, At, aligned_at, byte_at, signature_at, value_at}

@@ -2,7 +2,7 @@
 use Rattle.std.proofs.Common.{◌≡◌, ℕ, List, [], ◌∷◌, Ok, Err, refl}
 use Rattle.signature.specs.DataType.{basic, variant, array}
 use Rattle.message_value.specs.declared.order.Order.TheVariants.{Little}
-use Rattle.message_value.specs.declared.fault.MsgError.TheVariants as faults
+use Rattle.message_value.specs.declared.error.MsgError.TheVariants as faults
 use Rattle.message_value.specs.Value.{number, elements, of_type, no_values}
 use Rattle.message_value.specs.Reading.{At, value_at, value_by, array_at, variant_at, extent_at, signature_at, number_value_at, text_value_at, short_text_at, text_at, word_at, byte_at, aligned_at, item_at}
 

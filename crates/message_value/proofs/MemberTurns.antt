@@ -1,7 +1,7 @@
 -- The loop over the members of a struct or a body: reading goes on after each to what all read as.
 use Rattle.std.proofs.Common.{◌≡◌, ℕ, List, [], ◌∷◌, Result, Ok, Err, refl, sym, ◌∙◌}
 use Rattle.signature.specs.DataType.{DataType, DataTypes, no_types, one_more, slices, AllFit, TypeText}
-use Rattle.message_value.specs.declared.fault.MsgError.{MsgError}
+use Rattle.message_value.specs.declared.error.MsgError.{MsgError}
 use Rattle.message_value.specs.Value.{Value, Values, one_value}
 use Rattle.message_value.specs.Reading.{At, ◌>>=◌, Reader, members_at}
 

@@ -9,8 +9,8 @@ use Rattle.signature.specs.BasicType.{basic_alignment}
 use Rattle.signature.specs.DataType.{DataType, basic, variant, array, dict, struct}
 use Rattle.signature.specs.Alignment.{alignment_of}
 use Rattle.message_value.specs.declared.order.Order.{Order}
-use Rattle.message_value.specs.declared.fault.MsgError.{MsgError}
-use Rattle.message_value.specs.declared.fault.MsgError.TheVariants as faults
+use Rattle.message_value.specs.declared.error.MsgError.{MsgError}
+use Rattle.message_value.specs.declared.error.MsgError.TheVariants as faults
 use Rattle.message_value.specs.Order.{number_of}
 use Rattle.message_value.specs.Value.{Value, number}
 use Rattle.message_value.specs.Spelling.{padding, number_len, width_of}

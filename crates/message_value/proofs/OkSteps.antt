@@ -1,6 +1,6 @@
 -- Steps that may fail: what an Ok of several says of each.
 use Rattle.std.proofs.Common.{◌≡◌, Bool, true, false, cond, is_some, Option, Some, None, Result, Ok, Err, refl}
-use Rattle.message_value.specs.declared.fault.MsgError.{MsgError}
+use Rattle.message_value.specs.declared.error.MsgError.{MsgError}
 use Rattle.message_value.specs.Reading.{◌>>=◌}
 
 -- the value of a step that did not fail

@@ -4,8 +4,8 @@ use Rattle.std.specs.List.{list_all}
 use Rattle.std.proofs.lemmas.Bool.{ltb-false, le-ltb, eqb-true, and_parts}
 use Rattle.std.proofs.lemmas.List.{take_at, drop_at, take-append-drop, length-append, length-take, length-replicate}
 use Rattle.message_value.specs.declared.order.Order.{Order}
-use Rattle.message_value.specs.declared.fault.MsgError.{MsgError}
-use Rattle.message_value.specs.declared.fault.MsgError.TheVariants as faults
+use Rattle.message_value.specs.declared.error.MsgError.{MsgError}
+use Rattle.message_value.specs.declared.error.MsgError.TheVariants as faults
 use Rattle.message_value.specs.Order.{word_bytes, word_of}
 use Rattle.message_value.specs.Spelling.{padding, align_up, zeros, with_padding}
 use Rattle.message_value.specs.Reading.{At, item_at, aligned_at, byte_at, word_at}

@@ -10,8 +10,8 @@ use Rattle.signature.specs.Trees.{types_of, type_of}
 use Rattle.signature.specs.Name.{is_path}
 use Rattle.signature.proofs.TreesOfTexts.{tree_spelled, type_of-TypeText}
 use Rattle.message_value.specs.declared.order.Order.{Order}
-use Rattle.message_value.specs.declared.fault.MsgError.{MsgError}
-use Rattle.message_value.specs.declared.fault.MsgError.TheVariants as faults
+use Rattle.message_value.specs.declared.error.MsgError.{MsgError}
+use Rattle.message_value.specs.declared.error.MsgError.TheVariants as faults
 use Rattle.message_value.specs.Value.{Value, number, text, elements, entries, members, of_type}
 use Rattle.message_value.specs.Order.{word_bytes, number_bytes, number_of}
 use Rattle.message_value.specs.Spelling.{width_of, number_len, text_bytes, signature_bytes, bare_bytes}

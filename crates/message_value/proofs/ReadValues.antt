@@ -4,8 +4,8 @@ use Rattle.std.proofs.lemmas.List.{length-append}
 use Rattle.signature.specs.DataType.{DataType, DataTypes, basic, variant, array, dict, struct, no_types, one_more}
 use Rattle.signature.specs.Alignment.{alignment_of}
 use Rattle.message_value.specs.declared.order.Order.{Order}
-use Rattle.message_value.specs.declared.fault.MsgError.{MsgError}
-use Rattle.message_value.specs.declared.fault.MsgError.TheVariants as faults
+use Rattle.message_value.specs.declared.error.MsgError.{MsgError}
+use Rattle.message_value.specs.declared.error.MsgError.TheVariants as faults
 use Rattle.message_value.specs.Value.{Value, Values, Entries, elements, entries, members, of_type, no_values, one_value, no_entries, one_entry, values_of, entries_of}
 use Rattle.message_value.specs.Spelling.{padding, align_up, zeros, bytes_then, signature_bytes, elements_place, array_bytes, entry_alignment, bare_bytes, elements_bytes, entries_bytes, members_bytes, value_bytes, entry_bytes}
 use Rattle.message_value.specs.Fits.{max_array_len, BareFits, ElementsFit, EntriesFit, MembersFit, ValueFits}

@@ -5,7 +5,7 @@ use Rattle.signature.specs.BasicType.{basic_alignment}
 use Rattle.signature.specs.DataType.{DataType, basic, variant, array, dict, struct, spelling, TypeText}
 use Rattle.signature.specs.Alignment.{alignment_of}
 use Rattle.message_value.specs.declared.order.Order.{Order}
-use Rattle.message_value.specs.declared.fault.MsgError.TheVariants as faults
+use Rattle.message_value.specs.declared.error.MsgError.TheVariants as faults
 use Rattle.message_value.specs.declared.text.TextType.{TextType}
 use Rattle.message_value.specs.declared.text.TextType.TheVariants as texts
 use Rattle.message_value.specs.Order.{number_of}

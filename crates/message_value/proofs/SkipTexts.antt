@@ -10,8 +10,8 @@ use Rattle.signature.specs.Name.{is_path}
 use Rattle.signature.specs.Trees.{types_of}
 use Rattle.signature.proofs.Ascii.{path_ascii}
 use Rattle.message_value.specs.declared.order.Order.{Order}
-use Rattle.message_value.specs.declared.fault.MsgError.{MsgError}
-use Rattle.message_value.specs.declared.fault.MsgError.TheVariants as faults
+use Rattle.message_value.specs.declared.error.MsgError.{MsgError}
+use Rattle.message_value.specs.declared.error.MsgError.TheVariants as faults
 use Rattle.message_value.specs.Spelling.{padding}
 use Rattle.message_value.specs.Fits.{is_text_of}
 use Rattle.message_value.specs.Reading.{At, ◌>>=◌, item_at, aligned_at, byte_at, word_at, text_fault, text_ended, text_at, long_text_at, short_text_at}

@@ -2,7 +2,7 @@
 use Rattle.std.proofs.Common.{◌≡◌, ℕ, List, [], ◌∷◌, ◌++◌, Ok, Err, refl}
 use Rattle.signature.specs.DataType.{DataType, basic, variant, array, dict, struct, no_types, one_more}
 use Rattle.message_value.specs.declared.order.Order.TheVariants.{Little, Big}
-use Rattle.message_value.specs.declared.fault.MsgError.TheVariants as faults
+use Rattle.message_value.specs.declared.error.MsgError.TheVariants as faults
 use Rattle.message_value.specs.Value.{Value, number, elements, entries, members, of_type, no_values, one_value, no_entries, one_entry}
 use Rattle.message_value.specs.Spelling.{value_bytes}
 use Rattle.message_value.specs.Reading.{At, value_at, value_by, array_at, dict_at, struct_at, variant_at, entry_at, extent_at, signature_at, number_value_at, word_at, byte_at, aligned_at, item_at}

@@ -3,7 +3,7 @@ use Rattle.std.proofs.Common.{◌≡◌, ℕ, ◌+◌, List, ◌++◌, length, O
 use Rattle.std.specs.Prelude.{◌↔◌}
 use Rattle.signature.specs.DataType.{DataType, DataTypes}
 use Rattle.message_value.specs.declared.order.Order.{Order}
-use Rattle.message_value.specs.declared.fault.MsgError.{MsgError}
+use Rattle.message_value.specs.declared.error.MsgError.{MsgError}
 use Rattle.message_value.specs.Value.{Value, Values}
 use Rattle.message_value.specs.Spelling.{value_bytes, members_bytes}
 use Rattle.message_value.specs.Reading.{At, value_at, members_at}

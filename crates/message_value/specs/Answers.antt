@@ -1,7 +1,7 @@
 -- What readers answer, as what reading gives (own).
 use Rattle.std.specs.Prelude.{◌≡◌, ℕ, ◌≤◌, List, length, Result, Ok, Err}
 use Rattle.signature.specs.DataType.{DataType, TypeText}
-use Rattle.message_value.specs.declared.fault.MsgError.{MsgError}
+use Rattle.message_value.specs.declared.error.MsgError.{MsgError}
 use Rattle.message_value.specs.Reading.{At}
 
 -- What a call returned, and where it then stands, is what reading gives.

@@ -4,7 +4,7 @@ use Rattle.std.specs.List.{All}
 use Rattle.signature.specs.DataType.{DataType, DataTypes, no_types, one_more, slices, AllFit}
 use Rattle.signature.specs.Trees.{type_of}
 use Rattle.message_value.specs.declared.order.Order.{Order}
-use Rattle.message_value.specs.declared.fault.MsgError.{MsgError}
+use Rattle.message_value.specs.declared.error.MsgError.{MsgError}
 use Rattle.message_value.specs.declared.arg.Arg.{Arg}
 use Rattle.message_value.specs.Value.{Values, Value}
 use Rattle.message_value.specs.Fits.{max_levels}

@@ -3,7 +3,7 @@ use Rattle.std.specs.Prelude.{◌≡◌, ℕ, ◌==◌, ◌&&◌, Bool, true, fa
 use Rattle.signature.specs.DataType.{DataType, basic}
 use Rattle.signature.specs.BasicType.{basic_alignment}
 use Rattle.message_value.specs.declared.order.Order.{Order}
-use Rattle.message_value.specs.declared.fault.MsgError.{MsgError}
+use Rattle.message_value.specs.declared.error.MsgError.{MsgError}
 use Rattle.message_value.specs.declared.basic_form.BasicForm.{BasicForm}
 use Rattle.message_value.specs.declared.basic_form.BasicForm.TheVariants as forms
 use Rattle.message_value.specs.Value.{Value}

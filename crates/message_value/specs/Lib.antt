@@ -3,7 +3,7 @@ pub mod Value
 pub mod Spelling
 pub mod Spelled
 pub mod Fits
-pub mod FaultName
+pub mod Errors
 pub mod Reading
 pub mod Steps
 pub mod Forms

@@ -6,8 +6,8 @@ use Rattle.signature.specs.DataType.{DataType, DataTypes, basic, variant, array,
 use Rattle.signature.specs.Alignment.{alignment_of}
 use Rattle.signature.specs.Trees.{type_of}
 use Rattle.message_value.specs.declared.order.Order.{Order}
-use Rattle.message_value.specs.declared.fault.MsgError.{MsgError}
-use Rattle.message_value.specs.declared.fault.MsgError.TheVariants as faults
+use Rattle.message_value.specs.declared.error.MsgError.{MsgError}
+use Rattle.message_value.specs.declared.error.MsgError.TheVariants as faults
 use Rattle.message_value.specs.Order.{number_of, word_of}
 use Rattle.message_value.specs.Value.{Value, Values, number, text, elements, entries, members, of_type, no_values, one_value, values_of, entries_of}
 use Rattle.message_value.specs.Spelling.{padding, number_len, width_of, entry_alignment}

@@ -6,7 +6,7 @@ ghost use Rattle.message_value.specs.Forms.{IsFormOf, basic_at};
 ghost use Rattle.message_value.specs.Answers.{Checks};
 
 use crate::cursor::Cursor;
-use crate::fault::MsgError;
+use crate::error::MsgError;
 use crate::order::Order;
 use crate::text::TextType;
 use signature::BasicType;

@@ -8,7 +8,7 @@ ghost use Rattle.message_value.specs.Steps.{IsGone};
 ghost use Rattle.message_value.specs.Answers.{Reads, Skips, ReadsType};
 ghost use Rattle.message_value.specs.Bytes.{AreBytes};
 
-use crate::fault::MsgError;
+use crate::error::MsgError;
 use crate::order::Order;
 use signature::OneType;
 use std::marker::Model;

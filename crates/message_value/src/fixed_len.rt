@@ -7,7 +7,7 @@ ghost use Rattle.message_value.specs.Forms.{AreNumbers};
 
 use crate::basic_form::BasicForm;
 use crate::cursor::Cursor;
-use crate::fault::MsgError;
+use crate::error::MsgError;
 use signature::{OneType, Parts};
 
 /// How many bytes each value of a type has, where any bytes are a value.

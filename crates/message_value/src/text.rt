@@ -10,7 +10,7 @@ ghost use Rattle.message_value.specs.TextTypes.{text_code};
 ghost use Rattle.message_value.specs.Value.{text};
 
 use crate::cursor::Cursor;
-use crate::fault::MsgError;
+use crate::error::MsgError;
 use crate::order::Order;
 use memchr::memchr;
 use signature::{Signature, check_path_bytes};

@@ -3,14 +3,14 @@
 ghost use Rattle.std.specs.Prelude.{◌≡◌, suc, length, MatchResult};
 ghost use Rattle.signature.specs.BasicType.{byte_of};
 ghost use Rattle.signature.specs.DataType.{DataType, DataTypes, TypeText, AllFit, slices};
-ghost use Rattle.message_value.specs.declared.fault.MsgError.TheVariants.{Depth};
+ghost use Rattle.message_value.specs.declared.error.MsgError.TheVariants.{Depth};
 ghost use Rattle.message_value.specs.Reading.{each_at, value_at, members_at, entry_at, variant_at, array_at, dict_at};
 ghost use Rattle.message_value.specs.Steps.{ChecksAll};
 ghost use Rattle.message_value.specs.Answers.{Checks};
 
 use crate::basic_form::check_basic;
 use crate::cursor::Cursor;
-use crate::fault::MsgError;
+use crate::error::MsgError;
 use crate::fixed_len::{check_fixed, fixed_len};
 use crate::order::Order;
 use signature::{BasicType, OneType, Parts, Types};

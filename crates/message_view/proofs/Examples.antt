@@ -8,8 +8,8 @@ use Rattle.signature.specs.DataType.{basic, no_types, one_more}
 use Rattle.signature.proofs.TreesOfTexts.{tree_spelled, trees_spelled}
 use Rattle.message_value.specs.declared.order.Order.{Order}
 use Rattle.message_value.specs.declared.order.Order.TheVariants.{Little, Big}
-use Rattle.message_value.specs.declared.fault.MsgError.{MsgError}
-use Rattle.message_value.specs.declared.fault.MsgError.TheVariants as faults
+use Rattle.message_value.specs.declared.error.MsgError.{MsgError}
+use Rattle.message_value.specs.declared.error.MsgError.TheVariants as faults
 use Rattle.message_value.specs.Value.{text, no_values, one_value}
 use Rattle.message_value.specs.Fits.{is_text_of}
 use Rattle.message_value.specs.Reading.{At, inside, value_by, signature_at, text_value_at, long_text_at, short_text_at, text_at, number_value_at, word_at, byte_at, aligned_at, item_at}

@@ -2,7 +2,7 @@
 use Rattle.std.proofs.Common.{◌≡◌, ℕ, true, Option, Some, Result, Ok, refl, sym, ap, ◌∙◌}
 use Rattle.signature.specs.DataType.{DataType, basic}
 use Rattle.message_value.specs.declared.order.Order.{Order}
-use Rattle.message_value.specs.declared.fault.MsgError.{MsgError}
+use Rattle.message_value.specs.declared.error.MsgError.{MsgError}
 use Rattle.message_value.specs.Value.{Value}
 use Rattle.message_value.specs.Reading.{◌>>=◌, At, signature_at, value_at}
 use Rattle.message_view.specs.declared.field.FieldCode.{FieldCode}

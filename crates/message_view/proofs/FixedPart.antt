@@ -6,8 +6,8 @@ use Rattle.message_value.specs.declared.order.Order.{Order}
 use Rattle.message_value.specs.declared.order.Order.TheVariants.{Little, Big}
 use Rattle.message_view.specs.declared.kind.Kind.{Kind}
 use Rattle.message_view.specs.declared.kind.Kind.TheVariants as kinds
-use Rattle.message_value.specs.declared.fault.MsgError.{MsgError}
-use Rattle.message_value.specs.declared.fault.MsgError.TheVariants as faults
+use Rattle.message_value.specs.declared.error.MsgError.{MsgError}
+use Rattle.message_value.specs.declared.error.MsgError.TheVariants as faults
 use Rattle.message_value.specs.Order.{order_byte, order_of}
 use Rattle.message_view.specs.Header.{kind_byte, kind_of}
 use Rattle.message_view.specs.Spelling.{fixed_len}

@@ -6,7 +6,7 @@ use Rattle.std.proofs.Math.ListN.{get_or-map, length-map}
 use Rattle.std.proofs.lemmas.List.{map-set}
 use Rattle.signature.specs.DataType.{basic}
 use Rattle.message_value.specs.declared.order.Order.{Order}
-use Rattle.message_value.specs.declared.fault.MsgError.{MsgError}
+use Rattle.message_value.specs.declared.error.MsgError.{MsgError}
 use Rattle.message_value.specs.Reading.{At}
 use Rattle.message_value.specs.Answers.{Checks}
 use Rattle.message_value.specs.Bytes.{AreBytes}

@@ -3,7 +3,7 @@ use Rattle.std.proofs.Common.{◌≡◌, ℕ, zero, suc, ◌<◌, ◌≤◌, tru
 use Rattle.std.specs.Prelude.{◌==◌}
 use Rattle.std.proofs.lemmas.Bool.{eq-eqb}
 use Rattle.message_value.specs.declared.order.Order.{Order}
-use Rattle.message_value.specs.declared.fault.MsgError.{MsgError}
+use Rattle.message_value.specs.declared.error.MsgError.{MsgError}
 use Rattle.message_view.specs.declared.fields.Fields.{Fields}
 use Rattle.message_view.specs.Message.{Field}
 use Rattle.message_view.specs.Slots.{no_slots, no_extents, slots_of, AreExtents}

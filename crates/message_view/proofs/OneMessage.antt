@@ -6,8 +6,8 @@ use Rattle.std.proofs.lemmas.List.{append-nil, nil_from_length, length-take-le, 
 use Rattle.signature.specs.DataType.{DataTypes, SigText}
 use Rattle.signature.proofs.TreesOfTexts.{types_of-SigText}
 use Rattle.message_value.specs.declared.order.Order.{Order}
-use Rattle.message_value.specs.declared.fault.MsgError.{MsgError}
-use Rattle.message_value.specs.declared.fault.MsgError.TheVariants as faults
+use Rattle.message_value.specs.declared.error.MsgError.{MsgError}
+use Rattle.message_value.specs.declared.error.MsgError.TheVariants as faults
 use Rattle.message_value.specs.Order.{order_byte, order_of}
 use Rattle.message_value.specs.Value.{Values}
 use Rattle.message_value.specs.Spelling.{padding, zeros, members_bytes}

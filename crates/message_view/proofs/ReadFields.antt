@@ -5,8 +5,8 @@ use Rattle.std.proofs.lemmas.Bool.{eqb-true, eq-eqb, ne_eqb, not-false}
 use Rattle.std.proofs.lemmas.List.{length-append}
 use Rattle.signature.specs.DataType.{DataType, basic, variant, array, dict, struct}
 use Rattle.message_value.specs.declared.order.Order.{Order}
-use Rattle.message_value.specs.declared.fault.MsgError.{MsgError}
-use Rattle.message_value.specs.declared.fault.MsgError.TheVariants as faults
+use Rattle.message_value.specs.declared.error.MsgError.{MsgError}
+use Rattle.message_value.specs.declared.error.MsgError.TheVariants as faults
 use Rattle.message_value.specs.Value.{Value, number, text, elements, entries, members, of_type}
 use Rattle.message_value.specs.Spelling.{padding, align_up, zeros, signature_bytes, value_bytes}
 use Rattle.message_value.specs.Fits.{IsOneType, BareFits, ValueFits}

@@ -5,8 +5,8 @@ use Rattle.std.specs.List.{list_all}
 use Rattle.signature.specs.BasicType.{basic_alignment}
 use Rattle.signature.specs.DataType.{DataType, basic}
 use Rattle.message_value.specs.declared.order.Order.{Order}
-use Rattle.message_value.specs.declared.fault.MsgError.{MsgError}
-use Rattle.message_value.specs.declared.fault.MsgError.TheVariants as faults
+use Rattle.message_value.specs.declared.error.MsgError.{MsgError}
+use Rattle.message_value.specs.declared.error.MsgError.TheVariants as faults
 use Rattle.message_value.specs.declared.text.TextType.{TextType}
 use Rattle.message_value.specs.Order.{number_of, word_of}
 use Rattle.message_value.specs.Value.{Value, number}

@@ -1,7 +1,7 @@
 -- Inner: what readers of a header and of a whole message answer, and what a view keeps.
 use Rattle.std.specs.Prelude.{◌≡◌, ℕ, List, drop, map, None, Result, Ok, Err}
 use Rattle.signature.specs.DataType.{SigText}
-use Rattle.message_value.specs.declared.fault.MsgError.{MsgError}
+use Rattle.message_value.specs.declared.error.MsgError.{MsgError}
 use Rattle.message_value.specs.Value.{Values}
 use Rattle.message_view.specs.declared.kind.Kind.{Kind}
 use Rattle.message_view.specs.declared.fixed.Fixed.{Fixed}

@@ -5,8 +5,8 @@ use Rattle.std.specs.List.{list_all}
 use Rattle.signature.specs.DataType.{DataType, DataTypes, basic, no_types}
 use Rattle.signature.specs.Trees.{types_of}
 use Rattle.message_value.specs.declared.order.Order.{Order}
-use Rattle.message_value.specs.declared.fault.MsgError.{MsgError}
-use Rattle.message_value.specs.declared.fault.MsgError.TheVariants as faults
+use Rattle.message_value.specs.declared.error.MsgError.{MsgError}
+use Rattle.message_value.specs.declared.error.MsgError.TheVariants as faults
 use Rattle.message_value.specs.Value.{Value, Values, number, text}
 use Rattle.message_value.specs.Spelling.{padding}
 use Rattle.message_value.specs.Fits.{max_levels}

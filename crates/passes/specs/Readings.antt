@@ -2,10 +2,10 @@
 use Rattle.std.specs.Prelude.{◌≡◌, ◌⊎◌, ◌<◌, ℕ, true, false, List, Result, Err, IfOk}
 use Rattle.bpf_code.specs.declared.instruction.Ins.{Ins}
 use Rattle.bpf_verify.specs.declared.error.VerifyError.{VerifyError}
-use Rattle.bpf_verify.specs.Fault.{IsFault}
+use Rattle.bpf_verify.specs.FirstFault.{IsFault}
 use Rattle.bpf_code.specs.Program.{WellFormed}
-use Rattle.match_key.specs.declared.fault.RuleError.{RuleError}
-use Rattle.match_key.specs.declared.fault.RuleError.TheVariants as faults
+use Rattle.match_key.specs.declared.error.RuleError.{RuleError}
+use Rattle.match_key.specs.declared.error.RuleError.TheVariants as faults
 use Rattle.match_rule.specs.Grammar.{ReadsAs}
 use Rattle.match_rule.specs.Reading.{rule_at}
 use Rattle.match_rule.specs.RuleTree.{RuleTree, sender_name_of, weight_of}

@@ -3,7 +3,7 @@ use Rattle.std.proofs.Common.{◌≡◌, ℕ, ◌+◌, ◌≤◌, List, [], ◌�
 use Rattle.std.specs.Prelude.{Option, Some, None, IsSome}
 use Rattle.std.specs.Iterator.{YieldsFirst}
 use Rattle.std.proofs.lemmas.List.{append-nil}
-use Rattle.signature.specs.declared.fault.SigError.{SigError}
+use Rattle.signature.specs.declared.error.SigError.{SigError}
 use Rattle.signature.specs.declared.code.Code.TheVariants.{CloseStruct, CloseEntry}
 use Rattle.signature.specs.Code.{code_of}
 use Rattle.signature.specs.DataType.{DataType, DataTypes, basic, variant, array, dict, struct, no_types, one_more, spelling, spellings, slices, Fits, AllFit, SigText, TypeText}

@@ -1,8 +1,8 @@
 -- The answers to events as text (own).
 use Rattle.std.specs.Prelude.{ℕ, List, ◌++◌, codes, decimal, Option, Some, None}
 use Rattle.std.specs.List.{flat_map}
-use Rattle.message_value.specs.FaultName.{name_of as message_name}
-use Rattle.match_key.specs.Fault.{name_of as rule_name}
+use Rattle.message_value.specs.Errors.{name_of as message_name}
+use Rattle.match_key.specs.Errors.{name_of as rule_name}
 use Rattle.bpf_verify.specs.Numbers.{verify_error_text}
 use Rattle.world_text.specs.declared.answer.RefusalWord.{RefusalWord}
 use Rattle.world_text.specs.declared.answer.RefusalWord.TheVariants.{ConnectionsFull, Closed, EntriesFull, NamesFull, QueueFull, RuleNotFound, NoAttachment, Stale}

@@ -1,7 +1,7 @@
 use Rattle.std.proofs.Common.{◌≡◌, arith, ℕ, List, Ok, Err, sym, subst, ◌∙◌, eqb-true, true, false, eqb, length}
 use Rattle.signature.specs.DataType.{SigText, slices}
 use Rattle.message_value.specs.declared.order.Order.TheVariants.{Little}
-use Rattle.message_value.specs.declared.fault.MsgError.TheVariants as faults
+use Rattle.message_value.specs.declared.error.MsgError.TheVariants as faults
 use Rattle.message_value.specs.Fits.{max_levels}
 use Rattle.message_value.specs.Reading.{At, members_at, value_at}
 use Rattle.message_build.proofs.BodyLaws.{read_body, body_ends, body_no_fault}

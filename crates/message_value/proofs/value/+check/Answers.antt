@@ -2,7 +2,7 @@ use Rattle.std.proofs.Common.{ℕ, ◌<◌, Result, Ok, sym, ◌∙◌, arith}
 use Rattle.std.proofs.lemmas.Result.{err_from_is_err_and}
 use Rattle.signature.specs.BasicType.{byte_of}
 use Rattle.signature.specs.DataType.{variant, array, dict, struct, one_more}
-use Rattle.message_value.specs.declared.fault.MsgError.{MsgError}
+use Rattle.message_value.specs.declared.error.MsgError.{MsgError}
 use Rattle.message_value.specs.Reading.{value_at, entry_at}
 use Rattle.message_value.proofs.ReadShorter.{value_shorter, entry_shorter}
 use Rattle.message_value.proofs.ValueSteps.{unaligned, too_deep, aligned_one, basic_checked, variant_checked, array_checked, dict_checked, struct_checked, no_signature_at, after_signature, no_extent, after_extent, no_dict_extent, after_dict_extent, unaligned_entry, no_key, after_key, alignment_some}

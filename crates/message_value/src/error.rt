@@ -1,7 +1,7 @@
 // Why bytes are no message.
 
 ghost use Rattle.std.specs.Prelude.{◌≡◌};
-ghost use Rattle.message_value.specs.FaultName.{number_of, name_of};
+ghost use Rattle.message_value.specs.Errors.{number_of, name_of};
 
 use std::error::Error;
 use std::fmt;

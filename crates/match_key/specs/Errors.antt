@@ -1,7 +1,7 @@
 -- The names and numbers of the faults of rule texts (own).
 use Rattle.std.specs.Prelude.{ℕ, List, codes}
-use Rattle.match_key.specs.declared.fault.RuleError.{RuleError}
-use Rattle.match_key.specs.declared.fault.RuleError.TheVariants.{TooLong, UnknownKey, KeyTwice, BadValue, Unquoted, PathTwice, ArgNumber, NoMemory}
+use Rattle.match_key.specs.declared.error.RuleError.{RuleError}
+use Rattle.match_key.specs.declared.error.RuleError.TheVariants.{TooLong, UnknownKey, KeyTwice, BadValue, Unquoted, PathTwice, ArgNumber, NoMemory}
 
 abbrev pub number_of : RuleError → ℕ
 number_of TooLong = 1

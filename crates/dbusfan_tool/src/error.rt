@@ -2,8 +2,8 @@
 
 ghost use Rattle.std.specs.Prelude.{◌≡◌, ◌+◌, ◌≤◌, ◌++◌, length, Some};
 ghost use Rattle.bpf_code.specs.Numbers.{text_at};
-ghost use Rattle.dbusfan_tool.specs.Fault.{fault_line, fault_text, fault_status, fault_of_rule, fault_of_compile, fault_of_code, fault_of_file, fault_of_hex};
-ghost use Rattle.dbusfan_tool.specs.declared.fault.Fault.TheVariants.{Memory, Message};
+ghost use Rattle.dbusfan_tool.specs.Errors.{fault_line, fault_text, fault_status, fault_of_rule, fault_of_compile, fault_of_code, fault_of_file, fault_of_hex};
+ghost use Rattle.dbusfan_tool.specs.declared.error.Fault.TheVariants.{Memory, Message};
 
 use crate::files::FileError;
 use crate::hex_text::HexError;

@@ -1,7 +1,7 @@
 -- The numbers and the names of the faults of messages (own).
 use Rattle.std.specs.Prelude.{ℕ, List, codes}
-use Rattle.message_value.specs.declared.fault.MsgError.{MsgError}
-use Rattle.message_value.specs.declared.fault.MsgError.TheVariants as faults
+use Rattle.message_value.specs.declared.error.MsgError.{MsgError}
+use Rattle.message_value.specs.declared.error.MsgError.TheVariants as faults
 
 abbrev pub number_of : MsgError → ℕ
 number_of faults.Order = 1

@@ -1,7 +1,7 @@
 // Why a text is no rule.
 
 ghost use Rattle.std.specs.Prelude.{◌≡◌};
-ghost use Rattle.match_key.specs.Fault.{number_of, name_of};
+ghost use Rattle.match_key.specs.Errors.{number_of, name_of};
 
 use std::alloc::{AllocError, AllocFailed};
 use std::error::Error;
@@ -68,7 +68,7 @@ impl fmt::Display for RuleError {
 impl Error for RuleError {}
 
 impl From<AllocError> for RuleError {
-    ghost use Rattle.match_key.specs.declared.fault.RuleError.TheVariants.{NoMemory};
+    ghost use Rattle.match_key.specs.declared.error.RuleError.TheVariants.{NoMemory};
 
     ghost from_gives = { λ _ fault. fault ≡ NoMemory };
 
@@ -78,7 +78,7 @@ impl From<AllocError> for RuleError {
 }
 
 impl<T: Drop> From<AllocFailed<T>> for RuleError {
-    ghost use Rattle.match_key.specs.declared.fault.RuleError.TheVariants.{NoMemory};
+    ghost use Rattle.match_key.specs.declared.error.RuleError.TheVariants.{NoMemory};
 
     ghost from_gives = { λ _ fault. fault ≡ NoMemory };
 

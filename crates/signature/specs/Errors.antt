@@ -1,7 +1,7 @@
 -- The numbers and the names of the faults of signatures (own).
 use Rattle.std.specs.Prelude.{ℕ, List, codes}
-use Rattle.signature.specs.declared.fault.SigError.{SigError}
-use Rattle.signature.specs.declared.fault.SigError.TheVariants as faults
+use Rattle.signature.specs.declared.error.SigError.{SigError}
+use Rattle.signature.specs.declared.error.SigError.TheVariants as faults
 
 abbrev pub number_of : SigError → ℕ
 number_of faults.TooLong = 1

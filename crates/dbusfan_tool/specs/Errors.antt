@@ -1,11 +1,11 @@
 -- How a fault is named (own).
 use Rattle.std.specs.Prelude.{ℕ, List, [], ◌∷◌, ◌++◌, codes}
-use Rattle.dbusfan_tool.specs.declared.fault.Fault.{Fault}
-use Rattle.dbusfan_tool.specs.declared.fault.Fault.TheVariants.{Rule, Message, Hex, Code, Program, Usage, File, Memory}
-use Rattle.message_value.specs.FaultName.{name_of as message_name}
-use Rattle.match_key.specs.declared.fault.RuleError.{RuleError}
-use Rattle.match_key.specs.declared.fault.RuleError.TheVariants.{TooLong, NoMemory}
-use Rattle.match_key.specs.Fault.{name_of as rule_name}
+use Rattle.dbusfan_tool.specs.declared.error.Fault.{Fault}
+use Rattle.dbusfan_tool.specs.declared.error.Fault.TheVariants.{Rule, Message, Hex, Code, Program, Usage, File, Memory}
+use Rattle.message_value.specs.Errors.{name_of as message_name}
+use Rattle.match_key.specs.declared.error.RuleError.{RuleError}
+use Rattle.match_key.specs.declared.error.RuleError.TheVariants.{TooLong, NoMemory}
+use Rattle.match_key.specs.Errors.{name_of as rule_name}
 use Rattle.rule_compile.specs.declared.error.CompileError.{CompileError}
 use Rattle.rule_compile.specs.declared.error.CompileError.TheVariants as of_compile
 use Rattle.bpf_code.specs.declared.error.CodeError.{CodeError}
