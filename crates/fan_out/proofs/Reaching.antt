@@ -12,8 +12,8 @@ use Rattle.fan_out.proofs.Places.{contains_here, contains_none}
 use Rattle.fan_out.proofs.Offering.{FoundWhereItHolds, among_offered}
 
 module _ {M : Type 0} where
-  same_offered : (entries : List Entry) (m other : Message) (offered : List Entry) → texts_of other ≡ texts_of m → AreOffered entries m offered → AreOffered entries other offered
-  same_offered entries m other offered same are = record {
+  same_offered : (entries : List Entry) (m other : Message) (offers : List Entry) → texts_of other ≡ texts_of m → AreOffered entries m offers → AreOffered entries other offers
+  same_offered entries m other offers same are = record {
     exact = λ e. (
       (λ there. (((are.exact e).0 there).0, subst (λ (texts : FixedTexts). AreFound (texts_fixed e.filter) texts) (sym same) ((are.exact e).0 there).1)),
       (λ here. (are.exact e).1 (here.0, subst (λ (texts : FixedTexts). AreFound (texts_fixed e.filter) texts) same here.1)),
@@ -21,14 +21,14 @@ module _ {M : Type 0} where
     once = are.once;
   }
 
-  pub nobody_reached : (s : State M) (m : Message) (offered : List Entry) → FoundWhereItHolds → AreOffered s.registrations.entries m offered → offered ≡ [] → TellsReach s m false
-  nobody_reached s m offered found are none sender other same = record {
+  pub nobody_reached : (s : State M) (m : Message) (offers : List Entry) → FoundWhereItHolds → AreOffered s.registrations.entries m offers → offers ≡ [] → TellsReach s m false
+  nobody_reached s m offers found are none sender other same = record {
     rising = λ k short. absurd (omega (arith, short));
     exact = λ n. (
       (λ there. absurd (contains_none n there)),
-      (λ here. let among = (among_offered s sender other offered n found (same_offered s.registrations.entries m other offered same are)).1 here in absurd (contains_none among.0 (subst (λ (es : List Entry). Contains es among.0) none among.1))),
+      (λ here. let among = (among_offered s sender other offers n found (same_offered s.registrations.entries m other offers same are)).1 here in absurd (contains_none among.0 (subst (λ (es : List Entry). Contains es among.0) none among.1))),
     );
   }
 
-  pub somebody_reached : (s : State M) (m : Message) (offered rest : List Entry) (e : Entry) → AreOffered s.registrations.entries m offered → offered ≡ e ∷ rest → TellsReach s m true
-  somebody_reached s m offered rest e are first = (e, (are.exact e).0 (subst (λ (es : List Entry). Contains es e) (sym first) (contains_here e rest)))
+  pub somebody_reached : (s : State M) (m : Message) (offers rest : List Entry) (e : Entry) → AreOffered s.registrations.entries m offers → offers ≡ e ∷ rest → TellsReach s m true
+  somebody_reached s m offers rest e are first = (e, (are.exact e).0 (subst (λ (es : List Entry). Contains es e) (sym first) (contains_here e rest)))
