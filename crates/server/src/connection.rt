@@ -91,7 +91,7 @@ impl<J: Naming> Connection<J> {
 
     /// Reads into the block and treats what came, as far as it goes in one turn. A read that doesn't fill the block took
     /// all that was there, and the poll tells of what comes later, so it is the last one where it had few messages: while
-    /// more of them are treated, a busy client sends the next ones, and a further read is cheaper than a look at the
+    /// more of them are treated, a busy client sends others, and a further read is cheaper than a look at the
     /// poll. Nor does such a read show whether the client's bytes have ended, so where they may have, the end is read
     /// too.
     pub(crate) fn read<W: Wait, R: Wait + Drop>(
