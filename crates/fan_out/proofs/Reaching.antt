@@ -11,16 +11,16 @@ use Rattle.fan_out.specs.Reach.{ReachesNobody, TellsReach}
 use Rattle.fan_out.proofs.Places.{contains_here, contains_none}
 use Rattle.fan_out.proofs.Offering.{FoundWhereItHolds, among_offered}
 
-module _ {M : Type 0} where
-  same_offered : (entries : List Entry) (m other : Message) (offers : List Entry) → texts_of other ≡ texts_of m → AreOffered entries m offers → AreOffered entries other offers
-  same_offered entries m other offers same are = record {
-    exact = λ e. (
-      (λ there. (((are.exact e).0 there).0, subst (λ (texts : FixedTexts). AreFound (texts_fixed e.filter) texts) (sym same) ((are.exact e).0 there).1)),
-      (λ here. (are.exact e).1 (here.0, subst (λ (texts : FixedTexts). AreFound (texts_fixed e.filter) texts) same here.1)),
-    );
-    once = are.once;
-  }
+same_offered : (entries : List Entry) (m other : Message) (offers : List Entry) → texts_of other ≡ texts_of m → AreOffered entries m offers → AreOffered entries other offers
+same_offered entries m other offers same are = record {
+  exact = λ e. (
+    (λ there. (((are.exact e).0 there).0, subst (λ (texts : FixedTexts). AreFound (texts_fixed e.filter) texts) (sym same) ((are.exact e).0 there).1)),
+    (λ here. (are.exact e).1 (here.0, subst (λ (texts : FixedTexts). AreFound (texts_fixed e.filter) texts) same here.1)),
+  );
+  once = are.once;
+}
 
+module _ {M : Type 0} where
   pub nobody_reached : (s : State M) (m : Message) (offers : List Entry) → FoundWhereItHolds → AreOffered s.registrations.entries m offers → offers ≡ [] → TellsReach s m false
   nobody_reached s m offers found are none sender other same = record {
     rising = λ k short. absurd (omega (arith, short));
@@ -31,4 +31,6 @@ module _ {M : Type 0} where
   }
 
   pub somebody_reached : (s : State M) (m : Message) (offers rest : List Entry) (e : Entry) → AreOffered s.registrations.entries m offers → offers ≡ e ∷ rest → TellsReach s m true
-  somebody_reached s m offers rest e are first = (e, (are.exact e).0 (subst (λ (es : List Entry). Contains es e) (sym first) (contains_here e rest)))
+  somebody_reached s m offers rest e are first =
+      let both = (are.exact e).0 (subst (λ (es : List Entry). Contains es e) (sym first) (contains_here e rest)) in
+      (e, both.0, both.1)

@@ -53,10 +53,9 @@ outside places low high j size within inside out = go (get_or places j false) (s
     go false e = e
     go true e = absurd (out (within j e))
 
--- the rows before the first mark give no numbers
-pub first_rows : (places : List Bool) (low high : ℕ) (ns : List ℕ) → length places ≡ 256 → AreWithin places low high → low ≤ 256 → marked_numbers (drop (16 * (low / 16)) ns) (drop (16 * (low / 16)) places) ≡ marked_numbers ns places
-first_rows places low high ns size within small =
-    let start : ℕ = 16 * (low / 16) in
+-- the places before the first mark give no numbers
+pub first_places : (places : List Bool) (low high start : ℕ) (ns : List ℕ) → length places ≡ 256 → AreWithin places low high → low ≤ 256 → start ≤ low → marked_numbers (drop start ns) (drop start places) ≡ marked_numbers ns places
+first_places places low high start ns size within small before =
     let e : 0 + start ≡ start = omega arith in
     sym (rw e at (skip_marks start 0 ns places (λ j from below. outside places low high j size within (omega arith) (λ (b : (low ≤ j) × (j < high)). omega (arith, b.0)))))
 
@@ -65,11 +64,11 @@ marked_nothing [] = refl
 marked_nothing (n ∷ ns) = refl
 
 -- nor do those after the last mark
-pub last_rows : (places : List Bool) (low high row : ℕ) (ns : List ℕ) → length places ≡ 256 → AreWithin places low high → high ≤ 16 * row → marked_numbers (drop (16 * row) ns) (drop (16 * row) places) ≡ []
-last_rows places low high row ns size within past =
-    skip_marks (256 - 16 * row) (16 * row) ns places (λ j from below. outside places low high j size within (omega arith) (λ (b : (low ≤ j) × (j < high)). omega (arith, b.1)))
-    ∙ ap (λ (ms : List Bool). marked_numbers (drop (16 * row + (256 - 16 * row)) ns) ms) (drop_all (16 * row + (256 - 16 * row)) places (omega arith))
-    ∙ marked_nothing (drop (16 * row + (256 - 16 * row)) ns)
+pub last_places : (places : List Bool) (low high end : ℕ) (ns : List ℕ) → length places ≡ 256 → AreWithin places low high → high ≤ end → marked_numbers (drop end ns) (drop end places) ≡ []
+last_places places low high end ns size within past =
+    skip_marks (256 - end) end ns places (λ j from below. outside places low high j size within (omega arith) (λ (b : (low ≤ j) × (j < high)). omega (arith, b.1)))
+    ∙ ap (λ (ms : List Bool). marked_numbers (drop (end + (256 - end)) ns) ms) (drop_all (end + (256 - end)) places (omega arith))
+    ∙ marked_nothing (drop (end + (256 - end)) ns)
 
 module _ {M : Type 0} where
   -- after the last connection there are no numbers

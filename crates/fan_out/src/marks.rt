@@ -164,7 +164,36 @@ impl Marks {
         }
     }
 
-    /// Lists the numbers of the connections that are marked.
+    /// Lists the numbers of the connections that are marked, row by row.
+    fn list_rows<M>(
+        &self,
+        connections: &[Connection<M>],
+        numbers: &mut ArrayVec<u64, MAX_RECIPIENTS>,
+    )
+        requires none { numbers.old.items ≡ [] }
+        ensures { numbers.new.items ≡ marked_numbers (numbers_of connections.now) self.now.places }
+    {
+        for row in self.low / ROW..(self.high + ROW - 1) / ROW {
+            self.list_row(row, connections, numbers);
+        }
+    }
+
+    /// Lists the numbers of the connections that are marked, place by place.
+    fn list_places<M>(
+        &self,
+        connections: &[Connection<M>],
+        numbers: &mut ArrayVec<u64, MAX_RECIPIENTS>,
+    )
+        requires none { numbers.old.items ≡ [] }
+        ensures { numbers.new.items ≡ marked_numbers (numbers_of connections.now) self.now.places }
+    {
+        for place in self.low..self.high {
+            self.list_place(place, connections, numbers);
+        }
+    }
+
+    /// Lists the numbers of the connections that are marked. Where all marks lie close together, as one mark does, only
+    /// the places between them are looked at.
     pub(crate) fn list<M>(
         &self,
         connections: &[Connection<M>],
@@ -174,8 +203,10 @@ impl Marks {
         requires none { numbers.old.items ≡ [] }
         ensures { numbers.new.items ≡ marked_numbers (numbers_of connections.now) self.now.places }
     {
-        for row in self.low / ROW..(self.high + ROW - 1) / ROW {
-            self.list_row(row, connections, numbers);
+        if self.high <= self.low + ROW {
+            self.list_places(connections, numbers);
+        } else {
+            self.list_rows(connections, numbers);
         }
     }
 }

@@ -1,5 +1,5 @@
 // The connections in a vector by rising number.
-ghost use Rattle.std.specs.Prelude.{◌≡◌, ℕ, ◌<◌, ◌≤◌, [], true, false, nat_le, IfOk, MatchOption, length, slice_get, slice_index};
+ghost use Rattle.std.specs.Prelude.{◌≡◌, ℕ, ◌<◌, ◌≤◌, [], true, false, nat_le, IfOk, IfSome, MatchOption, length, slice_get, slice_index};
 ghost use Rattle.std.specs.Option.{option_copied};
 ghost use Rattle.std.specs.List.Sorted.{IsStrictlyIncreasing};
 ghost use Rattle.program_table.specs.Connections.{numbers_of, is_connected, mailbox_of, commands_of, with_command, without_connection, max_connections};
@@ -160,11 +160,34 @@ fn lower_bound<M>(list: &[Connection<M>], number: u64) -> usize
     low
 }
 
-/// The place of the connection of a number.
+/// The place of the connection of a number, if none between the first one and it is gone.
+fn place_in_row<M>(list: &[Connection<M>], number: u64) -> Option<usize>
+    requires { IsStrictlyIncreasing (numbers_of list.now) }
+    ensures { IfSome result (IsPlaceOf number list.now) }
+{
+    if list.is_empty() || number < list[0].number {
+        return None;
+    }
+    let distance = number - list[0].number;
+    if distance >= list.len() as u64 {
+        return None;
+    }
+    let place = distance as usize;
+    if list[place].number == number {
+        Some(place)
+    } else {
+        None
+    }
+}
+
+/// The place of the connection of a number. It is searched for only where connections before it are gone.
 fn place_of<M>(list: &[Connection<M>], number: u64) -> Option<usize>
     requires { IsStrictlyIncreasing (numbers_of list.now) }
     ensures { MatchOption result (HaveOtherNumbers number list.now) (IsPlaceOf number list.now) }
 {
+    if let Some(place) = place_in_row(list, number) {
+        return Some(place);
+    }
     let place = lower_bound(list, number);
     if place < list.len() && list[place].number == number {
         Some(place)

@@ -2,7 +2,7 @@ use Rattle.std.proofs.Common.{◌≡◌, ◌≤◌, ◌*◌, ◌++◌, drop}
 use Rattle.arrayvec.specs.ArrayVec.{array_vec_len}
 use Rattle.program_table.specs.Connections.{numbers_of}
 use Rattle.fan_out.specs.Marks.{marked_numbers}
-use Rattle.fan_out.proofs.marks.Marks.list.Given as goal
+use Rattle.fan_out.proofs.marks.Marks.list_rows.Given as goal
 
 abbrev pub invariant-loop-row : goal.invariant-loop-row
 invariant-loop-row g l = record {
