@@ -8,5 +8,6 @@ pub mod TextKeys
 pub mod ShapeCounts
 pub mod IndexLists
 pub mod FoundTexts
+pub mod HeldTexts
 pub mod RuleHints
 pub mod Elsewhere

@@ -101,7 +101,7 @@ impl Index {
         ensures { (m : Message) → Valid view.now m → IsLookedUp self.entry.now shelf.entry.now m result }
     {
         let has_arg0 = self.shapes.has_arg0();
-        let found = MessageTexts::new(self.points, view, has_arg0);
+        let found = MessageTexts::new(&self.points, view, has_arg0);
         Offers::new(shelf, &self.by_texts, found, self.shapes.in_use())
     }
 }

@@ -5,9 +5,10 @@ ghost use Rattle.std.specs.Option.{ForSome};
 ghost use Rattle.message_value.specs.ShownArguments.{shown_arg};
 ghost use Rattle.message_view.specs.Message.{Message};
 ghost use Rattle.message_view.specs.Valid.{Valid};
-ghost use Rattle.match_rule.specs.Arguments.{text_in};
+ghost use Rattle.match_rule.specs.Arguments.{text_in as argument_text};
 ghost use Rattle.match_rule.specs.FixedTexts.{arg0_of, fixed_texts, string_in};
 ghost use Rattle.entry_table.specs.OfferedEntries.{texts_fixed};
+ghost use Rattle.entry_table.specs.HeldTexts.{text_in};
 ghost use Rattle.entry_table.specs.FoundTexts.{is_text_found, are_found, texts_read};
 ghost use Rattle.entry_table.specs.TextKeys.{bit_of, shape_of, in_shape, where_bit, text_hash, hash_of_texts, joined_hash, list_of, hash_lists};
 
@@ -23,7 +24,7 @@ pub(crate) const HASH_LISTS: usize = 32768;
 
 /// The text of an argument, where it is a string.
 fn string_of<'a>(arg: Arg<'a>) -> Option<&'a str>
-    ensures { option_map (λ text. text.now) result ≡ string_in (text_in (Some (shown_arg arg.entry))) }
+    ensures { option_map (λ text. text.now) result ≡ string_in (argument_text (Some (shown_arg arg.entry))) }
 {
     match arg.text {
         Some(text) => { if arg.code == b's' { Some(text) } else { None } }
@@ -43,6 +44,7 @@ fn arg0_of<'a>(view: &View<'a>) -> Option<&'a str>
 }
 
 /// Whether a text, if it is asked for, is the one that is found.
+#[inline(always)]
 fn is_text_found(asked: Option<&str>, found: Option<&str>) -> bool
     ensures { result ≡ is_text_found (option_map (λ text. text.now) asked.entry) (option_map (λ text. text.now) found.entry) }
 {
@@ -150,11 +152,47 @@ fn hash_once(wanted: bool, known: &mut Option<u64>, point: u64, text: Option<&st
     }
 }
 
+/// A text, or none. Other than in an `Option` the text is a field of its own, which the compiler keeps in registers where
+/// the value goes from call to call.
+#[derive(Clone, Copy)]
+struct Text<'a> {
+    is_there: bool,
+    text: &'a str,
+}
+
+impl<'a> Text<'a> {
+    #[inline(always)]
+    fn of(text: Option<&'a str>) -> Text<'a>
+        ensures { text_in result ≡ option_map (λ text. text.now) text.entry }
+    {
+        match text {
+            Some(text) => Text {
+                is_there: true,
+                text,
+            },
+            None => Text {
+                is_there: false,
+                text: "",
+            },
+        }
+    }
+
+    #[inline(always)]
+    fn get(self) -> Option<&'a str>
+        ensures { option_map (λ text. text.now) result ≡ text_in self.entry }
+    {
+        if self.is_there { Some(self.text) } else { None }
+    }
+}
+
 /// The texts of a message, and the hashes of those that were wanted so far. Contracts see the texts and the points.
 #[derive(Drop)]
 pub(crate) struct MessageTexts<'a> {
-    points: TextPoints,
-    texts: FixedTexts<'a>,
+    points: &'a TextPoints,
+    member: Text<'a>,
+    interface: Text<'a>,
+    path: Text<'a>,
+    arg0: Text<'a>,
     member_hash: Option<u64>,
     interface_hash: Option<u64>,
     path_hash: Option<u64>,
@@ -163,28 +201,27 @@ pub(crate) struct MessageTexts<'a> {
 
 impl<'a> Model for MessageTexts<'a> {
     ghost use Rattle.entry_table.specs.TextKeys.{KeyedTexts, AreHashes};
+    ghost use Rattle.entry_table.specs.HeldTexts.{texts_in};
 
     ghost Value = { KeyedTexts };
 
-    ghost view = { λ m. record { points = m.points; texts = m.texts } };
+    ghost view = { λ m. record { points = m.points.now; texts = texts_in m.member m.interface m.path m.arg0 } };
 
-    ghost invariant = { λ m. AreHashes (record { points = m.points; texts = m.texts }) (record { member = m.member_hash; interface = m.interface_hash; path = m.path_hash; arg0 = m.arg0_hash }) };
+    ghost invariant = { λ m. AreHashes (record { points = m.points.now; texts = texts_in m.member m.interface m.path m.arg0 }) (record { member = m.member_hash; interface = m.interface_hash; path = m.path_hash; arg0 = m.arg0_hash }) };
 }
 
 impl<'a> MessageTexts<'a> {
     /// The texts that a message has, argument 0 only where it is wanted; no hash is known.
     #[inline(always)]
-    pub(crate) fn new(points: TextPoints, view: &View<'a>, has_arg0: bool) -> MessageTexts<'a>
-        ensures { (m : Message) → Valid view.now m → result ≡ record { points = points; texts = texts_read has_arg0 m } }
+    pub(crate) fn new(points: &'a TextPoints, view: &View<'a>, has_arg0: bool) -> MessageTexts<'a>
+        ensures { (m : Message) → Valid view.now m → result ≡ record { points = points.entry.now; texts = texts_read has_arg0 m } }
     {
         MessageTexts {
             points,
-            texts: FixedTexts {
-                member: view.member(),
-                interface: view.interface(),
-                path: view.path(),
-                arg0: if has_arg0 { arg0_of(view) } else { None },
-            },
+            member: Text::of(view.member()),
+            interface: Text::of(view.interface()),
+            path: Text::of(view.path()),
+            arg0: Text::of(if has_arg0 { arg0_of(view) } else { None }),
             member_hash: None,
             interface_hash: None,
             path_hash: None,
@@ -199,21 +236,30 @@ impl<'a> MessageTexts<'a> {
         ensures same { self.new ≡ self.old }
     {
         let at = self.points;
-        let texts = &self.texts;
         let member = hash_once(
             shape % 2 == 1,
             &mut self.member_hash,
             at.member,
-            texts.member,
+            self.member.get(),
         );
         let interface = hash_once(
             shape / 2 % 2 == 1,
             &mut self.interface_hash,
             at.interface,
-            texts.interface,
+            self.interface.get(),
         );
-        let path = hash_once(shape / 4 % 2 == 1, &mut self.path_hash, at.path, texts.path);
-        let arg0 = hash_once(shape / 8 % 2 == 1, &mut self.arg0_hash, at.arg0, texts.arg0);
+        let path = hash_once(
+            shape / 4 % 2 == 1,
+            &mut self.path_hash,
+            at.path,
+            self.path.get(),
+        );
+        let arg0 = hash_once(
+            shape / 8 % 2 == 1,
+            &mut self.arg0_hash,
+            at.arg0,
+            self.arg0.get(),
+        );
         list_of(shape, join_hashes(member, interface, path, arg0))
     }
 
@@ -222,10 +268,9 @@ impl<'a> MessageTexts<'a> {
         ensures { result ≡ are_found (fixed_texts rule.now) self.now.texts }
     {
         let asked = rule.fixed_texts();
-        let texts = &self.texts;
-        is_text_found(asked.member, texts.member)
-            && is_text_found(asked.interface, texts.interface)
-            && is_text_found(asked.path, texts.path)
-            && is_text_found(asked.arg0, texts.arg0)
+        is_text_found(asked.member, self.member.get())
+            && is_text_found(asked.interface, self.interface.get())
+            && is_text_found(asked.path, self.path.get())
+            && is_text_found(asked.arg0, self.arg0.get())
     }
 }
