@@ -1,5 +1,5 @@
 -- A stamped message has the member, the interface, the path and the argument 0 of the message.
-use Rattle.std.proofs.Common.{◌≡◌, ℕ, true, List, length, Option, Some, refl, ap, ◌∙◌}
+use Rattle.std.proofs.Common.{◌≡◌, ℕ, Bool, true, false, not, List, [], length, Option, Some, refl, ap, ◌∙◌}
 use Rattle.std.specs.Prelude.{slice_get}
 use Rattle.signature.specs.DataType.{DataType, DataTypes, basic, variant, array, dict, struct, no_types, one_more}
 use Rattle.message_value.specs.declared.order.Order.{Order}
@@ -13,14 +13,17 @@ use Rattle.message_build.specs.StampedFields.{is_kept_code}
 use Rattle.message_build.proofs.KeptFields.{same_with}
 use Rattle.match_rule.specs.Arguments.{text_in}
 use Rattle.match_rule.specs.FixedTexts.{FixedTexts, texts_of, string_in}
+use Rattle.program_table.specs.State.{State}
+use Rattle.program_table.specs.Recipients.{AreRecipients}
+use Rattle.fan_out.specs.Reach.{TellsReach}
 
 -- the text of an argument, wherever it lies
 text_in-place : (order : Order) (p q : ℕ) (type : DataType) (value : Value) → text_in (Some (argument_of order p type value)) ≡ text_in (Some (argument_of order q type value))
 text_in-place order p q (basic code) (number bits) = refl
 text_in-place order p q (basic code) (text bytes) = refl
-text_in-place order p q (basic code) (elements values) = refl
+text_in-place order p q (basic code) (elements items) = refl
 text_in-place order p q (basic code) (entries pairs) = refl
-text_in-place order p q (basic code) (members values) = refl
+text_in-place order p q (basic code) (members items) = refl
 text_in-place order p q (basic code) (of_type type value) = refl
 text_in-place order p q variant value = refl
 text_in-place order p q (array element) value = refl
@@ -29,9 +32,9 @@ text_in-place order p q (struct first others) value = refl
 
 first_text-place : (order : Order) (p q : ℕ) (types : DataTypes) (values : Values) → text_in (slice_get (arguments_from order p types values) 0) ≡ text_in (slice_get (arguments_from order q types values) 0)
 first_text-place order p q no_types no_values = refl
-first_text-place order p q no_types (one_value value values) = refl
-first_text-place order p q (one_more type types) no_values = refl
-first_text-place order p q (one_more type types) (one_value value values) = text_in-place order _ _ type value
+first_text-place order p q no_types (one_value value more) = refl
+first_text-place order p q (one_more type later) no_values = refl
+first_text-place order p q (one_more type later) (one_value value more) = text_in-place order _ _ type value
 
 abbrev texts_from : Option Value → Option Value → Option Value → Option (ℕ × List ℕ) → FixedTexts
 texts_from member interface path first = record { member = field_text member; interface = field_text interface; path = field_text path; arg0 = string_in first }
@@ -45,3 +48,9 @@ stamped_texts m sender =
     ∙ ap (λ (v : Option Value). texts_from (field_with 3 m.fields) v (field_with 1 stamped.fields) (text_in (slice_get (arguments_of stamped) 0))) (same 2 refl)
     ∙ ap (λ (v : Option Value). texts_from (field_with 3 m.fields) (field_with 2 m.fields) v (text_in (slice_get (arguments_of stamped) 0))) (same 1 refl)
     ∙ ap (λ (v : Option (ℕ × List ℕ)). texts_from (field_with 3 m.fields) (field_with 2 m.fields) (field_with 1 m.fields) v) first
+
+module _ {M : Type 0} where
+  -- what may reach nobody reaches nobody once it is stamped
+  pub stamped_for_nobody : (s : State M) (m : Message) (may_reach : Bool) (from : Option ℕ) (sender : List ℕ) → not may_reach ≡ true → TellsReach s m may_reach → AreRecipients s from (with_sender m sender) []
+  stamped_for_nobody s m true from sender never tells = cc
+  stamped_for_nobody s m false from sender never tells = tells from (with_sender m sender) (stamped_texts m sender)
