@@ -104,31 +104,32 @@ abbrev pub part_code : Part → ℕ → Condition → List Ins → List Ins
 part_code Words slot c rest = condition_words slot c rest
 part_code Bytes slot c rest = condition_bytes c rest
 
--- ---- the order of conditions: of words first those that take few instructions and fail most messages
+-- ---- the order of conditions: of words first those that take few instructions and fail most messages; the kind fails
+-- hardly any, since rules are asked about signals alone
 
 abbrev pub field_rank : Field → ℕ
-field_rank Member = 1
-field_rank Interface = 3
-field_rank Path = 4
-field_rank Destination = 4
+field_rank Member = 0
+field_rank Interface = 2
+field_rank Path = 3
+field_rank Destination = 3
 
 -- the rank of a text that is tested for equality
 abbrev pub whole_rank : Source → ℕ
 whole_rank (Header field) = field_rank field
-whole_rank (Arg n) = 6
+whole_rank (Arg n) = 5
 
 -- the rank of a text that is tested in another way
 abbrev pub other_rank : Source → ℕ
-other_rank (Header field) = 5
-other_rank (Arg n) = 7
+other_rank (Header field) = 4
+other_rank (Arg n) = 6
 
 abbrev pub relation_rank : Relation → Source → ℕ
 relation_rank relations.Equal source = whole_rank source
 relation_rank _ source = other_rank source
 
 abbrev pub rank_of : Condition → ℕ
-rank_of (Kind kind) = 0
-rank_of (Sender name) = 2
+rank_of (Kind kind) = 7
+rank_of (Sender name) = 1
 rank_of (Compares source relation value) = relation_rank relation source
 
 abbrev pub ranks : ℕ

@@ -1,5 +1,6 @@
 // The order of the conditions in a rule's program: of words first those that take few instructions and fail most
-// messages, and then bytes, from the highest rank on.
+// messages, last the kind, which fails hardly any, since rules are asked about signals alone; and then bytes, from the
+// highest rank on.
 ghost use Rattle.std.specs.Prelude.{◌≡◌, ◌<◌, ◌^◌, sum_by, filter, OnOk, IfOk};
 ghost use Rattle.match_rule.specs.RuleTree.{condition_weight};
 ghost use Rattle.jump_islands.specs.Source.{AreWellMade};
@@ -24,9 +25,9 @@ fn field_rank(field: Field) -> u8
     ensures { result ≡ field_rank field }
 {
     match field {
-        Field::Member => 1,
-        Field::Interface => 3,
-        Field::Path | Field::Destination => 4,
+        Field::Member => 0,
+        Field::Interface => 2,
+        Field::Path | Field::Destination => 3,
     }
 }
 
@@ -36,7 +37,7 @@ fn whole_rank(source: Source) -> u8
 {
     match source {
         Source::Header(field) => field_rank(field),
-        Source::Arg(_) => 6,
+        Source::Arg(_) => 5,
     }
 }
 
@@ -45,8 +46,8 @@ fn other_rank(source: Source) -> u8
     ensures { result ≡ other_rank source }
 {
     match source {
-        Source::Header(_) => 5,
-        Source::Arg(_) => 7,
+        Source::Header(_) => 4,
+        Source::Arg(_) => 6,
     }
 }
 
@@ -67,8 +68,8 @@ fn rank_of(condition: &Condition) -> u8
     ensures { result ≡ rank_of condition.now }
 {
     match condition {
-        Condition::Kind(_) => 0,
-        Condition::Sender(_) => 2,
+        Condition::Kind(_) => 7,
+        Condition::Sender(_) => 1,
         Condition::Compares(source, relation, _) => relation_rank(*relation, *source),
     }
 }
