@@ -17,7 +17,6 @@ pub returns-clause-exact : goal.returns-clause-exact
 returns-clause-exact g c m valid =
     let s = c.args.state.now in
     let all = c.args.first.now ∷ c.args.others.now in
-    let spelled = c.raw.ensures.spells in
     let marked = rw (c.new-programs.ensures.view, c.new-programs.ensures.owned) at c.consider_all.ensures.marked in
     recipients_marked s c.args.sender m c.args.view.now c.slots_of-owned.result c.args.piece.part c.args.piece.of all c.consider_all.new.marks.places
     c.requires.state c.slots_of-owned.ensures valid c.ends_in_one_way.ensures c.found_where_it_holds.ensures (c.requires.offers m valid)
