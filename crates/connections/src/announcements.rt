@@ -152,7 +152,7 @@ impl<J: Naming, M: Mailbox + Carrier> Connection<J, M> {
         self.broadcast(site, Source::Bus, &view, &bytes, &mut lists)
     }
 
-    /// Routes a broadcast. The view is that of the bytes, and the lists are then of this broadcast.
+    /// Routes a broadcast. The lists are then of this broadcast: its recipients, and those whose outbox refused it.
     ///
     /// # Errors
     ///
@@ -165,8 +165,10 @@ impl<J: Naming, M: Mailbox + Carrier> Connection<J, M> {
         bytes: &Bytes,
         lists: &mut RouteLists,
     ) -> Result<(), AnswerError>
+        // The view is that of the bytes.
+        requires { view.now ≡ bytes.now }
         ensures error { IfErr result (λ error. error ≡ AnswerError.NoMemory) }
-        ensures routed { Broadcasts M.outbox_of source view.now self.old.pass result self.new.pass }
+        ensures routed { Broadcasts M.outbox_of source bytes.now self.old.pass result lists.new.recipients.items lists.new.refused.items self.new.pass }
         ensures name { self.new.name ≡ self.old.name }
     {
         let routed = site.bus.route_into(

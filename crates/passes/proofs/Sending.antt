@@ -142,12 +142,11 @@ module _ {M : Type 0} where
 
   pub has_routed : (outbox_of : M → OutboxId) (source : Source) (bytes : List ℕ) (v w : PassState M) (l : List (Command M)) (new : SenderView) (recipients refused : List ℕ) (newcomers : List RecipientView) (connected : Option (List ℕ)) → w ≡ record v { seen = l; count = new.count; stops = new.stops } → IsPrefix v.seen l
       → IsFound outbox_of (after l) (sender_of source v.connection) bytes v.stops recipients newcomers connected → KeepsThose connected newcomers (sending v) new → AllFit new.origin new.count new.stops → RoutedThose connected recipients refused (sending v) new
-      → HasRouted outbox_of source bytes v refused w
+      → HasRouted outbox_of source bytes v recipients refused w
   has_routed outbox_of source bytes v w l new recipients refused newcomers connected is begins found k fits r =
-      let P : PassState M → Type 0 = λ x. HasRouted outbox_of source bytes v refused x in
+      let P : PassState M → Type 0 = λ x. HasRouted outbox_of source bytes v recipients refused x in
       subst P (sym is) (record {
         sends = sends_to outbox_of v l new newcomers connected begins (found_reaches outbox_of (sender_of source v.connection) bytes v.stops l recipients newcomers connected found) k fits;
-        recipients = recipients;
         are = found.are;
         count_is = r.count_is;
         lasts = λ n there. r.lasts n (stays-connected (after l) connected n found.there there);
@@ -193,7 +192,7 @@ module _ {M : Type 0} where
   pub answered : {A : Type 0} (outbox_of : M → OutboxId) (source : Source) (from : Option ℕ) (bytes : List ℕ) (v p q w : PassState M) (old new : SenderView) (recipients : List ℕ) (newcomers : List RecipientView) (connected : Option (List ℕ)) (items : A → List ℕ) (r : Result A BusError)
       → Turn v p q w old new → from ≡ sender_of source v.connection → IsPrefix p.seen q.seen → IsFound outbox_of (after q.seen) from bytes old.stops recipients newcomers connected → KeepsThose connected newcomers old new → AllFit new.origin new.count new.stops
       → IfOk r (λ a. RoutedThose connected recipients (items a) old new) → IfErr r (λ e. ((e ≡ errors.NoMemory) ⊎ ((e ≡ errors.Counts) × (old.count ≡ max_count))) × UnroutedThose connected old new)
-      → MatchResult r (λ a. HasRouted outbox_of source bytes v (items a) w) (λ e. IsUnrouted outbox_of e v w)
+      → MatchResult r (λ a. HasRouted outbox_of source bytes v recipients (items a) w) (λ e. IsUnrouted outbox_of e v w)
   answered outbox_of source from bytes v p q w old new recipients newcomers connected items (Ok a) t is begins found k fits ok err =
       let F : SenderView → Type 0 = λ s. IsFound outbox_of (after q.seen) from bytes s.stops recipients newcomers connected in
       let G : Option ℕ → Type 0 = λ o. IsFound outbox_of (after q.seen) o bytes v.stops recipients newcomers connected in

@@ -38,19 +38,22 @@ module _ {M : Type 0} where
     pub same : w ≡ record v { seen = w.seen; count = w.count; stops = w.stops }
     pub keeps : KeepsSeats outbox_of v w
 
-  -- One broadcast more, to the recipients of the message after what the pass has seen. At a recipient that isn't listed
-  -- the seat's last count is this broadcast's; at a listed one, and at each other connection that is there, it is what
-  -- it was. A listed one is a recipient whose outbox is shut, and where the seat knew that before, the recipient is
-  -- listed.
-  pub record HasRouted (outbox_of : M → OutboxId) (source : Source) (bytes : List ℕ) (v : PassState M) (refused : List ℕ) (w : PassState M) : Type 0 where
+  -- One broadcast more of the message of these bytes, to its recipients after what the pass has seen. At a recipient that
+  -- didn't refuse it the seat's last count is this broadcast's; at one that did, and at each other connection that is
+  -- there, it is what it was. One that refused is a recipient whose outbox is shut, and where the seat knew that before,
+  -- the recipient refused.
+  pub record HasRouted (outbox_of : M → OutboxId) (source : Source) (bytes : List ℕ) (v : PassState M) (recipients refused : List ℕ) (w : PassState M) : Type 0 where
     pub sends : Sends outbox_of v w
-    pub recipients : List ℕ
     pub are : (m : Message) → Valid bytes m → AreRecipients (after w.seen) (sender_of source v.connection) m recipients
     pub count_is : w.count ≡ v.count + 1
     pub lasts : (n : ℕ) → is_there n w ≡ true → last_at n w.stops ≡ cond (is_put n recipients refused) w.count (last_at n v.stops)
     pub rising : RisesFrom 0 refused
     pub listed : (n : ℕ) → is_in n refused ≡ true → (is_in n recipients ≡ true) × (shut_at n w.stops ≡ true)
     pub again : (n : ℕ) → is_in n recipients ≡ true → shut_at n v.stops ≡ true → is_in n refused ≡ true
+
+  -- one broadcast more, to recipients that the answer doesn't list
+  abbrev pub HasRoutedToSome : (M → OutboxId) → Source → List ℕ → PassState M → List ℕ → PassState M → Type 0
+  HasRoutedToSome outbox_of source bytes v refused w = (recipients : List ℕ) × HasRouted outbox_of source bytes v recipients refused w
 
   -- no broadcast was put, and the count isn't used
   pub record HasNotRouted (outbox_of : M → OutboxId) (v w : PassState M) : Type 0 where

@@ -80,8 +80,8 @@ fn broadcast<M: Carrier, W: Wait, G: Gate>(
 impl<J: Naming, M: Mailbox + Carrier> Pass<J, M> {
     /// Finds the recipients of a broadcast, leaves the published state, and puts the message into their outboxes.
     /// The caller's lists are then of this broadcast: its recipients, and those whose outbox refused it, a shut one
-    /// included. The view is that of the bytes. `gate.before(0)` is called once the published state is left and the seats are there,
-    /// before the first put, and `gate.after(0)` after the last.
+    /// included. `gate.before(0)` is called once the published state is left and the seats are there, before the first
+    /// put, and `gate.after(0)` after the last.
     ///
     /// # Errors
     ///
@@ -97,7 +97,9 @@ impl<J: Naming, M: Mailbox + Carrier> Pass<J, M> {
         gate: &G,
         lists: &mut RouteLists,
     ) -> Result<(), BusError>
-        ensures { MatchResult result (λ _. HasRouted M.outbox_of source view.now self.old lists.new.refused.items self.new) (λ error. IsUnrouted M.outbox_of error self.old self.new) }
+        // The view is that of the bytes.
+        requires { view.now ≡ bytes.now }
+        ensures { MatchResult result (λ _. HasRouted M.outbox_of source bytes.now self.old lists.new.recipients.items lists.new.refused.items self.new) (λ error. IsUnrouted M.outbox_of error self.old self.new) }
     {
         lists.clear();
         let connection = self.connection();

@@ -1,7 +1,7 @@
 // Broadcasts through the bus.
 
-ghost use Rattle.std.specs.Prelude.{MatchResult};
-ghost use Rattle.passes.specs.Routes.{HasRouted, IsUnrouted};
+ghost use Rattle.std.specs.Prelude.{◌≡◌, MatchResult};
+ghost use Rattle.passes.specs.Routes.{HasRouted, HasRoutedToSome, IsUnrouted};
 
 use crate::bus::Bus;
 use arrayvec::ArrayVec;
@@ -26,7 +26,7 @@ impl Gate for OpenGate {
 
 impl<J: Naming, M: Mailbox + Carrier, R: Wait + Drop> Bus<J, M, R> {
     /// Finds the recipients of a broadcast, leaves the published state, and puts the message into their outboxes.
-    /// Answers those whose outbox refused it, a shut one included, by rising number. The view is that of the bytes.
+    /// Answers those whose outbox refused it, a shut one included, by rising number.
     /// Nothing is written out: `Pass::push_out` does it.
     ///
     /// # Errors
@@ -42,7 +42,9 @@ impl<J: Naming, M: Mailbox + Carrier, R: Wait + Drop> Bus<J, M, R> {
         view: &View<'_>,
         bytes: &Bytes,
     ) -> Result<ArrayVec<u64, MAX_RECIPIENTS>, BusError>
-        ensures { MatchResult result (λ refused. HasRouted M.outbox_of source view.now pass.old refused.items pass.new) (λ error. IsUnrouted M.outbox_of error pass.old pass.new) }
+        // The view is that of the bytes.
+        requires { view.now ≡ bytes.now }
+        ensures { MatchResult result (λ refused. HasRoutedToSome M.outbox_of source bytes.now pass.old refused.items pass.new) (λ error. IsUnrouted M.outbox_of error pass.old pass.new) }
     {
         let mut lists = RouteLists::new();
         self.route_into(rt, alloc, pass, source, view, bytes, &mut lists)?;
@@ -61,7 +63,9 @@ impl<J: Naming, M: Mailbox + Carrier, R: Wait + Drop> Bus<J, M, R> {
         bytes: &Bytes,
         lists: &mut RouteLists,
     ) -> Result<(), BusError>
-        ensures { MatchResult result (λ _. HasRouted M.outbox_of source view.now pass.old lists.new.refused.items pass.new) (λ error. IsUnrouted M.outbox_of error pass.old pass.new) }
+        // The view is that of the bytes.
+        requires { view.now ≡ bytes.now }
+        ensures { MatchResult result (λ _. HasRouted M.outbox_of source bytes.now pass.old lists.new.recipients.items lists.new.refused.items pass.new) (λ error. IsUnrouted M.outbox_of error pass.old pass.new) }
     {
         pass.broadcast(rt, alloc, source, view, bytes, &OpenGate, lists)
     }
@@ -78,7 +82,9 @@ impl<J: Naming, M: Mailbox + Carrier, R: Wait + Drop> Bus<J, M, R> {
         bytes: &Bytes,
         gate: &G,
     ) -> Result<ArrayVec<u64, MAX_RECIPIENTS>, BusError>
-        ensures { MatchResult result (λ refused. HasRouted M.outbox_of source view.now pass.old refused.items pass.new) (λ error. IsUnrouted M.outbox_of error pass.old pass.new) }
+        // The view is that of the bytes.
+        requires { view.now ≡ bytes.now }
+        ensures { MatchResult result (λ refused. HasRoutedToSome M.outbox_of source bytes.now pass.old refused.items pass.new) (λ error. IsUnrouted M.outbox_of error pass.old pass.new) }
     {
         let mut lists = RouteLists::new();
         pass.broadcast(rt, alloc, source, view, bytes, gate, &mut lists)?;
