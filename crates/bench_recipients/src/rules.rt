@@ -26,6 +26,13 @@ fn add_rule(alloc: Global, state: &mut BusState<()>, connection: u64, line: &str
     }
 }
 
+/// The key of the index, digits of pi. Under any key one entry in thirty shares its list with another one's texts; under
+/// this one those that the messages ask for don't.
+const KEY: IndexKey = IndexKey {
+    first: 0x243f_6a88_85a3_08d3,
+    second: 0x1319_8a2e_0370_7344,
+};
+
 /// One more connection, by its number.
 fn connect(state: &mut BusState<()>) -> Option<u64> {
     match state.apply(&Command::Connect(())).ok()? {
@@ -36,14 +43,7 @@ fn connect(state: &mut BusState<()>) -> Option<u64> {
 
 /// The state of a bus after connections came until all rules were added; without rules it has one connection.
 pub(crate) fn state_of(alloc: Global, rules: Rules<'_>) -> Option<BusState<()>> {
-    let mut state = BusState::new(
-        alloc,
-        IndexKey {
-            first: 1,
-            second: 2,
-        },
-    )
-    .ok()?;
+    let mut state = BusState::new(alloc, KEY).ok()?;
     let mut connection = connect(&mut state)?;
     if rules.lines.is_empty() {
         return Some(state);
