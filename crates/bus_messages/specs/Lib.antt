@@ -1,9 +1,10 @@
-pub mod ErrorNames
-pub use Rattle.unique_name.specs.UniqueNames
+pub mod Arguments
 pub mod Bodies
-pub mod Sent
+pub mod CallAnswers
+pub mod CallErrors
+pub mod Calls
+pub mod ErrorNames
 pub mod Methods
 pub mod Rows
-pub mod Arguments
-pub mod Calls
-pub mod CallAnswers
+pub mod Sent
+pub use Rattle.unique_name.specs.UniqueNames

@@ -8,6 +8,7 @@ ghost use Rattle.bus_messages.specs.declared.call.Call.TheVariants.{Get, GetAll}
 ghost use Rattle.bus_messages.specs.declared.call.CallError.TheVariants.{InvalidArgs};
 ghost use Rattle.bus_messages.specs.Calls.{IsReadAs, is_property};
 ghost use Rattle.bus_messages.specs.CallAnswers.{Understands};
+ghost use Rattle.bus_messages.specs.CallErrors.{error_name_of};
 ghost use Rattle.bus_messages.specs.Methods.{bus};
 
 use crate::arguments::Arguments;
@@ -66,7 +67,9 @@ pub enum CallError {
 
 impl CallError {
     /// The error that the call is answered with.
-    pub fn error_name(self) -> ErrorName {
+    pub fn error_name(self) -> ErrorName
+        ensures { result ≡ error_name_of self }
+    {
         match self {
             CallError::UnknownMethod => ErrorName::UnknownMethod,
             CallError::InvalidArgs => ErrorName::InvalidArgs,

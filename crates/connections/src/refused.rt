@@ -54,6 +54,12 @@ fn program_error(fault: VerifyError) -> ErrorName
 }
 
 impl From<CallError> for Refused {
+    ghost use Rattle.std.specs.Prelude.{◌≡◌};
+    ghost use Rattle.bus_messages.specs.CallErrors.{error_name_of};
+    ghost use Rattle.connections.specs.declared.refused.Refused.TheVariants.{Error};
+
+    ghost from_gives = { λ error why. why ≡ Error (error_name_of error) };
+
     fn from(error: CallError) -> Refused {
         Refused::Error(error.error_name())
     }
