@@ -16,4 +16,9 @@ words_hash point text zero = 1
 words_hash point text (suc words) = absorb point (words_hash point text words) (seven_at text (7 * words))
 
 unfoldable pub text_hash : ℕ → List ℕ → ℕ
-text_hash point text = absorb (point % prime) (words_hash (point % prime) text ((length text - 1) / 7)) (last_word text)
+text_hash point text = absorb point (words_hash point text ((length text - 1) / 7)) (last_word text)
+
+-- what a power of the point leaves
+unfoldable pub power : ℕ → ℕ → ℕ
+power point zero = 1
+power point (suc exponent) = power point exponent * point % prime

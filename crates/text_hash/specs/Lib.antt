@@ -1,2 +1,3 @@
 pub mod Words
 pub mod Hashes
+pub mod Wides

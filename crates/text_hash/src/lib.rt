@@ -3,6 +3,9 @@
 #![tactic(auto)]
 
 mod hash;
+mod point;
+mod wide;
 mod word;
 
 pub use hash::text_hash;
+pub use point::Point;

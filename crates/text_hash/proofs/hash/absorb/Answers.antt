@@ -4,4 +4,4 @@ use Rattle.text_hash.proofs.hash.absorb.Goals as goal
 
 pub returns-clause-value : goal.returns-clause-value
 unfolding absorb
-returns-clause-value c = c.product.ensures ∙ ap (λ n. n * c.args.point % prime) c.below_twice.ensures
+returns-clause-value c = c.product.ensures.value ∙ ap (λ n. n * c.args.point % prime) c.remainder.ensures
