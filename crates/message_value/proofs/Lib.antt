@@ -23,3 +23,4 @@ pub mod SmallValues
 pub mod FaultOrder
 pub mod MovedValues
 pub mod AppendedMembers
+pub mod PlainParts

@@ -1,6 +1,6 @@
 // The basic types whose values are texts.
 
-ghost use Rattle.std.specs.Prelude.{◌≡◌, ◌<◌, ◌^◌, ◌==◌, option_map};
+ghost use Rattle.std.specs.Prelude.{◌≡◌, ◌*◌, ◌≤◌, ◌<◌, ◌^◌, ◌==◌, length, option_map};
 ghost use Rattle.std.specs.List.{list_all, list_any};
 ghost use Rattle.message_value.specs.Fits.{is_text_of};
 ghost use Rattle.message_value.specs.Reading.{text_fault, text_at, long_text_at, short_text_at, text_value_at};
@@ -54,9 +54,9 @@ fn has_zero(bytes: &[u8]) -> bool
     memchr(0, bytes).is_some()
 }
 
-/// Whether each byte is an ASCII character other than zero, by a look at each without an early end. Such
-/// bytes are UTF-8, and most texts have no others.
-fn is_plain_ascii(bytes: &[u8]) -> bool
+/// Whether each byte is an ASCII character other than zero, by a look at each without an early end.
+#[inline(always)]
+fn each_is_plain(bytes: &[u8]) -> bool
     ensures { result ≡ list_all is_plain bytes.now }
 {
     let mut plain = true;
@@ -64,6 +64,45 @@ fn is_plain_ascii(bytes: &[u8]) -> bool
         plain &= is_plain(*byte);
     }
     plain
+}
+
+/// Whether the first and the last few bytes are plain, which are all of them.
+#[inline(always)]
+fn both_ends_are_plain(bytes: &[u8], few: usize) -> bool
+    requires few { few ≤ length bytes.now }
+    requires all { length bytes.now ≤ 2 * few }
+    ensures { result ≡ list_all is_plain bytes.now }
+{
+    each_is_plain(&bytes[..few]) & each_is_plain(&bytes[bytes.len() - few..])
+}
+
+/// How many bytes the processor looks at together.
+const AT_ONCE: usize = 16;
+
+/// Whether at least sixteen bytes are plain: sixteen from the start, and so on, and then the last sixteen.
+fn many_are_plain(bytes: &[u8]) -> bool
+    requires { 16 ≤ length bytes.now }
+    ensures { result ≡ list_all is_plain bytes.now }
+{
+    let mut plain = true;
+    for i in 0..bytes.len() / AT_ONCE {
+        plain &= each_is_plain(&bytes[AT_ONCE * i..AT_ONCE * i + AT_ONCE]);
+    }
+    plain & each_is_plain(&bytes[bytes.len() - AT_ONCE..])
+}
+
+/// Whether each byte is an ASCII character other than zero. Such bytes are UTF-8, and most texts have no others. A few
+/// bytes of a number that is known are looked at together; where the length is no multiple of that number, some are
+/// looked at twice.
+fn is_plain_ascii(bytes: &[u8]) -> bool
+    ensures { result ≡ list_all is_plain bytes.now }
+{
+    match bytes.len() {
+        16.. => many_are_plain(bytes),
+        8..16 => both_ends_are_plain(bytes, 8),
+        4..8 => both_ends_are_plain(bytes, 4),
+        _ => each_is_plain(bytes),
+    }
 }
 
 fn plain_text(bytes: &[u8]) -> Option<&str>

@@ -3,7 +3,7 @@ use Rattle.std.specs.Prelude.{◌&&◌}
 use Rattle.std.specs.List.{list_all}
 use Rattle.std.proofs.lemmas.List.{drop_more, drop_all}
 use Rattle.message_value.specs.Forms.{is_plain}
-use Rattle.message_value.proofs.text.is_plain_ascii.Goals as goal
+use Rattle.message_value.proofs.text.each_is_plain.Goals as goal
 
 all_three : (plain next rest : Bool) → ((plain && next) && rest) ≡ (plain && (next && rest))
 all_three true next rest = refl
