@@ -60,7 +60,7 @@ impl Index {
         let shape = shape_of(&texts);
         Standing {
             connection: (entry.connection % CONNECTION_LISTS as u64) as usize,
-            texts: list_of(shape, joined_hash(self.points, &texts)),
+            texts: list_of(shape, joined_hash(&self.points, &texts)),
             shape,
         }
     }

@@ -6,9 +6,7 @@ ghost use Rattle.entry_table.specs.TextKeys.{point_of, points_of};
 use crate::text_points::TextPoints;
 use core::hash::keyed_hasher;
 use std::hash::Hasher;
-
-/// The prime by which points are reduced, 2^61 - 1.
-const PRIME: u64 = (1 << 61) - 1;
+use text_hash::Point;
 
 /// The key of the hash by which texts are looked up. Whoever doesn't know it can't choose texts whose hashes meet.
 #[derive(Clone, Copy)]
@@ -21,12 +19,12 @@ impl IndexKey {
     /// A point for the texts of one of the four keys, by its number: SipHash-1-3 of the number, so that nobody who
     /// doesn't know this key can tell the point from one that is drawn.
     #[tactic(auto, unfolding(crate::specs::TextKeys::point_of))]
-    fn point(self, number: u8) -> u64
+    fn point(self, number: u8) -> Point
         ensures { result ≡ point_of self number }
     {
         let mut hasher = keyed_hasher(self.first, self.second);
         hasher.write(&[number]);
-        hasher.finish() % PRIME
+        Point::new(hasher.finish())
     }
 
     /// The points for the texts of the four keys.

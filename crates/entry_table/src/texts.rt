@@ -17,7 +17,7 @@ use crate::text_points::TextPoints;
 use match_rule::{FixedTexts, Rule};
 use message_view::{Arg, View};
 use std::marker::Model;
-use text_hash::text_hash;
+use text_hash::{Point, text_hash};
 
 /// How many lists there are for entries that fix a text, by the hash of their texts.
 pub(crate) const HASH_LISTS: usize = 32768;
@@ -80,8 +80,8 @@ fn join_hashes(member: u64, interface: u64, path: u64, arg0: u64) -> u64
 }
 
 /// The hash of a text at a point, 0 where there is no text.
-fn hash_of(point: u64, text: Option<&str>) -> u64
-    ensures { result ≡ text_hash point (option_map (λ text. text.now) text.entry) }
+fn hash_of(point: &Point, text: Option<&str>) -> u64
+    ensures { result ≡ text_hash point.now (option_map (λ text. text.now) text.entry) }
 {
     match text {
         None => 0,
@@ -122,22 +122,22 @@ pub(crate) fn shape_of(texts: &FixedTexts<'_>) -> u16
 }
 
 /// The hash of texts at these points.
-pub(crate) fn joined_hash(points: TextPoints, texts: &FixedTexts<'_>) -> u64
-    ensures { result ≡ joined_hash points texts.now }
+pub(crate) fn joined_hash(points: &TextPoints, texts: &FixedTexts<'_>) -> u64
+    ensures { result ≡ joined_hash points.now texts.now }
 {
     join_hashes(
-        hash_of(points.member, texts.member),
-        hash_of(points.interface, texts.interface),
-        hash_of(points.path, texts.path),
-        hash_of(points.arg0, texts.arg0),
+        hash_of(&points.member, texts.member),
+        hash_of(&points.interface, texts.interface),
+        hash_of(&points.path, texts.path),
+        hash_of(&points.arg0, texts.arg0),
     )
 }
 
 /// The hash of a text where it is wanted, else 0. It is computed once.
-fn hash_once(wanted: bool, known: &mut Option<u64>, point: u64, text: Option<&str>) -> u64
-    requires { ForSome known.old (λ hash. hash ≡ text_hash point (option_map (λ text. text.now) text)) }
-    ensures value { result ≡ text_hash point (if wanted then option_map (λ text. text.now) text.entry else None) }
-    ensures known { ForSome known.new (λ hash. hash ≡ text_hash point (option_map (λ text. text.now) text.entry)) }
+fn hash_once(wanted: bool, known: &mut Option<u64>, point: &Point, text: Option<&str>) -> u64
+    requires { ForSome known.old (λ hash. hash ≡ text_hash point.now (option_map (λ text. text.now) text)) }
+    ensures value { result ≡ text_hash point.now (if wanted then option_map (λ text. text.now) text.entry else None) }
+    ensures known { ForSome known.new (λ hash. hash ≡ text_hash point.now (option_map (λ text. text.now) text.entry)) }
 {
     if !wanted {
         return 0;
@@ -239,25 +239,25 @@ impl<'a> MessageTexts<'a> {
         let member = hash_once(
             shape % 2 == 1,
             &mut self.member_hash,
-            at.member,
+            &at.member,
             self.member.get(),
         );
         let interface = hash_once(
             shape / 2 % 2 == 1,
             &mut self.interface_hash,
-            at.interface,
+            &at.interface,
             self.interface.get(),
         );
         let path = hash_once(
             shape / 4 % 2 == 1,
             &mut self.path_hash,
-            at.path,
+            &at.path,
             self.path.get(),
         );
         let arg0 = hash_once(
             shape / 8 % 2 == 1,
             &mut self.arg0_hash,
-            at.arg0,
+            &at.arg0,
             self.arg0.get(),
         );
         list_of(shape, join_hashes(member, interface, path, arg0))
