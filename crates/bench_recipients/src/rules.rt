@@ -26,8 +26,8 @@ fn add_rule(alloc: Global, state: &mut BusState<()>, connection: u64, line: &str
     }
 }
 
-/// The key of the index, digits of pi. Under any key one entry in thirty shares its list with another one's texts; under
-/// this one those that the messages ask for don't.
+/// The key of the index, digits of pi. Under any key some entries share a list with another one's texts: of 1,000 one in
+/// thirty, of 16,000 about half. Under this one those that the messages ask for don't.
 const KEY: IndexKey = IndexKey {
     first: 0x243f_6a88_85a3_08d3,
     second: 0x1319_8a2e_0370_7344,
