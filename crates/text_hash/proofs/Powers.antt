@@ -2,7 +2,8 @@
 use Rattle.std.proofs.Common.{◌≡◌, ℕ, zero, suc, ◌+◌, ◌*◌, ◌%◌, ◌<◌, ◌≤◌, List, ◌∙◌, ap, sym, arith, mul_assoc, mul_comm, add-mul, mul-le-mul, mul-one, le_of_lt, length, slice_index, slice_set, ⊎_elim, eq-or-lt_of_le, get_or-set_same, get_or-set_other}
 use Rattle.std.proofs.lemmas.Nat.{mul-mod_first, mul-mod_second}
 use Rattle.std.proofs.Math.Nat.{mod-add-mod}
-use Rattle.text_hash.specs.Hashes.{prime, absorb, words_hash, power}
+use Rattle.text_hash.specs.Hashes.{prime, absorb, words_hash}
+use Rattle.text_hash.specs.Powers.{power}
 use Rattle.text_hash.specs.Words.{seven_at}
 
 pub power-low : (point exponent : ℕ) → power point exponent < prime

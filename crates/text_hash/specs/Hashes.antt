@@ -17,8 +17,3 @@ words_hash point text (suc words) = absorb point (words_hash point text words) (
 
 unfoldable pub text_hash : ℕ → List ℕ → ℕ
 text_hash point text = absorb point (words_hash point text ((length text - 1) / 7)) (last_word text)
-
--- what a power of the point leaves
-unfoldable pub power : ℕ → ℕ → ℕ
-power point zero = 1
-power point (suc exponent) = power point exponent * point % prime

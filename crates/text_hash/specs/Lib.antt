@@ -1,3 +1,3 @@
 pub mod Words
 pub mod Hashes
-pub mod Wides
+pub mod Powers

@@ -1,7 +1,8 @@
 // The points at which texts are hashed.
 
 ghost use Rattle.std.specs.Prelude.{◌≡◌, ◌%◌, ◌≤◌, ◌<◌};
-ghost use Rattle.text_hash.specs.Hashes.{prime, power};
+ghost use Rattle.text_hash.specs.Hashes.{prime};
+ghost use Rattle.text_hash.specs.Powers.{power};
 
 use crate::wide::{product, remainder};
 use std::marker::Model;
@@ -18,7 +19,8 @@ pub struct Point {
 
 impl Model for Point {
     ghost use Rattle.std.specs.Prelude.{◌≡◌, ◌<◌, ◌≤◌, ℕ, slice_index};
-    ghost use Rattle.text_hash.specs.Hashes.{prime, power};
+    ghost use Rattle.text_hash.specs.Hashes.{prime};
+    ghost use Rattle.text_hash.specs.Powers.{power};
 
     ghost Value = { ℕ };
 

@@ -2,7 +2,7 @@
 
 ghost use Rattle.std.specs.Prelude.{◌≡◌, ◌+◌, ◌*◌, ◌%◌, ◌<◌, ◌^◌};
 ghost use Rattle.text_hash.specs.Hashes.{prime};
-ghost use Rattle.text_hash.specs.Wides.{number_of};
+ghost use Rattle.text_hash.specs.Powers.{number_of};
 
 /// The prime 2^61 - 1.
 pub(crate) const PRIME: u64 = (1 << 61) - 1;

@@ -1,6 +1,7 @@
 use Rattle.std.proofs.Common.{◌≡◌, ◌+◌, ◌-◌, ◌*◌, ◌%◌, ◌≤◌, ◌^◌}
-use Rattle.text_hash.specs.Hashes.{prime, power, words_hash}
-use Rattle.text_hash.specs.Wides.{number_of}
+use Rattle.text_hash.specs.Hashes.{prime, words_hash}
+use Rattle.text_hash.specs.Powers.{power}
+use Rattle.text_hash.specs.Powers.{number_of}
 use Rattle.text_hash.proofs.hash.absorb_rest.Given as goal
 
 abbrev pub invariant-loop-i : goal.invariant-loop-i

@@ -1,5 +1,6 @@
 use Rattle.std.proofs.Common.{◌≡◌, ◌+◌, ◌*◌, ◌%◌, ◌<◌, ◌∙◌, sym, ap, subst, refl, arith, length, slice_index, le_refl, length-set, replicate}
-use Rattle.text_hash.specs.Hashes.{prime, power}
+use Rattle.text_hash.specs.Hashes.{prime}
+use Rattle.text_hash.specs.Powers.{power}
 use Rattle.text_hash.proofs.Powers.{power-low, powers-first, powers-next}
 use Rattle.text_hash.proofs.point.Point.new.Goals as goal
 

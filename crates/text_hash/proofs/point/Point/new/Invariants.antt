@@ -1,5 +1,5 @@
 use Rattle.std.proofs.Common.{◌≡◌, ℕ, ◌≤◌, length, slice_index}
-use Rattle.text_hash.specs.Hashes.{power}
+use Rattle.text_hash.specs.Powers.{power}
 use Rattle.text_hash.proofs.point.Point.new.Given as goal
 
 abbrev pub invariant-loop-k : goal.invariant-loop-k
