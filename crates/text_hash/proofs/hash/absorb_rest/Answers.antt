@@ -1,8 +1,7 @@
 use Rattle.std.proofs.Common.{◌≡◌, ◌+◌, ◌-◌, ◌*◌, ◌≤◌, ◌^◌, ◌%◌, ◌<◌, ◌∙◌, ap, ap₂, sym, subst, arith, le_of_lt}
 use Rattle.text_hash.specs.Hashes.{prime, words_hash}
-use Rattle.text_hash.specs.Powers.{power}
+use Rattle.text_hash.specs.Powers.{power, number_of}
 use Rattle.text_hash.specs.Words.{seven_at, last_word}
-use Rattle.text_hash.specs.Powers.{number_of}
 use Rattle.text_hash.proofs.Powers.{absorb-next, absorb-last, words_hash-next, product-low}
 use Rattle.text_hash.proofs.hash.absorb_rest.Goals as goal
 

@@ -1,7 +1,6 @@
 use Rattle.std.proofs.Common.{◌≡◌, ◌+◌, ◌-◌, ◌*◌, ◌%◌, ◌≤◌, ◌^◌}
 use Rattle.text_hash.specs.Hashes.{prime, words_hash}
-use Rattle.text_hash.specs.Powers.{power}
-use Rattle.text_hash.specs.Powers.{number_of}
+use Rattle.text_hash.specs.Powers.{power, number_of}
 use Rattle.text_hash.proofs.hash.absorb_rest.Given as goal
 
 abbrev pub invariant-loop-i : goal.invariant-loop-i
