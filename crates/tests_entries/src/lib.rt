@@ -3,3 +3,5 @@
 
 #[cfg(test)]
 mod calls;
+#[cfg(test)]
+mod hashes;
