@@ -38,7 +38,7 @@ impl<'a> Model for Cursor<'a> {
 }
 
 /// How many bytes lie before the next multiple. The alignments that values have are told apart, so that nothing is divided
-/// by a number that isn't known: that takes longer than all else of a short text.
+/// by a number that isn't known.
 #[inline(always)]
 pub fn padding(alignment: usize, place: usize) -> usize
     requires { 0 < alignment }
