@@ -2,6 +2,7 @@
 use Rattle.std.proofs.Common.{◌≡◌, ℕ, zero, suc, ◌+◌, ◌-◌, ◌<◌, ◌≤◌, Bool, true, false, not, cond, List, [], ◌∷◌, length, take, get_or, Option, Some, refl, sym, ap, ◌∙◌, arith, subst}
 use Rattle.std.proofs.lemmas.List.Sums.{sum_by-cons}
 use Rattle.std.proofs.lemmas.Bool.{not-true}
+use Rattle.std.specs.List.{slice_get}
 use Rattle.bpf_code.specs.declared.instruction.Ins.{Ins}
 use Rattle.bpf_code.specs.declared.operation.Op.{Op}
 use Rattle.bpf_code.specs.declared.operation.Op.TheVariants.{Jump, Branch}
@@ -14,7 +15,7 @@ use Rattle.jump_islands.specs.PlainLength.{is_far, count, span, size_of, sizes_o
 use Rattle.jump_islands.specs.Source.{is_plain_op, jump_over}
 use Rattle.jump_islands.specs.Tails.{TailTree, len, height, reach, jump_to, branch_to, with_ins, with_place, with_island, is_near, is_first_far, with_first, with_islands, with_branch}
 use Rattle.jump_islands.proofs.ListPlaces.{slice_get-seam}
-use Rattle.jump_islands.proofs.TailFacts.{PlainPut, JumpPut, BranchPut, IsPut, Holds, IsTail, put_extends, reached_on, reached_above, reached_below}
+use Rattle.jump_islands.proofs.TailFacts.{LeadsTo, PutAt, Holds, IsTail, put_extends, reached_on, reached_above, reached_below}
 use Rattle.jump_islands.proofs.TailSteps.{island_holds, put_holds, put_top, put_after, len-put}
 use Rattle.jump_islands.proofs.NearPlaces.{count-le, len-first, len-second, Spans, first_far, second_far}
 
@@ -34,19 +35,19 @@ short_on W source t m ins x tail h same size (suc d) i e =
     let s = tail.short d in
     omega (arith, len-put x m)
 
-tail_with : (W : Type 0) (source : List Ins) (t m : TailTree) (ins x : Ins) → IsTail W source t → Holds W source m → m.heights ≡ t.heights → len m + 1 ≤ size_of (op_of ins.code) ins (sizes_of source) + len t → IsPut (with_place (with_ins x m)) (op_of ins.code) ins (length source) → IsTail W (ins ∷ source) (with_place (with_ins x m))
+tail_with : (W : Type 0) (source : List Ins) (t m : TailTree) (ins x : Ins) → IsTail W source t → Holds W source m → m.heights ≡ t.heights → len m + 1 ≤ size_of (op_of ins.code) ins (sizes_of source) + len t → PutAt (with_place (with_ins x m)) (op_of ins.code) ins (length source) (len m) → IsTail W (ins ∷ source) (with_place (with_ins x m))
 tail_with W source t m ins x tail h same size put = record {
-  holds = put_holds W source m h ins x put;
+  holds = put_holds W source m h ins x (record { at = len m; above = put_top W source m h x; is = put });
   top = (let e : length (ins ∷ source) ≡ length source + 1 = omega arith in rw e (put_top W source m h x)) ∙ sym (len-put x m);
   short = λ d. short_on W source t m ins x tail h same size d (length (ins ∷ source) - d) (omega arith);
 }
 
 -- ---- an instruction that is no jump
 
-plain_put : (t : TailTree) (o : Option Op) (ins : Ins) (i : ℕ) → is_plain_op o ≡ true → PlainPut t ins i → IsPut t o ins i
-plain_put t (Some Jump) ins i plain p = cc
-plain_put t (Some (Branch test operand)) ins i plain p = cc
-plain_put t _ ins i plain p = p
+plain_put : (t : TailTree) (o : Option Op) (ins : Ins) (i at : ℕ) → is_plain_op o ≡ true → (slice_get t.program at ≡ Some ins) × (height t i ≡ at) → PutAt t o ins i at
+plain_put t (Some Jump) ins i at plain p = cc
+plain_put t (Some (Branch test operand)) ins i at plain p = cc
+plain_put t _ ins i at plain p = p
 
 size_some : (o : Option Op) (ins : Ins) (later : List ℕ) → 1 ≤ size_of o ins later
 size_some (Some (Branch test operand)) ins later = omega arith
@@ -54,29 +55,19 @@ size_some _ ins later = omega arith
 
 pub plain_tail : (W : Type 0) (source : List Ins) (t : TailTree) (ins : Ins) → IsTail W source t → is_plain_op (op_of ins.code) ≡ true → IsTail W (ins ∷ source) (with_place (with_ins ins t))
 plain_tail W source t ins tail plain =
-    let u = with_place (with_ins ins t) in
-    let bounded : height u (length source) ≡ len t = put_after W source t tail.holds ins (length source) (omega arith) ∙ tail.top in
-    tail_with W source t t ins ins tail tail.holds refl (let s = size_some (op_of ins.code) ins (sizes_of source) in omega arith) (plain_put u (op_of ins.code) ins (length source) plain (record {
-      above = put_top W source t tail.holds ins ∙ ap (λ (h : ℕ). h + 1) (sym bounded);
-      is = rw bounded (slice_get-seam t.program [] ins);
-    }))
+    let bounded = put_after W source t tail.holds ins (length source) (omega arith) ∙ tail.top in
+    let size = size_some (op_of ins.code) ins (sizes_of source) in
+    tail_with W source t t ins ins tail tail.holds refl (omega arith) (plain_put (with_place (with_ins ins t)) (op_of ins.code) ins (length source) (len t) plain (slice_get-seam t.program [] ins, bounded))
 
 -- ---- a jump
 
 pub jump_tail : (W : Type 0) (source : List Ins) (t : TailTree) (k : ℕ) → IsTail W source t → IsTail W (jump_over k ∷ source) (with_place (with_ins (jump_to (length source - k) t) t))
 jump_tail W source t k tail =
     let x = jump_to (length source - k) t in
-    let u = with_place (with_ins x t) in
     let small = tail.holds.below (length source - k) (omega arith) in
     let bounded = put_after W source t tail.holds x (length source - k) (omega arith) in
-    let put : JumpPut u (jump_over k) (length source) = record {
-      at = len t;
-      above = put_top W source t tail.holds x;
-      over = len t - height t (length source - k);
-      is = slice_get-seam t.program [] x;
-      to = omega (arith, bounded, small);
-    } in
-    tail_with W source t t (jump_over k) x tail tail.holds refl (let s = size_some (op_of 5) (jump_over k) (sizes_of source) in omega arith) put
+    let size = size_some (op_of 5) (jump_over k) (sizes_of source) in
+    tail_with W source t t (jump_over k) x tail tail.holds refl (omega arith) (len t - height t (length source - k), slice_get-seam t.program [] x, omega arith)
 
 -- ---- a conditional jump
 
@@ -120,7 +111,7 @@ islands_few t hit miss to_hit to_miss s inside small =
 
 pub branch_tail : (W : Type 0) (source : List Ins) (t : TailTree) (test : Test) (operand : Operand) (k jt jf : ℕ) → IsTail W source t → (W → 0 < length source - jt) → (W → 0 < length source - jf) → IsTail W (record { code = code_of (Branch test operand); jt = jt; jf = jf; k = k } ∷ source) (with_place (with_branch test operand k (length source - jt) (length source - jf) (with_islands (length source - jt) (length source - jf) t)))
 branch_tail W source t test operand k jt jf tail hit_well miss_well =
-    tail_with W source t m ins x tail h heights size (subst (λ (o : Option Op). IsPut u o ins (length source)) (sym (branch_op test operand)) put)
+    tail_with W source t m ins x tail h heights size (subst (λ (o : Option Op). PutAt u o ins (length source) (len m)) (sym (branch_op test operand)) put)
   where
     hit : ℕ
     hit = length source - jt
@@ -172,23 +163,10 @@ branch_tail W source t test operand k jt jf tail hit_well miss_well =
         let e = branch_size (op_of ins.code) test operand ins (sizes_of source) (branch_op test operand) in
         omega arith
 
-    hit_small : reach m hit ≤ len m
-    hit_small = reached_below m hit (reach m hit) (h.below hit hit_in) (h.reaches hit hit_in)
+    leads : (i : ℕ) → i ≤ length source → LeadsTo u i (len m) (len m - reach m i)
+    leads i inside =
+        let small = reached_below m i (reach m i) (h.below i inside) (h.reaches i inside) in
+        (reach m i, reached_on m u (put_extends m x) i (reach m i) (omega (arith, h.long)) (h.reaches i inside), omega arith)
 
-    miss_small : reach m miss ≤ len m
-    miss_small = reached_below m miss (reach m miss) (h.below miss miss_in) (h.reaches miss miss_in)
-
-    put : BranchPut u ins (length source)
-    put = record {
-      at = len m;
-      above = put_top W source m h x;
-      jt = len m - reach m hit;
-      jf = len m - reach m miss;
-      is = slice_get-seam m.program [] x;
-      hit = reach m hit;
-      hit_leads = reached_on m u (put_extends m x) hit (reach m hit) (omega (arith, h.long)) (h.reaches hit hit_in);
-      hit_at = omega (arith, hit_small);
-      miss = reach m miss;
-      miss_leads = reached_on m u (put_extends m x) miss (reach m miss) (omega (arith, h.long)) (h.reaches miss miss_in);
-      miss_at = omega (arith, miss_small);
-    }
+    put : PutAt u (Some (Branch test operand)) ins (length source) (len m)
+    put = (len m - reach m hit, len m - reach m miss, slice_get-seam m.program [] x, leads hit hit_in, leads miss miss_in)
