@@ -1,7 +1,6 @@
 -- What each instruction of a source program adds to a tail.
-use Rattle.std.proofs.Common.{◌≡◌, ℕ, zero, suc, ◌+◌, ◌-◌, ◌<◌, ◌≤◌, Bool, true, false, not, cond, List, [], ◌∷◌, length, take, get_or, Option, Some, refl, sym, ap, ◌∙◌, arith, subst}
+use Rattle.std.proofs.Common.{◌≡◌, ℕ, zero, suc, ◌+◌, ◌-◌, ◌<◌, ◌≤◌, Bool, true, false, List, [], ◌∷◌, length, take, get_or, Option, Some, refl, sym, ap, ◌∙◌, arith, subst}
 use Rattle.std.proofs.lemmas.List.Sums.{sum_by-cons}
-use Rattle.std.proofs.lemmas.Bool.{not-true}
 use Rattle.std.specs.List.{slice_get}
 use Rattle.bpf_code.specs.declared.instruction.Ins.{Ins}
 use Rattle.bpf_code.specs.declared.operation.Op.{Op}
@@ -13,11 +12,11 @@ use Rattle.bpf_code.specs.declared.operation.Operand.TheVariants.{Constant, Inde
 use Rattle.bpf_code.specs.Table.{op_of, code_of}
 use Rattle.jump_islands.specs.PlainLength.{is_far, count, span, size_of, sizes_of}
 use Rattle.jump_islands.specs.Source.{is_plain_op, jump_over}
-use Rattle.jump_islands.specs.Tails.{TailTree, len, height, reach, jump_to, branch_to, with_ins, with_place, with_island, is_near, is_first_far, with_first, with_islands, with_branch}
+use Rattle.jump_islands.specs.Tails.{TailTree, len, height, reach, jump_to, branch_to, with_ins, with_place, with_needed, is_too_far, is_first_far, with_first, with_islands, with_branch}
 use Rattle.jump_islands.proofs.ListPlaces.{slice_get-seam}
 use Rattle.jump_islands.proofs.TailFacts.{LeadsTo, PutAt, Holds, IsTail, put_extends, reached_on, reached_above, reached_below}
 use Rattle.jump_islands.proofs.TailSteps.{island_holds, put_holds, put_top, put_after, len-put}
-use Rattle.jump_islands.proofs.NearPlaces.{count-le, len-first, len-second, Spans, first_far, second_far}
+use Rattle.jump_islands.proofs.NearPlaces.{count-le, len-needed, Spans, first_far, second_far}
 
 -- ---- the length
 
@@ -81,21 +80,13 @@ branch_op AtLeast Index = refl
 branch_op SharesBit Constant = refl
 branch_op SharesBit Index = refl
 
-first_holds : (W : Type 0) (source : List Ins) (t : TailTree) (place : ℕ) (b : Bool) → Holds W source t → place ≤ length source → (W → 0 < place) → Holds W source (cond b (with_island place t) t)
-first_holds W source t place true h inside well = island_holds W source t h place inside well
-first_holds W source t place false h inside well = h
+needed_holds : (W : Type 0) (source : List Ins) (t : TailTree) (place : ℕ) (needed : Bool) → Holds W source t → place ≤ length source → (W → 0 < place) → Holds W source (with_needed needed place t)
+needed_holds W source t place true h inside well = island_holds W source t h place inside well
+needed_holds W source t place false h inside well = h
 
-second_holds : (W : Type 0) (source : List Ins) (t : TailTree) (place : ℕ) (b : Bool) → Holds W source t → place ≤ length source → (W → 0 < place) → Holds W source (cond b t (with_island place t))
-second_holds W source t place true h inside well = h
-second_holds W source t place false h inside well = island_holds W source t h place inside well
-
-first_heights : (t : TailTree) (place : ℕ) (b : Bool) → (cond b (with_island place t) t).heights ≡ t.heights
-first_heights t place true = refl
-first_heights t place false = refl
-
-second_heights : (t : TailTree) (place : ℕ) (b : Bool) → (cond b t (with_island place t)).heights ≡ t.heights
-second_heights t place true = refl
-second_heights t place false = refl
+needed_heights : (t : TailTree) (place : ℕ) (needed : Bool) → (with_needed needed place t).heights ≡ t.heights
+needed_heights t place true = refl
+needed_heights t place false = refl
 
 branch_size : (o : Option Op) (test : Test) (operand : Operand) (ins : Ins) (later : List ℕ) → o ≡ Some (Branch test operand) → size_of o ins later ≡ 1 + count (is_far (span ins.jt later) (span ins.jf later)) + count (is_far (span ins.jf later) (span ins.jt later))
 branch_size o test operand ins later e = rw e refl
@@ -103,10 +94,10 @@ branch_size o test operand ins later e = rw e refl
 islands_few : (t : TailTree) (hit miss to_hit to_miss : ℕ) → Spans t hit miss to_hit to_miss → hit < length t.reaches → reach t hit ≤ len t → len (with_islands hit miss t) ≤ len t + count (is_far to_hit to_miss) + count (is_far to_miss to_hit)
 islands_few t hit miss to_hit to_miss s inside small =
     let u = with_first hit miss t in
-    let first = len-first hit t (is_first_far hit miss t) in
-    let second = len-second miss u (is_near miss (len u) u) in
+    let first = len-needed (is_first_far hit miss t) hit t in
+    let second = len-needed (is_too_far miss (len u) u) miss u in
     let a = count-le (is_first_far hit miss t) (is_far to_hit to_miss) (first_far t hit miss to_hit to_miss s) in
-    let b = count-le (not (is_near miss (len u) u)) (is_far to_miss to_hit) (λ e. second_far t hit miss to_hit to_miss s inside small (is_first_far hit miss t) refl (not-true _ e)) in
+    let b = count-le (is_too_far miss (len u) u) (is_far to_miss to_hit) (second_far t hit miss to_hit to_miss s inside small (is_first_far hit miss t) refl) in
     omega arith
 
 pub branch_tail : (W : Type 0) (source : List Ins) (t : TailTree) (test : Test) (operand : Operand) (k jt jf : ℕ) → IsTail W source t → (W → 0 < length source - jt) → (W → 0 < length source - jf) → IsTail W (record { code = code_of (Branch test operand); jt = jt; jf = jf; k = k } ∷ source) (with_place (with_branch test operand k (length source - jt) (length source - jf) (with_islands (length source - jt) (length source - jf) t)))
@@ -132,13 +123,13 @@ branch_tail W source t test operand k jt jf tail hit_well miss_well =
     m = with_islands hit miss t
 
     first_h : Holds W source first
-    first_h = first_holds W source t hit (is_first_far hit miss t) tail.holds hit_in hit_well
+    first_h = needed_holds W source t hit (is_first_far hit miss t) tail.holds hit_in hit_well
 
     h : Holds W source m
-    h = second_holds W source first miss (is_near miss (len first) first) first_h miss_in miss_well
+    h = needed_holds W source first miss (is_too_far miss (len first) first) first_h miss_in miss_well
 
     heights : m.heights ≡ t.heights
-    heights = second_heights first miss (is_near miss (len first) first) ∙ first_heights t hit (is_first_far hit miss t)
+    heights = needed_heights first miss (is_too_far miss (len first) first) ∙ needed_heights t hit (is_first_far hit miss t)
 
     ins : Ins
     ins = record { code = code_of (Branch test operand); jt = jt; jf = jf; k = k }
