@@ -25,8 +25,6 @@ pub(crate) struct Tail {
 }
 
 impl Model for Tail {
-    ghost use Rattle.jump_islands.specs.Tails.{TailTree};
-
     ghost Value = { TailTree };
 
     ghost view = { λ t. record { program = t.program.items; heights = t.heights.items; reaches = t.reaches.items } };
