@@ -117,10 +117,9 @@ stored_way source t q k earlier well low w (inr (over, is, tied)) reads = absurd
 -- ---- each instruction by itself
 
 near_inside : (source : List Ins) (t : TailTree) (p q : ℕ) → AreLowered t source → p < length source → Near (length source) t p q → q < len t
-near_inside source t p q low inside (inl tied) =
-    let some = positive t source (length source - p) low (omega arith) (omega arith) in omega arith
-near_inside source t p q low inside (inr (k, is, tied)) =
-    let some = positive t source (length source - p) low (omega arith) (omega arith) in omega arith
+near_inside source t p q low inside near =
+    let some = positive t source (length source - p) low (omega arith) (omega arith) in
+    elim near [ inl tied ↦ omega arith | inr (k, is, tied) ↦ omega arith ]
 
 fine_op : (source : List Ins) (t : TailTree) (p q : ℕ) (ins : Ins) (o : Option Op) → AreLowered t source → slice_get source p ≡ Some ins → op_of ins.code ≡ o → There (length source) t o ins p q → At source p (IsFine (length source) p) → At (program_of t) q (IsFine (len t) q)
 fine_op source t p q ins (Some Jump) low at row (over, is, to) fine =

@@ -12,6 +12,7 @@ use Rattle.bpf_code.specs.declared.operation.Operand.{Operand}
 use Rattle.bpf_code.specs.Program.{IsFine}
 use Rattle.bpf_code.specs.Steps.{start}
 use Rattle.bpf_code.specs.Table.{op_of}
+use Rattle.bpf_code.proofs.OneTable.{row_of_code}
 use Rattle.jump_islands.specs.declared.error.LowerError.{LowerError}
 use Rattle.jump_islands.specs.declared.error.LowerError.TheVariants.{TooMany, NoMemory}
 use Rattle.jump_islands.specs.declared.source_ins.SourceIns.{SourceIns}
@@ -24,7 +25,7 @@ use Rattle.jump_islands.specs.Tails.{TailTree, len, height, reach, no_tail, jump
 use Rattle.jump_islands.proofs.ListPlaces.{slice_get-seam, all_at}
 use Rattle.jump_islands.proofs.TailFacts.{IsTail, reached_below}
 use Rattle.jump_islands.proofs.TailSteps.{tail_start}
-use Rattle.jump_islands.proofs.TailLines.{plain_tail, jump_tail, branch_tail, branch_op}
+use Rattle.jump_islands.proofs.TailLines.{plain_tail, jump_tail, branch_tail}
 use Rattle.jump_islands.proofs.SourceRuns.{Lowers, tied_start, ends_on, only_on}
 use Rattle.jump_islands.proofs.SourcePaths.{well_formed}
 
@@ -50,7 +51,7 @@ inside source front done test operand k hit miss e well =
     let ins : Ins = branch_over test operand k hit miss in
     let size : length source ≡ length front + (length done + 1) = ap length e ∙ length-append front (ins ∷ done) ∙ omega arith in
     let at : slice_get source (length front) ≡ Some ins = ap (λ (code : List Ins). slice_get code (length front)) e ∙ slice_get-seam front done ins in
-    let fine : IsFine (length source) (length front) (BranchOp test operand) ins = rw (at, branch_op test operand) at (well.fine (length front) (omega arith)) in
+    let fine : IsFine (length source) (length front) (BranchOp test operand) ins = rw (at, row_of_code (BranchOp test operand)) at (well.fine (length front) (omega arith)) in
     let jump : (length front + 1 + hit < length source) × (length front + 1 + miss < length source) = fine.jump in
     let a = jump.0 in
     let b = jump.1 in

@@ -6,10 +6,9 @@ use Rattle.bpf_code.specs.declared.instruction.Ins.{Ins}
 use Rattle.bpf_code.specs.declared.operation.Op.{Op}
 use Rattle.bpf_code.specs.declared.operation.Op.TheVariants.{Jump, Branch}
 use Rattle.bpf_code.specs.declared.operation.Test.{Test}
-use Rattle.bpf_code.specs.declared.operation.Test.TheVariants.{Equal, Above, AtLeast, SharesBit}
 use Rattle.bpf_code.specs.declared.operation.Operand.{Operand}
-use Rattle.bpf_code.specs.declared.operation.Operand.TheVariants.{Constant, Index}
 use Rattle.bpf_code.specs.Table.{op_of, code_of}
+use Rattle.bpf_code.proofs.OneTable.{row_of_code}
 use Rattle.jump_islands.specs.PlainLength.{is_far, count, span, size_of, sizes_of}
 use Rattle.jump_islands.specs.Source.{is_plain_op, jump_over}
 use Rattle.jump_islands.specs.Tails.{TailTree, len, height, reach, jump_to, branch_to, with_ins, with_place, with_needed, is_too_far, is_first_far, with_first, with_islands, with_branch}
@@ -70,16 +69,6 @@ jump_tail W source t k tail =
 
 -- ---- a conditional jump
 
-pub branch_op : (test : Test) (operand : Operand) → op_of (code_of (Branch test operand)) ≡ Some (Branch test operand)
-branch_op Equal Constant = refl
-branch_op Equal Index = refl
-branch_op Above Constant = refl
-branch_op Above Index = refl
-branch_op AtLeast Constant = refl
-branch_op AtLeast Index = refl
-branch_op SharesBit Constant = refl
-branch_op SharesBit Index = refl
-
 needed_holds : (W : Type 0) (source : List Ins) (t : TailTree) (place : ℕ) (needed : Bool) → Holds W source t → place ≤ length source → (W → 0 < place) → Holds W source (with_needed needed place t)
 needed_holds W source t place true h inside well = island_holds W source t h place inside well
 needed_holds W source t place false h inside well = h
@@ -102,7 +91,7 @@ islands_few t hit miss to_hit to_miss s inside small =
 
 pub branch_tail : (W : Type 0) (source : List Ins) (t : TailTree) (test : Test) (operand : Operand) (k jt jf : ℕ) → IsTail W source t → (W → 0 < length source - jt) → (W → 0 < length source - jf) → IsTail W (record { code = code_of (Branch test operand); jt = jt; jf = jf; k = k } ∷ source) (with_place (with_branch test operand k (length source - jt) (length source - jf) (with_islands (length source - jt) (length source - jf) t)))
 branch_tail W source t test operand k jt jf tail hit_well miss_well =
-    tail_with W source t m ins x tail h heights size (subst (λ (o : Option Op). PutAt u o ins (length source) (len m)) (sym (branch_op test operand)) put)
+    tail_with W source t m ins x tail h heights size (subst (λ (o : Option Op). PutAt u o ins (length source) (len m)) (sym (row_of_code (Branch test operand))) put)
   where
     hit : ℕ
     hit = length source - jt
@@ -151,7 +140,7 @@ branch_tail W source t test operand k jt jf tail hit_well miss_well =
     size : len m + 1 ≤ size_of (op_of ins.code) ins (sizes_of source) + len t
     size =
         let few = islands_few t hit miss (span jt (sizes_of source)) (span jf (sizes_of source)) spans (omega (arith, tail.holds.reached)) (reached_below t hit (reach t hit) (tail.holds.below hit hit_in) (tail.holds.reaches hit hit_in)) in
-        let e = branch_size (op_of ins.code) test operand ins (sizes_of source) (branch_op test operand) in
+        let e = branch_size (op_of ins.code) test operand ins (sizes_of source) (row_of_code (Branch test operand)) in
         omega arith
 
     leads : (i : ℕ) → i ≤ length source → LeadsTo u i (len m) (len m - reach m i)
