@@ -55,7 +55,8 @@ pub plain_tail : (W : Type 0) (source : List Ins) (t : TailTree) (ins : Ins) →
 plain_tail W source t ins tail plain =
     let bounded = put_after W source t tail.holds ins (length source) (omega arith) ∙ tail.top in
     let size = size_some (op_of ins.code) ins (sizes_of source) in
-    tail_with W source t t ins ins tail tail.holds refl (omega arith) (plain_put (with_place (with_ins ins t)) (op_of ins.code) ins (length source) (len t) plain (slice_get-seam t.program [] ins, bounded))
+    let put = plain_put (with_place (with_ins ins t)) (op_of ins.code) ins (length source) (len t) plain (slice_get-seam t.program [] ins, bounded) in
+    tail_with W source t t ins ins tail tail.holds refl (omega arith) put
 
 -- ---- a jump
 
@@ -91,7 +92,8 @@ islands_few t hit miss to_hit to_miss s inside small =
 
 pub branch_tail : (W : Type 0) (source : List Ins) (t : TailTree) (test : Test) (operand : Operand) (k jt jf : ℕ) → IsTail W source t → (W → 0 < length source - jt) → (W → 0 < length source - jf) → IsTail W (record { code = code_of (Branch test operand); jt = jt; jf = jf; k = k } ∷ source) (with_place (with_branch test operand k (length source - jt) (length source - jf) (with_islands (length source - jt) (length source - jf) t)))
 branch_tail W source t test operand k jt jf tail hit_well miss_well =
-    tail_with W source t m ins x tail h heights size (subst (λ (o : Option Op). PutAt u o ins (length source) (len m)) (sym (row_of_code (Branch test operand))) put)
+    let row = sym (row_of_code (Branch test operand)) in
+    tail_with W source t m ins x tail h heights size (subst (λ (o : Option Op). PutAt u o ins (length source) (len m)) row put)
   where
     hit : ℕ
     hit = length source - jt
