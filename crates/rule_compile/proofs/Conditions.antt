@@ -17,7 +17,7 @@ use Rattle.message_view.specs.Message.{Message, sender_of}
 use Rattle.message_view.specs.Spelling.{arguments_of}
 use Rattle.message_view.specs.Valid.{Valid}
 use Rattle.match_key.specs.declared.kind_name.KindName.{KindName}
-use Rattle.match_key.specs.declared.kind_name.KindName.TheVariants.{Signal, MethodCall, MethodReturn, Error}
+use Rattle.match_key.specs.declared.kind_name.KindName.TheVariants.{Signal}
 use Rattle.match_key.specs.declared.source.Field.{Field}
 use Rattle.match_key.specs.declared.source.Field.TheVariants.{Interface, Member, Path, Destination}
 use Rattle.match_key.specs.declared.source.Source.TheVariants.{Header, Arg}
@@ -37,7 +37,7 @@ use Rattle.message_value.specs.Bytes.{AreBytes}
 use Rattle.summary.specs.Layout.{kind_place, text_place, argument_place, ownership_place}
 use Rattle.rule_compile.specs.Code.{image_word, want, is_there, has_text_len, has_bytes, in_namespace}
 use Rattle.rule_compile.specs.Folders.{is_nested}
-use Rattle.rule_compile.specs.RuleCode.{field_at, owns, relation_len, relation_bytes, there_code, condition_words, condition_bytes}
+use Rattle.rule_compile.specs.RuleCode.{words_at, owns, relation_len, relation_bytes, there_code, condition_words, condition_bytes}
 use Rattle.rule_compile.proofs.Pieces.{Any, Tests}
 use Rattle.rule_compile.proofs.Combined.{Extends, extends_none, tests_none, tests_same, tests_word}
 use Rattle.rule_compile.proofs.InTurn.{InTurn, turn_first, turn_second, turn_then, turn_same, turn_one}
@@ -50,9 +50,7 @@ use Rattle.rule_compile.proofs.Arguments.{turn_argument}
 
 kind_back : (kind : KindName) → kind_of (kind_byte (kind_meant kind)) ≡ Some (kind_meant kind)
 kind_back Signal = refl
-kind_back MethodCall = refl
-kind_back MethodReturn = refl
-kind_back Error = refl
+kind_back _ = refl
 
 same_kind : (a b : kinds.Kind) → Some a ≡ Some b → a ≡ b
 same_kind a b h = cc
@@ -160,15 +158,13 @@ turn_shown relations.NestedPath image at shown value shows bytes =
 
 -- the text of an argument, which is there
 turn_told : (relation : Relation) (image : List ℕ) (at : ℕ) (text value : List ℕ) → Tells image at text → AreBytes value → InTurn image (Relates relation text value) (relation_len relation at value) (relation_bytes relation at value)
-turn_told relations.Equal image at text value tells bytes = turn_shown relations.Equal image at (Some text) value tells bytes
-turn_told relations.PathNamespace image at text value tells bytes = turn_shown relations.PathNamespace image at (Some text) value tells bytes
-turn_told relations.NameNamespace image at text value tells bytes = turn_shown relations.NameNamespace image at (Some text) value tells bytes
 turn_told relations.NestedPath image at text value tells bytes =
     turn_second image (AreNested text value) (is_nested at value) (is_nested_tests image at text value tells bytes)
+turn_told relation image at text value tells bytes = turn_shown relation image at (Some text) value tells bytes
 
 -- ---- what an image shows of each source
 
-shows_field : (image : List ℕ) (m : Message) (slots : List ℕ) (field : Field) → Shows Two image m slots → ShowsText image (field_at field) (field_of field m)
+shows_field : (image : List ℕ) (m : Message) (slots : List ℕ) (field : Field) → Shows Two image m slots → ShowsText image (words_at (Header field)) (field_of field m)
 shows_field image m slots Interface shows = shows.interface
 shows_field image m slots Member shows = shows.member
 shows_field image m slots Path shows = shows.path
@@ -187,6 +183,6 @@ turn_condition image bytes m slots owned slot (Kind kind) valid shows slot_small
 turn_condition image bytes m slots owned slot (Sender name) valid shows slot_small fits small are =
     turn_sender image slots slot name (sender_of m) (is_owned_name name) (owned name) (shows.owned slot slot_small) shows.sender are fits
 turn_condition image bytes m slots owned slot (Compares (Header field) relation value) valid shows slot_small fits small are =
-    turn_shown relation image (field_at field) (field_of field m) value (shows_field image m slots field shows) are
+    turn_shown relation image (words_at (Header field)) (field_of field m) value (shows_field image m slots field shows) are
 turn_condition image bytes m slots owned slot (Compares (Arg n) relation value) valid shows slot_small fits small are =
     turn_argument image n relation (slice_get (arguments_of m) n) (λ text. Relates relation text value) (relation_len relation (argument_place n + 4) value) (relation_bytes relation (argument_place n + 4) value) (shows.argument n (let l = leb-true n 63 small in omega arith)) (λ a is text. argument_has_text bytes m n a valid is text) (extends_len relation (argument_place n + 4) value) (extends_relation relation (argument_place n + 4) value) (λ text tells. turn_told relation image (argument_place n + 4) text value tells are)

@@ -25,7 +25,7 @@ use Rattle.summary.specs.Layout.{kind_place, text_place, argument_place, ownersh
 use Rattle.rule_compile.specs.declared.condition.Part.TheVariants.{Words, Bytes}
 use Rattle.rule_compile.specs.Code.{image_word, load_indexed, index_from_a, branch, want, settle, half_number, same_word, same_words, same_bytes, has_len, is_there, is_there_if, has_text_len, index_text, has_bytes, may_end, in_namespace}
 use Rattle.rule_compile.specs.Folders.{with_front, parts_of, follow_parts, is_nested}
-use Rattle.rule_compile.specs.RuleCode.{field_at, words_at, owns, relation_len, relation_bytes, there_code, type_code, part_code, rank_of, ranks, of_rank, rising, falling, destination_fits, verdicts, rule_code}
+use Rattle.rule_compile.specs.RuleCode.{words_at, owns, relation_len, relation_bytes, there_code, type_code, part_code, rank_of, ranks, of_rank, rising, falling, destination_fits, verdicts, rule_code}
 
 -- ---- single instructions
 
@@ -211,8 +211,8 @@ words_within slot (Sender name) rest =
     let b = text_len_total Equal (length name) (text_place texts.Sender) rest in
     choice_total (is_owned_name name) (11 + total rest) (owns slot rest) (has_text_len Equal (length name) (text_place texts.Sender) rest) (omega arith) (omega arith)
 words_within slot (Compares (Header field) relation value) rest =
-    let tail = relation_len relation (field_at field) value rest in
-    omega (arith, there_code_total relation (field_at field) tail, relation_len_total relation (field_at field) value rest)
+    let tail = relation_len relation (words_at (Header field)) value rest in
+    omega (arith, there_code_total relation (words_at (Header field)) tail, relation_len_total relation (words_at (Header field)) value rest)
 words_within slot (Compares (Arg n) relation value) rest =
     let tail = relation_len relation (argument_place n + 4) value rest in
     omega (arith, type_code_total relation n tail, relation_len_total relation (argument_place n + 4) value rest)
