@@ -62,17 +62,11 @@ Stands text at value = (rest : List ℕ) × (drop at text ≡ value ++ rest)
 stands_none : (text : List ℕ) (at : ℕ) → Stands text at []
 stands_none text at = (drop at text, refl)
 
-heads : (a b : ℕ) (xs ys : List ℕ) → (a ∷ xs) ≡ (b ∷ ys) → a ≡ b
-heads a b xs ys h = cc
-
-tails : (a b : ℕ) (xs ys : List ℕ) → (a ∷ xs) ≡ (b ∷ ys) → xs ≡ ys
-tails a b xs ys h = cc
-
 stands_more : (text : List ℕ) (at a : ℕ) (more : List ℕ) → at < length text → ((slice_index text at ≡ a) × Stands text (at + 1) more) ↔ Stands text at (a ∷ more)
 stands_more text at a more inside =
     let e : drop at text ≡ slice_index text at ∷ drop (at + 1) text = drop_more text at 0 inside in (
       λ both. (both.1.0, e ∙ ap (λ (b : ℕ). b ∷ drop (at + 1) text) both.0 ∙ ap (λ (bs : List ℕ). a ∷ bs) both.1.1),
-      λ stands. (heads _ _ _ _ (sym e ∙ stands.1), (stands.0, tails _ _ _ _ (sym e ∙ stands.1))),
+      λ stands. let is : slice_index text at ∷ drop (at + 1) text ≡ a ∷ (more ++ stands.0) = sym e ∙ stands.1 in (cc, (stands.0, cc)),
     )
 
 stands_on : (text : List ℕ) (at to : ℕ) (value : List ℕ) → at ≡ to → Stands text at value → Stands text to value
@@ -139,14 +133,6 @@ tests_two image place text at a b lies are small inside =
       λ both. eq-eqb w (half_number a b) (rw (both.0, both.1) refl),
     ) (tests_indexed image place Half at w Equal (half_number a b) (loads_half image place text at lies inside))
 
-tests_four : (image : List ℕ) (place : ℕ) (text : List ℕ) (at a b c d : ℕ) → Lies image place text → AreBytes text → b < 256 → c < 256 → d < 256 → at + 4 ≤ length text → Tests image (At place) (AreFour text at a b c d) (λ rest. load_indexed Word at ∷ want Equal (four a b c d) rest)
-tests_four image place text at a b c d lies are small_b small_c small_d inside =
-    let w : ℕ = four (slice_index text at) (slice_index text (at + 1)) (slice_index text (at + 2)) (slice_index text (at + 3)) in
-    tests_same image (At place) _ _ (λ rest. load_indexed Word at ∷ want Equal (four a b c d) rest) (
-      λ e. four_same (slice_index text at) (slice_index text (at + 1)) (slice_index text (at + 2)) (slice_index text (at + 3)) a b c d (are (at + 1)) (are (at + 2)) (are (at + 3)) small_b small_c small_d (eqb-true w (four a b c d) e),
-      λ each. eq-eqb w (four a b c d) (rw (each.0, each.1, each.2, each.3) refl),
-    ) (tests_indexed image place Word at w Equal (four a b c d) (loads_word image place text at lies inside))
-
 -- ---- the words of a value
 
 -- a word of a text is that of a value
@@ -157,10 +143,6 @@ SameWord text at value i =
 extends_word : (at : ℕ) (value : List ℕ) (i : ℕ) → Extends (same_word at value i)
 extends_word at value i =
     extends_indexed Word (at + i) (four (slice_index value i) (slice_index value (i + 1)) (slice_index value (i + 2)) (slice_index value (i + 3)))
-
-tests_same_word : (image : List ℕ) (place : ℕ) (text : List ℕ) (at : ℕ) (value : List ℕ) (i : ℕ) → Lies image place text → AreBytes text → AreBytes value → at + i + 4 ≤ length text → Tests image (At place) (SameWord text at value i) (same_word at value i)
-tests_same_word image place text at value i lies are bytes inside =
-    tests_four image place text (at + i) (slice_index value i) (slice_index value (i + 1)) (slice_index value (i + 2)) (slice_index value (i + 3)) lies are (bytes (i + 1)) (bytes (i + 2)) (bytes (i + 3)) inside
 
 word_agrees : (text : List ℕ) (at : ℕ) (value : List ℕ) (i : ℕ) → SameWord text at value i → Agree text at value i (i + 4)
 word_agrees text at value i same k low high = go (k - i) (omega arith)
@@ -193,6 +175,16 @@ agree_word text at value i agree = (
         let e : at + i + d ≡ at + (i + d) = omega arith in
         ap (slice_index text) e ∙ agree (i + d) (omega arith) (omega arith)
 
+tests_same_word : (image : List ℕ) (place : ℕ) (text : List ℕ) (at : ℕ) (value : List ℕ) (i : ℕ) → Lies image place text → AreBytes text → AreBytes value → at + i + 4 ≤ length text → Tests image (At place) (Agree text at value i (i + 4)) (same_word at value i)
+tests_same_word image place text at value i lies are bytes inside =
+    let there = at + i in
+    let w : ℕ = four (slice_index text there) (slice_index text (there + 1)) (slice_index text (there + 2)) (slice_index text (there + 3)) in
+    let k : ℕ = four (slice_index value i) (slice_index value (i + 1)) (slice_index value (i + 2)) (slice_index value (i + 3)) in
+    tests_same image (At place) _ _ (same_word at value i) (
+      λ e. word_agrees text at value i (four_same (slice_index text there) _ _ _ (slice_index value i) _ _ _ (are (there + 1)) (are (there + 2)) (are (there + 3)) (bytes (i + 1)) (bytes (i + 2)) (bytes (i + 3)) (eqb-true w k e)),
+      λ agree. let each = agree_word text at value i agree in eq-eqb w k (rw (each.0, each.1, each.2, each.3) refl),
+    ) (tests_indexed image place Word there w Equal k (loads_word image place text there lies inside))
+
 pub extends_words : (at : ℕ) (value : List ℕ) (n : ℕ) → Extends (same_words at value n)
 extends_words at value zero = extends_none
 extends_words at value (suc n) =
@@ -215,8 +207,8 @@ tests_same_words image place text at value (suc n) lies are bytes inside =
     let front : Agree text at value 0 (4 * n) × Agree text at value (4 * n) (4 * suc n) ↔ Agree text at value 0 (4 * suc n) = agree_more text at value 0 (4 * n) (4 * suc n) (omega arith) (omega arith) in
     let e : 4 * n + 4 ≡ 4 * suc n = omega arith in
     tests_same image (At place) _ _ (same_words at value (suc n)) (
-      λ both. front.0 (both.0, subst (λ (to : ℕ). Agree text at value (4 * n) to) e (word_agrees text at value (4 * n) both.1)),
-      λ all. let parts = front.1 all in (parts.0, agree_word text at value (4 * n) (subst (λ (to : ℕ). Agree text at value (4 * n) to) (sym e) parts.1)),
+      λ both. front.0 (both.0, subst (λ (to : ℕ). Agree text at value (4 * n) to) e both.1),
+      λ all. let parts = front.1 all in (parts.0, subst (λ (to : ℕ). Agree text at value (4 * n) to) (sym e) parts.1),
     ) (tests_both image (At place) _ _ (same_words at value n) (same_word at value (4 * n)) (tests_same_words image place text at value n lies are bytes (omega (arith, inside))) (tests_same_word image place text at value (4 * n) lies are bytes (omega (arith, inside))))
 
 -- ---- the piece that compares all bytes of a value
@@ -234,13 +226,13 @@ extends_same_bytes at (a ∷ b ∷ c ∷ d ∷ more) =
 -- the last four bytes of a value, and words that have those before
 tests_many : (image : List ℕ) (place : ℕ) (text : List ℕ) (at : ℕ) (value : List ℕ) (last n : ℕ) → Lies image place text → AreBytes text → AreBytes value → last + 4 ≡ length value → last ≤ 4 * n → 4 * n ≤ length value → at + length value ≤ length text → Tests image (At place) (Stands text at value) (λ rest. same_word at value last (same_words at value n rest))
 tests_many image place text at value last n lies are bytes is enough few inside =
-    tests_same image (At place) (SameWord text at value last × Agree text at value 0 (4 * n)) (Stands text at value) (λ rest. same_word at value last (same_words at value n rest)) (
+    tests_same image (At place) (Agree text at value last (last + 4) × Agree text at value 0 (4 * n)) (Stands text at value) (λ rest. same_word at value last (same_words at value n rest)) (
       λ both. agree_stands text at value inside (λ i low high. elim (cases_lt i (4 * n)) [
         | inl less ↦ both.1 i low less
-        | inr more ↦ word_agrees text at value last both.0 i (omega arith) (omega arith)
+        | inr more ↦ both.0 i (omega arith) (omega arith)
       ]),
-      λ stands. let all = stands_agree text at value stands in (agree_word text at value last (λ i low high. all i (omega arith) (omega arith)), λ i low high. all i low (omega arith)),
-    ) (tests_both image (At place) (SameWord text at value last) (Agree text at value 0 (4 * n)) (same_word at value last) (same_words at value n) (tests_same_word image place text at value last lies are bytes (omega arith)) (tests_same_words image place text at value n lies are bytes (omega arith)))
+      λ stands. let all = stands_agree text at value stands in (λ i low high. all i (omega arith) (omega arith), λ i low high. all i low (omega arith)),
+    ) (tests_both image (At place) (Agree text at value last (last + 4)) (Agree text at value 0 (4 * n)) (same_word at value last) (same_words at value n) (tests_same_word image place text at value last lies are bytes (omega arith)) (tests_same_words image place text at value n lies are bytes (omega arith)))
 
 -- The bytes of a text that lies where X points to are those of a value, from a place of the text on.
 pub tests_same_bytes : (image : List ℕ) (place : ℕ) (text : List ℕ) (at : ℕ) (value : List ℕ) → Lies image place text → AreBytes text → AreBytes value → at + length value ≤ length text → Tests image (λ x. x ≡ place) ((rest : List ℕ) × (drop at text ≡ value ++ rest)) (same_bytes at value)

@@ -6,6 +6,7 @@ use Rattle.std.proofs.lemmas.Bool.{false≢true, eqb-true, eq-eqb, ne_eqb, leb-t
 use Rattle.std.proofs.lemmas.Nat.{pow_pos}
 use Rattle.std.proofs.lemmas.Nat.Bits.{and_pow, bit_at-lt}
 use Rattle.std.proofs.lemmas.Slice.Eq.{bytes_eq-Decides}
+use Rattle.std.proofs.lemmas.Option.{same_Some}
 use Rattle.bpf_code.specs.declared.operation.Test.TheVariants.{Equal, AtLeast, SharesBit}
 use Rattle.bpf_code.specs.declared.instruction.Ins.{Ins}
 use Rattle.bpf_code.specs.Loads.{load_word}
@@ -52,13 +53,10 @@ kind_back : (kind : KindName) → kind_of (kind_byte (kind_meant kind)) ≡ Some
 kind_back Signal = refl
 kind_back _ = refl
 
-same_kind : (a b : kinds.Kind) → Some a ≡ Some b → a ≡ b
-same_kind a b h = cc
-
 tests_kind : (image : List ℕ) (kind : kinds.Kind) (name : KindName) → load_word image kind_place ≡ Some (kind_byte kind) → kind_of (kind_byte kind) ≡ Some kind → Tests image Any (kind ≡ kind_meant name) (λ rest. image_word kind_place ∷ want Equal (kind_byte (kind_meant name)) rest)
 tests_kind image kind name is known =
     tests_same image Any _ _ (λ rest. image_word kind_place ∷ want Equal (kind_byte (kind_meant name)) rest) (
-      λ e. same_kind kind (kind_meant name) (sym known ∙ ap kind_of (eqb-true (kind_byte kind) (kind_byte (kind_meant name)) e) ∙ kind_back name),
+      λ e. same_Some kind (kind_meant name) (sym known ∙ ap kind_of (eqb-true (kind_byte kind) (kind_byte (kind_meant name)) e) ∙ kind_back name),
       λ same. eq-eqb (kind_byte kind) (kind_byte (kind_meant name)) (ap kind_byte same),
     ) (tests_word image Any kind_place (kind_byte kind) Equal (kind_byte (kind_meant name)) is)
 
@@ -84,16 +82,13 @@ turn_sender image slots slot name sender false owned word shows bytes agrees =
 
 -- ---- a text that stands in a relation to a value
 
-same_text : (a b : List ℕ) → Some a ≡ Some b → a ≡ b
-same_text a b h = cc
-
 some_shown : (shown : Option (List ℕ)) (Q : List ℕ → Type 0) → ((text : List ℕ) × (shown ≡ Some text) × Q text) ↔ IsSomeAnd shown Q
 some_shown None Q = (λ p. let e = p.1 in absurd cc, λ none. absurd none)
-some_shown (Some text) Q = (λ p. subst Q (sym (same_text text p.0 p.1)) p.2, λ q. (text, refl, q))
+some_shown (Some text) Q = (λ p. subst Q (sym (same_Some text p.0 p.1)) p.2, λ q. (text, refl, q))
 
 equal_shown : (shown : Option (List ℕ)) (value : List ℕ) → (shown ≡ Some value) ↔ IsSomeAnd shown (λ text. text ≡ value)
 equal_shown None value = (λ e. absurd cc, λ none. absurd none)
-equal_shown (Some text) value = (λ e. same_text text value e, λ e. ap (λ (x : List ℕ). Some x) e)
+equal_shown (Some text) value = (λ e. same_Some text value e, λ e. ap (λ (x : List ℕ). Some x) e)
 
 -- a text that has to be there, and is tested then
 turn_if_there : (image : List ℕ) (at : ℕ) (shown : Option (List ℕ)) (Q : List ℕ → Type 0) (g : List Ins → List Ins) → ShowsText image at shown → Extends g → ((text : List ℕ) → Tells image at text → Tests image Any (Q text) g) → InTurn image (IsSomeAnd shown Q) (is_there at) g

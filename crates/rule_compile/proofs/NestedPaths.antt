@@ -1,7 +1,7 @@
 -- What the program of a path's condition tests: whether the paths are nested.
 use Rattle.std.proofs.Common.{◌≡◌, ℕ, zero, suc, ◌+◌, ◌<◌, ◌≤◌, Bool, true, false, List, [], ◌∷◌, length, inl, inr, ◌⊎◌, refl, arith}
 use Rattle.std.specs.Prelude.{◌==◌, ◌↔◌, MatchBool, if◌then◌else◌}
-use Rattle.std.proofs.lemmas.Bool.{eqb-true, eq-eqb}
+use Rattle.std.proofs.lemmas.Bool.{eqb-true, eq-eqb, ne_eqb}
 use Rattle.bpf_code.specs.declared.instruction.Ins.{Ins}
 use Rattle.bpf_code.specs.declared.operation.Test.{Test}
 use Rattle.bpf_code.specs.declared.operation.Test.TheVariants.{Equal, AtLeast}
@@ -51,15 +51,11 @@ part_tests image at text place part test P tells are fits t =
 
 -- the text ends here, or the piece tests the rest
 ends_here : (image : List ℕ) (X : ℕ → Type 0) (P : Type 0) (f : List Ins → List Ins) (at : ℕ) (text : List ℕ) (n : ℕ) → Tells image at text → Extends f → Tests image X P f → Tests image X ((length text ≡ n) ⊎ P) (λ rest. may_end at n rest (f rest))
-ends_here image X P f at text n tells extends t = tests_same image X _ ((length text ≡ n) ⊎ P) (λ rest. may_end at n rest (f rest)) (forth, back) (tests_settle image X P f (at + 4) (length text) Equal n tells.len_word extends (λ _. t))
-  where
-    forth : ((length text == n) ≡ true) ⊎ P → (length text ≡ n) ⊎ P
-    forth (inl e) = inl (eqb-true (length text) n e)
-    forth (inr p) = inr p
-
-    back : (length text ≡ n) ⊎ P → ((length text == n) ≡ true) ⊎ P
-    back (inl e) = inl (eq-eqb (length text) n e)
-    back (inr p) = inr p
+ends_here image X P f at text n tells extends t =
+    tests_same image X _ ((length text ≡ n) ⊎ P) (λ rest. may_end at n rest (f rest)) (
+      λ h. elim h [ inl e ↦ inl (eqb-true (length text) n e) | inr p ↦ inr p ],
+      λ h. elim h [ inl e ↦ inl (eq-eqb (length text) n e) | inr p ↦ inr p ],
+    ) (tests_settle image X P f (at + 4) (length text) Equal n tells.len_word extends (λ _. t))
 
 -- ---- along the parts
 
@@ -113,14 +109,9 @@ pub is_nested_tests : (image : List ℕ) (at : ℕ) (text value : List ℕ) → 
 is_nested_tests image at text [] tells are =
     let same = nested_empty text in
     tests_same image Any (length text ≡ 0) (AreNested text []) (is_nested at []) (same.1, same.0) (tests_len_is image Any at (length text) 0 tells.len_word)
-is_nested_tests image at text (b ∷ bs) tells are = tests_same image Any (AlongParts text 0 parts) (AreNested text (b ∷ bs)) (is_nested at (b ∷ bs)) (same.1, same.0) (go (length (b ∷ bs) == 0) refl)
-  where
-    parts : List (List ℕ)
-    parts = parts_of (b ∷ bs)
-
-    same : AreNested text (b ∷ bs) ↔ AlongParts text 0 parts
-    same = nested_follow_parts text b bs
-
-    go : (empty : Bool) → (length (b ∷ bs) == 0) ≡ empty → Tests image Any (AlongParts text 0 parts) (λ rest. if empty then has_len Equal 0 at rest else index_text at (follow_parts at 0 parts rest))
-    go true is = absurd (let e = eqb-true (length (b ∷ bs)) 0 is in omega arith)
-    go false is = tests_index_text image (AlongParts text 0 parts) (follow_parts at 0 parts) at tells.place tells.place_word (follow_parts_tests parts image at text 0 tells (parts_are_bytes (b ∷ bs) are))
+is_nested_tests image at text (b ∷ bs) tells are =
+    let parts = parts_of (b ∷ bs) in
+    let same = nested_follow_parts text b bs in
+    let filled : (length (b ∷ bs) == 0) ≡ false = ne_eqb (length (b ∷ bs)) 0 (λ e. omega arith) in
+    tests_same image Any (AlongParts text 0 parts) (AreNested text (b ∷ bs)) (is_nested at (b ∷ bs)) (same.1, same.0)
+    (rw (filled, is_nested) (tests_index_text image (AlongParts text 0 parts) (follow_parts at 0 parts) at tells.place tells.place_word (follow_parts_tests parts image at text 0 tells (parts_are_bytes (b ∷ bs) are))))

@@ -2,6 +2,7 @@
 use Rattle.std.proofs.Common.{◌≡◌, ℕ, ◌+◌, ◌<◌, ◌≤◌, Bool, true, false, List, [], ◌∷◌, ◌++◌, length, eqb, Option, Some, None, ◌⊎◌, inl, inr, refl, sym, ap, ◌∙◌, arith, subst, slice_index, ◌==◌}
 use Rattle.std.proofs.lemmas.Bool.{false≢true, eqb-true, eqb-false, eq-eqb, leb-true, le-leb, lt-ltb, ltb-true}
 use Rattle.std.proofs.lemmas.List.{length-append, append-nil, append_assoc, get_or_at, nil_from_length}
+use Rattle.std.proofs.lemmas.Option.{same_Some}
 use Rattle.bpf_code.specs.declared.instruction.Ins.{Ins}
 use Rattle.bpf_code.specs.declared.operation.Width.TheVariants.{Byte}
 use Rattle.bpf_code.specs.declared.operation.Test.{Test}
@@ -92,16 +93,13 @@ whole text value rest is e =
     let none : rest ≡ [] = nil_from_length rest (omega (arith, ap length is, length-append value rest)) in
     is ∙ ap (λ (bytes : List ℕ). value ++ bytes) none ∙ append-nil value
 
-some_same : (a b : List ℕ) → Some a ≡ Some b → a ≡ b
-some_same a b h = cc
-
 pub turn_is_text : (image : List ℕ) (at : ℕ) (shown : Option (List ℕ)) (value : List ℕ) → ShowsText image at shown → AreBytes value → InTurn image (shown ≡ Some value) (has_text_len Equal (length value) at) (has_bytes at value)
 turn_is_text image at None value shows bytes =
     turn_absent image _ Equal (length value) at (has_bytes at value) shows.0 shows.1 (λ e. sym (eqb-true 0 (length value) e)) (extends_bytes at value) (λ h. cc)
 turn_is_text image at (Some text) value tells bytes =
     turn_same image _ _ (has_text_len Equal (length value) at) (has_bytes at value) (
       λ both. ap Some (whole text value both.1.0 both.1.1 (eqb-true (length text) (length value) both.0)),
-      λ h. let e = some_same text value h in (eq-eqb (length text) (length value) (ap length e), ([], e ∙ sym (append-nil value))),
+      λ h. let e = same_Some text value h in (eq-eqb (length text) (length value) (ap length e), ([], e ∙ sym (append-nil value))),
     ) (turn_text image (Stands text 0 value) Equal (length value) at text (same_bytes 0 value) tells (extends_same_bytes 0 value) (λ e. tests_same_bytes image tells.place text 0 value tells.lies tells.bytes bytes (let l = eqb-true (length text) (length value) e in omega arith)))
 
 -- ---- the text is in a namespace
@@ -177,5 +175,5 @@ turn_in_namespace image at separator None value shows bytes =
 turn_in_namespace image at separator (Some text) value tells bytes =
     turn_same image _ _ (has_text_len AtLeast (length value) at) (in_namespace at separator value) (
       λ looked. (text, refl, looked_named text value separator looked),
-      λ p. named_looked text value separator (subst (λ (t : List ℕ). Named t value separator) (sym (some_same text p.0 p.1)) p.2),
+      λ p. named_looked text value separator (subst (λ (t : List ℕ). Named t value separator) (sym (same_Some text p.0 p.1)) p.2),
     ) (turn_text image (Stands text 0 value × ((eqb (length text) (length value) ≡ true) ⊎ Separated text (length value) separator)) AtLeast (length value) at text (λ rest. same_bytes 0 value (end_or_separator at (length value) separator rest)) tells (extends_named at separator value) (λ e. let l = leb-true (length value) (length text) e in tests_then image (At tells.place) _ _ (same_bytes 0 value) (end_or_separator at (length value) separator) (tests_same_bytes image tells.place text 0 value tells.lies tells.bytes bytes (omega arith)) (extends_end_or_separator at (length value) separator) (λ _. tests_end_or_separator image at text (length value) separator tells l)))
