@@ -16,7 +16,7 @@ use Rattle.rule_compile.specs.Code.{image_word, want, settle}
 use Rattle.rule_compile.specs.RuleCode.{has_type, has_text_type, type_code}
 use Rattle.rule_compile.proofs.Pieces.{Any, Tests}
 use Rattle.rule_compile.proofs.Runs.{runs_image_word, runs_want, stops_want, runs_settle, stays_settle}
-use Rattle.rule_compile.proofs.Combined.{Extends, extends_more, extends_want, extends_settle, guards, tests_same, tests_word}
+use Rattle.rule_compile.proofs.Combined.{Extends, extends_want, extends_settle, guards, tests_same, tests_word}
 use Rattle.rule_compile.proofs.InTurn.{InTurn, turn_same, turn_after}
 use Rattle.rule_compile.proofs.TextArguments.{IsText}
 

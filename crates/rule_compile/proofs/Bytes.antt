@@ -10,7 +10,7 @@ use Rattle.summary.specs.Shown.{Lies}
 use Rattle.message_value.specs.Bytes.{AreBytes}
 use Rattle.rule_compile.specs.Code.{load_indexed, want, half_number, four, same_word, same_words, same_bytes}
 use Rattle.rule_compile.proofs.Pieces.{Tests}
-use Rattle.rule_compile.proofs.Combined.{Extends, extends_none, extends_more, extends_then, extends_want, tests_none, tests_same, tests_then, tests_both, tests_indexed}
+use Rattle.rule_compile.proofs.Combined.{Extends, extends_none, extends_then, extends_test, tests_none, tests_same, tests_then, tests_both, tests_indexed}
 
 -- ---- where a text lies
 
@@ -118,9 +118,6 @@ four_same a b c d e f g h sb sc sd sf sg sh is =
 abbrev pub At : ℕ → ℕ → Type 0
 At place x = x ≡ place
 
-pub extends_indexed : (width : Width) (at k : ℕ) → Extends (λ rest. load_indexed width at ∷ want Equal k rest)
-extends_indexed width at k = extends_more (want Equal k) (λ _. load_indexed width at) (extends_want Equal k)
-
 pub tests_byte : (image : List ℕ) (place : ℕ) (text : List ℕ) (at a : ℕ) → Lies image place text → at + 1 ≤ length text → Tests image (At place) (slice_index text at ≡ a) (λ rest. load_indexed Byte at ∷ want Equal a rest)
 tests_byte image place text at a lies inside =
     tests_same image (At place) _ _ (λ rest. load_indexed Byte at ∷ want Equal a rest) (eqb-true (slice_index text at) a, eq-eqb (slice_index text at) a) (tests_indexed image place Byte at (slice_index text at) Equal a (loads_byte image place text at lies inside))
@@ -142,7 +139,7 @@ SameWord text at value i =
 
 extends_word : (at : ℕ) (value : List ℕ) (i : ℕ) → Extends (same_word at value i)
 extends_word at value i =
-    extends_indexed Word (at + i) (four (slice_index value i) (slice_index value (i + 1)) (slice_index value (i + 2)) (slice_index value (i + 3)))
+    extends_test (load_indexed Word (at + i)) Equal (four (slice_index value i) (slice_index value (i + 1)) (slice_index value (i + 2)) (slice_index value (i + 3)))
 
 word_agrees : (text : List ℕ) (at : ℕ) (value : List ℕ) (i : ℕ) → SameWord text at value i → Agree text at value i (i + 4)
 word_agrees text at value i same k low high = go (k - i) (omega arith)
@@ -215,10 +212,10 @@ tests_same_words image place text at value (suc n) lies are bytes inside =
 
 pub extends_same_bytes : (at : ℕ) (value : List ℕ) → Extends (same_bytes at value)
 extends_same_bytes at [] = extends_none
-extends_same_bytes at (a ∷ []) = extends_indexed Byte at a
-extends_same_bytes at (a ∷ b ∷ []) = extends_indexed Half at (half_number a b)
+extends_same_bytes at (a ∷ []) = extends_test (load_indexed Byte at) Equal a
+extends_same_bytes at (a ∷ b ∷ []) = extends_test (load_indexed Half at) Equal (half_number a b)
 extends_same_bytes at (a ∷ b ∷ c ∷ []) =
-    extends_then (λ rest. load_indexed Half at ∷ want Equal (half_number a b) rest) (λ rest. load_indexed Byte (at + 2) ∷ want Equal c rest) (extends_indexed Half at (half_number a b)) (extends_indexed Byte (at + 2) c)
+    extends_then (λ rest. load_indexed Half at ∷ want Equal (half_number a b) rest) (λ rest. load_indexed Byte (at + 2) ∷ want Equal c rest) (extends_test (load_indexed Half at) Equal (half_number a b)) (extends_test (load_indexed Byte (at + 2)) Equal c)
 extends_same_bytes at (a ∷ b ∷ c ∷ d ∷ more) =
     let value = a ∷ b ∷ c ∷ d ∷ more in
     extends_then (same_word at value (length more)) (same_words at value ((length more + 3) / 4)) (extends_word at value (length more)) (extends_words at value ((length more + 3) / 4))
@@ -250,6 +247,6 @@ tests_same_bytes image place text at (a ∷ b ∷ c ∷ []) lies are bytes insid
     tests_same image (At place) _ _ (same_bytes at (a ∷ b ∷ c ∷ [])) (
       λ both. same.0 (both.0, last.0 (both.1, stands_none text (at + 2 + 1))),
       λ stands. let x = same.1 stands in (x.0, (last.1 x.1).0),
-    ) (tests_then image (At place) _ _ (λ rest. load_indexed Half at ∷ want Equal (half_number a b) rest) (λ rest. load_indexed Byte (at + 2) ∷ want Equal c rest) (tests_two image place text at a b lies are (bytes 1) (omega arith)) (extends_indexed Byte (at + 2) c) (λ _. tests_byte image place text (at + 2) c lies (omega arith)))
+    ) (tests_then image (At place) _ _ (λ rest. load_indexed Half at ∷ want Equal (half_number a b) rest) (λ rest. load_indexed Byte (at + 2) ∷ want Equal c rest) (tests_two image place text at a b lies are (bytes 1) (omega arith)) (extends_test (load_indexed Byte (at + 2)) Equal c) (λ _. tests_byte image place text (at + 2) c lies (omega arith)))
 tests_same_bytes image place text at (a ∷ b ∷ c ∷ d ∷ more) lies are bytes inside =
     tests_many image place text at (a ∷ b ∷ c ∷ d ∷ more) (length more) ((length more + 3) / 4) lies are bytes (omega arith) (omega arith) (omega arith) inside

@@ -32,6 +32,10 @@ extends_then f g first next rest =
 pub extends_want : (test : Test) (k : ℕ) → Extends (want test k)
 extends_want test k rest = (_ ∷ [], refl)
 
+-- an instruction, and a test of what it gives
+pub extends_test : (ins : Ins) (test : Test) (k : ℕ) → Extends (λ rest. ins ∷ want test k rest)
+extends_test ins test k rest = (ins ∷ _ ∷ [], refl)
+
 -- a piece in front of a rest that says no match at its end does so too
 pub guards : (f : List Ins → List Ins) → Extends f → (rest : List Ins) → Guarded rest → Guarded (f rest)
 guards f extends rest (front, is) =
@@ -91,7 +95,7 @@ tests_both image X P Q f g first next = record {
 pub tests_word : (image : List ℕ) (X : ℕ → Type 0) (at w : ℕ) (test : Test) (k : ℕ) → load_word image at ≡ Some w → Tests image X (passes test w k ≡ true) (λ rest. image_word at ∷ want test k rest)
 tests_word image X at w test k is = record {
   decided = elim (cases_Bool (passes test w k)) [ inl h ↦ inl h | inr h ↦ inr (λ e. true≢false (sym e ∙ h)) ];
-  guarded = guards (λ rest. image_word at ∷ want test k rest) (extends_more (want test k) (λ _. image_word at) (extends_want test k));
+  guarded = guards (λ rest. image_word at ∷ want test k rest) (extends_test (image_word at) test k);
   passes = λ rest v g leads holds a x fits. runs_image_word (want test k rest) image at w a x v is (runs_want rest image test k w x v holds (leads w x fits));
   fails = λ rest g n a x fits. runs_image_word (want test k rest) image at w a x 0 is (stops_want rest image test k w x g (elim (cases_Bool (passes test w k)) [ inl h ↦ absurd (n h) | inr h ↦ h ]));
 }
@@ -100,7 +104,7 @@ tests_word image X at w test k is = record {
 pub tests_indexed : (image : List ℕ) (place : ℕ) (width : Width) (at w : ℕ) (test : Test) (k : ℕ) → load width image (place + at) ≡ Some w → Tests image (λ x. x ≡ place) (passes test w k ≡ true) (λ rest. load_indexed width at ∷ want test k rest)
 tests_indexed image place width at w test k is = record {
   decided = elim (cases_Bool (passes test w k)) [ inl h ↦ inl h | inr h ↦ inr (λ e. true≢false (sym e ∙ h)) ];
-  guarded = guards (λ rest. load_indexed width at ∷ want test k rest) (extends_more (want test k) (λ _. load_indexed width at) (extends_want test k));
+  guarded = guards (λ rest. load_indexed width at ∷ want test k rest) (extends_test (load_indexed width at) test k);
   passes = λ rest v g leads holds a x fits. runs_indexed (want test k rest) image width at w a x v (subst (λ (y : ℕ). load width image (y + at) ≡ Some w) (sym fits) is) (runs_want rest image test k w x v holds (leads w x fits));
   fails = λ rest g n a x fits. runs_indexed (want test k rest) image width at w a x 0 (subst (λ (y : ℕ). load width image (y + at) ≡ Some w) (sym fits) is) (stops_want rest image test k w x g (elim (cases_Bool (passes test w k)) [ inl h ↦ absurd (n h) | inr h ↦ h ]));
 }

@@ -7,7 +7,7 @@ use Rattle.std.proofs.lemmas.Nat.{pow_pos}
 use Rattle.std.proofs.lemmas.Nat.Bits.{and_pow, bit_at-lt}
 use Rattle.std.proofs.lemmas.Slice.Eq.{bytes_eq-Decides}
 use Rattle.std.proofs.lemmas.Option.{same_Some}
-use Rattle.bpf_code.specs.declared.operation.Test.TheVariants.{Equal, AtLeast, SharesBit}
+use Rattle.bpf_code.specs.declared.operation.Test.TheVariants.{Equal, Above, AtLeast, SharesBit}
 use Rattle.bpf_code.specs.declared.instruction.Ins.{Ins}
 use Rattle.bpf_code.specs.Loads.{load_word}
 use Rattle.bpf_code.specs.Effects.{passes}
@@ -40,9 +40,9 @@ use Rattle.rule_compile.specs.Code.{image_word, want, is_there, has_text_len, ha
 use Rattle.rule_compile.specs.Folders.{is_nested}
 use Rattle.rule_compile.specs.RuleCode.{words_at, owns, relation_len, relation_bytes, there_code, condition_words, condition_bytes}
 use Rattle.rule_compile.proofs.Pieces.{Any, Tests}
-use Rattle.rule_compile.proofs.Combined.{Extends, extends_none, tests_none, tests_same, tests_word}
-use Rattle.rule_compile.proofs.InTurn.{InTurn, turn_first, turn_second, turn_then, turn_same, turn_one}
-use Rattle.rule_compile.proofs.Texts.{extends_is_there, tests_is_there, extends_text_len, extends_bytes, turn_is_text, extends_in_namespace, turn_in_namespace}
+use Rattle.rule_compile.proofs.Combined.{Extends, extends_none, extends_test, tests_none, tests_same, tests_word}
+use Rattle.rule_compile.proofs.InTurn.{InTurn, turn_first, turn_second, turn_then, turn_same}
+use Rattle.rule_compile.proofs.Texts.{tests_is_there, extends_text_len, extends_bytes, turn_is_text, extends_in_namespace, turn_in_namespace}
 use Rattle.rule_compile.proofs.TextArguments.{argument_has_text}
 use Rattle.rule_compile.proofs.NestedPaths.{extends_is_nested, is_nested_tests}
 use Rattle.rule_compile.proofs.Arguments.{turn_argument}
@@ -97,14 +97,6 @@ turn_if_there image at None Q g shows extends tail =
 turn_if_there image at (Some text) Q g tells extends tail =
     turn_then image (0 < tells.place) (Q text) (is_there at) g (tests_is_there image Any at tells.place tells.place_word) extends (λ less. tail text tells) (λ q. tells.after_start)
 
-any_path : (image : List ℕ) (at : ℕ) (path : Option (List ℕ)) → ShowsText image at path → Tests image Any (IsSomeAnd path (λ p. Unit {0})) (is_there at)
-any_path image at path shows =
-    turn_one image _ (is_there at) (λ rest. rest) (turn_if_there image at path (λ p. Unit {0}) (λ rest. rest) shows extends_none (λ text tells. tests_none image Any (Unit {0}) tt))
-
-every_path : (path : Option (List ℕ)) (value : List ℕ) → value ≡ 47 ∷ [] → IsSomeAnd path (λ p. Unit {0}) ↔ IsSomeAnd path (λ p. InPathNamespace p value)
-every_path None value root = (λ none. none, λ none. none)
-every_path (Some p) value root = (λ _. inr (inr root), λ _. tt)
-
 below : (p value : List ℕ) → bytes_eq value (47 ∷ []) ≡ false → ((p ≡ value) ⊎ Begins p (value ++ 47 ∷ [])) ↔ InPathNamespace p value
 below p value is = (
   λ h. elim h [ inl e ↦ inl e | inr b ↦ inr (inl b) ],
@@ -113,7 +105,8 @@ below p value is = (
 
 turn_path_namespace : (image : List ℕ) (at : ℕ) (path : Option (List ℕ)) (value : List ℕ) (root : Bool) → bytes_eq value (47 ∷ []) ≡ root → ShowsText image at path → AreBytes value → InTurn image (IsSomeAnd path (λ p. InPathNamespace p value)) (λ rest. if root then is_there at rest else has_text_len AtLeast (length value) at rest) (λ rest. if root then rest else in_namespace at 47 value rest)
 turn_path_namespace image at path value true is shows bytes =
-    turn_first image _ (is_there at) (tests_same image Any _ _ (is_there at) (every_path path value ((bytes_eq-Decides value (47 ∷ [])).0 is)) (any_path image at path shows))
+    let root = (bytes_eq-Decides value (47 ∷ [])).0 is in
+    turn_if_there image at path (λ p. InPathNamespace p value) (λ rest. rest) shows extends_none (λ p tells. tests_none image Any (InPathNamespace p value) (inr (inr root)))
 turn_path_namespace image at path value false is shows bytes =
     turn_same image _ _ (has_text_len AtLeast (length value) at) (in_namespace at 47 value) (
       λ p. (some_shown path (λ p. InPathNamespace p value)).0 (p.0, p.1, (below p.0 value is).0 p.2),
@@ -125,7 +118,7 @@ extends_len relations.Equal at value = extends_text_len Equal (length value) at
 extends_len relations.PathNamespace at value = go (bytes_eq value (47 ∷ []))
   where
     go : (root : Bool) → Extends (λ rest. if root then is_there at rest else has_text_len AtLeast (length value) at rest)
-    go true = extends_is_there at
+    go true = extends_test (image_word at) Above 0
     go false = extends_text_len AtLeast (length value) at
 extends_len relations.NameNamespace at value = extends_text_len AtLeast (length value) at
 extends_len relations.NestedPath at value = extends_none

@@ -9,12 +9,12 @@ use Rattle.match_rule.specs.Bytes.{ends_with}
 use Rattle.match_rule.specs.Holds.{AreNested}
 use Rattle.summary.specs.Shown.{Tells}
 use Rattle.message_value.specs.Bytes.{AreBytes}
-use Rattle.rule_compile.specs.Code.{same_bytes, has_len, index_text, may_end}
+use Rattle.rule_compile.specs.Code.{image_word, same_bytes, has_len, index_text, may_end}
 use Rattle.rule_compile.specs.Folders.{with_front, parts_of, follow_parts, is_nested}
 use Rattle.rule_compile.proofs.Pieces.{Any, Tests}
-use Rattle.rule_compile.proofs.Combined.{Extends, extends_none, extends_then, extends_settle, extends_index_text, tests_none, tests_same, tests_then, tests_both, tests_settle, tests_index_text}
+use Rattle.rule_compile.proofs.Combined.{Extends, extends_none, extends_then, extends_test, extends_settle, extends_index_text, tests_none, tests_same, tests_then, tests_both, tests_settle, tests_index_text}
 use Rattle.rule_compile.proofs.Bytes.{Stands, At, extends_same_bytes, tests_same_bytes}
-use Rattle.rule_compile.proofs.Texts.{extends_has_len, tests_len_is, tests_len_from}
+use Rattle.rule_compile.proofs.Texts.{tests_len_is, tests_len_from}
 use Rattle.rule_compile.proofs.NestedTexts.{AlongParts, nested_follow_parts, nested_empty}
 
 -- ---- the bytes of the parts
@@ -62,7 +62,7 @@ ends_here image X P f at text n tells extends t =
 extends_part : (test : Test) (n at place : ℕ) (part : List ℕ) (f : List Ins → List Ins) → Extends f → Extends (λ rest. has_len test n at (same_bytes place part (f rest)))
 extends_part test n at place part f more =
     let bytes = extends_then (same_bytes place part) f (extends_same_bytes place part) more in
-    extends_then (has_len test n at) (λ rest. same_bytes place part (f rest)) (extends_has_len test n at) bytes
+    extends_then (has_len test n at) (λ rest. same_bytes place part (f rest)) (extends_test (image_word (at + 4)) test n) bytes
 
 extends_follow_parts : (at place : ℕ) (parts : List (List ℕ)) → Extends (follow_parts at place parts)
 extends_follow_parts at place [] = extends_none
@@ -101,7 +101,7 @@ pub extends_is_nested : (at : ℕ) (value : List ℕ) → Extends (is_nested at 
 extends_is_nested at value = go (length value == 0)
   where
     go : (empty : Bool) → Extends (λ rest. if empty then has_len Equal 0 at rest else index_text at (follow_parts at 0 (parts_of value) rest))
-    go true = extends_has_len Equal 0 at
+    go true = extends_test (image_word (at + 4)) Equal 0
     go false = extends_index_text (follow_parts at 0 (parts_of value)) at (extends_follow_parts at 0 (parts_of value))
 
 -- the piece tests whether the text and the value are nested

@@ -22,22 +22,17 @@ Meets text (part ∷ []) = MatchBool (ends_with 47 part) (Begins text part) (tex
 Meets text (part ∷ next ∷ more) = (remainder : List ℕ) × (text ≡ part ++ remainder) × ((remainder ≡ []) ⊎ Meets remainder (next ∷ more))
 
 -- the first part of a text that isn't empty has a byte
-record Parted (parts : List (List ℕ)) : Type 0 where
-  pub byte : ℕ
-  pub bytes : List ℕ
-  pub more : List (List ℕ)
-  pub is : parts ≡ (byte ∷ bytes) ∷ more
+abbrev IsParted : List (List ℕ) → Type 0
+IsParted ((q ∷ qs) ∷ more) = Unit {0}
+IsParted _ = ⊥
 
-fronted : (b : ℕ) (parts : List (List ℕ)) → Parted (with_front b parts)
-fronted b [] = record { byte = b; bytes = []; more = []; is = refl }
-fronted b (part ∷ more) = record { byte = b; bytes = part; more = more; is = refl }
-
-parted : (b : ℕ) (bs : List ℕ) → Parted (parts_of (b ∷ bs))
-parted b bs = go (b == 47)
+parted : (b : ℕ) (bs : List ℕ) → IsParted (parts_of (b ∷ bs))
+parted b bs = go (b == 47) (parts_of bs)
   where
-    go : (slash : Bool) → Parted (if slash then (b ∷ []) ∷ parts_of bs else with_front b (parts_of bs))
-    go true = record { byte = b; bytes = []; more = parts_of bs; is = refl }
-    go false = fronted b (parts_of bs)
+    go : (slash : Bool) (parts : List (List ℕ)) → IsParted (if slash then (b ∷ []) ∷ parts else with_front b parts)
+    go true parts = tt
+    go false [] = tt
+    go false (part ∷ more) = tt
 
 -- the text begins with the value's first byte, and ends after it where that is a `/`, or goes on nested
 abbrev Follows : List ℕ → ℕ → List ℕ → Type 0
@@ -119,10 +114,9 @@ nested_meets b [] text = go (b == 47)
     go false = nested_one text b (b == 47) refl
 nested_meets b (c ∷ cs) text = go (parts_of (c ∷ cs)) (parted c cs) (λ t. nested_meets c cs t)
   where
-    go : (parts : List (List ℕ)) → Parted parts → ((t : List ℕ) → AreNested t (c ∷ cs) ↔ Meets t parts) → AreNested text (b ∷ c ∷ cs) ↔ Meets text (if b == 47 then (b ∷ []) ∷ parts else with_front b parts)
-    go parts p =
-        let P : List (List ℕ) → Type 0 = λ ps. ((t : List ℕ) → AreNested t (c ∷ cs) ↔ Meets t ps) → AreNested text (b ∷ c ∷ cs) ↔ Meets text (if b == 47 then (b ∷ []) ∷ ps else with_front b ps) in
-        subst P (sym p.is) (meets_more text b c cs (b == 47) p.byte p.bytes p.more refl)
+    go : (parts : List (List ℕ)) → IsParted parts → ((t : List ℕ) → AreNested t (c ∷ cs) ↔ Meets t parts) → AreNested text (b ∷ c ∷ cs) ↔ Meets text (if b == 47 then (b ∷ []) ∷ parts else with_front b parts)
+    go ((q ∷ qs) ∷ more) filled rest = meets_more text b c cs (b == 47) q qs more refl rest
+    go _ none rest = absurd none
 
 -- ---- from a place on
 

@@ -15,28 +15,18 @@ use Rattle.message_value.specs.Bytes.{AreBytes}
 use Rattle.rule_compile.specs.Code.{image_word, load_indexed, want, same_bytes, has_len, is_there, is_there_if, has_text_len, index_text, has_bytes, may_end, in_namespace}
 use Rattle.rule_compile.proofs.Pieces.{Any, Tests}
 use Rattle.rule_compile.proofs.InTurn.{InTurn, turn_then, turn_same}
-use Rattle.rule_compile.proofs.Combined.{Extends, extends_none, extends_more, extends_then, extends_want, extends_settle, extends_index_text, tests_none, tests_same, tests_then, tests_both, tests_word, tests_settle, tests_index_text}
-use Rattle.rule_compile.proofs.Bytes.{Stands, At, extends_indexed, tests_byte, extends_same_bytes, tests_same_bytes}
+use Rattle.rule_compile.proofs.Combined.{Extends, extends_none, extends_then, extends_test, extends_settle, extends_index_text, tests_none, tests_same, tests_then, tests_both, tests_word, tests_settle, tests_index_text}
+use Rattle.rule_compile.proofs.Bytes.{Stands, At, tests_byte, extends_same_bytes, tests_same_bytes}
 
 -- ---- the length, and whether the text is there
 
-pub extends_has_len : (test : Test) (k at : ℕ) → Extends (has_len test k at)
-extends_has_len test k at = extends_more (want test k) (λ _. image_word (at + 4)) (extends_want test k)
-
--- the comparison holds of the length
-pub tests_has_len : (image : List ℕ) (X : ℕ → Type 0) (at n : ℕ) (test : Test) (k : ℕ) → load_word image (at + 4) ≡ Some n → Tests image X (passes test n k ≡ true) (has_len test k at)
-tests_has_len image X at n test k is = tests_word image X (at + 4) n test k is
-
 pub tests_len_is : (image : List ℕ) (X : ℕ → Type 0) (at n k : ℕ) → load_word image (at + 4) ≡ Some n → Tests image X (n ≡ k) (has_len Equal k at)
 tests_len_is image X at n k is =
-    tests_same image X _ _ (has_len Equal k at) (eqb-true n k, eq-eqb n k) (tests_has_len image X at n Equal k is)
+    tests_same image X _ _ (has_len Equal k at) (eqb-true n k, eq-eqb n k) (tests_word image X (at + 4) n Equal k is)
 
 pub tests_len_from : (image : List ℕ) (X : ℕ → Type 0) (at n k : ℕ) → load_word image (at + 4) ≡ Some n → Tests image X (k ≤ n) (has_len AtLeast k at)
 tests_len_from image X at n k is =
-    tests_same image X _ _ (has_len AtLeast k at) (leb-true k n, le-leb k n) (tests_has_len image X at n AtLeast k is)
-
-pub extends_is_there : (at : ℕ) → Extends (is_there at)
-extends_is_there at = extends_more (want Above 0) (λ _. image_word at) (extends_want Above 0)
+    tests_same image X _ _ (has_len AtLeast k at) (leb-true k n, le-leb k n) (tests_word image X (at + 4) n AtLeast k is)
 
 -- the text is there
 pub tests_is_there : (image : List ℕ) (X : ℕ → Type 0) (at place : ℕ) → load_word image at ≡ Some place → Tests image X (0 < place) (is_there at)
@@ -44,7 +34,7 @@ tests_is_there image X at place is =
     tests_same image X _ _ (is_there at) (ltb-true 0 place, lt-ltb 0 place) (tests_word image X at place Above 0 is)
 
 extends_is_there_if : (empty : Bool) (at : ℕ) → Extends (is_there_if empty at)
-extends_is_there_if true at = extends_is_there at
+extends_is_there_if true at = extends_test (image_word at) Above 0
 extends_is_there_if false at = extends_none
 
 tests_is_there_if : (image : List ℕ) (empty : Bool) (at place : ℕ) → load_word image at ≡ Some place → 0 < place → Tests image Any (0 < place) (is_there_if empty at)
@@ -60,16 +50,16 @@ tests_absent image false at e is = absurd (false≢true e)
 
 pub extends_text_len : (test : Test) (n at : ℕ) → Extends (has_text_len test n at)
 extends_text_len test n at =
-    extends_then (has_len test n at) (is_there_if (n == 0) at) (extends_has_len test n at) (extends_is_there_if (n == 0) at)
+    extends_then (has_len test n at) (is_there_if (n == 0) at) (extends_test (image_word (at + 4)) test n) (extends_is_there_if (n == 0) at)
 
 -- an absent text has no length
 absent_text_len : (image : List ℕ) (test : Test) (n at : ℕ) → load_word image at ≡ Some 0 → load_word image (at + 4) ≡ Some 0 → (passes test 0 n ≡ true → n ≡ 0) → Tests image Any ⊥ (has_text_len test n at)
 absent_text_len image test n at place len small =
-    tests_same image Any ((passes test 0 n ≡ true) × ⊥) ⊥ (has_text_len test n at) (λ both. both.1, λ none. absurd none) (tests_then image Any (passes test 0 n ≡ true) ⊥ (has_len test n at) (is_there_if (n == 0) at) (tests_has_len image Any at 0 test n len) (extends_is_there_if (n == 0) at) (λ e. tests_absent image (n == 0) at (eq-eqb n 0 (small e)) place))
+    tests_same image Any ((passes test 0 n ≡ true) × ⊥) ⊥ (has_text_len test n at) (λ both. both.1, λ none. absurd none) (tests_then image Any (passes test 0 n ≡ true) ⊥ (has_len test n at) (is_there_if (n == 0) at) (tests_word image Any (at + 4) 0 test n len) (extends_is_there_if (n == 0) at) (λ e. tests_absent image (n == 0) at (eq-eqb n 0 (small e)) place))
 
 tests_text_len : (image : List ℕ) (test : Test) (n at : ℕ) (text : List ℕ) → (tells : Tells image at text) → Tests image Any (passes test (length text) n ≡ true) (has_text_len test n at)
 tests_text_len image test n at text tells =
-    tests_same image Any ((passes test (length text) n ≡ true) × (0 < tells.place)) _ (has_text_len test n at) (λ both. both.0, λ e. (e, tells.after_start)) (tests_both image Any (passes test (length text) n ≡ true) (0 < tells.place) (has_len test n at) (is_there_if (n == 0) at) (tests_has_len image Any at (length text) test n tells.len_word) (tests_is_there_if image (n == 0) at tells.place tells.place_word tells.after_start))
+    tests_same image Any ((passes test (length text) n ≡ true) × (0 < tells.place)) _ (has_text_len test n at) (λ both. both.0, λ e. (e, tells.after_start)) (tests_both image Any (passes test (length text) n ≡ true) (0 < tells.place) (has_len test n at) (is_there_if (n == 0) at) (tests_word image Any (at + 4) (length text) test n tells.len_word) (tests_is_there_if image (n == 0) at tells.place tells.place_word tells.after_start))
 
 -- ---- the length first, and then the bytes
 
@@ -110,7 +100,7 @@ end_or_separator at n separator rest = may_end at n rest (load_indexed Byte n �
 
 extends_end_or_separator : (at n separator : ℕ) → Extends (end_or_separator at n separator)
 extends_end_or_separator at n separator =
-    extends_settle (λ rest. load_indexed Byte n ∷ want Equal separator rest) (at + 4) Equal n (extends_indexed Byte n separator)
+    extends_settle (λ rest. load_indexed Byte n ∷ want Equal separator rest) (at + 4) Equal n (extends_test (load_indexed Byte n) Equal separator)
 
 extends_named : (at separator : ℕ) (value : List ℕ) → Extends (λ rest. same_bytes 0 value (end_or_separator at (length value) separator rest))
 extends_named at separator value =
@@ -125,7 +115,7 @@ Separated text n separator = (n < length text) × (slice_index text n ≡ separa
 
 tests_end_or_separator : (image : List ℕ) (at : ℕ) (text : List ℕ) (n separator : ℕ) → (tells : Tells image at text) → n ≤ length text → Tests image (At tells.place) ((eqb (length text) n ≡ true) ⊎ Separated text n separator) (end_or_separator at n separator)
 tests_end_or_separator image at text n separator tells few =
-    tests_settle image (At tells.place) (Separated text n separator) (λ rest. load_indexed Byte n ∷ want Equal separator rest) (at + 4) (length text) Equal n tells.len_word (extends_indexed Byte n separator) (
+    tests_settle image (At tells.place) (Separated text n separator) (λ rest. load_indexed Byte n ∷ want Equal separator rest) (at + 4) (length text) Equal n tells.len_word (extends_test (load_indexed Byte n) Equal separator) (
     λ differs. let less : n < length text = let ne = eqb-false (length text) n differs in omega arith in
     tests_same image (At tells.place) _ _ (λ rest. load_indexed Byte n ∷ want Equal separator rest) (λ e. (less, e), λ both. both.1) (tests_byte image tells.place text n separator tells.lies (omega arith))
     )
