@@ -1,5 +1,5 @@
 -- Pieces of programs joined: what they test together.
-use Rattle.std.proofs.Common.{◌≡◌, ℕ, ◌+◌, ◌-◌, length, true, false, List, [], ◌∷◌, ◌++◌, Some, ◌⊎◌, ◌↔◌, inl, inr, refl, sym, ap, ◌∙◌, subst}
+use Rattle.std.proofs.Common.{◌≡◌, ℕ, ◌+◌, ◌-◌, length, Bool, true, false, if◌then◌else◌, List, [], ◌∷◌, ◌++◌, Some, ◌⊎◌, ◌↔◌, inl, inr, refl, sym, ap, ◌∙◌, subst}
 use Rattle.std.proofs.lemmas.Bool.{cases_Bool, true≢false}
 use Rattle.std.proofs.lemmas.List.{append_assoc}
 use Rattle.bpf_code.specs.declared.instruction.Ins.{Ins}
@@ -19,6 +19,10 @@ Extends piece = (rest : List Ins) → (middle : List Ins) × (piece rest ≡ mid
 
 pub extends_none : Extends (λ rest. rest)
 extends_none rest = ([], refl)
+
+pub extends_choice : (b : Bool) (f g : List Ins → List Ins) → Extends f → Extends g → Extends (λ rest. if b then f rest else g rest)
+extends_choice true f g first other = first
+extends_choice false f g first other = other
 
 pub extends_more : (f : List Ins → List Ins) (ins : List Ins → Ins) → Extends f → Extends (λ rest. ins rest ∷ f rest)
 extends_more f ins more rest = (ins rest ∷ (more rest).0, ap (λ (code : List Ins). ins rest ∷ code) (more rest).1)

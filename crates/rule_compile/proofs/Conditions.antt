@@ -40,7 +40,7 @@ use Rattle.rule_compile.specs.Code.{image_word, want, is_there, has_text_len, ha
 use Rattle.rule_compile.specs.Folders.{is_nested}
 use Rattle.rule_compile.specs.RuleCode.{words_at, owns, relation_len, relation_bytes, there_code, condition_words, condition_bytes}
 use Rattle.rule_compile.proofs.Pieces.{Any, Tests}
-use Rattle.rule_compile.proofs.Combined.{Extends, extends_none, extends_test, tests_none, tests_same, tests_word}
+use Rattle.rule_compile.proofs.Combined.{Extends, extends_none, extends_choice, extends_test, tests_none, tests_same, tests_word}
 use Rattle.rule_compile.proofs.InTurn.{InTurn, turn_first, turn_second, turn_then, turn_same}
 use Rattle.rule_compile.proofs.Texts.{tests_is_there, extends_text_len, extends_bytes, turn_is_text, extends_in_namespace, turn_in_namespace}
 use Rattle.rule_compile.proofs.TextArguments.{argument_has_text}
@@ -106,7 +106,8 @@ below p value is = (
 turn_path_namespace : (image : List ℕ) (at : ℕ) (path : Option (List ℕ)) (value : List ℕ) (root : Bool) → bytes_eq value (47 ∷ []) ≡ root → ShowsText image at path → AreBytes value → InTurn image (IsSomeAnd path (λ p. InPathNamespace p value)) (λ rest. if root then is_there at rest else has_text_len AtLeast (length value) at rest) (λ rest. if root then rest else in_namespace at 47 value rest)
 turn_path_namespace image at path value true is shows bytes =
     let root = (bytes_eq-Decides value (47 ∷ [])).0 is in
-    turn_if_there image at path (λ p. InPathNamespace p value) (λ rest. rest) shows extends_none (λ p tells. tests_none image Any (InPathNamespace p value) (inr (inr root)))
+    turn_if_there image at path (λ p. InPathNamespace p value) (λ rest. rest) shows extends_none
+    (λ p tells. tests_none image Any (InPathNamespace p value) (inr (inr root)))
 turn_path_namespace image at path value false is shows bytes =
     turn_same image _ _ (has_text_len AtLeast (length value) at) (in_namespace at 47 value) (
       λ p. (some_shown path (λ p. InPathNamespace p value)).0 (p.0, p.1, (below p.0 value is).0 p.2),
@@ -115,21 +116,16 @@ turn_path_namespace image at path value false is shows bytes =
 
 extends_len : (relation : Relation) (at : ℕ) (value : List ℕ) → Extends (relation_len relation at value)
 extends_len relations.Equal at value = extends_text_len Equal (length value) at
-extends_len relations.PathNamespace at value = go (bytes_eq value (47 ∷ []))
-  where
-    go : (root : Bool) → Extends (λ rest. if root then is_there at rest else has_text_len AtLeast (length value) at rest)
-    go true = extends_test (image_word at) Above 0
-    go false = extends_text_len AtLeast (length value) at
+extends_len relations.PathNamespace at value =
+    let len = has_text_len AtLeast (length value) at in
+    extends_choice (bytes_eq value (47 ∷ [])) (is_there at) len (extends_test (image_word at) Above 0) (extends_text_len AtLeast (length value) at)
 extends_len relations.NameNamespace at value = extends_text_len AtLeast (length value) at
 extends_len relations.NestedPath at value = extends_none
 
 extends_relation : (relation : Relation) (at : ℕ) (value : List ℕ) → Extends (relation_bytes relation at value)
 extends_relation relations.Equal at value = extends_bytes at value
-extends_relation relations.PathNamespace at value = go (bytes_eq value (47 ∷ []))
-  where
-    go : (root : Bool) → Extends (λ rest. if root then rest else in_namespace at 47 value rest)
-    go true = extends_none
-    go false = extends_in_namespace at 47 value
+extends_relation relations.PathNamespace at value =
+    extends_choice (bytes_eq value (47 ∷ [])) (λ rest. rest) (in_namespace at 47 value) extends_none (extends_in_namespace at 47 value)
 extends_relation relations.NameNamespace at value = extends_in_namespace at 46 value
 extends_relation relations.NestedPath at value = extends_is_nested at value
 
@@ -152,11 +148,11 @@ turn_told relation image at text value tells bytes = turn_shown relation image a
 
 -- ---- what an image shows of each source
 
-shows_field : (image : List ℕ) (m : Message) (slots : List ℕ) (field : Field) → Shows Two image m slots → ShowsText image (words_at (Header field)) (field_of field m)
-shows_field image m slots Interface shows = shows.interface
-shows_field image m slots Member shows = shows.member
-shows_field image m slots Path shows = shows.path
-shows_field image m slots Destination shows = shows.destination
+shows_field : (image slots : List ℕ) (m : Message) (field : Field) → Shows Two image m slots → ShowsText image (words_at (Header field)) (field_of field m)
+shows_field image slots m Interface shows = shows.interface
+shows_field image slots m Member shows = shows.member
+shows_field image slots m Path shows = shows.path
+shows_field image slots m Destination shows = shows.destination
 
 -- ---- each condition
 
@@ -171,6 +167,6 @@ turn_condition image bytes m slots owned slot (Kind kind) valid shows slot_small
 turn_condition image bytes m slots owned slot (Sender name) valid shows slot_small fits small are =
     turn_sender image slots slot name (sender_of m) (is_owned_name name) (owned name) (shows.owned slot slot_small) shows.sender are fits
 turn_condition image bytes m slots owned slot (Compares (Header field) relation value) valid shows slot_small fits small are =
-    turn_shown relation image (words_at (Header field)) (field_of field m) value (shows_field image m slots field shows) are
+    turn_shown relation image (words_at (Header field)) (field_of field m) value (shows_field image slots m field shows) are
 turn_condition image bytes m slots owned slot (Compares (Arg n) relation value) valid shows slot_small fits small are =
     turn_argument image n relation (slice_get (arguments_of m) n) (λ text. Relates relation text value) (relation_len relation (argument_place n + 4) value) (relation_bytes relation (argument_place n + 4) value) (shows.argument n (let l = leb-true n 63 small in omega arith)) (λ a is text. argument_has_text bytes m n a valid is text) (extends_len relation (argument_place n + 4) value) (extends_relation relation (argument_place n + 4) value) (λ text tells. turn_told relation image (argument_place n + 4) text value tells are)

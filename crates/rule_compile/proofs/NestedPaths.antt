@@ -12,7 +12,7 @@ use Rattle.message_value.specs.Bytes.{AreBytes}
 use Rattle.rule_compile.specs.Code.{image_word, same_bytes, has_len, index_text, may_end}
 use Rattle.rule_compile.specs.Folders.{with_front, parts_of, follow_parts, is_nested}
 use Rattle.rule_compile.proofs.Pieces.{Any, Tests}
-use Rattle.rule_compile.proofs.Combined.{Extends, extends_none, extends_then, extends_test, extends_settle, extends_index_text, tests_none, tests_same, tests_then, tests_both, tests_settle, tests_index_text}
+use Rattle.rule_compile.proofs.Combined.{Extends, extends_none, extends_choice, extends_then, extends_test, extends_settle, extends_index_text, tests_none, tests_same, tests_then, tests_both, tests_settle, tests_index_text}
 use Rattle.rule_compile.proofs.Bytes.{Stands, At, extends_same_bytes, tests_same_bytes}
 use Rattle.rule_compile.proofs.Texts.{tests_len_is, tests_len_from}
 use Rattle.rule_compile.proofs.NestedTexts.{AlongParts, nested_follow_parts, nested_empty}
@@ -66,11 +66,10 @@ extends_part test n at place part f more =
 
 extends_follow_parts : (at place : ℕ) (parts : List (List ℕ)) → Extends (follow_parts at place parts)
 extends_follow_parts at place [] = extends_none
-extends_follow_parts at place (part ∷ []) = go (ends_with 47 part)
-  where
-    go : (slash : Bool) → Extends (λ rest. if slash then has_len AtLeast (place + length part) at (same_bytes place part rest) else has_len Equal (place + length part) at (same_bytes place part rest))
-    go true = extends_part AtLeast (place + length part) at place part (λ rest. rest) extends_none
-    go false = extends_part Equal (place + length part) at place part (λ rest. rest) extends_none
+extends_follow_parts at place (part ∷ []) =
+    let n = place + length part in
+    let from = extends_part AtLeast n at place part (λ rest. rest) extends_none in
+    extends_choice (ends_with 47 part) _ _ from (extends_part Equal n at place part (λ rest. rest) extends_none)
 extends_follow_parts at place (part ∷ next ∷ more) =
     let n = place + length part in
     let later = extends_settle (follow_parts at n (next ∷ more)) (at + 4) Equal n (extends_follow_parts at n (next ∷ more)) in
@@ -98,11 +97,10 @@ follow_parts_tests (part ∷ next ∷ more) image at text place tells are =
 -- ---- the whole piece
 
 pub extends_is_nested : (at : ℕ) (value : List ℕ) → Extends (is_nested at value)
-extends_is_nested at value = go (length value == 0)
-  where
-    go : (empty : Bool) → Extends (λ rest. if empty then has_len Equal 0 at rest else index_text at (follow_parts at 0 (parts_of value) rest))
-    go true = extends_test (image_word (at + 4)) Equal 0
-    go false = extends_index_text (follow_parts at 0 (parts_of value)) at (extends_follow_parts at 0 (parts_of value))
+extends_is_nested at value =
+    let parts = parts_of value in
+    let along = extends_index_text (follow_parts at 0 parts) at (extends_follow_parts at 0 parts) in
+    extends_choice (length value == 0) (has_len Equal 0 at) _ (extends_test (image_word (at + 4)) Equal 0) along
 
 -- the piece tests whether the text and the value are nested
 pub is_nested_tests : (image : List ℕ) (at : ℕ) (text value : List ℕ) → Tells image at text → AreBytes value → Tests image Any (AreNested text value) (is_nested at value)

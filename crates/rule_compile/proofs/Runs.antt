@@ -33,7 +33,8 @@ state p a x words = record { place = p; a = a; x = x; words = words }
 -- what ends within n steps does so after the front
 abbrev Later : List Ins → List Ins → List ℕ → ℕ → ℕ → Type 0
 Later front more image v n =
-    (p q a x : ℕ) (words : ℕ → Option ℕ) → q ≡ length front + p → EndsFrom more image v n (state p a x words) → EndsFrom (front ++ more) image v n (state q a x words)
+    (p q a x : ℕ) (words : ℕ → Option ℕ) → q ≡ length front + p → EndsFrom more image v n (state p a x words)
+    → EndsFrom (front ++ more) image v n (state q a x words)
 
 arrives_after : (front more : List Ins) (image : List ℕ) (v n p a x : ℕ) (words : ℕ → Option ℕ) (k : ℕ) (effect : Effect) → Later front more image v n → Arrives (after (state p a x words) k effect) v n (EndsFrom more image v n) → Arrives (after (state (length front + p) a x words) k effect) v n (EndsFrom (front ++ more) image v n)
 arrives_after front more image v n p a x words k (SetA w) later h =

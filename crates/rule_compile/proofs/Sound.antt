@@ -55,15 +55,15 @@ in_front ins op rest row fine none s = record {
 -- ---- single instructions
 
 pub plain_sound : (op : Op) (k : ℕ) (rest : List Ins) → IsOfPiece op k → IsSound rest → IsSound (plain op k ∷ rest)
-plain_sound (LoadImage width) k rest small s = in_front (plain (LoadImage width) k) (LoadImage width) rest (row_of_code (LoadImage width)) (record { constant = tt; scratch = tt; jump = tt; load = small }) (λ j h. h) s
-plain_sound (LoadIndexed width) k rest is s = in_front (plain (LoadIndexed width) k) (LoadIndexed width) rest (row_of_code (LoadIndexed width)) (record { constant = tt; scratch = tt; jump = tt; load = tt }) (λ j h. h) s
+plain_sound (LoadImage width) k rest small s = in_front _ _ rest (row_of_code (LoadImage width)) (record { constant = tt; scratch = tt; jump = tt; load = small }) (λ j h. h) s
+plain_sound (LoadIndexed width) k rest is s = in_front _ _ rest (row_of_code (LoadIndexed width)) (record { constant = tt; scratch = tt; jump = tt; load = tt }) (λ j h. h) s
 plain_sound IndexFromA k rest is s = in_front (plain IndexFromA k) IndexFromA rest refl (record { constant = tt; scratch = tt; jump = tt; load = tt }) (λ j h. h) s
 plain_sound ReturnConstant k rest is s = in_front (plain ReturnConstant k) ReturnConstant rest refl (record { constant = tt; scratch = tt; jump = tt; load = tt }) (λ j h. h) s
 plain_sound _ k rest none s = absurd none
 
 pub branch_sound : (test : Test) (k hit miss : ℕ) (rest : List Ins) → hit < length rest → miss < length rest → IsSound rest → IsSound (branch test k hit miss ∷ rest)
 branch_sound test k hit miss rest h m s =
-    in_front (branch test k hit miss) (Branch test Constant) rest (row_of_code (Branch test Constant)) (record { constant = tt; scratch = tt; jump = (omega arith, omega arith); load = tt }) (λ k h. h) s
+    in_front (branch test k hit miss) _ rest (row_of_code (Branch test Constant)) (record { constant = tt; scratch = tt; jump = (omega arith, omega arith); load = tt }) (λ k h. h) s
 
 -- the program's last instruction, which says no match
 pub last_sound : IsSound (returns 0 ∷ [])

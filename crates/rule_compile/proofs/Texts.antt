@@ -15,7 +15,7 @@ use Rattle.message_value.specs.Bytes.{AreBytes}
 use Rattle.rule_compile.specs.Code.{image_word, load_indexed, want, same_bytes, has_len, is_there, is_there_if, has_text_len, index_text, has_bytes, may_end, in_namespace}
 use Rattle.rule_compile.proofs.Pieces.{Any, Tests}
 use Rattle.rule_compile.proofs.InTurn.{InTurn, turn_then, turn_same}
-use Rattle.rule_compile.proofs.Combined.{Extends, extends_none, extends_then, extends_test, extends_settle, extends_index_text, tests_none, tests_same, tests_then, tests_both, tests_word, tests_settle, tests_index_text}
+use Rattle.rule_compile.proofs.Combined.{Extends, extends_none, extends_choice, extends_then, extends_test, extends_settle, extends_index_text, tests_none, tests_same, tests_then, tests_both, tests_word, tests_settle, tests_index_text}
 use Rattle.rule_compile.proofs.Bytes.{Stands, At, tests_byte, extends_same_bytes, tests_same_bytes}
 
 -- ---- the length, and whether the text is there
@@ -34,8 +34,7 @@ tests_is_there image X at place is =
     tests_same image X _ _ (is_there at) (ltb-true 0 place, lt-ltb 0 place) (tests_word image X at place Above 0 is)
 
 extends_is_there_if : (empty : Bool) (at : ℕ) → Extends (is_there_if empty at)
-extends_is_there_if true at = extends_test (image_word at) Above 0
-extends_is_there_if false at = extends_none
+extends_is_there_if empty at = extends_choice empty (is_there at) (λ rest. rest) (extends_test (image_word at) Above 0) extends_none
 
 tests_is_there_if : (image : List ℕ) (empty : Bool) (at place : ℕ) → load_word image at ≡ Some place → 0 < place → Tests image Any (0 < place) (is_there_if empty at)
 tests_is_there_if image true at place is begun = tests_is_there image Any at place is
