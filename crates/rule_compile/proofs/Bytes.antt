@@ -138,8 +138,7 @@ SameWord text at value i =
     AreFour text (at + i) (slice_index value i) (slice_index value (i + 1)) (slice_index value (i + 2)) (slice_index value (i + 3))
 
 extends_word : (at : ℕ) (value : List ℕ) (i : ℕ) → Extends (same_word at value i)
-extends_word at value i =
-    extends_test (load_indexed Word (at + i)) Equal _
+extends_word at value i = extends_test (load_indexed Word (at + i)) Equal _
 
 word_agrees : (text : List ℕ) (at : ℕ) (value : List ℕ) (i : ℕ) → SameWord text at value i → Agree text at value i (i + 4)
 word_agrees text at value i same k low high = go (k - i) (omega arith)
