@@ -65,17 +65,5 @@ pub branch_sound : (test : Test) (k hit miss : ℕ) (rest : List Ins) → hit < 
 branch_sound test k hit miss rest h m s =
     in_front (branch test k hit miss) _ rest (row_of_code (Branch test Constant)) (record { constant = tt; scratch = tt; jump = (omega arith, omega arith); load = tt }) (λ k h. h) s
 
--- the program's last instruction, which says no match
-pub last_sound : IsSound (returns 0 ∷ [])
-last_sound = record { some = omega arith; fine = fine_at; last = tt; quiet = quiet_at }
-  where
-    fine_at : (place : ℕ) → place < 1 → At (returns 0 ∷ []) place (IsFine 1 place)
-    fine_at zero inside = record { constant = tt; scratch = tt; jump = tt; load = tt }
-    fine_at (suc p) inside = absurd (omega arith)
-
-    quiet_at : (place k : ℕ) → At (returns 0 ∷ []) place (Reads k) → ⊥
-    quiet_at zero k h = h
-    quiet_at (suc p) k h = h
-
 pub well_made : (code : List Ins) → IsSound code → AreWellMade code
 well_made code s = record { some = s.some; fine = s.fine; last = s.last; stored = λ place earlier k path reads. absurd (s.quiet place k reads) }
