@@ -12,8 +12,8 @@ use Rattle.match_rule.specs.Arguments.{text_in}
 use Rattle.match_rule.specs.Holds.{is_compared, compared_text}
 use Rattle.summary.specs.Shown.{Tells, ShowsArgument}
 use Rattle.summary.specs.Layout.{argument_place}
-use Rattle.rule_compile.specs.Code.{image_word, want, settle}
-use Rattle.rule_compile.specs.RuleCode.{has_type, has_text_type, type_code}
+use Rattle.rule_compile.specs.Code.{want, settle}
+use Rattle.rule_compile.specs.RuleCode.{has_text_type, type_code}
 use Rattle.rule_compile.proofs.Pieces.{Any, Tests}
 use Rattle.rule_compile.proofs.Runs.{runs_image_word, runs_want, stops_want, runs_settle, stays_settle}
 use Rattle.rule_compile.proofs.Combined.{Extends, extends_want, extends_settle, guards, tests_same, tests_word}

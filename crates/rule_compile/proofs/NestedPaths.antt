@@ -1,6 +1,6 @@
 -- What the program of a path's condition tests: whether the paths are nested.
-use Rattle.std.proofs.Common.{◌≡◌, ℕ, zero, suc, ◌+◌, ◌<◌, ◌≤◌, Bool, true, false, List, [], ◌∷◌, length, inl, inr, ◌⊎◌, refl, arith}
-use Rattle.std.specs.Prelude.{◌==◌, ◌↔◌, MatchBool, if◌then◌else◌}
+use Rattle.std.proofs.Common.{◌≡◌, ℕ, zero, suc, ◌+◌, ◌<◌, ◌≤◌, Bool, true, false, List, [], ◌∷◌, length, inl, inr, ◌⊎◌, arith}
+use Rattle.std.specs.Prelude.{◌==◌, MatchBool, if◌then◌else◌}
 use Rattle.std.proofs.lemmas.Bool.{eqb-true, eq-eqb, ne_eqb}
 use Rattle.bpf_code.specs.declared.instruction.Ins.{Ins}
 use Rattle.bpf_code.specs.declared.operation.Test.{Test}
@@ -9,7 +9,7 @@ use Rattle.match_rule.specs.Bytes.{ends_with}
 use Rattle.match_rule.specs.Holds.{AreNested}
 use Rattle.summary.specs.Shown.{Tells}
 use Rattle.message_value.specs.Bytes.{AreBytes}
-use Rattle.rule_compile.specs.Code.{image_word, same_bytes, has_len, index_text, may_end}
+use Rattle.rule_compile.specs.Code.{image_word, same_bytes, has_len, may_end}
 use Rattle.rule_compile.specs.Folders.{with_front, parts_of, follow_parts, is_nested}
 use Rattle.rule_compile.proofs.Pieces.{Any, Tests}
 use Rattle.rule_compile.proofs.Combined.{Extends, extends_none, extends_choice, extends_then, extends_test, extends_settle, extends_index_text, tests_none, tests_same, tests_then, tests_both, tests_settle, tests_index_text}

@@ -1,5 +1,5 @@
 -- Programs under way stay sound: an instruction in front keeps what makes them well made.
-use Rattle.std.proofs.Common.{◌≡◌, ℕ, zero, suc, ◌-◌, ◌<◌, List, [], ◌∷◌, length, Option, Some, None, refl, subst, arith}
+use Rattle.std.proofs.Common.{◌≡◌, ℕ, zero, suc, ◌-◌, ◌<◌, List, ◌∷◌, length, Option, Some, None, refl, subst, arith}
 use Rattle.std.specs.Option.{IsSomeAnd}
 use Rattle.std.specs.List.{slice_get}
 use Rattle.bpf_code.specs.declared.instruction.Ins.{Ins}
@@ -12,7 +12,7 @@ use Rattle.bpf_code.proofs.OneTable.{row_of_code}
 use Rattle.bpf_code.specs.Flow.{At, Reads}
 use Rattle.bpf_code.specs.Program.{IsJumpFine, IsFine, IsReturn}
 use Rattle.jump_islands.specs.Source.{AreWellMade}
-use Rattle.rule_compile.specs.Code.{plain, returns, branch}
+use Rattle.rule_compile.specs.Code.{plain, branch}
 use Rattle.rule_compile.specs.Sound.{IsSound, IsOfPiece}
 
 some_map : {A : Type 0} (o : Option A) (P Q : A → Type 0) → ((x : A) → P x → Q x) → IsSomeAnd o P → IsSomeAnd o Q

@@ -2,10 +2,10 @@
 use Rattle.std.proofs.Common.{◌≡◌, ℕ, zero, suc, ◌+◌, true, false, List, length, Some, ◌⊎◌, inl, inr, refl, sym, ◌∙◌, subst, slice_get}
 use Rattle.std.proofs.lemmas.Bool.{false≢true}
 use Rattle.std.proofs.lemmas.Option.{same_Some}
-use Rattle.signature.specs.DataType.{DataType, DataTypes, basic, variant, array, dict, struct, no_types, one_more}
+use Rattle.signature.specs.DataType.{DataType, DataTypes, basic, variant, array, dict, struct, one_more}
 use Rattle.signature.specs.Alignment.{alignment_of}
 use Rattle.message_value.specs.declared.order.Order.{Order}
-use Rattle.message_value.specs.Value.{Value, Values, number, text, elements, entries, members, of_type, no_values, one_value}
+use Rattle.message_value.specs.Value.{Value, Values, number, text, one_value}
 use Rattle.message_value.specs.Spelling.{align_up, value_bytes}
 use Rattle.message_value.specs.Arguments.{Argument, argument_of, arguments_from}
 use Rattle.message_value.specs.Fits.{is_text_code, BareFits, MembersFit, max_levels}

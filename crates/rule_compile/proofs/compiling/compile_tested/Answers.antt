@@ -1,12 +1,11 @@
-use Rattle.std.proofs.Common.{◌≡◌, ℕ, Bool, List, sym, ap, ◌∙◌, subst}
+use Rattle.std.proofs.Common.{◌≡◌, ℕ, Bool, List}
 use Rattle.std.specs.Prelude.{unwrap_or}
 use Rattle.std.proofs.lemmas.Result.{err_from_is_err_and}
 use Rattle.bpf_code.specs.declared.instruction.Ins.{Ins}
 use Rattle.match_rule.specs.declared.condition.Condition.{Condition}
 use Rattle.match_rule.specs.RuleTree.{RuleTree}
-use Rattle.jump_islands.specs.Lowering.{IsTarget, IsTargetRefusal}
 use Rattle.rule_compile.specs.declared.rest.Tested.{Tested}
-use Rattle.rule_compile.specs.Compiled.{IsCompiled, IsSlotOf}
+use Rattle.rule_compile.specs.Compiled.{IsSlotOf}
 use Rattle.rule_compile.specs.Rest.{tested_of}
 use Rattle.rule_compile.specs.RuleCode.{rule_code}
 use Rattle.summary.specs.declared.edition.Edition.TheVariants.{Two}
