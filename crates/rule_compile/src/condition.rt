@@ -104,6 +104,7 @@ impl Code {
         ensures { OnOk result (self.new ≡ source_code source relation self.old) }
     {
         match source {
+            // The piece of any other relation tests whether the field is there.
             Source::Header(_) => match relation {
                 Relation::NestedPath => self.is_there(words_at(source)),
                 Relation::Equal | Relation::PathNamespace | Relation::NameNamespace => Ok(()),
