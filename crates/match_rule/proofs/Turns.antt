@@ -22,13 +22,14 @@ blanks_len (b ∷ bs) = go (is_blank b) (blanks_len bs)
     go true h = omega arith
     go false h = omega arith
 
-pub enough_turns : (n m : ℕ) (front : List Term) (bytes : List ℕ) → length bytes ≤ n → length bytes ≤ m → parts_from n front bytes ≡ parts_from m front bytes
-enough_turns zero zero front bytes p q = refl
-enough_turns zero (suc m) front [] p q = refl
-enough_turns zero (suc m) front (b ∷ bs) p q = absurd (omega arith)
-enough_turns (suc n) zero front [] p q = refl
+pub parts_from-nil : (n : ℕ) (front : List Term) → parts_from n front [] ≡ Ok front
+parts_from-nil zero front = refl
+parts_from-nil (suc n) front = refl
+
+enough_turns : (n m : ℕ) (front : List Term) (bytes : List ℕ) → length bytes ≤ n → length bytes ≤ m → parts_from n front bytes ≡ parts_from m front bytes
+enough_turns n m front [] p q = parts_from-nil n front ∙ sym (parts_from-nil m front)
+enough_turns zero m front (b ∷ bs) p q = absurd (omega arith)
 enough_turns (suc n) zero front (b ∷ bs) p q = absurd (omega arith)
-enough_turns (suc n) (suc m) front [] p q = refl
 enough_turns (suc n) (suc m) front (b ∷ bs) p q = go (part_at front (b ∷ bs)) refl (λ f rest. enough_turns n m f rest)
   where
     go : (found : Result (Term × List ℕ) RuleError) → part_at front (b ∷ bs) ≡ found → ((f : List Term) (rest : List ℕ) → length rest ≤ n → length rest ≤ m → parts_from n f rest ≡ parts_from m f rest) → (found >>= λ part. parts_from n (front ++ part.0 ∷ []) (after_blanks part.1)) ≡ (found >>= λ part. parts_from m (front ++ part.0 ∷ []) (after_blanks part.1))
