@@ -1,23 +1,10 @@
--- The values of a rule that was read are bytes.
+-- Each byte of UTF-8 is below 256.
 use Rattle.std.proofs.Common.{◌≡◌, ℕ, zero, suc, ◌+◌, ◌/◌, ◌<◌, Bool, true, false, cond, List, [], ◌∷◌, ◌++◌, refl, subst, inl, inr, arith}
-use Rattle.std.specs.Prelude.{Some, All, nat_lt}
-use Rattle.std.specs.List.{list_all}
+use Rattle.std.specs.Prelude.{nat_lt}
 use Rattle.std.specs.Str.{IsUtf8}
 use Rattle.std.proofs.lemmas.Bool.{and_parts, ltb-true}
-use Rattle.std.proofs.lemmas.List.Elements.{All-cons, All-nil}
-use Rattle.std.proofs.lemmas.Str.{IsUtf8-from_is_utf8}
 use lib.Utf8.{scalar, scalars, next, encode, encodes, scalar_cases}
 use Rattle.message_value.specs.Bytes.{AreBytes}
-use Rattle.match_key.specs.declared.kind_name.KindName.{KindName}
-use Rattle.match_key.specs.declared.kind_name.KindName.TheVariants.{Signal, MethodCall, MethodReturn, Error}
-use Rattle.match_rule.specs.declared.condition.Condition.{Condition}
-use Rattle.match_rule.specs.declared.condition.Condition.TheVariants.{Kind, Sender, Compares}
-use Rattle.match_rule.specs.declared.term.Term.{Term}
-use Rattle.match_rule.specs.declared.term.Term.TheVariants.{Asks, Eavesdrop}
-use Rattle.match_key.specs.Kinds.{kind_word}
-use Rattle.match_rule.specs.Condition.{key_of, value_of, asks_if, term_of, conditions_in}
-use Rattle.match_rule.specs.Grammar.{Part, pieces_value, AreParts}
-use Rattle.match_rule.proofs.PartReads.{said_text}
 
 bytes_nil : AreBytes []
 bytes_nil zero = omega arith
@@ -63,40 +50,5 @@ encodes_bytes [] e = bytes_nil
 encodes_bytes (c ∷ cs) e =
     let h = and_parts (scalar c) (scalars cs) e in bytes_append (encode c) (encodes cs) (encode_bytes c (scalar_low c h.0)) (encodes_bytes cs h.1)
 
-text_bytes : (text : List ℕ) → IsUtf8 text → AreBytes text
+pub text_bytes : (text : List ℕ) → IsUtf8 text → AreBytes text
 text_bytes text u = subst AreBytes u.1.1 (encodes_bytes u.0 u.1.0)
-
--- ---- values
-
-asks_same : (allowed : Bool) (said c : Condition) → asks_if allowed said ≡ Some (Asks c) → said ≡ c
-asks_same true said c e = cc
-asks_same false said c e = cc
-
--- a condition that is said with a value has it
-same_value : (allowed : Bool) (said c : Condition) → asks_if allowed said ≡ Some (Asks c) → AreBytes (value_of said) → AreBytes (value_of c)
-same_value allowed said c e bytes = subst (λ (d : Condition). AreBytes (value_of d)) (asks_same allowed said c e) bytes
-
-small_bytes : (bs : List ℕ) → list_all (λ b. nat_lt b 256) bs ≡ true → AreBytes bs
-small_bytes [] e = bytes_nil
-small_bytes (b ∷ bs) e = let h = and_parts (nat_lt b 256) (list_all (λ b. nat_lt b 256) bs) e in bytes_cons b bs (ltb-true b 256 h.0) (small_bytes bs h.1)
-
-word_bytes : (kind : KindName) → AreBytes (kind_word kind)
-word_bytes Signal = small_bytes (kind_word Signal) refl
-word_bytes MethodCall = small_bytes (kind_word MethodCall) refl
-word_bytes MethodReturn = small_bytes (kind_word MethodReturn) refl
-word_bytes Error = small_bytes (kind_word Error) refl
-
-said_bytes : (c : Condition) (text : List ℕ) → term_of (key_of c) text ≡ Some (Asks c) → AreBytes text → AreBytes (value_of c)
-said_bytes (Kind kind) text e bytes = word_bytes kind
-said_bytes (Sender name) text e bytes = same_value _ (Sender text) (Sender name) e bytes
-said_bytes (Compares source relation value) text e bytes = same_value _ (Compares source relation text) (Compares source relation value) e bytes
-
-pub parts_bytes_are : (parts : List Part) (terms : List Term) → AreParts parts terms → All (λ c. AreBytes (value_of c)) (conditions_in terms)
-parts_bytes_are [] [] said = All-nil (λ (c : Condition). AreBytes (value_of c))
-parts_bytes_are [] (term ∷ terms) said = absurd said
-parts_bytes_are (part ∷ parts) [] said = absurd said
-parts_bytes_are (part ∷ parts) (Eavesdrop flag ∷ terms) said = parts_bytes_are parts terms said.1
-parts_bytes_are (part ∷ parts) (Asks c ∷ terms) said =
-    let value = pieces_value part.pieces in
-    let is = said_text (key_of c) value (Asks c) said.0.allowed in
-    All-cons (λ (c : Condition). AreBytes (value_of c)) c (conditions_in terms) (said_bytes c value is.1 (text_bytes value (IsUtf8-from_is_utf8 value is.0))) (parts_bytes_are parts terms said.1)

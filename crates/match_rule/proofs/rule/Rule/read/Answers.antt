@@ -5,7 +5,7 @@ use Rattle.match_rule.specs.Gathering.{rule_of, tree_at}
 use Rattle.match_rule.proofs.Steps.{gives_err}
 use Rattle.match_rule.proofs.Spelled.{read_of, rule_at-tree}
 use Rattle.match_rule.proofs.Found.{rule_found}
-use Rattle.match_rule.proofs.ReadRules.{tree_weight, one_sender, small_numbers, value_bytes, sender_names}
+use Rattle.match_rule.proofs.ReadRules.{legal}
 use Rattle.match_rule.proofs.rule.Rule.read.Goals as goal
 
 pub returns-in_err-parts-clause-only : goal.returns-in_err-parts-clause-only
@@ -15,13 +15,8 @@ returns-in_err-parts-clause-only c = λ rule is.
 
 pub invariant_of-result : goal.invariant_of-result
 invariant_of-result c =
-    let tree : tree_at c.args.text.now ≡ Ok (rule_of c.in_ok-parts.parts) = ap tree_at (sym c.as_bytes.ensures.value) ∙ c.in_ok-parts.ensures in (
-      tree_weight c.args.text.now (rule_of c.in_ok-parts.parts) (omega arith) tree,
-      one_sender c.args.text.now (rule_of c.in_ok-parts.parts) (omega arith) tree,
-      small_numbers c.args.text.now (rule_of c.in_ok-parts.parts) (omega arith) tree,
-      value_bytes c.args.text.now (rule_of c.in_ok-parts.parts) (omega arith) tree,
-      sender_names c.args.text.now (rule_of c.in_ok-parts.parts) (omega arith) tree,
-    )
+    let tree : tree_at c.args.text.now ≡ Ok (rule_of c.in_ok-parts.parts) = ap tree_at (sym c.as_bytes.ensures.value) ∙ c.in_ok-parts.ensures in
+    legal c.args.text.now (rule_of c.in_ok-parts.parts) (omega arith) tree
 
 pub returns-clause-found : goal.returns-clause-found
 returns-clause-found c =
