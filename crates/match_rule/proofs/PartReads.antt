@@ -2,9 +2,9 @@
 use Rattle.std.proofs.Common.{◌≡◌, ℕ, ◌+◌, ◌<◌, ◌≤◌, Bool, true, false, cond, List, [], ◌∷◌, ◌++◌, length, refl, sym, ap, ◌∙◌, subst, arith, length-append}
 use Rattle.std.specs.Prelude.{Result, Ok, Err, Option, Some, None, option_map, ◌==◌}
 use Rattle.std.proofs.lemmas.Bool.{eqb-true}
-use Rattle.std.specs.Str.{bytes_eq}
+use Rattle.std.specs.List.{list_any}
+use Rattle.std.specs.Str.{bytes_eq, is_utf8}
 use Rattle.std.proofs.lemmas.Slice.Eq.{bytes_eq-Decides}
-use Rattle.std.specs.Str.{is_utf8}
 use Rattle.signature.specs.Name.{is_bus_name}
 use Rattle.match_key.specs.declared.error.RuleError.{RuleError}
 use Rattle.match_key.specs.declared.error.RuleError.TheVariants.{UnknownKey, KeyTwice, PathTwice, BadValue}
@@ -19,7 +19,7 @@ use Rattle.match_rule.specs.declared.quoting.Quoting.{Quoting}
 use Rattle.match_rule.specs.declared.quoting.Quoting.TheVariants.{Outside, Inside, Escaped}
 use Rattle.match_rule.specs.declared.quoting.Step.{Step}
 use Rattle.match_rule.specs.declared.quoting.Step.TheVariants.{End, Skip, Take}
-use Rattle.match_key.specs.Key.{key_named}
+use Rattle.match_key.specs.Key.{key_named, is_twice, is_path_twice}
 use Rattle.match_key.specs.Kinds.{kind_words, kind_named, kind_word}
 use Rattle.match_rule.specs.Condition.{term_key, term_of, term_with, is_value, asks_if, key_of, value_of, has_key, has_path, flag_named}
 use Rattle.match_rule.specs.Bytes.{begins_with}
@@ -112,14 +112,14 @@ after_key front key = do
   term ← or_fault BadValue (term_with own value.0)
   Ok (term, value.1)
 
--- a part is read alike after terms of the same keys
-pub part_same : (front others : List Term) (bytes : List ℕ) → ((key : Key) → has_key key front ≡ has_key key others) → ((key : Key) → has_path key front ≡ has_path key others) → part_at front bytes ≡ part_at others bytes
+-- a part is read alike after terms of which the same is true
+pub part_same : (front others : List Term) (bytes : List ℕ) → ((p : Term → Bool) → list_any p front ≡ list_any p others) → part_at front bytes ≡ part_at others bytes
 unfolding part_at
-part_same front others bytes keys paths = go (key_at bytes)
+part_same front others bytes any = go (key_at bytes)
   where
     go : (found : Result (Key × List ℕ) RuleError) → (found >>= after_key front) ≡ (found >>= after_key others)
     go (Err fault) = refl
-    go (Ok key) = rw (keys key.0, paths key.0) refl
+    go (Ok key) = rw (any (λ t. is_twice (term_key t) key.0), any (λ t. is_path_twice (term_key t) key.0)) refl
 
 -- ---- what is read is spelled
 

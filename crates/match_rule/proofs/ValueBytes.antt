@@ -7,8 +7,7 @@ use lib.Utf8.{scalar, scalars, next, encode, encodes, scalar_cases}
 use Rattle.message_value.specs.Bytes.{AreBytes}
 
 bytes_nil : AreBytes []
-bytes_nil zero = omega arith
-bytes_nil (suc i) = omega arith
+bytes_nil i = omega arith
 
 bytes_cons : (b : ℕ) (bs : List ℕ) → b < 256 → AreBytes bs → AreBytes (b ∷ bs)
 bytes_cons b bs h t zero = h

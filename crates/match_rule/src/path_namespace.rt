@@ -45,13 +45,9 @@ impl NamespaceEnd {
         ensures { result ≡ end_of namespace.now }
     {
         let bytes = namespace.as_bytes();
-        let last = match bytes.last() {
-            Some(byte) => *byte,
-            None => 0,
-        };
         NamespaceEnd {
             len: bytes.len(),
-            last,
+            last: bytes.last().copied().unwrap_or(0),
         }
     }
 
