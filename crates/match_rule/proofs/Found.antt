@@ -39,69 +39,64 @@ record Section (bytes value rest : List ℕ) : Type 0 where
   pub means : value ≡ inside ++ later
   pub more : Value back later rest
 
-at_end : (value rest : List ℕ) → value ≡ [] → rest ≡ [] → Value [] value rest
-at_end value rest v r = record { pieces = []; tail = None; are = tt; spelled = refl; means = v; ends = r }
-
-at_comma : (b : ℕ) (bs value rest : List ℕ) → b ≡ comma → value ≡ [] → rest ≡ bs → Value (b ∷ bs) value rest
-at_comma b bs value rest is v r = record { pieces = []; tail = Some bs; are = tt; spelled = ap (λ (x : ℕ). x ∷ bs) is; means = v; ends = r }
-
-at_section : (b : ℕ) (bs value rest : List ℕ) → b ≡ apostrophe → Section bs value rest → Value (b ∷ bs) value rest
-at_section b bs value rest is s = record {
-  pieces = quoted s.inside ∷ s.more.pieces;
-  tail = s.more.tail;
-  are = (s.closed, s.more.are);
-  spelled = ap (λ (x : ℕ). x ∷ bs) is ∙ ap (λ (x : List ℕ). apostrophe ∷ x) (s.spelled ∙ ap (λ (x : List ℕ). s.inside ++ apostrophe ∷ x) s.more.spelled ∙ sym (quoted_regroup s.inside (pieces_bytes s.more.pieces) (tail_bytes s.more.tail)));
-  means = s.means ∙ ap (λ (x : List ℕ). s.inside ++ x) s.more.means;
-  ends = s.more.ends;
-}
-
-at_plain : (b : ℕ) (bs value later rest : List ℕ) → (b == apostrophe || b == comma || b == backslash && begins_with apostrophe bs) ≡ false → value ≡ b ∷ later → Value bs later rest → Value (b ∷ bs) value rest
-at_plain b bs value later rest is v more = record {
-  pieces = plain b ∷ more.pieces;
-  tail = more.tail;
-  are = (ap (λ follows. b == apostrophe || b == comma || b == backslash && follows) (sym (begins_tail (pieces_bytes more.pieces) more.tail) ∙ sym (ap (begins_with apostrophe) more.spelled)) ∙ is, more.are);
-  spelled = ap (λ (x : List ℕ). b ∷ x) more.spelled;
-  means = v ∙ ap (λ (x : List ℕ). b ∷ x) more.means;
-  ends = more.ends;
-}
-
 byte_taken : (b : ℕ) (bs value rest : List ℕ) → (b == apostrophe || b == comma || b == backslash && begins_with apostrophe bs) ≡ false → (value_from Outside bs >>= λ found. Ok (with_byte b found)) ≡ Ok (value, rest) → ((v r : List ℕ) → value_from Outside bs ≡ Ok (v, r) → Value bs v r) → Value (b ∷ bs) value rest
 byte_taken b bs value rest is e more =
     let t = take_ok b (value_from Outside bs) value rest e in
-    at_plain b bs value t.0 rest is t.1 (more t.0 rest t.2)
+    let v = more t.0 rest t.2 in
+    record {
+      pieces = plain b ∷ v.pieces;
+      tail = v.tail;
+      are = (ap (λ follows. b == apostrophe || b == comma || b == backslash && follows) (sym (begins_tail (pieces_bytes v.pieces) v.tail) ∙ sym (ap (begins_with apostrophe) v.spelled)) ∙ is, v.are);
+      spelled = ap (λ (x : List ℕ). b ∷ x) v.spelled;
+      means = t.1 ∙ ap (λ (x : List ℕ). b ∷ x) v.means;
+      ends = v.ends;
+    }
 
 outside : (b : ℕ) (bs value rest : List ℕ) (ends opens slash follows : Bool) → (b == comma) ≡ ends → (b == apostrophe) ≡ opens → (b == backslash) ≡ slash → begins_with apostrophe bs ≡ follows → after_step (cond ends End (cond opens (Skip Inside) (cond slash (cond follows (Skip Escaped) (Take Outside)) (Take Outside)))) b bs (λ next. value_from next bs) ≡ Ok (value, rest) → ((v r : List ℕ) → value_from Outside bs ≡ Ok (v, r) → Value bs v r) → ((v r : List ℕ) → value_from Inside bs ≡ Ok (v, r) → Section bs v r) → ((v r : List ℕ) → value_from Escaped bs ≡ Ok (v, r) → begins_with apostrophe bs ≡ true → Value (backslash ∷ bs) v r) → Value (b ∷ bs) value rest
 outside b bs value rest true opens slash follows p q r s e more section escape =
     let h = pair_ok ([], bs) (value, rest) e in
-    at_comma b bs value rest (eqb-true b comma p) (sym h.0) (sym h.1)
-outside b bs value rest false true slash follows p q r s e more section escape = at_section b bs value rest (eqb-true b apostrophe q) (section value rest e)
+    record { pieces = []; tail = Some bs; are = tt; spelled = ap (λ (x : ℕ). x ∷ bs) (eqb-true b comma p); means = sym h.0; ends = sym h.1 }
+outside b bs value rest false true slash follows p q r s e more section escape =
+    let found = section value rest e in
+    let regroup = quoted_regroup found.inside (pieces_bytes found.more.pieces) (tail_bytes found.more.tail) in
+    record {
+      pieces = quoted found.inside ∷ found.more.pieces;
+      tail = found.more.tail;
+      are = (found.closed, found.more.are);
+      spelled = ap (λ (x : ℕ). x ∷ bs) (eqb-true b apostrophe q) ∙ ap (λ (x : List ℕ). apostrophe ∷ x) (found.spelled ∙ ap (λ (x : List ℕ). found.inside ++ apostrophe ∷ x) found.more.spelled ∙ sym regroup);
+      means = found.means ∙ ap (λ (x : List ℕ). found.inside ++ x) found.more.means;
+      ends = found.more.ends;
+    }
 outside b bs value rest false false true true p q r s e more section escape = rw (eqb-true b backslash r) (escape value rest e s)
 outside b bs value rest false false true false p q r s e more section escape = byte_taken b bs value rest (rw (q, p, r, s) refl) e more
 outside b bs value rest false false false follows p q r s e more section escape = byte_taken b bs value rest (rw (q, p, r) refl) e more
 
-closes : (b : ℕ) (bs value rest : List ℕ) → b ≡ apostrophe → Value bs value rest → Section (b ∷ bs) value rest
-closes b bs value rest is more = record { inside = []; back = bs; later = value; closed = refl; spelled = ap (λ (x : ℕ). x ∷ bs) is; means = refl; more = more }
-
-goes_on : (b : ℕ) (bs value later rest : List ℕ) → (b == apostrophe) ≡ false → value ≡ b ∷ later → Section bs later rest → Section (b ∷ bs) value rest
-goes_on b bs value later rest is v s = record {
-  inside = b ∷ s.inside;
-  back = s.back;
-  later = s.later;
-  closed = rw is s.closed;
-  spelled = ap (λ (x : List ℕ). b ∷ x) s.spelled;
-  means = v ∙ ap (λ (x : List ℕ). b ∷ x) s.means;
-  more = s.more;
-}
-
 inside : (b : ℕ) (bs value rest : List ℕ) (closing : Bool) → (b == apostrophe) ≡ closing → after_step (cond closing (Skip Outside) (Take Inside)) b bs (λ next. value_from next bs) ≡ Ok (value, rest) → ((v r : List ℕ) → value_from Outside bs ≡ Ok (v, r) → Value bs v r) → ((v r : List ℕ) → value_from Inside bs ≡ Ok (v, r) → Section bs v r) → Section (b ∷ bs) value rest
-inside b bs value rest true is e more section = closes b bs value rest (eqb-true b apostrophe is) (more value rest e)
+inside b bs value rest true is e more section = record {
+  inside = [];
+  back = bs;
+  later = value;
+  closed = refl;
+  spelled = ap (λ (x : ℕ). x ∷ bs) (eqb-true b apostrophe is);
+  means = refl;
+  more = more value rest e;
+}
 inside b bs value rest false is e more section =
     let t = take_ok b (value_from Inside bs) value rest e in
-    goes_on b bs value t.0 rest is t.1 (section t.0 rest t.2)
+    let s = section t.0 rest t.2 in
+    record {
+      inside = b ∷ s.inside;
+      back = s.back;
+      later = s.later;
+      closed = rw is s.closed;
+      spelled = ap (λ (x : List ℕ). b ∷ x) s.spelled;
+      means = t.1 ∙ ap (λ (x : List ℕ). b ∷ x) s.means;
+      more = s.more;
+    }
 
 mutual
   outside_found : (bs value rest : List ℕ) → value_from Outside bs ≡ Ok (value, rest) → Value bs value rest
-  outside_found [] value rest e = let h = pair_ok ([], []) (value, rest) e in at_end value rest (sym h.0) (sym h.1)
+  outside_found [] value rest e = let h = pair_ok ([], []) (value, rest) e in record { pieces = []; tail = None; are = tt; spelled = refl; means = sym h.0; ends = sym h.1 }
   outside_found (b ∷ bs) value rest e = outside b bs value rest (b == comma) (b == apostrophe) (b == backslash) (begins_with apostrophe bs) refl refl refl refl e (λ v r. outside_found bs v r) (λ v r. inside_found bs v r) (λ v r. escaped_found bs v r)
 
   inside_found : (bs value rest : List ℕ) → value_from Inside bs ≡ Ok (value, rest) → Section bs value rest
@@ -192,19 +187,6 @@ first_found front bytes term rest e =
       ends = v.ends;
     }
 
--- the last part, which nothing follows
-last_found : (front : List Term) (bytes : List ℕ) (term : Term) (part : Part) (terms : List Term) → IsPart part term → has_key (term_key term) front ≡ false → has_path (term_key term) front ≡ false → bytes ≡ part_bytes part ++ [] → front ++ term ∷ [] ≡ terms → Rest front bytes terms
-last_found front bytes term part terms says new apart is same = record {
-  own = term ∷ [];
-  parts = part ∷ [];
-  ending = [];
-  joined = sym same;
-  spelled = is;
-  ends = tt;
-  said = (says, tt);
-  once = (new, apart, tt);
-}
-
 -- a part with a comma, before what follows
 more_found : (front : List Term) (bytes rest : List ℕ) (term : Term) (part : Part) (terms : List Term) → IsPart part term → has_key (term_key term) front ≡ false → has_path (term_key term) front ≡ false → bytes ≡ part_bytes part ++ comma ∷ rest → Rest (front ++ term ∷ []) rest terms → Rest front bytes terms
 more_found front bytes rest term part terms says new apart is more = go more.parts more.ending more.spelled more.ends more.said
@@ -223,7 +205,16 @@ after_first n front bytes terms term rest first e more = go first.tail first.spe
     go None spelled ends =
         let last : ok (front ++ term ∷ []) ≡ ok terms = sym (parts_from-nil n (front ++ term ∷ [])) ∙ ap (λ (x : List ℕ). parts_from n (front ++ term ∷ []) (after_blanks x)) (sym ends) ∙ e in
         let same : front ++ term ∷ [] ≡ terms = cc in
-        last_found front bytes term first.part terms first.says first.new first.apart spelled same
+        record {
+          own = term ∷ [];
+          parts = first.part ∷ [];
+          ending = [];
+          joined = sym same;
+          spelled = spelled;
+          ends = tt;
+          said = (first.says, tt);
+          once = (first.new, first.apart, tt);
+        }
     go (Some r) spelled ends = more_found front bytes r term first.part terms first.says first.new first.apart spelled (let P : List ℕ → Type 0 = λ x. Rest (front ++ term ∷ []) x terms in subst P ends more)
 
 parts_found : (n : ℕ) (front : List Term) (bytes : List ℕ) (terms : List Term) → length (after_blanks bytes) ≤ n → parts_from n front (after_blanks bytes) ≡ Ok terms → Rest front bytes terms

@@ -60,11 +60,7 @@ digit_plain b e = grind (arith, nat_tests)
 
 pub split_digits : (bytes : List ℕ) → bytes ≡ digits_of bytes ++ after_digits bytes
 split_digits [] = refl
-split_digits (b ∷ bs) = go (is_digit b) (split_digits bs)
-  where
-    go : (d : Bool) → bs ≡ digits_of bs ++ after_digits bs → b ∷ bs ≡ cond d (b ∷ digits_of bs) [] ++ cond d (after_digits bs) (b ∷ bs)
-    go true e = ap (λ (x : List ℕ). b ∷ x) e
-    go false e = refl
+split_digits (b ∷ bs) = grind (arith, split_digits bs)
 
 all_plain : (bytes : List ℕ) → list_all is_digit bytes ≡ true → list_all is_plain bytes ≡ true
 all_plain [] e = refl
@@ -75,29 +71,14 @@ abbrev pub is_small_key : Key → Bool
 is_small_key (keys.Compares source relation) = is_small_source source
 is_small_key _ = true
 
-to_max_small : (n k : ℕ) → up_to_max n ≡ Some k → nat_le k max_arg ≡ true
-to_max_small n k e = go (nat_le n max_arg) refl e
-  where
-    go : (b : Bool) → nat_le n max_arg ≡ b → cond b (Some n) None ≡ Some k → nat_le k max_arg ≡ true
-    go true is e = let same : k ≡ n = cc in ap (λ (i : ℕ). nat_le i max_arg) same ∙ is
-    go false is e = absurd cc
-
 number_small : (digits : List ℕ) (k : ℕ) → arg_number digits ≡ Some k → nat_le k max_arg ≡ true
-number_small (d ∷ []) k e = to_max_small (d - 48) k e
-number_small (d ∷ f ∷ []) k e = go (d == 48) e
-  where
-    go : (b : Bool) → cond b None (up_to_max (10 * (d - 48) + (f - 48))) ≡ Some k → nat_le k max_arg ≡ true
-    go true e = absurd cc
-    go false e = to_max_small (10 * (d - 48) + (f - 48)) k e
+number_small (d ∷ []) k e = grind (arith, nat_tests)
+number_small (d ∷ f ∷ []) k e = grind (arith, nat_tests)
 number_small _ k e = absurd cc
 
 numbered_small : (row : Relation × ℕ) (number : Option ℕ) (key : Key) → ((k : ℕ) → number ≡ Some k → nat_le k max_arg ≡ true) → numbered_key row number ≡ Ok key → is_small_key key ≡ true
 numbered_small row None key small e = absurd cc
-numbered_small row (Some n) key small e = go (nat_le n row.1) e
-  where
-    go : (b : Bool) → cond b (Ok (keys.Compares (Arg n) row.0)) (Err ArgNumber) ≡ Ok key → is_small_key key ≡ true
-    go true e = let same : key ≡ keys.Compares (Arg n) row.0 = cc in ap is_small_key same ∙ small n refl
-    go false e = absurd cc
+numbered_small row (Some n) key small e = let named = small n refl in grind (arith, nat_tests)
 
 -- what stands after the digits of a key, and its number
 suffix_plain : (digits suffix : List ℕ) (key : Key) → arg_key digits suffix ≡ Ok key → (list_all is_plain suffix ≡ true) × (is_small_key key ≡ true)

@@ -71,11 +71,7 @@ key_reads bytes found e =
     (w.0.0, word ∙ ap (λ (x : List ℕ). Some (w.0.0, x)) same.1, n.1 ∙ ap (λ k. Ok k) same.0)
 
 own_ok : (front : List Term) (key own : Key) → own_key front key ≡ Ok own → (has_key key front ≡ false) × (has_path key front ≡ false) × (key ≡ own)
-own_ok front key own e =
-    let g = guard_ok (has_key key front) KeyTwice (cond (has_path key front) (Err PathTwice) (Ok key)) own e in
-    let h = guard_ok (has_path key front) PathTwice (Ok key) own g.1 in
-    let same : key ≡ own = let is = h.1 in cc in
-    (g.0, h.0, same)
+own_ok front key own e = (grind arith, grind arith, grind arith)
 
 pub reads_from : (front : List Term) (bytes : List ℕ) (term : Term) (rest : List ℕ) → part_at front bytes ≡ Ok (term, rest) → Reads front bytes term rest
 unfolding part_at
@@ -177,11 +173,7 @@ text_is keys.Eavesdrop text term e = go (flag_named text) e
 
 -- a value that says a term is a text that says it
 pub said_text : (key : Key) (value : List ℕ) (term : Term) → term_with key value ≡ Some term → (is_utf8 value ≡ true) × (term_of key value ≡ Some term)
-said_text key value term e = go (is_utf8 value) refl e
-  where
-    go : (b : Bool) → is_utf8 value ≡ b → cond b (term_of key value) None ≡ Some term → (is_utf8 value ≡ true) × (term_of key value ≡ Some term)
-    go true is e = (is, e)
-    go false is e = absurd cc
+said_text key value term e = (grind arith, grind arith)
 
 pub term_is : (key : Key) (value : List ℕ) (term : Term) → term_with key value ≡ Some term → IsOf key value term
 term_is key value term e = text_is key value term (said_text key value term e).1
@@ -193,12 +185,9 @@ pub take_ok : (b : ℕ) (read : Result (List ℕ × List ℕ) RuleError) (value 
 take_ok b (Ok found) value rest e = let h = pair_ok (b ∷ found.0, found.1) (value, rest) e in (found.0, sym h.0, ap (λ (x : List ℕ). Ok (found.0, x)) h.1)
 take_ok b (Err fault) value rest e = absurd cc
 
-ended_len : (q : Quoting) (value rest : List ℕ) → value_ended q ≡ Ok (value, rest) → length value + length rest ≤ 0
-ended_len Inside value rest e = absurd cc
-ended_len _ value rest e = let h = pair_ok ([], []) (value, rest) e in rw (← h.0, ← h.1) (omega arith)
-
 value_len : (bytes : List ℕ) (q : Quoting) (value rest : List ℕ) → value_from q bytes ≡ Ok (value, rest) → length value + length rest ≤ length bytes
-value_len [] q value rest e = ended_len q value rest e
+value_len [] Inside value rest e = absurd cc
+value_len [] _ value rest e = let h = pair_ok ([], []) (value, rest) e in rw (← h.0, ← h.1) (omega arith)
 value_len (b ∷ bs) q value rest e = go (step q b (begins_with apostrophe bs)) e (λ next v r. value_len bs next v r)
   where
     go : (s : Step) → after_step s b bs (λ next. value_from next bs) ≡ Ok (value, rest) → ((next : Quoting) (v r : List ℕ) → value_from next bs ≡ Ok (v, r) → length v + length r ≤ length bs) → length value + length rest ≤ length (b ∷ bs)

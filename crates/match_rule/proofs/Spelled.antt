@@ -1,5 +1,5 @@
 -- What is spelled is read.
-use Rattle.std.proofs.Common.{◌≡◌, ℕ, zero, suc, ◌≤◌, Bool, true, false, cond, List, [], ◌∷◌, ◌++◌, length, refl, sym, ap, ◌∙◌, append_assoc}
+use Rattle.std.proofs.Common.{◌≡◌, ℕ, zero, suc, ◌≤◌, Bool, true, false, cond, List, [], ◌∷◌, ◌++◌, length, refl, sym, ap, ◌∙◌, append_assoc, arith}
 use Rattle.std.specs.Prelude.{Result, Ok, Err, Option, Some, None, not, ◌==◌, ◌&&◌, ◌||◌}
 use Rattle.std.specs.List.{list_all}
 use Rattle.std.proofs.lemmas.Bool.{and_parts, le-ltb, not-true}
@@ -36,12 +36,10 @@ begins_tail [] (Some rest) = refl
 begins_tail (b ∷ bs) tail = refl
 
 with_front-nil : (read : Result (List ℕ × List ℕ) RuleError) → read ≡ with_front [] read
-with_front-nil (Ok found) = refl
-with_front-nil (Err fault) = refl
+with_front-nil read = grind arith
 
 with_front-cons : (b : ℕ) (front : List ℕ) (read : Result (List ℕ × List ℕ) RuleError) → (with_front front read >>= λ found. Ok (with_byte b found)) ≡ with_front (b ∷ front) read
-with_front-cons b front (Ok found) = refl
-with_front-cons b front (Err fault) = refl
+with_front-cons b front read = grind arith
 
 inside_read : (inside rest : List ℕ) → list_all (λ byte. not (byte == apostrophe)) inside ≡ true → value_from Inside (inside ++ apostrophe ∷ rest) ≡ with_front inside (value_from Outside rest)
 inside_read [] rest e = with_front-nil (value_from Outside rest)

@@ -99,17 +99,7 @@ fn relates(relation: Relation, text: &str, value: &str) -> bool
 fn is_related(relation: Relation, found: Option<&str>, value: &str) -> bool
     ensures { IsTrue result ↔ IsSomeAnd (option_map (λ text. text.now) found.entry) (λ text. Relates relation text value.now) }
 {
-    match found {
-        None => false,
-        Some(text) => relates(relation, text, value),
-    }
-}
-
-/// Whether a field is there and has the text.
-fn is_equal(found: Option<&str>, text: &str) -> bool
-    ensures { IsTrue result ↔ (option_map (λ name. name.now) found.entry ≡ Some text.now) }
-{
-    found == Some(text)
+    found.is_some_and(|text| relates(relation, text, value))
 }
 
 /// Whether a message was sent by a name: it is the sender's own, or `owns` says that the sender owns it.
@@ -120,7 +110,7 @@ fn is_sent_by(sender: Option<&str>, name: &str, owns: bool) -> bool
     if is_owned_name(name) {
         owns
     } else {
-        is_equal(sender, name)
+        sender == Some(name)
     }
 }
 

@@ -20,12 +20,10 @@ invariant_of-result c =
 
 pub returns-clause-found : goal.returns-clause-found
 returns-clause-found c =
-    rule_found c.args.text.now _
-    (rule_at-tree c.args.text.now (omega arith) ∙ ap tree_at (sym c.as_bytes.ensures.value) ∙ c.in_ok-parts.ensures
-    ∙ ap (λ b. let rule : RuleTree = record { conditions = c.in_ok-parts.parts.conditions.items; eavesdrops = b } in Ok rule) (sym c.unwrap_or.ensures))
+    rw c.unwrap_or.ensures
+    (rule_found c.args.text.now (rule_of c.in_ok-parts.parts) (rule_at-tree c.args.text.now (omega arith) ∙ ap tree_at (sym c.as_bytes.ensures.value) ∙ c.in_ok-parts.ensures))
 
 pub returns-clause-only : goal.returns-clause-only
 returns-clause-only c = λ rule is.
-    sym (read_of c.args.text.now rule is)
-    ∙ rule_at-tree c.args.text.now (omega arith) ∙ ap tree_at (sym c.as_bytes.ensures.value) ∙ c.in_ok-parts.ensures
-    ∙ ap (λ b. let rule : RuleTree = record { conditions = c.in_ok-parts.parts.conditions.items; eavesdrops = b } in Ok rule) (sym c.unwrap_or.ensures)
+    rw c.unwrap_or.ensures
+    (sym (read_of c.args.text.now rule is) ∙ rule_at-tree c.args.text.now (omega arith) ∙ ap tree_at (sym c.as_bytes.ensures.value) ∙ c.in_ok-parts.ensures)
