@@ -1,19 +1,14 @@
 -- The names of arguments: `arg`, digits and a suffix.
-use Rattle.std.proofs.Common.{◌≡◌, ℕ, Bool, true, false, cond, List, [], ◌∷◌, drop, refl}
+use Rattle.std.proofs.Common.{◌≡◌, ℕ, Bool, true, false, cond, List, [], ◌∷◌, drop, refl, arith}
 use Rattle.std.specs.Prelude.{Some, None, ◌==◌, ◌&&◌}
 use Rattle.std.specs.List.{list_all}
-use Rattle.std.specs.Cmp.Derive.{both_true}
 use Rattle.std.proofs.lemmas.Bool.{and_parts, eqb-true}
 use Rattle.signature.specs.Name.{is_digit}
 use Rattle.match_key.specs.Key.{key_named, digits_of, after_digits, arg_key, is_of_arg}
 
 pub digits_are : (bytes : List ℕ) → list_all is_digit (digits_of bytes) ≡ true
 digits_are [] = refl
-digits_are (b ∷ bs) = go (is_digit b) refl (digits_are bs)
-  where
-    go : (d : Bool) → is_digit b ≡ d → list_all is_digit (digits_of bs) ≡ true → list_all is_digit (cond d (b ∷ digits_of bs) []) ≡ true
-    go true is e = both_true is e
-    go false is e = refl
+digits_are (b ∷ bs) = grind (arith, digits_are bs)
 
 -- a word that begins with `arg`
 pub of_arg : (word : List ℕ) → is_of_arg word ≡ true → word ≡ 97 ∷ 114 ∷ 103 ∷ drop 3 word

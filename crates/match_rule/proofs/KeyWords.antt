@@ -17,7 +17,7 @@ use Rattle.match_key.specs.Key.{key_words, arg_suffixes, key_named, digits_of, a
 use Rattle.match_rule.specs.Grammar.{is_blank, comma, equals}
 use Rattle.match_rule.specs.Reading.{after_blanks, word_at}
 use Rattle.match_key.proofs.Rows.{row_found}
-use Rattle.match_key.proofs.ArgNames.{digits_are, of_arg}
+use Rattle.match_key.proofs.ArgNames.{of_arg}
 use Rattle.match_rule.specs.Parts.{is_small_source}
 use Rattle.match_rule.proofs.PartReads.{guard_ok}
 
@@ -30,8 +30,7 @@ is_plain_word [] = false
 is_plain_word (b ∷ bs) = is_plain b && list_all is_plain bs
 
 plain_parts : (opens ends blank : Bool) → (not opens && not ends && not blank) ≡ true → (opens ≡ false) × (ends ≡ false) × (blank ≡ false)
-plain_parts false false false e = (refl, refl, refl)
-plain_parts _ _ _ e = absurd cc
+plain_parts opens ends blank e = (grind arith, grind arith, grind arith)
 
 -- ---- words are read to their `=`
 
@@ -55,16 +54,13 @@ word_no_blank (b ∷ bs) rest e =
 
 -- ---- the words of keys
 
-digit_plain : (b : ℕ) → is_digit b ≡ true → is_plain b ≡ true
-digit_plain b e = grind (arith, nat_tests)
-
 pub split_digits : (bytes : List ℕ) → bytes ≡ digits_of bytes ++ after_digits bytes
 split_digits [] = refl
 split_digits (b ∷ bs) = grind (arith, split_digits bs)
 
-all_plain : (bytes : List ℕ) → list_all is_digit bytes ≡ true → list_all is_plain bytes ≡ true
-all_plain [] e = refl
-all_plain (b ∷ bs) e = let h = and_parts (is_digit b) (list_all is_digit bs) e in both_true (digit_plain b h.0) (all_plain bs h.1)
+digits_plain : (bytes : List ℕ) → list_all is_plain (digits_of bytes) ≡ true
+digits_plain [] = refl
+digits_plain (b ∷ bs) = grind (arith, nat_tests, digits_plain bs)
 
 -- a key of an argument has a number that a rule may ask for
 abbrev pub is_small_key : Key → Bool
@@ -95,8 +91,7 @@ IsPlainKey word key = (is_plain_word word ≡ true) × (is_small_key key ≡ tru
 arg_plain : (word rest : List ℕ) (key : Key) → word ≡ 97 ∷ 114 ∷ 103 ∷ rest → arg_key (digits_of rest) (after_digits rest) ≡ Ok key → IsPlainKey word key
 arg_plain word rest key is e =
     let suffix = suffix_plain (digits_of rest) (after_digits rest) key e in
-    let digits = all_plain (digits_of rest) (digits_are rest) in
-    let plain : list_all is_plain rest ≡ true = ap (list_all is_plain) (split_digits rest) ∙ list_all-append is_plain (digits_of rest) (after_digits rest) ∙ both_true digits suffix.0 in
+    let plain : list_all is_plain rest ≡ true = ap (list_all is_plain) (split_digits rest) ∙ list_all-append is_plain (digits_of rest) (after_digits rest) ∙ both_true (digits_plain rest) suffix.0 in
     (rw is plain, suffix.1)
 
 pub known_plain : (word : List ℕ) (key : Key) → key_named word ≡ Ok key → IsPlainKey word key

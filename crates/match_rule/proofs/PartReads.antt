@@ -41,12 +41,10 @@ pair_some : {A B : Type 0} (x y : A × B) → Some x ≡ Some y → (x.0 ≡ y.0
 pair_some x y e = let same : x ≡ y = cc in (ap (λ p. p.0) same, ap (λ p. p.1) same)
 
 or_fault_ok : {A : Type 0} (fault : RuleError) (o : Option A) (x : A) → or_fault fault o ≡ Ok x → o ≡ Some x
-or_fault_ok fault (Some y) x e = cc
-or_fault_ok fault None x e = absurd cc
+or_fault_ok fault o x e = grind arith
 
 pub guard_ok : {A : Type 0} (b : Bool) (fault : RuleError) (r : Result A RuleError) (x : A) → cond b (Err fault) r ≡ Ok x → (b ≡ false) × (r ≡ Ok x)
-guard_ok true fault r x e = absurd cc
-guard_ok false fault r x e = (refl, e)
+guard_ok b fault r x e = (grind arith, grind arith)
 
 -- the part in front of the rest says the term
 pub record Reads (front : List Term) (bytes : List ℕ) (term : Term) (rest : List ℕ) : Type 0 where

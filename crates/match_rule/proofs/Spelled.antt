@@ -48,9 +48,7 @@ inside_read (b ∷ bs) rest e =
     rw (not-true (b == apostrophe) h.0) (ap (λ read. read >>= λ found. Ok (with_byte b found)) (inside_read bs rest h.1) ∙ with_front-cons b bs (value_from Outside rest))
 
 plain_step : (opens ends slash follows : Bool) → (opens || ends || slash && follows) ≡ false → cond ends End (cond opens (Skip Inside) (cond slash (cond follows (Skip Escaped) (Take Outside)) (Take Outside))) ≡ Take Outside
-plain_step false false false follows e = refl
-plain_step false false true false e = refl
-plain_step _ _ _ _ e = absurd cc
+plain_step opens ends slash follows e = grind arith
 
 pub quoted_regroup : (inside pieces tail : List ℕ) → ((inside ++ apostrophe ∷ []) ++ pieces) ++ tail ≡ inside ++ apostrophe ∷ (pieces ++ tail)
 quoted_regroup inside pieces tail = append_assoc (inside ++ apostrophe ∷ []) pieces tail ∙ append_assoc inside (apostrophe ∷ []) (pieces ++ tail)
