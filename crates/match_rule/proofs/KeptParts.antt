@@ -1,6 +1,6 @@
 -- What the parts in front said, and the terms that they are.
 use Rattle.std.proofs.Common.{◌≡◌, ℕ, Bool, true, false, List, [], ◌∷◌, ◌++◌, map, length, refl, sym, ap, ◌∙◌}
-use Rattle.std.specs.Prelude.{Option, Some, None, unwrap_or, Ok, Err, ◌||◌, ◌==◌}
+use Rattle.std.specs.Prelude.{Option, Some, None, is_some, unwrap_or, Ok, Err, ◌&&◌, ◌||◌, ◌==◌}
 use Rattle.std.specs.List.{list_any}
 use Rattle.std.proofs.Math.Bool.{or_comm, or-false}
 use Rattle.std.proofs.lemmas.List.{append-nil, map-append}
@@ -30,8 +30,9 @@ asked_any p [] = refl
 asked_any p (c ∷ cs) = ap (λ b. p (Asks c) || b) (asked_any p cs)
 
 -- the keys of terms, by those of conditions
-pub asked_keys : (asked : List Condition) (key : Key) → has_key key (terms_of asked None) ≡ list_any (λ c. is_twice (key_of c) key) asked
-asked_keys asked key = asked_any (λ t. is_twice (term_key t) key) asked
+pub asked_keys : (asked : List Condition) (eavesdrop : Option Bool) (key : Key) → has_key key (terms_of asked eavesdrop) ≡ (is_some eavesdrop && is_twice keys.Eavesdrop key || list_any (λ c. is_twice (key_of c) key) asked)
+asked_keys asked None key = asked_any (λ t. is_twice (term_key t) key) asked
+asked_keys asked (Some flag) key = ap (λ b. is_twice keys.Eavesdrop key || b) (asked_any (λ t. is_twice (term_key t) key) asked)
 
 pub asked_paths : (asked : List Condition) (eavesdrop : Option Bool) (key : Key) → has_path key (terms_of asked eavesdrop) ≡ list_any (λ c. is_path_twice (key_of c) key) asked
 asked_paths asked None key = asked_any (λ t. is_path_twice (term_key t) key) asked

@@ -32,8 +32,7 @@ tail_rest (Some rest) = rest
 
 pub begins_tail : (bytes : List ℕ) (tail : Option (List ℕ)) → begins_with apostrophe (bytes ++ tail_bytes tail) ≡ begins_with apostrophe bytes
 begins_tail [] None = refl
-begins_tail [] (Some rest) = refl
-begins_tail (b ∷ bs) tail = refl
+begins_tail _ _ = refl
 
 with_front-nil : (read : Result (List ℕ × List ℕ) RuleError) → read ≡ with_front [] read
 with_front-nil read = grind arith

@@ -8,7 +8,7 @@ use Rattle.std.proofs.lemmas.Bool.Decides.{Decides-and}
 use Rattle.std.proofs.lemmas.Slice.Eq.{bytes_eq-Decides}
 use Rattle.match_key.specs.declared.key.Key.{Key}
 use Rattle.match_key.specs.declared.key.Key.TheVariants as keys
-use Rattle.match_key.specs.declared.kind_name.KindName.TheVariants.{Signal, MethodCall, MethodReturn, Error}
+use Rattle.match_key.specs.declared.kind_name.KindName.TheVariants.{Signal}
 use Rattle.match_rule.specs.declared.condition.Condition.{Condition}
 use Rattle.match_rule.specs.declared.condition.Condition.TheVariants.{Kind, Sender, Compares}
 use Rattle.match_key.specs.Key.{key_eq}
@@ -28,11 +28,7 @@ condition_of keys.Eavesdrop value = Kind Signal
 condition_of-parts : (c : Condition) → condition_of (key_of c) (value_of c) ≡ c
 unfolding condition_of
 condition_of-parts (Kind Signal) = refl
-condition_of-parts (Kind MethodCall) = refl
-condition_of-parts (Kind MethodReturn) = refl
-condition_of-parts (Kind Error) = refl
-condition_of-parts (Sender name) = refl
-condition_of-parts (Compares source relation value) = refl
+condition_of-parts _ = refl
 
 -- conditions that test as equal are one
 pub condition_decides : (a b : Condition) → Decides (condition_eq a b) (a ≡ b)
