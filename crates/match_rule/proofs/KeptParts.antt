@@ -12,11 +12,10 @@ use Rattle.match_rule.specs.declared.condition.Condition.{Condition}
 use Rattle.match_rule.specs.declared.term.Term.{Term}
 use Rattle.match_rule.specs.declared.term.Term.TheVariants.{Asks, Eavesdrop}
 use Rattle.match_key.specs.Key.{is_twice, is_path_twice}
-use Rattle.match_rule.specs.Condition.{key_of, term_key, has_key, has_path, conditions_in, is_eavesdrop, eavesdrops_in}
+use Rattle.match_rule.specs.Condition.{key_of, term_key, has_key, has_path, conditions_in, is_eavesdrop}
 use Rattle.match_rule.specs.Grammar.{rule_with}
 use Rattle.match_rule.specs.Reading.{◌>>=◌, after_blanks, part_at, parts_from, terms_at}
 use Rattle.match_rule.specs.Gathering.{terms_of, conditions_with, eavesdrop_with, tree_at}
-use Rattle.match_rule.specs.RuleTree.{RuleTree}
 use Rattle.match_rule.proofs.PartReads.{reads_from, part_same, term_is}
 use Rattle.match_rule.proofs.Turns.{turn, turn_err}
 

@@ -1,19 +1,17 @@
 -- The words of keys have no blank, no `=` and no comma, and the numbers of arguments are small.
-use Rattle.std.proofs.Common.{◌≡◌, ℕ, Bool, true, false, cond, List, [], ◌∷◌, ◌++◌, ◌+◌, ◌-◌, ◌*◌, drop, length, refl, ap, ◌∙◌, arith}
+use Rattle.std.proofs.Common.{◌≡◌, ℕ, Bool, true, false, cond, List, [], ◌∷◌, ◌++◌, drop, length, refl, ap, ◌∙◌, arith}
 use Rattle.std.specs.Prelude.{Ok, Err, Option, Some, None, nat_le, not, ◌==◌, ◌&&◌}
 use Rattle.std.specs.List.{list_all}
 use Rattle.std.specs.Cmp.Derive.{both_true}
 use Rattle.std.proofs.lemmas.Bool.{and_parts}
 use Rattle.std.proofs.lemmas.Bool.Decides.{nat_tests}
 use Rattle.std.proofs.lemmas.List.Folds.{list_all-append}
-use Rattle.signature.specs.Name.{is_digit}
-use Rattle.match_key.specs.declared.error.RuleError.TheVariants.{UnknownKey, ArgNumber}
-use Rattle.match_key.specs.declared.source.Source.TheVariants.{Arg}
+use Rattle.match_key.specs.declared.error.RuleError.TheVariants.{UnknownKey}
 use Rattle.match_key.specs.declared.key.Key.{Key}
 use Rattle.match_key.specs.declared.key.Key.TheVariants as keys
 use Rattle.match_key.specs.declared.relation.Relation.{Relation}
 use Rattle.match_key.specs.Rows.{row_of}
-use Rattle.match_key.specs.Key.{key_words, arg_suffixes, key_named, digits_of, after_digits, up_to_max, arg_number, numbered_key, suffixed_key, or_key, arg_key, is_of_arg, max_arg}
+use Rattle.match_key.specs.Key.{key_words, arg_suffixes, key_named, digits_of, after_digits, arg_number, numbered_key, suffixed_key, or_key, arg_key, is_of_arg, max_arg}
 use Rattle.match_rule.specs.Grammar.{is_blank, comma, equals}
 use Rattle.match_rule.specs.Reading.{after_blanks, word_at}
 use Rattle.match_key.proofs.Rows.{row_found}

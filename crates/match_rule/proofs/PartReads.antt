@@ -7,7 +7,7 @@ use Rattle.std.specs.Str.{bytes_eq, is_utf8}
 use Rattle.std.proofs.lemmas.Slice.Eq.{bytes_eq-Decides}
 use Rattle.signature.specs.Name.{is_bus_name}
 use Rattle.match_key.specs.declared.error.RuleError.{RuleError}
-use Rattle.match_key.specs.declared.error.RuleError.TheVariants.{UnknownKey, KeyTwice, PathTwice, BadValue}
+use Rattle.match_key.specs.declared.error.RuleError.TheVariants.{UnknownKey, BadValue}
 use Rattle.match_key.specs.declared.key.Key.{Key}
 use Rattle.match_key.specs.declared.key.Key.TheVariants as keys
 use Rattle.match_rule.specs.declared.condition.Condition.{Condition}
@@ -16,15 +16,15 @@ use Rattle.match_rule.specs.declared.term.Term.{Term}
 use Rattle.match_rule.specs.declared.term.Term.TheVariants.{Asks, Eavesdrop}
 use Rattle.match_key.specs.declared.kind_name.KindName.{KindName}
 use Rattle.match_rule.specs.declared.quoting.Quoting.{Quoting}
-use Rattle.match_rule.specs.declared.quoting.Quoting.TheVariants.{Outside, Inside, Escaped}
+use Rattle.match_rule.specs.declared.quoting.Quoting.TheVariants.{Outside, Inside}
 use Rattle.match_rule.specs.declared.quoting.Step.{Step}
 use Rattle.match_rule.specs.declared.quoting.Step.TheVariants.{End, Skip, Take}
 use Rattle.match_key.specs.Key.{key_named, is_twice, is_path_twice}
 use Rattle.match_key.specs.Kinds.{kind_words, kind_named, kind_word}
-use Rattle.match_rule.specs.Condition.{term_key, term_of, term_with, is_value, asks_if, key_of, value_of, has_key, has_path, flag_named}
+use Rattle.match_rule.specs.Condition.{term_key, term_of, term_with, is_value, asks_if, value_of, has_key, has_path, flag_named}
 use Rattle.match_rule.specs.Bytes.{begins_with}
 use Rattle.match_rule.specs.Grammar.{equals, comma, apostrophe}
-use Rattle.match_rule.specs.Reading.{◌>>=◌, step, after_step, value_from, with_byte, word_at, key_at, own_key, part_at, or_fault, value_ended}
+use Rattle.match_rule.specs.Reading.{◌>>=◌, step, after_step, value_from, with_byte, word_at, key_at, own_key, part_at, or_fault}
 use Rattle.match_key.proofs.Rows.{row_found}
 
 pub bind_ok : {A B : Type 0} (r : Result A RuleError) (f : A → Result B RuleError) (y : B) → (r >>= f) ≡ Ok y → (x : A) × (r ≡ Ok x) × (f x ≡ Ok y)

@@ -1,6 +1,6 @@
 -- What holds of a rule that was read.
 use Rattle.std.proofs.Common.{◌≡◌, ℕ, ◌≤◌, Bool, true, List, [], ◌∷◌, length, refl, sym, ap, ◌∙◌, subst}
-use Rattle.std.specs.Prelude.{Ok, Some, All}
+use Rattle.std.specs.Prelude.{Ok, All}
 use Rattle.std.specs.List.{list_all}
 use Rattle.std.proofs.lemmas.List.Elements.{All-cons, All-nil}
 use Rattle.std.proofs.lemmas.List.Sums.{list_all-from_AllPass}
@@ -9,7 +9,7 @@ use Rattle.message_value.specs.Bytes.{AreBytes}
 use Rattle.signature.specs.Name.{is_bus_name}
 use Rattle.match_key.specs.declared.key.Key.TheVariants as keys
 use Rattle.match_rule.specs.declared.condition.Condition.{Condition}
-use Rattle.match_rule.specs.declared.condition.Condition.TheVariants.{Kind, Sender, Compares}
+use Rattle.match_rule.specs.declared.condition.Condition.TheVariants.{Sender, Compares}
 use Rattle.match_rule.specs.declared.term.Term.{Term}
 use Rattle.match_rule.specs.declared.term.Term.TheVariants.{Asks, Eavesdrop}
 use Rattle.match_rule.specs.Condition.{key_of, value_of, conditions_in}

@@ -1,6 +1,6 @@
 -- What is spelled is read.
-use Rattle.std.proofs.Common.{◌≡◌, ℕ, zero, suc, ◌≤◌, Bool, true, false, cond, List, [], ◌∷◌, ◌++◌, length, refl, sym, ap, ◌∙◌, append_assoc, arith}
-use Rattle.std.specs.Prelude.{Result, Ok, Err, Option, Some, None, not, ◌==◌, ◌&&◌, ◌||◌}
+use Rattle.std.proofs.Common.{◌≡◌, ℕ, ◌≤◌, Bool, true, false, cond, List, [], ◌∷◌, ◌++◌, length, refl, sym, ap, ◌∙◌, append_assoc, arith}
+use Rattle.std.specs.Prelude.{Result, Ok, Option, Some, None, not, ◌==◌, ◌&&◌, ◌||◌}
 use Rattle.std.specs.List.{list_all}
 use Rattle.std.proofs.lemmas.Bool.{and_parts, le-ltb, not-true}
 use Rattle.std.proofs.lemmas.List.{append-nil}
@@ -17,7 +17,7 @@ use Rattle.match_rule.specs.Reading.{◌>>=◌, after_blanks, step, after_step, 
 use Rattle.match_rule.proofs.Steps.{with_front}
 use Rattle.match_rule.proofs.KeyWords.{known_plain, word_read, word_no_blank}
 use Rattle.match_rule.proofs.PartReads.{reads_to}
-use Rattle.match_rule.proofs.Turns.{turn, parts_from-nil}
+use Rattle.match_rule.proofs.Turns.{turn}
 
 -- ---- values
 

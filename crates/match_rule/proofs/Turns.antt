@@ -1,16 +1,15 @@
 -- As many turns as there are bytes are enough.
-use Rattle.std.proofs.Common.{◌≡◌, ℕ, zero, suc, ◌+◌, ◌*◌, ◌≤◌, Bool, true, false, cond, List, [], ◌∷◌, ◌++◌, length, refl, sym, ap, ◌∙◌, arith}
+use Rattle.std.proofs.Common.{◌≡◌, ℕ, zero, suc, ◌+◌, ◌*◌, ◌≤◌, false, cond, List, [], ◌∷◌, ◌++◌, length, refl, sym, ap, ◌∙◌, arith}
 use Rattle.std.specs.Prelude.{Result, Ok, Err, sum_by, ◌==◌}
 use Rattle.std.proofs.lemmas.List.Sums.{sum_by-append, sum_by-cons}
 use Rattle.match_key.specs.declared.error.RuleError.{RuleError}
-use Rattle.match_rule.specs.declared.condition.Condition.TheVariants.{Kind, Sender, Compares}
+use Rattle.match_rule.specs.declared.condition.Condition.TheVariants.{Compares}
 use Rattle.match_key.specs.declared.relation.Relation.{Relation}
 use Rattle.match_key.specs.declared.relation.Relation.TheVariants.{NestedPath}
 use Rattle.match_rule.specs.declared.term.Term.{Term}
 use Rattle.match_rule.specs.declared.term.Term.TheVariants.{Asks, Eavesdrop}
 use Rattle.match_rule.specs.Condition.{conditions_in}
 use Rattle.match_rule.specs.RuleTree.{slashes, relation_weight, condition_weight}
-use Rattle.match_rule.specs.Grammar.{is_blank}
 use Rattle.match_rule.specs.Reading.{◌>>=◌, after_blanks, part_at, parts_from, terms_at}
 use Rattle.match_rule.proofs.PartReads.{part_len, bind_ok, term_value}
 

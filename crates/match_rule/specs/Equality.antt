@@ -11,7 +11,6 @@ use Rattle.match_key.specs.declared.key.Key.TheVariants as keys
 use Rattle.match_key.specs.declared.kind_name.KindName.TheVariants.{Signal}
 use Rattle.match_rule.specs.declared.condition.Condition.{Condition}
 use Rattle.match_rule.specs.declared.condition.Condition.TheVariants.{Kind, Sender, Compares}
-use Rattle.match_key.specs.Key.{key_eq}
 use Rattle.match_key.specs.Kinds.{kind_named}
 use Rattle.match_key.proofs.KeyNumbers.{keys_decide}
 use Rattle.match_key.proofs.SameSets.{in_decides}

@@ -1,6 +1,5 @@
 use Rattle.std.proofs.Common.{◌≡◌, sym, ◌∙◌, ap, arith}
 use Rattle.std.specs.Prelude.{Ok}
-use Rattle.match_rule.specs.RuleTree.{RuleTree}
 use Rattle.match_rule.specs.Gathering.{rule_of, tree_at}
 use Rattle.match_rule.proofs.Steps.{gives_err}
 use Rattle.match_rule.proofs.Spelled.{read_of, rule_at-tree}
