@@ -21,7 +21,7 @@ of_arg _ e = absurd cc
 pub arg_named : (word rest : List ℕ) → Some rest ≡ cond (is_of_arg word) (Some (drop 3 word)) None → key_named word ≡ arg_key (digits_of rest) (after_digits rest)
 arg_named word rest e = go (is_of_arg word) refl e
   where
-    go : (begins : Bool) → is_of_arg word ≡ begins → Some rest ≡ cond begins (Some (drop 3 word)) None → key_named word ≡ arg_key (digits_of rest) (after_digits rest)
+    go : (b : Bool) → is_of_arg word ≡ b → Some rest ≡ cond b (Some (drop 3 word)) None → key_named word ≡ arg_key (digits_of rest) (after_digits rest)
     go true is e =
         let same : rest ≡ drop 3 word = cc in
         rw (same, of_arg word is) refl

@@ -52,7 +52,10 @@ byte_taken b bs value rest is e more =
       ends = v.ends;
     }
 
-outside : (b : ℕ) (bs value rest : List ℕ) (ends opens slash follows : Bool) → (b == comma) ≡ ends → (b == apostrophe) ≡ opens → (b == backslash) ≡ slash → begins_with apostrophe bs ≡ follows → after_step (cond ends End (cond opens (Skip Inside) (cond slash (cond follows (Skip Escaped) (Take Outside)) (Take Outside)))) b bs (λ next. value_from next bs) ≡ Ok (value, rest) → ((v r : List ℕ) → value_from Outside bs ≡ Ok (v, r) → Value bs v r) → ((v r : List ℕ) → value_from Inside bs ≡ Ok (v, r) → Section bs v r) → ((v r : List ℕ) → value_from Escaped bs ≡ Ok (v, r) → begins_with apostrophe bs ≡ true → Value (backslash ∷ bs) v r) → Value (b ∷ bs) value rest
+outside : (b : ℕ) (bs value rest : List ℕ) (ends opens slash follows : Bool) → (b == comma) ≡ ends → (b == apostrophe) ≡ opens → (b == backslash) ≡ slash → begins_with apostrophe bs ≡ follows
+    → after_step (cond ends End (cond opens (Skip Inside) (cond slash (cond follows (Skip Escaped) (Take Outside)) (Take Outside)))) b bs (λ next. value_from next bs) ≡ Ok (value, rest)
+    → ((v r : List ℕ) → value_from Outside bs ≡ Ok (v, r) → Value bs v r) → ((v r : List ℕ) → value_from Inside bs ≡ Ok (v, r) → Section bs v r)
+    → ((v r : List ℕ) → value_from Escaped bs ≡ Ok (v, r) → begins_with apostrophe bs ≡ true → Value (backslash ∷ bs) v r) → Value (b ∷ bs) value rest
 outside b bs value rest true opens slash follows p q r s e more section escape =
     let h = pair_ok ([], bs) (value, rest) e in
     record { pieces = []; tail = Some bs; are = tt; spelled = ap (λ (x : ℕ). x ∷ bs) (eqb-true b comma p); means = sym h.0; ends = sym h.1 }
@@ -96,7 +99,9 @@ inside b bs value rest false is e more section =
 
 mutual
   outside_found : (bs value rest : List ℕ) → value_from Outside bs ≡ Ok (value, rest) → Value bs value rest
-  outside_found [] value rest e = let h = pair_ok ([], []) (value, rest) e in record { pieces = []; tail = None; are = tt; spelled = refl; means = sym h.0; ends = sym h.1 }
+  outside_found [] value rest e =
+      let h = pair_ok ([], []) (value, rest) e in
+      record { pieces = []; tail = None; are = tt; spelled = refl; means = sym h.0; ends = sym h.1 }
   outside_found (b ∷ bs) value rest e = outside b bs value rest (b == comma) (b == apostrophe) (b == backslash) (begins_with apostrophe bs) refl refl refl refl e (λ v r. outside_found bs v r) (λ v r. inside_found bs v r) (λ v r. escaped_found bs v r)
 
   inside_found : (bs value rest : List ℕ) → value_from Inside bs ≡ Ok (value, rest) → Section bs value rest

@@ -29,7 +29,8 @@ asked_any p [] = refl
 asked_any p (c ∷ cs) = ap (λ b. p (Asks c) || b) (asked_any p cs)
 
 -- the keys of terms, by those of conditions
-pub asked_keys : (asked : List Condition) (eavesdrop : Option Bool) (key : Key) → has_key key (terms_of asked eavesdrop) ≡ (is_some eavesdrop && is_twice keys.Eavesdrop key || list_any (λ c. is_twice (key_of c) key) asked)
+pub asked_keys : (asked : List Condition) (eavesdrop : Option Bool) (key : Key)
+    → has_key key (terms_of asked eavesdrop) ≡ (is_some eavesdrop && is_twice keys.Eavesdrop key || list_any (λ c. is_twice (key_of c) key) asked)
 asked_keys asked None key = asked_any (λ t. is_twice (term_key t) key) asked
 asked_keys asked (Some flag) key = ap (λ b. is_twice keys.Eavesdrop key || b) (asked_any (λ t. is_twice (term_key t) key) asked)
 
@@ -53,7 +54,8 @@ kept_more terms asked eavesdrop (Asks condition) kept new = record {
       list_any-append p terms (Asks condition ∷ []) ∙ ap (λ b. b || list_any p (Asks condition ∷ [])) (kept.any p)
       ∙ sym (list_any-append p (terms_of asked eavesdrop) (Asks condition ∷ [])) ∙ ap (list_any p) (sym (terms_of-more asked eavesdrop condition));
 }
-kept_more terms asked (Some other) (Eavesdrop flag) kept new = let twice : true ≡ false = sym (kept.any (λ t. is_twice (term_key t) keys.Eavesdrop)) ∙ new in absurd cc
+kept_more terms asked (Some other) (Eavesdrop flag) kept new =
+    let twice : true ≡ false = sym (kept.any (λ t. is_twice (term_key t) keys.Eavesdrop)) ∙ new in absurd cc
 kept_more terms asked None (Eavesdrop flag) kept new = record {
   conditions = conditions_in-append terms (Eavesdrop flag ∷ []) ∙ append-nil (conditions_in terms) ∙ kept.conditions;
   any = λ p.

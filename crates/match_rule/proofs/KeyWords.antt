@@ -80,7 +80,10 @@ suffix_plain digits suffix key e = go (row_of arg_suffixes suffix) refl (guard_o
   where
     go : (row : Option (Relation × ℕ)) → row_of arg_suffixes suffix ≡ row → suffixed_key row (arg_number digits) ≡ Ok key → (list_all is_plain suffix ≡ true) × (is_small_key key ≡ true)
     go None is e = absurd cc
-    go (Some row) is e = (row_found (λ (r : List ℕ × (Relation × ℕ)). list_all is_plain r.0) arg_suffixes suffix row refl is, numbered_small row (arg_number digits) key (number_small digits) e)
+    go (Some row) is e = (
+      row_found (λ (r : List ℕ × (Relation × ℕ)). list_all is_plain r.0) arg_suffixes suffix row refl is,
+      numbered_small row (arg_number digits) key (number_small digits) e,
+    )
 
 -- a key's word is plain, and its number small
 abbrev IsPlainKey : List ℕ → Key → Type 0
@@ -89,15 +92,19 @@ IsPlainKey word key = (is_plain_word word ≡ true) × (is_small_key key ≡ tru
 arg_plain : (word rest : List ℕ) (key : Key) → word ≡ 97 ∷ 114 ∷ 103 ∷ rest → arg_key (digits_of rest) (after_digits rest) ≡ Ok key → IsPlainKey word key
 arg_plain word rest key is e =
     let suffix = suffix_plain (digits_of rest) (after_digits rest) key e in
-    let plain : list_all is_plain rest ≡ true = ap (list_all is_plain) (split_digits rest) ∙ list_all-append is_plain (digits_of rest) (after_digits rest) ∙ both_true (digits_plain rest) suffix.0 in
+    let plain : list_all is_plain rest ≡ true =
+    ap (list_all is_plain) (split_digits rest) ∙ list_all-append is_plain (digits_of rest) (after_digits rest)
+    ∙ both_true (digits_plain rest) suffix.0 in
     (rw is plain, suffix.1)
 
 pub known_plain : (word : List ℕ) (key : Key) → key_named word ≡ Ok key → IsPlainKey word key
 known_plain word key e = go (row_of key_words word) refl (is_of_arg word) refl e
   where
-    go : (found : Option Key) → row_of key_words word ≡ found → (begins : Bool) → is_of_arg word ≡ begins → or_key found (cond begins (arg_key (digits_of (drop 3 word)) (after_digits (drop 3 word))) (Err UnknownKey)) ≡ Ok key → IsPlainKey word key
+    go : (found : Option Key) → row_of key_words word ≡ found → (begins : Bool) → is_of_arg word ≡ begins
+        → or_key found (cond begins (arg_key (digits_of (drop 3 word)) (after_digits (drop 3 word))) (Err UnknownKey)) ≡ Ok key → IsPlainKey word key
     go (Some named) is begins arg e =
         let same : named ≡ key = cc in
-        and_parts (is_plain_word word) (is_small_key key) (row_found (λ (r : List ℕ × Key). is_plain_word r.0 && is_small_key r.1) key_words word key refl (is ∙ ap (λ k. Some k) same))
+        and_parts (is_plain_word word) (is_small_key key)
+        (row_found (λ (r : List ℕ × Key). is_plain_word r.0 && is_small_key r.1) key_words word key refl (is ∙ ap (λ k. Some k) same))
     go None is true arg e = arg_plain word (drop 3 word) key (of_arg word arg) e
     go None is false arg e = absurd cc

@@ -67,7 +67,8 @@ agreed_each P (c ∷ cs) one agreed = go (is_sender c) refl (and_parts (not (is_
   where
     go : (s : Bool) → is_sender c ≡ s → (not (is_sender c && list_any is_sender cs) ≡ true) × (has_one_sender cs ≡ true) → (has_one_sender cs ≡ true → IfSome (first_owned_name cs) P → All (λ c. IfSome (owned_name_in c) P) cs) → (name : Option (List ℕ)) → owned_name_in c ≡ name → IfSome (or_else name (first_owned_name cs)) P → All (λ c. IfSome (owned_name_in c) P) (c ∷ cs)
     go s is one more None none agreed = All-cons (λ (c : Condition). IfSome (owned_name_in c) P) c cs (rw none tt) (more one.1 agreed)
-    go true is one more (Some name) some agreed = All-cons (λ (c : Condition). IfSome (owned_name_in c) P) c cs (rw some agreed) (no_names P cs (not-true (list_any is_sender cs) (rw is at one.0)))
+    go true is one more (Some name) some agreed =
+        All-cons (λ (c : Condition). IfSome (owned_name_in c) P) c cs (rw some agreed) (no_names P cs (not-true (list_any is_sender cs) (rw is at one.0)))
     go false is one more (Some name) some agreed = let none : None ≡ Some name = sym (no_name c is) ∙ some in absurd cc
 
 -- one more of a list has what those in front have

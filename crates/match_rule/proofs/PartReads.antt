@@ -162,7 +162,9 @@ text_is keys.Kind text term e = go (kind_named text) refl e
     go None is e = absurd cc
     go (Some kind) is e = let same : Asks (conditions.Kind kind) ≡ term = cc in subst (IsOf keys.Kind text) same (refl, kind_is text kind is)
 text_is keys.Sender text term e = subst (IsOf keys.Sender text) (asks_ok (is_bus_name text) (conditions.Sender text) term e).1 (refl, refl)
-text_is (keys.Compares source relation) text term e = subst (IsOf (keys.Compares source relation) text) (asks_ok (is_value source relation text) (conditions.Compares source relation text) term e).1 (refl, refl)
+text_is (keys.Compares source relation) text term e =
+    subst (IsOf (keys.Compares source relation) text)
+    (asks_ok (is_value source relation text) (conditions.Compares source relation text) term e).1 (refl, refl)
 text_is keys.Eavesdrop text term e = go (flag_named text) e
   where
     go : (o : Option Bool) → option_map Eavesdrop o ≡ Some term → IsOf keys.Eavesdrop text term

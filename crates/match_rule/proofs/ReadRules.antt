@@ -47,18 +47,22 @@ value_bytes part c is =
     subst AreBytes (sym (term_is (key_of c) value (Asks c) is.allowed).1) (text_bytes value (IsUtf8-from_is_utf8 value text.0))
 
 -- what parts say holds of each condition
-each_said : (P : Condition → Type 0) → ((part : Part) (c : Condition) → IsPart part (Asks c) → P c) → (parts : List Part) (terms : List Term) → AreParts parts terms → All P (conditions_in terms)
+each_said : (P : Condition → Type 0) → ((part : Part) (c : Condition) → IsPart part (Asks c) → P c)
+    → (parts : List Part) (terms : List Term) → AreParts parts terms → All P (conditions_in terms)
 each_said P each [] [] said = All-nil P
 each_said P each (part ∷ parts) (Eavesdrop flag ∷ terms) said = each_said P each parts terms said.1
 each_said P each (part ∷ parts) (Asks c ∷ terms) said = All-cons P c (conditions_in terms) (each part c said.0) (each_said P each parts terms said.1)
 each_said P each _ _ said = absurd said
 
-each_passes : (test : Condition → Bool) → ((part : Part) (c : Condition) → IsPart part (Asks c) → test c ≡ true) → (parts : List Part) (terms : List Term) → AreParts parts terms → list_all test (conditions_in terms) ≡ true
+each_passes : (test : Condition → Bool) → ((part : Part) (c : Condition) → IsPart part (Asks c) → test c ≡ true)
+    → (parts : List Part) (terms : List Term) → AreParts parts terms → list_all test (conditions_in terms) ≡ true
 each_passes test each parts terms said = list_all-from_AllPass test (conditions_in terms) (each_said (λ c. test c ≡ true) each parts terms said)
 
 -- ---- what holds of the rule
 
-pub legal : (text : List ℕ) (rule : RuleTree) → length text ≤ 1024 → tree_at text ≡ Ok rule → (weight_of rule ≤ 41992) × (has_one_sender rule.conditions ≡ true) × (have_small_numbers rule.conditions ≡ true) × All (λ c. AreBytes (value_of c)) rule.conditions × (have_sender_names rule.conditions ≡ true)
+pub legal : (text : List ℕ) (rule : RuleTree) → length text ≤ 1024 → tree_at text ≡ Ok rule
+    → (weight_of rule ≤ 41992) × (has_one_sender rule.conditions ≡ true) × (have_small_numbers rule.conditions ≡ true)
+    × All (λ c. AreBytes (value_of c)) rule.conditions × (have_sender_names rule.conditions ≡ true)
 legal text rule short e =
     let f = bind_ok (terms_at text) _ rule e in
     let same : rule_with f.0 ≡ rule = let is = f.2 in cc in
@@ -66,6 +70,7 @@ legal text rule short e =
       subst (λ (r : RuleTree). weight_of r ≤ 41992) same (read_weight text f.0 short f.1),
       ap (λ (r : RuleTree). has_one_sender r.conditions) is.says ∙ own_keys_one_sender [] is.terms is.once,
       ap (λ (r : RuleTree). have_small_numbers r.conditions) is.says ∙ each_passes has_small_number small_number is.parts is.terms is.said,
-      subst (λ (r : RuleTree). All (λ c. AreBytes (value_of c)) r.conditions) (sym is.says) (each_said (λ c. AreBytes (value_of c)) value_bytes is.parts is.terms is.said),
+      subst (λ (r : RuleTree). All (λ c. AreBytes (value_of c)) r.conditions) (sym is.says)
+          (each_said (λ c. AreBytes (value_of c)) value_bytes is.parts is.terms is.said),
       ap (λ (r : RuleTree). have_sender_names r.conditions) is.says ∙ each_passes has_sender_name sender_name is.parts is.terms is.said,
     )

@@ -44,7 +44,8 @@ inside_read : (inside rest : List ℕ) → list_all (λ byte. not (byte == apost
 inside_read [] rest e = with_front-nil (value_from Outside rest)
 inside_read (b ∷ bs) rest e =
     let h = and_parts (not (b == apostrophe)) (list_all (λ byte. not (byte == apostrophe)) bs) e in
-    rw (not-true (b == apostrophe) h.0) (ap (λ read. read >>= λ found. Ok (with_byte b found)) (inside_read bs rest h.1) ∙ with_front-cons b bs (value_from Outside rest))
+    rw (not-true (b == apostrophe) h.0)
+    (ap (λ read. read >>= λ found. Ok (with_byte b found)) (inside_read bs rest h.1) ∙ with_front-cons b bs (value_from Outside rest))
 
 plain_step : (opens ends slash follows : Bool) → (opens || ends || slash && follows) ≡ false → cond ends End (cond opens (Skip Inside) (cond slash (cond follows (Skip Escaped) (Take Outside)) (Take Outside))) ≡ Take Outside
 plain_step opens ends slash follows e = grind arith
@@ -81,7 +82,8 @@ tail_of [] [] = None
 tail_of [] (byte ∷ blanks) = Some blanks
 tail_of (part ∷ parts) ending = Some (parts_bytes (part ∷ parts) ending)
 
-further_is : (part : Part) (parts : List Part) (ending : List ℕ) → IsEnding (part ∷ parts) ending → further_bytes parts ending ≡ tail_bytes (tail_of parts ending)
+further_is : (part : Part) (parts : List Part) (ending : List ℕ) → IsEnding (part ∷ parts) ending
+    → further_bytes parts ending ≡ tail_bytes (tail_of parts ending)
 further_is part [] [] is = refl
 further_is part [] (b ∷ bs) is = ap (λ (x : ℕ). x ∷ bs) is.0
 further_is part (next ∷ parts) ending is = refl
@@ -115,7 +117,8 @@ part_read front part term tail is new apart =
 abbrev parts_in : List Term → List ℕ → Result (List Term) RuleError
 parts_in front bytes = parts_from (length (after_blanks bytes)) front (after_blanks bytes)
 
-first_read : (front : List Term) (part : Part) (parts : List Part) (ending : List ℕ) (term : Term) → IsPart part term → IsEnding (part ∷ parts) ending → has_key (term_key term) front ≡ false → has_path (term_key term) front ≡ false → parts_in front (parts_bytes (part ∷ parts) ending) ≡ parts_in (front ++ term ∷ []) (tail_rest (tail_of parts ending))
+first_read : (front : List Term) (part : Part) (parts : List Part) (ending : List ℕ) (term : Term)
+    → IsPart part term → IsEnding (part ∷ parts) ending → has_key (term_key term) front ≡ false → has_path (term_key term) front ≡ false → parts_in front (parts_bytes (part ∷ parts) ending) ≡ parts_in (front ++ term ∷ []) (tail_rest (tail_of parts ending))
 first_read front part parts ending term is ends new apart =
     let tail = tail_of parts ending in
     let text = part.word ++ equals ∷ (pieces_bytes part.pieces ++ tail_bytes tail) in

@@ -76,7 +76,8 @@ term_weight_le (Asks (Compares source relation value)) = let h = relation_weight
 term_weight_le _ = omega arith
 
 -- each byte of a text weighs at most 41
-parts_total : (n : ℕ) (front : List Term) (bytes : List ℕ) (terms : List Term) → parts_from n front bytes ≡ Ok terms → sum_by term_weight terms ≤ sum_by term_weight front + 41 * length bytes
+parts_total : (n : ℕ) (front : List Term) (bytes : List ℕ) (terms : List Term) → parts_from n front bytes ≡ Ok terms
+    → sum_by term_weight terms ≤ sum_by term_weight front + 41 * length bytes
 parts_total zero front bytes terms e = let same : front ≡ terms = cc in rw (← same) (omega arith)
 parts_total (suc n) front [] terms e = let same : front ≡ terms = cc in rw (← same) (omega arith)
 parts_total (suc n) front (b ∷ bs) terms e =

@@ -33,7 +33,10 @@ condition_of-parts _ = refl
 pub condition_decides : (a b : Condition) → Decides (condition_eq a b) (a ≡ b)
 condition_decides a b =
     let keys_and_values = Decides-and _ _ (keys_decide (key_of a) (key_of b)) (bytes_eq-Decides (value_of a) (value_of b)) in (
-      λ e. let h = keys_and_values.0 e in sym (condition_of-parts a) ∙ ap (λ k. condition_of k (value_of a)) h.0 ∙ ap (condition_of (key_of b)) h.1 ∙ condition_of-parts b,
+      λ e.
+          let h = keys_and_values.0 e in
+          sym (condition_of-parts a) ∙ ap (λ k. condition_of k (value_of a)) h.0
+          ∙ ap (condition_of (key_of b)) h.1 ∙ condition_of-parts b,
       λ e. keys_and_values.1 (ap key_of e, ap value_of e),
     )
 

@@ -20,7 +20,8 @@ invariant_of-result c =
 pub returns-clause-found : goal.returns-clause-found
 returns-clause-found c =
     rw c.unwrap_or.ensures
-    (rule_found c.args.text.now (rule_of c.in_ok-parts.parts) (rule_at-tree c.args.text.now (omega arith) ∙ ap tree_at (sym c.as_bytes.ensures.value) ∙ c.in_ok-parts.ensures))
+    (rule_found c.args.text.now (rule_of c.in_ok-parts.parts)
+    (rule_at-tree c.args.text.now (omega arith) ∙ ap tree_at (sym c.as_bytes.ensures.value) ∙ c.in_ok-parts.ensures))
 
 pub returns-clause-only : goal.returns-clause-only
 returns-clause-only c = λ rule is.
