@@ -19,9 +19,6 @@ bytes_append (x ∷ xs) ys h g = bytes_cons x (xs ++ ys) (h 0) (bytes_append xs 
 
 -- ---- UTF-8
 
-next_byte : (bits : ℕ) → next bits < 256
-next_byte bits = omega arith
-
 scalar_low : (c : ℕ) → scalar c ≡ true → c < 1114112
 scalar_low c e = elim (scalar_cases c e) [ inl h ↦ omega arith | inr h ↦ omega arith ]
 
@@ -40,9 +37,9 @@ encode_bytes c small = go (nat_lt c 128) (nat_lt c 2048) (nat_lt c 65536) refl r
   where
     go : (in_one in_two in_three : Bool) → nat_lt c 128 ≡ in_one → nat_lt c 2048 ≡ in_two → nat_lt c 65536 ≡ in_three → AreBytes (cond in_one (c ∷ []) (cond in_two ((192 + c / 64) ∷ next c ∷ []) (cond in_three ((224 + c / 4096) ∷ next (c / 64) ∷ next c ∷ []) ((240 + c / 262144) ∷ next (c / 4096) ∷ next (c / 64) ∷ next c ∷ []))))
     go true in_two in_three a b d = let h = ltb-true c 128 a in bytes_cons c [] (omega arith) bytes_nil
-    go false true in_three a b d = let h = ltb-true c 2048 b in two_bytes (192 + c / 64) (next c) (omega arith) (next_byte c)
-    go false false true a b d = let h = ltb-true c 65536 d in three_bytes (224 + c / 4096) (next (c / 64)) (next c) (omega arith) (next_byte (c / 64)) (next_byte c)
-    go false false false a b d = four_bytes (240 + c / 262144) (next (c / 4096)) (next (c / 64)) (next c) (omega arith) (next_byte (c / 4096)) (next_byte (c / 64)) (next_byte c)
+    go false true in_three a b d = let h = ltb-true c 2048 b in two_bytes (192 + c / 64) (next c) (omega arith) (omega arith)
+    go false false true a b d = let h = ltb-true c 65536 d in three_bytes (224 + c / 4096) (next (c / 64)) (next c) (omega arith) (omega arith) (omega arith)
+    go false false false a b d = four_bytes (240 + c / 262144) (next (c / 4096)) (next (c / 64)) (next c) (omega arith) (omega arith) (omega arith) (omega arith)
 
 encodes_bytes : (cs : List ℕ) → scalars cs ≡ true → AreBytes (encodes cs)
 encodes_bytes [] e = bytes_nil
