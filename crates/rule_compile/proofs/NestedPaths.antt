@@ -99,8 +99,8 @@ follow_parts_tests (part ∷ next ∷ more) image at text place tells are =
 pub extends_is_nested : (at : ℕ) (value : List ℕ) → Extends (is_nested at value)
 extends_is_nested at value =
     let parts = parts_of value in
-    let along = extends_index_text (follow_parts at 0 parts) at (extends_follow_parts at 0 parts) in
-    extends_choice (length value == 0) (has_len Equal 0 at) _ (extends_test (image_word (at + 4)) Equal 0) along
+    let parts_extend = extends_index_text (follow_parts at 0 parts) at (extends_follow_parts at 0 parts) in
+    extends_choice (length value == 0) (has_len Equal 0 at) _ (extends_test (image_word (at + 4)) Equal 0) parts_extend
 
 -- the piece tests whether the text and the value are nested
 pub is_nested_tests : (image : List ℕ) (at : ℕ) (text value : List ℕ) → Tells image at text → AreBytes value → Tests image Any (AreNested text value) (is_nested at value)
