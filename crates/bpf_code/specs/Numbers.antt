@@ -22,12 +22,11 @@ code_error_name NoMemory = codes "NoMemory"
 
 -- the line or the place that is at fault
 abbrev pub code_error_place : CodeError → Option ℕ
-code_error_place Length = None
 code_error_place (Code place) = Some place
 code_error_place (Line line) = Some line
 code_error_place (Label at) = Some at
 code_error_place (FarJump line) = Some line
-code_error_place NoMemory = None
+code_error_place _ = None
 
 -- a name, and the line or the place that is at fault, if there is one
 abbrev pub text_at : List ℕ → Option ℕ → List ℕ

@@ -1,5 +1,5 @@
 -- The instructions of a source program, from the last one on.
-use Rattle.std.proofs.Common.{◌≡◌, ℕ, ◌+◌, ◌-◌, ◌<◌, ◌≤◌, true, List, [], ◌∷◌, ◌++◌, length, get_or, take, drop, map, reverse, refl, sym, ap, ◌∙◌, arith, subst, add-one}
+use Rattle.std.proofs.Common.{◌≡◌, ℕ, ◌+◌, ◌-◌, ◌<◌, ◌≤◌, true, List, [], ◌∷◌, ◌++◌, length, Some, get_or, take, drop, map, reverse, inl, refl, sym, ap, ◌∙◌, arith, subst, add-one}
 use Rattle.std.proofs.lemmas.List.{length-append, map-append, reverse-append, take-append-drop}
 use Rattle.std.proofs.lemmas.List.Sums.{sum_by-take-le, sum_by-cons}
 use Rattle.std.proofs.Math.ListN.{length-reverse}
@@ -12,6 +12,7 @@ use Rattle.bpf_code.specs.declared.operation.Operand.{Operand}
 use Rattle.bpf_code.specs.Program.{IsFine}
 use Rattle.bpf_code.specs.Steps.{start}
 use Rattle.bpf_code.specs.Table.{op_of}
+use Rattle.bpf_code.proofs.OneTable.{row_of_code}
 use Rattle.jump_islands.specs.declared.error.LowerError.{LowerError}
 use Rattle.jump_islands.specs.declared.error.LowerError.TheVariants.{TooMany, NoMemory}
 use Rattle.jump_islands.specs.declared.source_ins.SourceIns.{SourceIns}
@@ -24,9 +25,9 @@ use Rattle.jump_islands.specs.Tails.{TailTree, len, height, reach, no_tail, jump
 use Rattle.jump_islands.proofs.ListPlaces.{slice_get-seam, all_at}
 use Rattle.jump_islands.proofs.TailFacts.{IsTail, reached_below}
 use Rattle.jump_islands.proofs.TailSteps.{tail_start}
-use Rattle.jump_islands.proofs.TailLines.{plain_tail, jump_tail, branch_tail, branch_op}
+use Rattle.jump_islands.proofs.TailLines.{plain_tail, jump_tail, branch_tail}
 use Rattle.jump_islands.proofs.SourceRuns.{Lowers, tied_start, ends_on, only_on}
-use Rattle.jump_islands.proofs.SourcePaths.{At_out, well_formed}
+use Rattle.jump_islands.proofs.SourcePaths.{well_formed}
 
 -- ---- the source program, cut
 
@@ -49,7 +50,8 @@ inside : (source front done : List Ins) (test : Test) (operand : Operand) (k hit
 inside source front done test operand k hit miss e well =
     let ins : Ins = branch_over test operand k hit miss in
     let size : length source ≡ length front + (length done + 1) = ap length e ∙ length-append front (ins ∷ done) ∙ omega arith in
-    let fine = At_out source (length front) ins (BranchOp test operand) (IsFine (length source) (length front)) (ap (λ (code : List Ins). slice_get code (length front)) e ∙ slice_get-seam front done ins) (branch_op test operand) (well.fine (length front) (omega arith)) in
+    let at : slice_get source (length front) ≡ Some ins = ap (λ (code : List Ins). slice_get code (length front)) e ∙ slice_get-seam front done ins in
+    let fine : IsFine (length source) (length front) (BranchOp test operand) ins = rw (at, row_of_code (BranchOp test operand)) at (well.fine (length front) (omega arith)) in
     let jump : (length front + 1 + hit < length source) × (length front + 1 + miss < length source) = fine.jump in
     let a = jump.0 in
     let b = jump.1 in
@@ -109,8 +111,8 @@ lowered source instructions n t e same h =
     let low : Lowers source t = record { last = tail.holds.last; lowered = tail.holds.lowered; top = tail.top } in
     let tied = tied_start source t low in
     record {
-      ends = λ image v n ends. ends_on source t image v n start 0 low tied ends;
-      only = λ image v n ends. only_on n source t image v n start 0 (omega arith) low tied ends;
+      ends = λ image v n ends. ends_on source t image v n start 0 low (inl tied) ends;
+      only = λ image v n ends. only_on source t image v n start 0 low (inl tied) ends;
       accepted = λ well. well_formed source t tail low h.few well;
       few = omega (arith, h.few, length-reverse t.program);
       short = omega (arith, length-reverse t.program, plain_from (AreWellMade source) source t tail);

@@ -1,5 +1,5 @@
 -- What holds of a tail: where each instruction of the source stands in it, and where its islands lead.
-use Rattle.std.proofs.Common.{◌≡◌, ℕ, zero, suc, ◌+◌, ◌-◌, ◌<◌, ◌≤◌, List, [], ◌∷◌, length, Option, Some, ◌⊎◌, inl, inr, refl, sym, ap, ◌∙◌, arith, subst}
+use Rattle.std.proofs.Common.{◌≡◌, ℕ, ◌+◌, ◌-◌, ◌<◌, ◌≤◌, List, [], ◌∷◌, length, Option, Some, ◌⊎◌, inl, inr, refl, sym, ap, ◌∙◌, arith}
 use Rattle.std.proofs.lemmas.Bool.{cases_lt}
 use Rattle.std.proofs.lemmas.List.{get_or_append_left}
 use Rattle.std.proofs.lemmas.Option.{slice_get_within}
@@ -23,44 +23,31 @@ Island t place from = (k : ℕ) × (slice_get t.program (height t place + k) ≡
 abbrev pub Reached : TailTree → ℕ → ℕ → Type 0
 Reached t place from = (from ≡ height t place) ⊎ Island t place from
 
-pub record PlainPut (t : TailTree) (ins : Ins) (i : ℕ) : Type 0 where
-  pub above : height t (i + 1) ≡ height t i + 1
-  pub is : slice_get t.program (height t i) ≡ Some ins
+-- a jump over `over` instructions from the one at `at` gets there
+abbrev pub LeadsTo : TailTree → ℕ → ℕ → ℕ → Type 0
+LeadsTo t place at over = (from : ℕ) × Reached t place from × (from + over ≡ at)
 
-pub record JumpPut (t : TailTree) (ins : Ins) (i : ℕ) : Type 0 where
+-- an instruction of the source in front of i others, lowered to the one at `at`
+abbrev pub PutAt : TailTree → Option Op → Ins → ℕ → ℕ → Type 0
+PutAt t (Some Jump) ins i at =
+    (over : ℕ) × (slice_get t.program at ≡ Some (jump_over over)) × (height t (i - ins.k) + over ≡ at)
+PutAt t (Some (Branch test operand)) ins i at =
+    (jt : ℕ) × (jf : ℕ) × (slice_get t.program at ≡ Some (record { code = ins.code; jt = jt; jf = jf; k = ins.k }))
+    × LeadsTo t (i - ins.jt) at jt × LeadsTo t (i - ins.jf) at jf
+PutAt t _ ins i at = (slice_get t.program at ≡ Some ins) × (height t i ≡ at)
+
+pub record IsPut (t : TailTree) (ins : Ins) (i : ℕ) : Type 0 where
   pub at : ℕ
   pub above : height t (i + 1) ≡ at + 1
-  pub over : ℕ
-  pub is : slice_get t.program at ≡ Some (jump_over over)
-  pub to : height t (i - ins.k) + over ≡ at
-
-pub record BranchPut (t : TailTree) (ins : Ins) (i : ℕ) : Type 0 where
-  pub at : ℕ
-  pub above : height t (i + 1) ≡ at + 1
-  pub jt : ℕ
-  pub jf : ℕ
-  pub is : slice_get t.program at ≡ Some (record { code = ins.code; jt = jt; jf = jf; k = ins.k })
-  pub hit : ℕ
-  pub hit_leads : Reached t (i - ins.jt) hit
-  pub hit_at : hit + jt ≡ at
-  pub miss : ℕ
-  pub miss_leads : Reached t (i - ins.jf) miss
-  pub miss_at : miss + jf ≡ at
-
--- an instruction of the source in front of i others, lowered
-abbrev pub IsPut : TailTree → Option Op → Ins → ℕ → Type 0
-IsPut t (Some Jump) ins i = JumpPut t ins i
-IsPut t (Some (Branch test operand)) ins i = BranchPut t ins i
-IsPut t _ ins i = PlainPut t ins i
+  pub is : PutAt t (op_of ins.code) ins i at
 
 abbrev pub AreLowered : TailTree → List Ins → Type 0
 AreLowered t [] = Unit {0}
-AreLowered t (ins ∷ more) = IsPut t (op_of ins.code) ins (length more) × AreLowered t more
+AreLowered t (ins ∷ more) = IsPut t ins (length more) × AreLowered t more
 
 -- an instruction of the tail is one of the source, or an island, whose target is inside if the source is well made
 abbrev pub From : Type 0 → List Ins → TailTree → ℕ → Type 0
-From W source t j =
-    ((i : ℕ) × (i < length source) × (height t (i + 1) ≡ j + 1)) ⊎ ((i : ℕ) × (k : ℕ) × (i ≤ length source) × (slice_get t.program j ≡ Some (jump_over k)) × (height t i + k ≡ j) × (W → 0 < height t i))
+From W source t j = (i : ℕ) × (i ≤ length source) × (W → 0 < i) × Reached t i (j + 1)
 
 -- what holds also between two instructions of the source
 pub record Holds (W : Type 0) (source : List Ins) (t : TailTree) : Type 0 where
@@ -99,75 +86,39 @@ reached_on t u e i r small (inr (k, is, at)) =
     let s = e.same i small in
     inr (k, rw s (e.programs _ _ is), at ∙ ap (λ (h : ℕ). h + k + 1) (sym s))
 
-jump_on : (t u : TailTree) → Extends t u → (ins : Ins) (i : ℕ) → i + 1 < length t.heights → JumpPut t ins i → JumpPut u ins i
-jump_on t u e ins i small p = record {
-  at = p.at;
-  above = e.same (i + 1) small ∙ p.above;
-  over = p.over;
-  is = e.programs _ _ p.is;
-  to = ap (λ (h : ℕ). h + p.over) (e.same (i - ins.k) (omega arith)) ∙ p.to;
-}
+leads_on : (t u : TailTree) → Extends t u → (i at over : ℕ) → i < length t.heights → LeadsTo t i at over → LeadsTo u i at over
+leads_on t u e i at over small (from, leads, is) = (from, reached_on t u e i from small leads, is)
 
-branch_on : (t u : TailTree) → Extends t u → (ins : Ins) (i : ℕ) → i + 1 < length t.heights → BranchPut t ins i → BranchPut u ins i
-branch_on t u e ins i small p = record {
-  at = p.at;
-  above = e.same (i + 1) small ∙ p.above;
-  jt = p.jt;
-  jf = p.jf;
-  is = e.programs _ _ p.is;
-  hit = p.hit;
-  hit_leads = reached_on t u e (i - ins.jt) p.hit (omega arith) p.hit_leads;
-  hit_at = p.hit_at;
-  miss = p.miss;
-  miss_leads = reached_on t u e (i - ins.jf) p.miss (omega arith) p.miss_leads;
-  miss_at = p.miss_at;
-}
-
-plain_on : (t u : TailTree) → Extends t u → (ins : Ins) (i : ℕ) → i + 1 < length t.heights → PlainPut t ins i → PlainPut u ins i
-plain_on t u e ins i small p =
-    let s : height u i ≡ height t i = e.same i (omega arith) in
-    record {
-      above = e.same (i + 1) small ∙ p.above ∙ ap (λ (h : ℕ). h + 1) (sym s);
-      is = rw s (e.programs _ _ p.is);
-    }
-
-put_on : (t u : TailTree) → Extends t u → (o : Option Op) (ins : Ins) (i : ℕ) → i + 1 < length t.heights → IsPut t o ins i → IsPut u o ins i
-put_on t u e (Some Jump) ins i small p = jump_on t u e ins i small p
-put_on t u e (Some (Branch test operand)) ins i small p = branch_on t u e ins i small p
-put_on t u e _ ins i small p = plain_on t u e ins i small p
+put_on : (t u : TailTree) → Extends t u → (o : Option Op) (ins : Ins) (i at : ℕ) → i < length t.heights → PutAt t o ins i at → PutAt u o ins i at
+put_on t u e (Some Jump) ins i at small (over, is, to) =
+    (over, e.programs _ _ is, ap (λ (h : ℕ). h + over) (e.same (i - ins.k) (omega arith)) ∙ to)
+put_on t u e (Some (Branch test operand)) ins i at small (jt, jf, is, hit, miss) =
+    (jt, jf, e.programs _ _ is, leads_on t u e (i - ins.jt) at jt (omega arith) hit, leads_on t u e (i - ins.jf) at jf (omega arith) miss)
+put_on t u e _ ins i at small put = (e.programs _ _ put.0, e.same i small ∙ put.1)
 
 pub lowered_on : (t u : TailTree) → Extends t u → (source : List Ins) → length source < length t.heights → AreLowered t source → AreLowered u source
 lowered_on t u e [] small h = tt
 lowered_on t u e (ins ∷ more) small h =
-    (put_on t u e (op_of ins.code) ins (length more) (omega arith) h.0, lowered_on t u e more (omega arith) h.1)
+    let put : IsPut u ins (length more) = record {
+      at = h.0.at;
+      above = e.same (length more + 1) (omega arith) ∙ h.0.above;
+      is = put_on t u e (op_of ins.code) ins (length more) h.0.at (omega arith) h.0.is;
+    } in
+    (put, lowered_on t u e more (omega arith) h.1)
 
 pub from_on : (W : Type 0) (t u : TailTree) → Extends t u → (source all : List Ins) (j : ℕ) → length source < length t.heights → length source ≤ length all → From W source t j → From W all u j
-from_on W t u e source all j small more (inl (i, inside, h)) =
-    inl (i, omega arith, e.same (i + 1) (omega arith) ∙ h)
-from_on W t u e source all j small more (inr (i, k, inside, is, at, well)) =
-    let s : height u i ≡ height t i = e.same i (omega arith) in
-    inr (i, k, omega arith, e.programs _ _ is, ap (λ (h : ℕ). h + k) s ∙ at, λ w. let p : 0 < height t i = well w in omega arith)
+from_on W t u e source all j small more (i, inside, well, is) =
+    (i, omega arith, well, reached_on t u e i (j + 1) (omega arith) is)
 
 -- ---- places have instructions in front of them
 
-put_positive : (t : TailTree) (o : Option Op) (ins : Ins) (i : ℕ) → IsPut t o ins i → 0 < height t (i + 1)
-put_positive t (Some Jump) ins i p = let a = p.above in omega arith
-put_positive t (Some (Branch test operand)) ins i p = let a = p.above in omega arith
-put_positive t _ ins i p = let a : height t (i + 1) ≡ height t i + 1 = p.above in omega arith
-
-lowered_positive : (t : TailTree) (source : List Ins) (i : ℕ) → AreLowered t source → i < length source → 0 < height t (i + 1)
-lowered_positive t [] i h inside = absurd (omega arith)
-lowered_positive t (ins ∷ more) i h inside =
-    elim (cases_lt i (length more)) [
-      | inl low ↦ lowered_positive t more i h.1 low
-      | inr high ↦ (let e : i ≡ length more = omega arith in rw e (put_positive t (op_of ins.code) ins (length more) h.0))
-    ]
-
 pub positive : (t : TailTree) (source : List Ins) (i : ℕ) → AreLowered t source → 0 < i → i ≤ length source → 0 < height t i
-positive t source zero h some inside = absurd (omega arith)
-positive t source (suc i) h some inside =
-    let e : i + 1 ≡ suc i = omega arith in
-    subst (λ (m : ℕ). 0 < height t m) e (lowered_positive t source i h (omega arith))
+positive t [] i h some inside = absurd (omega arith)
+positive t (ins ∷ more) i h some inside =
+    elim (cases_lt i (length (ins ∷ more))) [
+      | inl low ↦ positive t more i h.1 some (omega arith)
+      | inr high ↦ (let e : i ≡ length more + 1 = omega arith in let a = h.0.above in rw e (omega arith))
+    ]
 
 pub reached_above : (t : TailTree) (i r : ℕ) → Reached t i r → height t i ≤ r
 reached_above t i r (inl h) = omega arith

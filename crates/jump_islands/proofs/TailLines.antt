@@ -1,22 +1,21 @@
 -- What each instruction of a source program adds to a tail.
-use Rattle.std.proofs.Common.{◌≡◌, ℕ, zero, suc, ◌+◌, ◌-◌, ◌<◌, ◌≤◌, Bool, true, false, not, cond, List, [], ◌∷◌, length, take, get_or, Option, Some, refl, sym, ap, ◌∙◌, arith, subst}
+use Rattle.std.proofs.Common.{◌≡◌, ℕ, zero, suc, ◌+◌, ◌-◌, ◌<◌, ◌≤◌, Bool, true, false, List, [], ◌∷◌, length, take, get_or, Option, Some, refl, sym, ap, ◌∙◌, arith, subst}
 use Rattle.std.proofs.lemmas.List.Sums.{sum_by-cons}
-use Rattle.std.proofs.lemmas.Bool.{not-true}
+use Rattle.std.specs.List.{slice_get}
 use Rattle.bpf_code.specs.declared.instruction.Ins.{Ins}
 use Rattle.bpf_code.specs.declared.operation.Op.{Op}
 use Rattle.bpf_code.specs.declared.operation.Op.TheVariants.{Jump, Branch}
 use Rattle.bpf_code.specs.declared.operation.Test.{Test}
-use Rattle.bpf_code.specs.declared.operation.Test.TheVariants.{Equal, Above, AtLeast, SharesBit}
 use Rattle.bpf_code.specs.declared.operation.Operand.{Operand}
-use Rattle.bpf_code.specs.declared.operation.Operand.TheVariants.{Constant, Index}
 use Rattle.bpf_code.specs.Table.{op_of, code_of}
+use Rattle.bpf_code.proofs.OneTable.{row_of_code}
 use Rattle.jump_islands.specs.PlainLength.{is_far, count, span, size_of, sizes_of}
 use Rattle.jump_islands.specs.Source.{is_plain_op, jump_over}
-use Rattle.jump_islands.specs.Tails.{TailTree, len, height, reach, jump_to, branch_to, with_ins, with_place, with_island, is_near, is_first_far, with_first, with_islands, with_branch}
+use Rattle.jump_islands.specs.Tails.{TailTree, len, height, reach, jump_to, branch_to, with_ins, with_place, with_needed, is_too_far, is_first_far, with_first, with_islands, with_branch}
 use Rattle.jump_islands.proofs.ListPlaces.{slice_get-seam}
-use Rattle.jump_islands.proofs.TailFacts.{PlainPut, JumpPut, BranchPut, IsPut, Holds, IsTail, put_extends, reached_on, reached_above, reached_below}
+use Rattle.jump_islands.proofs.TailFacts.{LeadsTo, PutAt, Holds, IsTail, put_extends, reached_on, reached_above, reached_below}
 use Rattle.jump_islands.proofs.TailSteps.{island_holds, put_holds, put_top, put_after, len-put}
-use Rattle.jump_islands.proofs.NearPlaces.{count-le, len-first, len-second, Spans, first_far, second_far}
+use Rattle.jump_islands.proofs.NearPlaces.{count-le, len-needed, Spans, first_far, second_far}
 
 -- ---- the length
 
@@ -34,19 +33,19 @@ short_on W source t m ins x tail h same size (suc d) i e =
     let s = tail.short d in
     omega (arith, len-put x m)
 
-tail_with : (W : Type 0) (source : List Ins) (t m : TailTree) (ins x : Ins) → IsTail W source t → Holds W source m → m.heights ≡ t.heights → len m + 1 ≤ size_of (op_of ins.code) ins (sizes_of source) + len t → IsPut (with_place (with_ins x m)) (op_of ins.code) ins (length source) → IsTail W (ins ∷ source) (with_place (with_ins x m))
+tail_with : (W : Type 0) (source : List Ins) (t m : TailTree) (ins x : Ins) → IsTail W source t → Holds W source m → m.heights ≡ t.heights → len m + 1 ≤ size_of (op_of ins.code) ins (sizes_of source) + len t → PutAt (with_place (with_ins x m)) (op_of ins.code) ins (length source) (len m) → IsTail W (ins ∷ source) (with_place (with_ins x m))
 tail_with W source t m ins x tail h same size put = record {
-  holds = put_holds W source m h ins x put;
+  holds = put_holds W source m h ins x (record { at = len m; above = put_top W source m h x; is = put });
   top = (let e : length (ins ∷ source) ≡ length source + 1 = omega arith in rw e (put_top W source m h x)) ∙ sym (len-put x m);
   short = λ d. short_on W source t m ins x tail h same size d (length (ins ∷ source) - d) (omega arith);
 }
 
 -- ---- an instruction that is no jump
 
-plain_put : (t : TailTree) (o : Option Op) (ins : Ins) (i : ℕ) → is_plain_op o ≡ true → PlainPut t ins i → IsPut t o ins i
-plain_put t (Some Jump) ins i plain p = cc
-plain_put t (Some (Branch test operand)) ins i plain p = cc
-plain_put t _ ins i plain p = p
+plain_put : (t : TailTree) (o : Option Op) (ins : Ins) (i at : ℕ) → is_plain_op o ≡ true → (slice_get t.program at ≡ Some ins) × (height t i ≡ at) → PutAt t o ins i at
+plain_put t (Some Jump) ins i at plain p = cc
+plain_put t (Some (Branch test operand)) ins i at plain p = cc
+plain_put t _ ins i at plain p = p
 
 size_some : (o : Option Op) (ins : Ins) (later : List ℕ) → 1 ≤ size_of o ins later
 size_some (Some (Branch test operand)) ins later = omega arith
@@ -54,57 +53,30 @@ size_some _ ins later = omega arith
 
 pub plain_tail : (W : Type 0) (source : List Ins) (t : TailTree) (ins : Ins) → IsTail W source t → is_plain_op (op_of ins.code) ≡ true → IsTail W (ins ∷ source) (with_place (with_ins ins t))
 plain_tail W source t ins tail plain =
-    let u = with_place (with_ins ins t) in
-    let bounded : height u (length source) ≡ len t = put_after W source t tail.holds ins (length source) (omega arith) ∙ tail.top in
-    tail_with W source t t ins ins tail tail.holds refl (let s = size_some (op_of ins.code) ins (sizes_of source) in omega arith) (plain_put u (op_of ins.code) ins (length source) plain (record {
-      above = put_top W source t tail.holds ins ∙ ap (λ (h : ℕ). h + 1) (sym bounded);
-      is = rw bounded (slice_get-seam t.program [] ins);
-    }))
+    let bounded = put_after W source t tail.holds ins (length source) (omega arith) ∙ tail.top in
+    let size = size_some (op_of ins.code) ins (sizes_of source) in
+    let put = plain_put (with_place (with_ins ins t)) (op_of ins.code) ins (length source) (len t) plain (slice_get-seam t.program [] ins, bounded) in
+    tail_with W source t t ins ins tail tail.holds refl (omega arith) put
 
 -- ---- a jump
 
 pub jump_tail : (W : Type 0) (source : List Ins) (t : TailTree) (k : ℕ) → IsTail W source t → IsTail W (jump_over k ∷ source) (with_place (with_ins (jump_to (length source - k) t) t))
 jump_tail W source t k tail =
     let x = jump_to (length source - k) t in
-    let u = with_place (with_ins x t) in
     let small = tail.holds.below (length source - k) (omega arith) in
     let bounded = put_after W source t tail.holds x (length source - k) (omega arith) in
-    let put : JumpPut u (jump_over k) (length source) = record {
-      at = len t;
-      above = put_top W source t tail.holds x;
-      over = len t - height t (length source - k);
-      is = slice_get-seam t.program [] x;
-      to = omega (arith, bounded, small);
-    } in
-    tail_with W source t t (jump_over k) x tail tail.holds refl (let s = size_some (op_of 5) (jump_over k) (sizes_of source) in omega arith) put
+    let size = size_some (op_of 5) (jump_over k) (sizes_of source) in
+    tail_with W source t t (jump_over k) x tail tail.holds refl (omega arith) (len t - height t (length source - k), slice_get-seam t.program [] x, omega arith)
 
 -- ---- a conditional jump
 
-pub branch_op : (test : Test) (operand : Operand) → op_of (code_of (Branch test operand)) ≡ Some (Branch test operand)
-branch_op Equal Constant = refl
-branch_op Equal Index = refl
-branch_op Above Constant = refl
-branch_op Above Index = refl
-branch_op AtLeast Constant = refl
-branch_op AtLeast Index = refl
-branch_op SharesBit Constant = refl
-branch_op SharesBit Index = refl
+needed_holds : (W : Type 0) (source : List Ins) (t : TailTree) (place : ℕ) (needed : Bool) → Holds W source t → place ≤ length source → (W → 0 < place) → Holds W source (with_needed needed place t)
+needed_holds W source t place true h inside well = island_holds W source t h place inside well
+needed_holds W source t place false h inside well = h
 
-first_holds : (W : Type 0) (source : List Ins) (t : TailTree) (place : ℕ) (b : Bool) → Holds W source t → place ≤ length source → (W → 0 < place) → Holds W source (cond b (with_island place t) t)
-first_holds W source t place true h inside well = island_holds W source t h place inside well
-first_holds W source t place false h inside well = h
-
-second_holds : (W : Type 0) (source : List Ins) (t : TailTree) (place : ℕ) (b : Bool) → Holds W source t → place ≤ length source → (W → 0 < place) → Holds W source (cond b t (with_island place t))
-second_holds W source t place true h inside well = h
-second_holds W source t place false h inside well = island_holds W source t h place inside well
-
-first_heights : (t : TailTree) (place : ℕ) (b : Bool) → (cond b (with_island place t) t).heights ≡ t.heights
-first_heights t place true = refl
-first_heights t place false = refl
-
-second_heights : (t : TailTree) (place : ℕ) (b : Bool) → (cond b t (with_island place t)).heights ≡ t.heights
-second_heights t place true = refl
-second_heights t place false = refl
+needed_heights : (t : TailTree) (place : ℕ) (needed : Bool) → (with_needed needed place t).heights ≡ t.heights
+needed_heights t place true = refl
+needed_heights t place false = refl
 
 branch_size : (o : Option Op) (test : Test) (operand : Operand) (ins : Ins) (later : List ℕ) → o ≡ Some (Branch test operand) → size_of o ins later ≡ 1 + count (is_far (span ins.jt later) (span ins.jf later)) + count (is_far (span ins.jf later) (span ins.jt later))
 branch_size o test operand ins later e = rw e refl
@@ -112,15 +84,16 @@ branch_size o test operand ins later e = rw e refl
 islands_few : (t : TailTree) (hit miss to_hit to_miss : ℕ) → Spans t hit miss to_hit to_miss → hit < length t.reaches → reach t hit ≤ len t → len (with_islands hit miss t) ≤ len t + count (is_far to_hit to_miss) + count (is_far to_miss to_hit)
 islands_few t hit miss to_hit to_miss s inside small =
     let u = with_first hit miss t in
-    let first = len-first hit t (is_first_far hit miss t) in
-    let second = len-second miss u (is_near miss (len u) u) in
+    let first = len-needed (is_first_far hit miss t) hit t in
+    let second = len-needed (is_too_far miss (len u) u) miss u in
     let a = count-le (is_first_far hit miss t) (is_far to_hit to_miss) (first_far t hit miss to_hit to_miss s) in
-    let b = count-le (not (is_near miss (len u) u)) (is_far to_miss to_hit) (λ e. second_far t hit miss to_hit to_miss s inside small (is_first_far hit miss t) refl (not-true _ e)) in
+    let b = count-le (is_too_far miss (len u) u) (is_far to_miss to_hit) (second_far t hit miss to_hit to_miss s inside small (is_first_far hit miss t) refl) in
     omega arith
 
 pub branch_tail : (W : Type 0) (source : List Ins) (t : TailTree) (test : Test) (operand : Operand) (k jt jf : ℕ) → IsTail W source t → (W → 0 < length source - jt) → (W → 0 < length source - jf) → IsTail W (record { code = code_of (Branch test operand); jt = jt; jf = jf; k = k } ∷ source) (with_place (with_branch test operand k (length source - jt) (length source - jf) (with_islands (length source - jt) (length source - jf) t)))
 branch_tail W source t test operand k jt jf tail hit_well miss_well =
-    tail_with W source t m ins x tail h heights size (subst (λ (o : Option Op). IsPut u o ins (length source)) (sym (branch_op test operand)) put)
+    let row = sym (row_of_code (Branch test operand)) in
+    tail_with W source t m ins x tail h heights size (subst (λ (o : Option Op). PutAt u o ins (length source) (len m)) row put)
   where
     hit : ℕ
     hit = length source - jt
@@ -141,13 +114,13 @@ branch_tail W source t test operand k jt jf tail hit_well miss_well =
     m = with_islands hit miss t
 
     first_h : Holds W source first
-    first_h = first_holds W source t hit (is_first_far hit miss t) tail.holds hit_in hit_well
+    first_h = needed_holds W source t hit (is_first_far hit miss t) tail.holds hit_in hit_well
 
     h : Holds W source m
-    h = second_holds W source first miss (is_near miss (len first) first) first_h miss_in miss_well
+    h = needed_holds W source first miss (is_too_far miss (len first) first) first_h miss_in miss_well
 
     heights : m.heights ≡ t.heights
-    heights = second_heights first miss (is_near miss (len first) first) ∙ first_heights t hit (is_first_far hit miss t)
+    heights = needed_heights first miss (is_too_far miss (len first) first) ∙ needed_heights t hit (is_first_far hit miss t)
 
     ins : Ins
     ins = record { code = code_of (Branch test operand); jt = jt; jf = jf; k = k }
@@ -169,26 +142,13 @@ branch_tail W source t test operand k jt jf tail hit_well miss_well =
     size : len m + 1 ≤ size_of (op_of ins.code) ins (sizes_of source) + len t
     size =
         let few = islands_few t hit miss (span jt (sizes_of source)) (span jf (sizes_of source)) spans (omega (arith, tail.holds.reached)) (reached_below t hit (reach t hit) (tail.holds.below hit hit_in) (tail.holds.reaches hit hit_in)) in
-        let e = branch_size (op_of ins.code) test operand ins (sizes_of source) (branch_op test operand) in
+        let e = branch_size (op_of ins.code) test operand ins (sizes_of source) (row_of_code (Branch test operand)) in
         omega arith
 
-    hit_small : reach m hit ≤ len m
-    hit_small = reached_below m hit (reach m hit) (h.below hit hit_in) (h.reaches hit hit_in)
+    leads : (i : ℕ) → i ≤ length source → LeadsTo u i (len m) (len m - reach m i)
+    leads i inside =
+        let small = reached_below m i (reach m i) (h.below i inside) (h.reaches i inside) in
+        (reach m i, reached_on m u (put_extends m x) i (reach m i) (omega (arith, h.long)) (h.reaches i inside), omega arith)
 
-    miss_small : reach m miss ≤ len m
-    miss_small = reached_below m miss (reach m miss) (h.below miss miss_in) (h.reaches miss miss_in)
-
-    put : BranchPut u ins (length source)
-    put = record {
-      at = len m;
-      above = put_top W source m h x;
-      jt = len m - reach m hit;
-      jf = len m - reach m miss;
-      is = slice_get-seam m.program [] x;
-      hit = reach m hit;
-      hit_leads = reached_on m u (put_extends m x) hit (reach m hit) (omega (arith, h.long)) (h.reaches hit hit_in);
-      hit_at = omega (arith, hit_small);
-      miss = reach m miss;
-      miss_leads = reached_on m u (put_extends m x) miss (reach m miss) (omega (arith, h.long)) (h.reaches miss miss_in);
-      miss_at = omega (arith, miss_small);
-    }
+    put : PutAt u (Some (Branch test operand)) ins (length source) (len m)
+    put = (len m - reach m hit, len m - reach m miss, slice_get-seam m.program [] x, leads hit hit_in, leads miss miss_in)

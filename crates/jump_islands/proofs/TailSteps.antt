@@ -1,14 +1,13 @@
 -- What each step of `lower` keeps of a tail.
-use Rattle.std.proofs.Common.{◌≡◌, ℕ, zero, suc, ◌+◌, ◌-◌, ◌<◌, ◌≤◌, List, [], ◌∷◌, ◌++◌, length, Some, inl, inr, refl, sym, ◌∙◌, arith, subst, length-append}
+use Rattle.std.proofs.Common.{◌≡◌, ℕ, zero, suc, ◌+◌, ◌-◌, ◌<◌, ◌≤◌, List, [], ◌∷◌, ◌++◌, length, Some, inl, inr, refl, sym, ◌∙◌, arith, length-append}
 use Rattle.std.proofs.lemmas.Bool.{cases_eq, cases_lt}
 use Rattle.std.proofs.lemmas.List.{get_or_append_left, get_or_push, get_or-set_same, get_or-set_other}
 use Rattle.std.proofs.Math.ListN.{length-set}
 use Rattle.std.specs.List.{slice_get}
 use Rattle.bpf_code.specs.declared.instruction.Ins.{Ins}
-use Rattle.bpf_code.specs.Table.{op_of}
 use Rattle.jump_islands.specs.Tails.{TailTree, len, height, reach, no_tail, jump_to, with_ins, with_place, with_island}
 use Rattle.jump_islands.proofs.ListPlaces.{slice_get-seam}
-use Rattle.jump_islands.proofs.TailFacts.{Reached, IsPut, From, Holds, IsTail, island_extends, put_extends, reached_on, lowered_on, from_on, positive}
+use Rattle.jump_islands.proofs.TailFacts.{Reached, IsPut, From, Holds, IsTail, island_extends, put_extends, reached_on, lowered_on, from_on}
 
 -- ---- no instruction
 
@@ -59,17 +58,18 @@ island_holds W source t h place inside well = record {
     is : slice_get (with_island place t).program (height t place + (len t - height t place)) ≡ Some (jump_to place t)
     is = at_seam t.program (jump_to place t) _ over
 
+    here : (r : ℕ) → r ≡ len t + 1 → Reached (with_island place t) place r
+    here r e = inr (len t - height t place, is, omega (arith, over))
+
     each : (j : ℕ) → j < len (with_island place t) → From W source (with_island place t) j
     each j small = elim (cases_lt j (len t)) [
       | inl low ↦ from_on W t (with_island place t) (island_extends t place) source source j (omega (arith, h.long)) (omega arith) (h.each j low)
-      | inr high ↦ (
-          let e : len t ≡ j = omega (arith, len-island place t) in
-          inr (place, len t - height t place, inside, subst (λ (m : ℕ). slice_get (with_island place t).program m ≡ Some (jump_to place t)) (over ∙ e) is, over ∙ e, λ w. positive t source place h.lowered (well w) inside))
+      | inr high ↦ (place, inside, well, here (j + 1) (omega (arith, len-island place t)))
     ]
 
     reaches : (i : ℕ) → i ≤ length source → Reached (with_island place t) i (reach (with_island place t) i)
     reaches i small = elim (cases_eq i place) [
-      | inl e ↦ rw e (rw (get_or-set_same t.reaches place (len t + 1) 0 (omega (arith, h.reached))) (inr (len t - height t place, is, omega (arith, over))))
+      | inl e ↦ rw e (here _ (get_or-set_same t.reaches place (len t + 1) 0 (omega (arith, h.reached))))
       | inr ne ↦ rw (get_or-set_other t.reaches place i (len t + 1) 0 ne) (reached_on t (with_island place t) (island_extends t place) i (reach t i) (omega (arith, h.long)) (h.reaches i small))
     ]
 
@@ -78,7 +78,7 @@ island_holds W source t h place inside well = record {
 pub len-put : (x : Ins) (t : TailTree) → len (with_place (with_ins x t)) ≡ len t + 1
 len-put x t = length-append t.program (x ∷ [])
 
-pub put_holds : (W : Type 0) (source : List Ins) (t : TailTree) → Holds W source t → (ins x : Ins) → IsPut (with_place (with_ins x t)) (op_of ins.code) ins (length source) → Holds W (ins ∷ source) (with_place (with_ins x t))
+pub put_holds : (W : Type 0) (source : List Ins) (t : TailTree) → Holds W source t → (ins x : Ins) → IsPut (with_place (with_ins x t)) ins (length source) → Holds W (ins ∷ source) (with_place (with_ins x t))
 put_holds W source t h ins x put = record {
   long = omega (arith, h.long, length-append t.heights (len (with_ins x t) ∷ []));
   reached = omega (arith, h.reached, length-append t.reaches (len (with_ins x t) ∷ []));
@@ -107,7 +107,7 @@ put_holds W source t h ins x put = record {
     each : (j : ℕ) → j < len u → From W (ins ∷ source) u j
     each j small = elim (cases_lt j (len t)) [
       | inl low ↦ from_on W t u (put_extends t x) source (ins ∷ source) j (omega (arith, h.long)) (omega arith) (h.each j low)
-      | inr high ↦ inl (length source, omega arith, top (length source + 1) refl ∙ (let e : len u ≡ j + 1 = omega (arith, len-put x t) in e))
+      | inr high ↦ (length source + 1, omega arith, λ w. omega arith, let e = top (length source + 1) refl in inl (omega (arith, len-put x t)))
     ]
 
     reaches : (i : ℕ) → i ≤ length (ins ∷ source) → Reached u i (reach u i)

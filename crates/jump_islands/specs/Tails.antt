@@ -1,6 +1,6 @@
 -- Inner: the last instructions of a source program, lowered: what each step of `lower` adds. Places are those of the
 -- source program, from its end.
-use Rattle.std.specs.Prelude.{ℕ, ◌+◌, ◌-◌, ◌<◌, ◌≤◌, Bool, not, ◌&&◌, ◌||◌, List, [], ◌∷◌, ◌++◌, length, slice_index, slice_set, if◌then◌else◌, nat_le}
+use Rattle.std.specs.Prelude.{ℕ, ◌+◌, ◌-◌, ◌<◌, ◌≤◌, Bool, ◌&&◌, ◌||◌, List, [], ◌∷◌, ◌++◌, length, slice_index, slice_set, if◌then◌else◌, nat_lt}
 use Rattle.bpf_code.specs.declared.instruction.Ins.{Ins}
 use Rattle.bpf_code.specs.declared.operation.Test.{Test}
 use Rattle.bpf_code.specs.declared.operation.Operand.{Operand}
@@ -49,19 +49,23 @@ abbrev pub with_island : ℕ → TailTree → TailTree
 with_island place t =
     record { program = t.program ++ jump_to place t ∷ []; heights = t.heights; reaches = slice_set t.reaches place (len t + 1) }
 
--- a conditional jump gets to a place, where the tail after it has `ahead` instructions
-abbrev pub is_near : ℕ → ℕ → TailTree → Bool
-is_near place ahead t = nat_le (ahead - reach t place) 255
+-- one more island, of a place, if it is needed
+abbrev pub with_needed : Bool → ℕ → TailTree → TailTree
+with_needed needed place t = if needed then with_island place t else t
+
+-- a place is too far for a conditional jump, where the tail after it has `ahead` instructions
+abbrev pub is_too_far : ℕ → ℕ → TailTree → Bool
+is_too_far place ahead t = nat_lt 255 (ahead - reach t place)
 
 -- the first place needs an island: it is far, or it is once the other has one
 abbrev pub is_first_far : ℕ → ℕ → TailTree → Bool
-is_first_far hit miss t = not (is_near hit (len t) t) || not (is_near miss (len t) t) && not (is_near hit (len t + 1) t)
+is_first_far hit miss t = is_too_far hit (len t) t || is_too_far miss (len t) t && is_too_far hit (len t + 1) t
 
 abbrev pub with_first : ℕ → ℕ → TailTree → TailTree
-with_first hit miss t = if is_first_far hit miss t then with_island hit t else t
+with_first hit miss t = with_needed (is_first_far hit miss t) hit t
 
 abbrev pub with_second : ℕ → TailTree → TailTree
-with_second miss t = if is_near miss (len t) t then t else with_island miss t
+with_second miss t = with_needed (is_too_far miss (len t) t) miss t
 
 abbrev pub with_islands : ℕ → ℕ → TailTree → TailTree
 with_islands hit miss t = with_second miss (with_first hit miss t)

@@ -19,9 +19,6 @@ pub struct Draft {
 }
 
 impl Model for Draft {
-    ghost use Rattle.std.specs.Prelude.{◌≡◌, true};
-    ghost use Rattle.jump_islands.specs.Draft.{DraftTree, are_plain};
-
     ghost Value = { DraftTree };
 
     ghost view = { λ d. record { lines = d.lines.items; bound = d.bound.items } };
@@ -61,17 +58,6 @@ impl Draft {
         self.bound[label.number] = Some(next);
     }
 
-    /// Adds a line.
-    fn add(&mut self, line: Line) -> Result<(), LowerError>
-        requires { IsTrue (is_plain_line line) }
-        ensures added { OnOk result (self.new ≡ record self.old { lines = self.old.lines ++ line ∷ [] }) }
-        ensures unchanged { OnErr result (self.new ≡ self.old) }
-        ensures only { IfErr result (λ e. e ≡ LowerError.NoMemory) }
-    {
-        self.lines.push(line)?;
-        Ok(())
-    }
-
     /// Adds an instruction that is no jump.
     pub fn push(&mut self, ins: Ins) -> Result<(), LowerError>
         requires { IsTrue (is_plain_op (op_of ins.code)) }
@@ -79,7 +65,8 @@ impl Draft {
         ensures unchanged { OnErr result (self.new ≡ self.old) }
         ensures only { IfErr result (λ e. e ≡ LowerError.NoMemory) }
     {
-        self.add(Line::Plain(ins))
+        self.lines.push(Line::Plain(ins))?;
+        Ok(())
     }
 
     /// Adds a conditional jump to one of two labels, the first where the test of A and the operand holds.
@@ -95,7 +82,8 @@ impl Draft {
         ensures unchanged { OnErr result (self.new ≡ self.old) }
         ensures only { IfErr result (λ e. e ≡ LowerError.NoMemory) }
     {
-        self.add(Line::Jumps(test, operand, k, yes, no))
+        self.lines.push(Line::Jumps(test, operand, k, yes, no))?;
+        Ok(())
     }
 
     /// Adds a jump to a label.
@@ -104,15 +92,8 @@ impl Draft {
         ensures unchanged { OnErr result (self.new ≡ self.old) }
         ensures only { IfErr result (λ e. e ≡ LowerError.NoMemory) }
     {
-        self.add(Line::Goes(to))
-    }
-
-    /// The lines, in the order of the program.
-    fn lines(&self) -> &[Line]
-        ensures value { result.now ≡ self.now.lines }
-        ensures plain { are_plain self.now.lines ≡ true }
-    {
-        self.lines.as_slice()
+        self.lines.push(Line::Goes(to))?;
+        Ok(())
     }
 
     /// The place to which a label is bound.
@@ -159,7 +140,7 @@ impl Draft {
     pub(crate) fn source(&self, alloc: Global) -> Result<SourceProgram, AllocError>
         ensures { IfOk result (λ source. source ≡ instructions_of self.now) }
     {
-        let lines = self.lines();
+        let lines = self.lines.as_slice();
         let mut source = SourceProgram::new(alloc);
         for place in (0..lines.len()).rev() {
             self.put_line(place, lines[place], &mut source)?;
@@ -192,7 +173,7 @@ impl Draft {
     pub fn is_closed(&self) -> bool
         ensures { IsTrue result ↔ IsClosed self.now }
     {
-        let lines = self.lines();
+        let lines = self.lines.as_slice();
         for place in 0..lines.len() {
             if !self.is_line_closed(place, &lines[place]) {
                 return false;

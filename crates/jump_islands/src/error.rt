@@ -1,4 +1,5 @@
-ghost use Rattle.std.specs.Prelude.{◌≡◌};
+ghost use Rattle.std.specs.Prelude.{◌≡◌, Some};
+ghost use Rattle.jump_islands.specs.declared.error.LowerError.TheVariants.{NoMemory};
 ghost use Rattle.jump_islands.specs.Numbers.{lower_error_number, lower_error_name};
 
 use std::alloc::{AllocError, AllocFailed};
@@ -37,8 +38,6 @@ impl LowerError {
 }
 
 impl fmt::Display for LowerError {
-    ghost use Rattle.std.specs.Prelude.{Some};
-
     ghost output = { λ error. Some (lower_error_name error) };
 
     fn fmt<W: fmt::Write>(&self, f: &mut fmt::Formatter<W>) -> fmt::Result {
@@ -50,8 +49,6 @@ impl fmt::Display for LowerError {
 impl Error for LowerError {}
 
 impl From<AllocError> for LowerError {
-    ghost use Rattle.jump_islands.specs.declared.error.LowerError.TheVariants.{NoMemory};
-
     ghost from_gives = { λ _ error. error ≡ NoMemory };
 
     fn from(_refused: AllocError) -> LowerError {
@@ -60,8 +57,6 @@ impl From<AllocError> for LowerError {
 }
 
 impl<T: Drop> From<AllocFailed<T>> for LowerError {
-    ghost use Rattle.jump_islands.specs.declared.error.LowerError.TheVariants.{NoMemory};
-
     ghost from_gives = { λ _ error. error ≡ NoMemory };
 
     fn from(_refused: AllocFailed<T>) -> LowerError {

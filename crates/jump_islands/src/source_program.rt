@@ -1,8 +1,9 @@
-ghost use Rattle.std.specs.Prelude.{◌≡◌, ◌∷◌, [], true, length, IfOk, IfErr, OnErr, OnOk, IsTrue};
+ghost use Rattle.std.specs.Prelude.{◌≡◌, ◌∷◌, [], List, true, length, IfOk, IfErr, OnErr, OnOk, IsTrue};
+ghost use Rattle.bpf_code.specs.declared.instruction.Ins.{Ins};
 ghost use Rattle.bpf_code.specs.Table.{op_of};
 ghost use Rattle.jump_islands.specs.Lowering.{IsTarget, IsTargetRefusal};
 ghost use Rattle.jump_islands.specs.Source.{is_plain_op, branch_over, jump_over};
-ghost use Rattle.jump_islands.specs.SourceItems.{is_plain_source, are_plain_sources, as_ins, source_of};
+ghost use Rattle.jump_islands.specs.SourceItems.{are_plain_sources, source_of};
 
 use crate::error::LowerError;
 use crate::source_ins::SourceIns;
@@ -20,10 +21,6 @@ pub struct SourceProgram {
 }
 
 impl Model for SourceProgram {
-    ghost use Rattle.std.specs.Prelude.{◌≡◌, true, List};
-    ghost use Rattle.bpf_code.specs.declared.instruction.Ins.{Ins};
-    ghost use Rattle.jump_islands.specs.SourceItems.{are_plain_sources, source_of};
-
     ghost Value = { List Ins };
 
     ghost view = { λ s. source_of s.instructions.items };
@@ -48,23 +45,14 @@ impl SourceProgram {
         self.instructions.len()
     }
 
-    /// Puts an instruction in front.
-    fn put(&mut self, ins: SourceIns) -> Result<(), AllocError>
-        requires { IsTrue (is_plain_source ins) }
-        ensures put { OnOk result (self.new ≡ as_ins ins ∷ self.old) }
-        ensures unchanged { OnErr result (self.new ≡ self.old) }
-    {
-        self.instructions.push(ins)?;
-        Ok(())
-    }
-
     /// Puts an instruction in front that is no jump.
     pub fn put_plain(&mut self, ins: Ins) -> Result<(), AllocError>
         requires { IsTrue (is_plain_op (op_of ins.code)) }
         ensures put { OnOk result (self.new ≡ ins ∷ self.old) }
         ensures unchanged { OnErr result (self.new ≡ self.old) }
     {
-        self.put(SourceIns::Plain(ins))
+        self.instructions.push(SourceIns::Plain(ins))?;
+        Ok(())
     }
 
     /// Puts a conditional jump in front, which goes over `hit` instructions where the test of A and the operand holds,
@@ -80,7 +68,9 @@ impl SourceProgram {
         ensures put { OnOk result (self.new ≡ branch_over test operand k hit miss ∷ self.old) }
         ensures unchanged { OnErr result (self.new ≡ self.old) }
     {
-        self.put(SourceIns::Branch(test, operand, k, hit, miss))
+        self.instructions
+            .push(SourceIns::Branch(test, operand, k, hit, miss))?;
+        Ok(())
     }
 
     /// Puts a jump over `over` instructions in front.
@@ -88,7 +78,8 @@ impl SourceProgram {
         ensures put { OnOk result (self.new ≡ jump_over over ∷ self.old) }
         ensures unchanged { OnErr result (self.new ≡ self.old) }
     {
-        self.put(SourceIns::Jump(over))
+        self.instructions.push(SourceIns::Jump(over))?;
+        Ok(())
     }
 
     /// The instructions, from the program's last one to its first.

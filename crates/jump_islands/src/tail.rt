@@ -1,5 +1,5 @@
-ghost use Rattle.std.specs.Prelude.{◌≡◌, ◌<◌, ◌≤◌, ◌+◌, ◌-◌, Err, IfOk, IfErr, OnOk, IsTrue, length, reverse};
-ghost use Rattle.jump_islands.specs.Tails.{TailTree, no_tail, len, height, reach, with_ins, with_place, with_island, with_islands, with_first, with_second, with_branch, place_after, jump_to, is_near, with_source_ins, with_source, IsPlace, ArePlaces};
+ghost use Rattle.std.specs.Prelude.{◌≡◌, ◌<◌, ◌≤◌, ◌-◌, Err, IfOk, IfErr, OnOk, length, reverse};
+ghost use Rattle.jump_islands.specs.Tails.{TailTree, no_tail, len, height, reach, with_ins, with_place, with_needed, with_islands, with_branch, place_after, jump_to, is_too_far, is_first_far, with_source_ins, with_source, IsPlace, ArePlaces};
 
 use crate::error::LowerError;
 use crate::source_ins::SourceIns;
@@ -25,8 +25,6 @@ pub(crate) struct Tail {
 }
 
 impl Model for Tail {
-    ghost use Rattle.jump_islands.specs.Tails.{TailTree};
-
     ghost Value = { TailTree };
 
     ghost view = { λ t. record { program = t.program.items; heights = t.heights.items; reaches = t.reaches.items } };
@@ -47,13 +45,6 @@ impl Tail {
             heights,
             reaches,
         })
-    }
-
-    /// How many instructions there are.
-    fn len(&self) -> usize
-        ensures { result ≡ len self.now }
-    {
-        self.program.len()
     }
 
     /// Puts an instruction in front.
@@ -103,89 +94,47 @@ impl Tail {
         }
     }
 
-    /// Puts an island of a place in front.
-    fn add_island(&mut self, place: usize) -> Result<(), LowerError>
-        requires place { place < length self.old.heights }
-        requires reach { place < length self.old.reaches }
-        requires bounded { height self.old place ≤ len self.old }
+    /// Puts an island of a place in front, if it is needed.
+    fn add_island(&mut self, needed: bool, place: usize) -> Result<(), LowerError>
+        requires place { IsPlace self.old place }
         requires few { len self.old ≤ 4096 }
-        ensures added { OnOk result (self.new ≡ with_island place self.old) }
+        ensures added { OnOk result (self.new ≡ with_needed needed place self.old) }
         ensures few { OnOk result (len self.new ≤ 4096) }
         ensures many { result ≡ Err LowerError.TooMany → 4096 ≤ len self.old }
     {
-        let island = self.jump_to(place);
-        self.put(island)?;
-        self.reaches[place] = self.program.len();
+        if needed {
+            let island = self.jump_to(place);
+            self.put(island)?;
+            self.reaches[place] = self.program.len();
+        }
         Ok(())
     }
 
-    /// Whether a conditional jump gets to a place, where the tail after it has `ahead` instructions.
-    fn is_near(&self, place: usize, ahead: usize) -> bool
+    /// Whether a place is too far for a conditional jump, where the tail after it has `ahead` instructions.
+    fn is_too_far(&self, place: usize, ahead: usize) -> bool
         requires { place < length self.now.reaches }
-        ensures { result ≡ is_near place ahead self.now }
+        ensures { result ≡ is_too_far place ahead self.now }
     {
-        ahead.saturating_sub(self.reaches[place]) <= MAX_DISTANCE
+        ahead.saturating_sub(self.reaches[place]) > MAX_DISTANCE
+    }
+
+    /// Whether the first place of a conditional jump needs an island.
+    fn is_first_far(&self, yes: usize, no: usize) -> bool
+        requires yes { yes < length self.now.reaches }
+        requires no { no < length self.now.reaches }
+        ensures { result ≡ is_first_far yes no self.now }
+    {
+        let len = self.program.len();
+        self.is_too_far(yes, len) || self.is_too_far(no, len) && self.is_too_far(yes, len + 1)
     }
 
     /// How far the nearest instruction is that leads to a place.
-    fn distance(&self, place: usize) -> usize
-        requires { place < length self.now.reaches }
+    fn distance(&self, place: usize) -> u8
+        requires place { place < length self.now.reaches }
+        requires near { len self.now - reach self.now place ≤ 255 }
         ensures { result ≡ len self.now - reach self.now place }
     {
-        self.program.len().saturating_sub(self.reaches[place])
-    }
-
-    /// Puts an island of the first place in front, where the jump needs one.
-    fn add_first(&mut self, yes: usize, no: usize) -> Result<(), LowerError>
-        requires yes { IsPlace self.old yes }
-        requires no { IsPlace self.old no }
-        requires few { len self.old ≤ 4096 }
-        ensures added { OnOk result (self.new ≡ with_first yes no self.old) }
-        ensures few { OnOk result (len self.new ≤ 4096) }
-        ensures many { result ≡ Err LowerError.TooMany → 4096 ≤ len self.old }
-    {
-        let len = self.len();
-        if !self.is_near(yes, len) || !self.is_near(no, len) && !self.is_near(yes, len + 1) {
-            self.add_island(yes)?;
-        }
-        Ok(())
-    }
-
-    /// Puts an island of the second place in front, where the jump needs one.
-    fn add_second(&mut self, no: usize) -> Result<(), LowerError>
-        requires no { IsPlace self.old no }
-        requires few { len self.old ≤ 4096 }
-        ensures added { OnOk result (self.new ≡ with_second no self.old) }
-        ensures few { OnOk result (len self.new ≤ 4096) }
-        ensures many { result ≡ Err LowerError.TooMany → 4096 ≤ len self.old }
-    {
-        if !self.is_near(no, self.len()) {
-            self.add_island(no)?;
-        }
-        Ok(())
-    }
-
-    /// Puts a conditional jump to two near places in front.
-    fn put_branch(
-        &mut self,
-        test: Test,
-        operand: Operand,
-        k: u32,
-        yes: usize,
-        no: usize,
-    ) -> Result<(), LowerError>
-        requires yes { yes < length self.old.reaches }
-        requires no { no < length self.old.reaches }
-        requires near_yes { IsTrue (is_near yes (len self.old) self.old) }
-        requires near_no { IsTrue (is_near no (len self.old) self.old) }
-        ensures put { OnOk result (self.new ≡ with_branch test operand k yes no self.old) }
-        ensures few { OnOk result (len self.old < 4096) }
-        ensures many { result ≡ Err LowerError.TooMany → 4096 ≤ len self.old }
-    {
-        let jt = self.distance(yes) as u8;
-        let jf = self.distance(no) as u8;
-        let code = Op::Branch(test, operand).code();
-        self.put(Ins { code, jt, jf, k })
+        self.program.len().saturating_sub(self.reaches[place]) as u8
     }
 
     /// Adds a conditional jump, with the islands that it needs.
@@ -204,21 +153,14 @@ impl Tail {
         ensures few { OnOk result (len self.new ≤ 4096) }
         ensures many { result ≡ Err LowerError.TooMany → 4096 ≤ len (with_islands yes no self.old) }
     {
-        self.add_first(yes, no)?;
-        self.add_second(no)?;
-        self.put_branch(test, operand, k, yes, no)
-    }
-
-    /// Adds a jump.
-    fn add_jump(&mut self, to: usize) -> Result<(), LowerError>
-        requires to { IsPlace self.old to }
-        requires few { len self.old ≤ 4096 }
-        ensures added { OnOk result (self.new ≡ with_ins (jump_to to self.old) self.old) }
-        ensures few { OnOk result (len self.new ≤ 4096) }
-        ensures many { result ≡ Err LowerError.TooMany → 4096 ≤ len self.old }
-    {
-        let jump = self.jump_to(to);
-        self.put(jump)
+        let first = self.is_first_far(yes, no);
+        self.add_island(first, yes)?;
+        let second = self.is_too_far(no, self.program.len());
+        self.add_island(second, no)?;
+        let code = Op::Branch(test, operand).code();
+        let jt = self.distance(yes);
+        let jf = self.distance(no);
+        self.put(Ins { code, jt, jf, k })
     }
 
     /// Adds the instructions of an instruction of the source program.
@@ -237,8 +179,8 @@ impl Tail {
                 self.add_branch(test, operand, k, yes, no)
             }
             SourceIns::Jump(over) => {
-                let to = self.place_after(over);
-                self.add_jump(to)
+                let jump = self.jump_to(self.place_after(over));
+                self.put(jump)
             }
         }
     }

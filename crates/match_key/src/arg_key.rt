@@ -83,14 +83,8 @@ fn numbered_key(relation: Relation, greatest: u8, number: Option<u8>) -> Result<
     ensures { result ≡ numbered_key (relation, greatest) number }
 {
     match number {
-        None => Err(RuleError::ArgNumber),
-        Some(n) => {
-            if n <= greatest {
-                Ok(Key::Compares(Source::Arg(n), relation))
-            } else {
-                Err(RuleError::ArgNumber)
-            }
-        }
+        Some(n) if n <= greatest => Ok(Key::Compares(Source::Arg(n), relation)),
+        _ => Err(RuleError::ArgNumber),
     }
 }
 

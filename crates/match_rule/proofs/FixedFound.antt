@@ -11,7 +11,7 @@ use Rattle.match_key.specs.declared.relation.Relation.{Relation}
 use Rattle.match_key.specs.declared.relation.Relation.TheVariants.{Equal}
 use Rattle.match_key.specs.declared.key.Key.TheVariants as keys
 use Rattle.match_rule.specs.declared.condition.Condition.{Condition}
-use Rattle.match_rule.specs.declared.condition.Condition.TheVariants.{Kind, Sender, Compares}
+use Rattle.match_rule.specs.declared.condition.Condition.TheVariants.{Compares}
 use Rattle.match_rule.specs.Arguments.{text_in}
 use Rattle.match_key.specs.Key.{key_eq}
 use Rattle.match_rule.specs.Condition.{key_of, value_of}
@@ -39,12 +39,11 @@ HasRelated m source relation value = IsSomeAnd (text_at source relation m) (λ t
 
 module _ (m : Message) (owned : List ℕ → Bool) where
   of_key : (source : Source) (relation : Relation) (c : Condition) → key_of c ≡ keys.Compares source relation → ConditionHolds c m owned → HasRelated m source relation (value_of c)
-  of_key source relation (Kind kind) e h = absurd cc
-  of_key source relation (Sender name) e h = absurd cc
   of_key source relation (Compares s r value) e h =
       let sources : s ≡ source = cc in
       let relations : r ≡ relation = cc in
       subst (λ (x : Source). HasRelated m x relation value) sources (subst (λ (x : Relation). HasRelated m s x value) relations h)
+  of_key source relation _ e h = absurd cc
 
   value_found : (source : Source) (relation : Relation) (c : Condition) → ConditionHolds c m owned → IfSome (value_in (keys.Compares source relation) c) (HasRelated m source relation)
   value_found source relation c h = go (key_eq (key_of c) (keys.Compares source relation)) refl

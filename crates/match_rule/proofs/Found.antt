@@ -2,6 +2,7 @@
 use Rattle.std.proofs.Common.{◌≡◌, ℕ, zero, suc, ◌≤◌, Bool, true, false, cond, List, [], ◌∷◌, ◌++◌, length, refl, sym, ap, ◌∙◌, append_assoc, subst, arith}
 use Rattle.std.specs.Prelude.{Ok, Option, Some, None, not, nat_lt, ◌==◌, ◌&&◌, ◌||◌}
 use Rattle.std.specs.List.{list_all}
+use Rattle.std.specs.Cmp.Derive.{both_true}
 use Rattle.std.proofs.lemmas.Bool.{eqb-true, ltb-false}
 use Rattle.std.proofs.lemmas.List.{append-nil}
 use Rattle.match_key.specs.declared.error.RuleError.TheVariants.{TooLong}
@@ -14,9 +15,9 @@ use Rattle.match_rule.specs.RuleTree.{RuleTree}
 use Rattle.match_rule.specs.Gathering.{tree_at}
 use Rattle.match_rule.specs.Grammar.{is_blank, apostrophe, backslash, comma, equals, Piece, quoted, escaped, plain, pieces_bytes, pieces_value, ArePieces, Part, part_bytes, IsPart, AreParts, HaveOwnKeys, parts_bytes, IsEnding, rule_with, ReadsAs}
 use Rattle.match_rule.specs.Reading.{◌>>=◌, after_blanks, after_step, value_from, with_byte, part_at, parts_from, terms_at, rule_at}
-use Rattle.match_rule.proofs.PartReads.{ok, bind_ok, pair_ok, guard_ok, reads_from, word_is, term_is, part_len}
-use Rattle.match_rule.proofs.Turns.{blanks_len}
-use Rattle.match_rule.proofs.Spelled.{tail_bytes, tail_rest, begins_tail, quoted_regroup, part_regroup, parts_from-nil}
+use Rattle.match_rule.proofs.PartReads.{ok, bind_ok, pair_ok, guard_ok, reads_from, word_is, term_is, take_ok, part_len}
+use Rattle.match_rule.proofs.Turns.{blanks_len, parts_from-nil}
+use Rattle.match_rule.proofs.Spelled.{tail_bytes, tail_rest, begins_tail, quoted_regroup, part_regroup}
 
 -- ---- values
 
@@ -38,128 +39,99 @@ record Section (bytes value rest : List ℕ) : Type 0 where
   pub means : value ≡ inside ++ later
   pub more : Value back later rest
 
--- an apostrophe that spells itself, and then a value
-record Apostrophe (bytes value rest : List ℕ) : Type 0 where
-  pub back : List ℕ
-  pub later : List ℕ
-  pub spelled : bytes ≡ apostrophe ∷ back
-  pub means : value ≡ apostrophe ∷ later
-  pub more : Value back later rest
+byte_taken : (b : ℕ) (bs value rest : List ℕ) → (b == apostrophe || b == comma || b == backslash && begins_with apostrophe bs) ≡ false → (value_from Outside bs >>= λ found. Ok (with_byte b found)) ≡ Ok (value, rest) → ((v r : List ℕ) → value_from Outside bs ≡ Ok (v, r) → Value bs v r) → Value (b ∷ bs) value rest
+byte_taken b bs value rest is e more =
+    let t = take_ok b (value_from Outside bs) value rest e in
+    let v = more t.0 rest t.2 in
+    record {
+      pieces = plain b ∷ v.pieces;
+      tail = v.tail;
+      are = (ap (λ follows. b == apostrophe || b == comma || b == backslash && follows) (sym (begins_tail (pieces_bytes v.pieces) v.tail) ∙ sym (ap (begins_with apostrophe) v.spelled)) ∙ is, v.are);
+      spelled = ap (λ (x : List ℕ). b ∷ x) v.spelled;
+      means = t.1 ∙ ap (λ (x : List ℕ). b ∷ x) v.means;
+      ends = v.ends;
+    }
 
-at_end : (value rest : List ℕ) → value ≡ [] → rest ≡ [] → Value [] value rest
-at_end value rest v r = record { pieces = []; tail = None; are = tt; spelled = refl; means = v; ends = r }
-
-at_comma : (b : ℕ) (bs value rest : List ℕ) → b ≡ comma → value ≡ [] → rest ≡ bs → Value (b ∷ bs) value rest
-at_comma b bs value rest is v r = record { pieces = []; tail = Some bs; are = tt; spelled = ap (λ (x : ℕ). x ∷ bs) is; means = v; ends = r }
-
-at_section : (b : ℕ) (bs value rest : List ℕ) → b ≡ apostrophe → Section bs value rest → Value (b ∷ bs) value rest
-at_section b bs value rest is s = record {
-  pieces = quoted s.inside ∷ s.more.pieces;
-  tail = s.more.tail;
-  are = (s.closed, s.more.are);
-  spelled = ap (λ (x : ℕ). x ∷ bs) is ∙ ap (λ (x : List ℕ). apostrophe ∷ x) (s.spelled ∙ ap (λ (x : List ℕ). s.inside ++ apostrophe ∷ x) s.more.spelled ∙ sym (quoted_regroup s.inside (pieces_bytes s.more.pieces) (tail_bytes s.more.tail)));
-  means = s.means ∙ ap (λ (x : List ℕ). s.inside ++ x) s.more.means;
-  ends = s.more.ends;
-}
-
-at_apostrophe : (b : ℕ) (bs value rest : List ℕ) → b ≡ backslash → Apostrophe bs value rest → Value (b ∷ bs) value rest
-at_apostrophe b bs value rest is s = record {
-  pieces = escaped ∷ s.more.pieces;
-  tail = s.more.tail;
-  are = (tt, s.more.are);
-  spelled = ap (λ (x : ℕ). x ∷ bs) is ∙ ap (λ (x : List ℕ). backslash ∷ x) (s.spelled ∙ ap (λ (x : List ℕ). apostrophe ∷ x) s.more.spelled);
-  means = s.means ∙ ap (λ (x : List ℕ). apostrophe ∷ x) s.more.means;
-  ends = s.more.ends;
-}
-
-at_plain : (b : ℕ) (bs value later rest : List ℕ) → (b == apostrophe || b == comma || b == backslash && begins_with apostrophe bs) ≡ false → value ≡ b ∷ later → Value bs later rest → Value (b ∷ bs) value rest
-at_plain b bs value later rest is v more = record {
-  pieces = plain b ∷ more.pieces;
-  tail = more.tail;
-  are = (ap (λ follows. b == apostrophe || b == comma || b == backslash && follows) (sym (begins_tail (pieces_bytes more.pieces) more.tail) ∙ sym (ap (begins_with apostrophe) more.spelled)) ∙ is, more.are);
-  spelled = ap (λ (x : List ℕ). b ∷ x) more.spelled;
-  means = v ∙ ap (λ (x : List ℕ). b ∷ x) more.means;
-  ends = more.ends;
-}
-
-no_plain : (opens ends slash follows : Bool) → opens ≡ false → ends ≡ false → (slash && follows) ≡ false → (opens || ends || slash && follows) ≡ false
-no_plain false false slash follows p q r = r
-no_plain true ends slash follows p q r = absurd cc
-no_plain false true slash follows p q r = absurd cc
-
-begins : (bs : List ℕ) → begins_with apostrophe bs ≡ true → (back : List ℕ) × (bs ≡ apostrophe ∷ back)
-begins [] e = absurd cc
-begins (b ∷ bs) e = (bs, ap (λ (x : ℕ). x ∷ bs) (eqb-true b apostrophe e))
-
-taken : (b : ℕ) (bs value rest : List ℕ) → (b == apostrophe || b == comma || b == backslash && begins_with apostrophe bs) ≡ false → (value_from Outside bs >>= λ found. Ok (with_byte b found)) ≡ Ok (value, rest) → ((v r : List ℕ) → value_from Outside bs ≡ Ok (v, r) → Value bs v r) → Value (b ∷ bs) value rest
-taken b bs value rest is e more =
-    let f = bind_ok (value_from Outside bs) _ (value, rest) e in
-    let g = pair_ok (b ∷ f.0.0, f.0.1) (value, rest) f.2 in
-    at_plain b bs value f.0.0 rest is (sym g.0) (more f.0.0 rest (f.1 ∙ ap (λ (x : List ℕ). Ok (f.0.0, x)) g.1))
-
-outside : (b : ℕ) (bs value rest : List ℕ) (ends opens slash follows : Bool) → (b == comma) ≡ ends → (b == apostrophe) ≡ opens → (b == backslash) ≡ slash → begins_with apostrophe bs ≡ follows → after_step (cond ends End (cond opens (Skip Inside) (cond slash (cond follows (Skip Escaped) (Take Outside)) (Take Outside)))) b bs (λ next. value_from next bs) ≡ Ok (value, rest) → ((v r : List ℕ) → value_from Outside bs ≡ Ok (v, r) → Value bs v r) → ((v r : List ℕ) → value_from Inside bs ≡ Ok (v, r) → Section bs v r) → ((v r : List ℕ) → value_from Escaped bs ≡ Ok (v, r) → begins_with apostrophe bs ≡ true → Apostrophe bs v r) → Value (b ∷ bs) value rest
+outside : (b : ℕ) (bs value rest : List ℕ) (ends opens slash follows : Bool) → (b == comma) ≡ ends → (b == apostrophe) ≡ opens → (b == backslash) ≡ slash → begins_with apostrophe bs ≡ follows
+    → after_step (cond ends End (cond opens (Skip Inside) (cond slash (cond follows (Skip Escaped) (Take Outside)) (Take Outside)))) b bs (λ next. value_from next bs) ≡ Ok (value, rest)
+    → ((v r : List ℕ) → value_from Outside bs ≡ Ok (v, r) → Value bs v r) → ((v r : List ℕ) → value_from Inside bs ≡ Ok (v, r) → Section bs v r)
+    → ((v r : List ℕ) → value_from Escaped bs ≡ Ok (v, r) → begins_with apostrophe bs ≡ true → Value (backslash ∷ bs) v r) → Value (b ∷ bs) value rest
 outside b bs value rest true opens slash follows p q r s e more section escape =
     let h = pair_ok ([], bs) (value, rest) e in
-    at_comma b bs value rest (eqb-true b comma p) (sym h.0) (sym h.1)
-outside b bs value rest false true slash follows p q r s e more section escape = at_section b bs value rest (eqb-true b apostrophe q) (section value rest e)
-outside b bs value rest false false true true p q r s e more section escape = at_apostrophe b bs value rest (eqb-true b backslash r) (escape value rest e s)
-outside b bs value rest false false true false p q r s e more section escape =
-    let slash : (b == backslash && begins_with apostrophe bs) ≡ false = rw (r, s) refl in
-    taken b bs value rest (no_plain (b == apostrophe) (b == comma) (b == backslash) (begins_with apostrophe bs) q p slash) e more
-outside b bs value rest false false false follows p q r s e more section escape =
-    let slash : (b == backslash && begins_with apostrophe bs) ≡ false = rw r refl in
-    taken b bs value rest (no_plain (b == apostrophe) (b == comma) (b == backslash) (begins_with apostrophe bs) q p slash) e more
-
-closes : (b : ℕ) (bs value rest : List ℕ) → b ≡ apostrophe → Value bs value rest → Section (b ∷ bs) value rest
-closes b bs value rest is more = record { inside = []; back = bs; later = value; closed = refl; spelled = ap (λ (x : ℕ). x ∷ bs) is; means = refl; more = more }
-
-goes_on : (b : ℕ) (bs value later rest : List ℕ) → (b == apostrophe) ≡ false → value ≡ b ∷ later → Section bs later rest → Section (b ∷ bs) value rest
-goes_on b bs value later rest is v s = record {
-  inside = b ∷ s.inside;
-  back = s.back;
-  later = s.later;
-  closed = rw is s.closed;
-  spelled = ap (λ (x : List ℕ). b ∷ x) s.spelled;
-  means = v ∙ ap (λ (x : List ℕ). b ∷ x) s.means;
-  more = s.more;
-}
+    record { pieces = []; tail = Some bs; are = tt; spelled = ap (λ (x : ℕ). x ∷ bs) (eqb-true b comma p); means = sym h.0; ends = sym h.1 }
+outside b bs value rest false true slash follows p q r s e more section escape =
+    let found = section value rest e in
+    let regroup = quoted_regroup found.inside (pieces_bytes found.more.pieces) (tail_bytes found.more.tail) in
+    record {
+      pieces = quoted found.inside ∷ found.more.pieces;
+      tail = found.more.tail;
+      are = (found.closed, found.more.are);
+      spelled = ap (λ (x : ℕ). x ∷ bs) (eqb-true b apostrophe q) ∙ ap (λ (x : List ℕ). apostrophe ∷ x) (found.spelled ∙ ap (λ (x : List ℕ). found.inside ++ apostrophe ∷ x) found.more.spelled ∙ sym regroup);
+      means = found.means ∙ ap (λ (x : List ℕ). found.inside ++ x) found.more.means;
+      ends = found.more.ends;
+    }
+outside b bs value rest false false true true p q r s e more section escape = rw (eqb-true b backslash r) (escape value rest e s)
+outside b bs value rest false false true false p q r s e more section escape = byte_taken b bs value rest (rw (q, p, r, s) refl) e more
+outside b bs value rest false false false follows p q r s e more section escape = byte_taken b bs value rest (rw (q, p, r) refl) e more
 
 inside : (b : ℕ) (bs value rest : List ℕ) (closing : Bool) → (b == apostrophe) ≡ closing → after_step (cond closing (Skip Outside) (Take Inside)) b bs (λ next. value_from next bs) ≡ Ok (value, rest) → ((v r : List ℕ) → value_from Outside bs ≡ Ok (v, r) → Value bs v r) → ((v r : List ℕ) → value_from Inside bs ≡ Ok (v, r) → Section bs v r) → Section (b ∷ bs) value rest
-inside b bs value rest true is e more section = closes b bs value rest (eqb-true b apostrophe is) (more value rest e)
+inside b bs value rest true is e more section = record {
+  inside = [];
+  back = bs;
+  later = value;
+  closed = refl;
+  spelled = ap (λ (x : ℕ). x ∷ bs) (eqb-true b apostrophe is);
+  means = refl;
+  more = more value rest e;
+}
 inside b bs value rest false is e more section =
-    let f = bind_ok (value_from Inside bs) _ (value, rest) e in
-    let g = pair_ok (b ∷ f.0.0, f.0.1) (value, rest) f.2 in
-    goes_on b bs value f.0.0 rest is (sym g.0) (section f.0.0 rest (f.1 ∙ ap (λ (x : List ℕ). Ok (f.0.0, x)) g.1))
+    let t = take_ok b (value_from Inside bs) value rest e in
+    let s = section t.0 rest t.2 in
+    record {
+      inside = b ∷ s.inside;
+      back = s.back;
+      later = s.later;
+      closed = rw is s.closed;
+      spelled = ap (λ (x : List ℕ). b ∷ x) s.spelled;
+      means = t.1 ∙ ap (λ (x : List ℕ). b ∷ x) s.means;
+      more = s.more;
+    }
 
 mutual
   outside_found : (bs value rest : List ℕ) → value_from Outside bs ≡ Ok (value, rest) → Value bs value rest
-  outside_found [] value rest e = let h = pair_ok ([], []) (value, rest) e in at_end value rest (sym h.0) (sym h.1)
+  outside_found [] value rest e =
+      let h = pair_ok ([], []) (value, rest) e in
+      record { pieces = []; tail = None; are = tt; spelled = refl; means = sym h.0; ends = sym h.1 }
   outside_found (b ∷ bs) value rest e = outside b bs value rest (b == comma) (b == apostrophe) (b == backslash) (begins_with apostrophe bs) refl refl refl refl e (λ v r. outside_found bs v r) (λ v r. inside_found bs v r) (λ v r. escaped_found bs v r)
 
   inside_found : (bs value rest : List ℕ) → value_from Inside bs ≡ Ok (value, rest) → Section bs value rest
   inside_found [] value rest e = absurd cc
   inside_found (b ∷ bs) value rest e = inside b bs value rest (b == apostrophe) refl e (λ v r. outside_found bs v r) (λ v r. inside_found bs v r)
 
-  escaped_found : (bs value rest : List ℕ) → value_from Escaped bs ≡ Ok (value, rest) → begins_with apostrophe bs ≡ true → Apostrophe bs value rest
+  -- a backslash came before, and an apostrophe follows
+  escaped_found : (bs value rest : List ℕ) → value_from Escaped bs ≡ Ok (value, rest) → begins_with apostrophe bs ≡ true → Value (backslash ∷ bs) value rest
   escaped_found [] value rest e begun = absurd cc
   escaped_found (b ∷ bs) value rest e begun =
-      let f = bind_ok (value_from Outside bs) _ (value, rest) e in
-      let g = pair_ok (b ∷ f.0.0, f.0.1) (value, rest) f.2 in
+      let t = take_ok b (value_from Outside bs) value rest e in
       let is = eqb-true b apostrophe begun in
-      record { back = bs; later = f.0.0; spelled = ap (λ (x : ℕ). x ∷ bs) is; means = sym g.0 ∙ ap (λ (x : ℕ). x ∷ f.0.0) is; more = outside_found bs f.0.0 rest (f.1 ∙ ap (λ (x : List ℕ). Ok (f.0.0, x)) g.1) }
+      let more = outside_found bs t.0 rest t.2 in
+      record {
+        pieces = escaped ∷ more.pieces;
+        tail = more.tail;
+        are = (tt, more.are);
+        spelled = ap (λ (x : ℕ). backslash ∷ x ∷ bs) is ∙ ap (λ (x : List ℕ). backslash ∷ apostrophe ∷ x) more.spelled;
+        means = t.1 ∙ ap (λ (x : ℕ). x ∷ t.0) is ∙ ap (λ (x : List ℕ). apostrophe ∷ x) more.means;
+        ends = more.ends;
+      }
 
 -- ---- parts
-
-both : (a b : Bool) → a ≡ true → b ≡ true → (a && b) ≡ true
-both true b p q = q
-both false b p q = absurd cc
 
 blanks_found : (bytes : List ℕ) → (blanks : List ℕ) × (list_all is_blank blanks ≡ true) × (bytes ≡ blanks ++ after_blanks bytes)
 blanks_found [] = ([], refl, refl)
 blanks_found (b ∷ bs) = go (is_blank b) refl (blanks_found bs)
   where
     go : (blank : Bool) → is_blank b ≡ blank → (blanks : List ℕ) × (list_all is_blank blanks ≡ true) × (bs ≡ blanks ++ after_blanks bs) → (blanks : List ℕ) × (list_all is_blank blanks ≡ true) × (b ∷ bs ≡ blanks ++ cond blank (after_blanks bs) (b ∷ bs))
-    go true is found = (b ∷ found.0, both (is_blank b) (list_all is_blank found.0) is found.1, ap (λ (x : List ℕ). b ∷ x) found.2)
+    go true is found = (b ∷ found.0, both_true is found.1, ap (λ (x : List ℕ). b ∷ x) found.2)
     go false is found = ([], refl, refl)
 
 -- terms after those in front are the parts of a text
@@ -220,19 +192,6 @@ first_found front bytes term rest e =
       ends = v.ends;
     }
 
--- the last part, which nothing follows
-last_found : (front : List Term) (bytes : List ℕ) (term : Term) (part : Part) (terms : List Term) → IsPart part term → has_key (term_key term) front ≡ false → has_path (term_key term) front ≡ false → bytes ≡ part_bytes part ++ [] → front ++ term ∷ [] ≡ terms → Rest front bytes terms
-last_found front bytes term part terms says new apart is same = record {
-  own = term ∷ [];
-  parts = part ∷ [];
-  ending = [];
-  joined = sym same;
-  spelled = is;
-  ends = tt;
-  said = (says, tt);
-  once = (new, apart, tt);
-}
-
 -- a part with a comma, before what follows
 more_found : (front : List Term) (bytes rest : List ℕ) (term : Term) (part : Part) (terms : List Term) → IsPart part term → has_key (term_key term) front ≡ false → has_path (term_key term) front ≡ false → bytes ≡ part_bytes part ++ comma ∷ rest → Rest (front ++ term ∷ []) rest terms → Rest front bytes terms
 more_found front bytes rest term part terms says new apart is more = go more.parts more.ending more.spelled more.ends more.said
@@ -242,11 +201,7 @@ more_found front bytes rest term part terms says new apart is more = go more.par
 
     go : (parts : List Part) (ending : List ℕ) → rest ≡ parts_bytes parts ending → IsEnding parts ending → AreParts parts more.own → Rest front bytes terms
     go [] ending spelled ends said = record { own = term ∷ more.own; parts = part ∷ []; ending = comma ∷ ending; joined = joined; spelled = is ∙ ap (λ (x : List ℕ). part_bytes part ++ comma ∷ x) spelled; ends = (refl, ends); said = (says, said); once = (new, apart, more.once) }
-    go (next ∷ parts) ending spelled ends said = record { own = term ∷ more.own; parts = part ∷ next ∷ parts; ending = ending; joined = joined; spelled = is ∙ ap (λ (x : List ℕ). part_bytes part ++ comma ∷ x) spelled; ends = later ending ends; said = (says, said); once = (new, apart, more.once) }
-      where
-        later : (e : List ℕ) → IsEnding (next ∷ parts) e → IsEnding (part ∷ next ∷ parts) e
-        later [] is = is
-        later (b ∷ bs) is = is
+    go (next ∷ parts) ending spelled ends said = record { own = term ∷ more.own; parts = part ∷ next ∷ parts; ending = ending; joined = joined; spelled = is ∙ ap (λ (x : List ℕ). part_bytes part ++ comma ∷ x) spelled; ends = ends; said = (says, said); once = (new, apart, more.once) }
 
 after_first : (n : ℕ) (front : List Term) (bytes : List ℕ) (terms : List Term) (term : Term) (rest : List ℕ) → First front bytes term rest → parts_from n (front ++ term ∷ []) (after_blanks rest) ≡ Ok terms → Rest (front ++ term ∷ []) rest terms → Rest front bytes terms
 after_first n front bytes terms term rest first e more = go first.tail first.spelled first.ends
@@ -255,7 +210,16 @@ after_first n front bytes terms term rest first e more = go first.tail first.spe
     go None spelled ends =
         let last : ok (front ++ term ∷ []) ≡ ok terms = sym (parts_from-nil n (front ++ term ∷ [])) ∙ ap (λ (x : List ℕ). parts_from n (front ++ term ∷ []) (after_blanks x)) (sym ends) ∙ e in
         let same : front ++ term ∷ [] ≡ terms = cc in
-        last_found front bytes term first.part terms first.says first.new first.apart spelled same
+        record {
+          own = term ∷ [];
+          parts = first.part ∷ [];
+          ending = [];
+          joined = sym same;
+          spelled = spelled;
+          ends = tt;
+          said = (first.says, tt);
+          once = (first.new, first.apart, tt);
+        }
     go (Some r) spelled ends = more_found front bytes r term first.part terms first.says first.new first.apart spelled (let P : List ℕ → Type 0 = λ x. Rest (front ++ term ∷ []) x terms in subst P ends more)
 
 parts_found : (n : ℕ) (front : List Term) (bytes : List ℕ) (terms : List Term) → length (after_blanks bytes) ≤ n → parts_from n front (after_blanks bytes) ≡ Ok terms → Rest front bytes terms

@@ -6,8 +6,6 @@ pub mod KeptParts
 pub mod Spelled
 pub mod Found
 pub mod OneSender
-pub mod SmallNumbers
-pub mod SenderNames
 pub mod ValueBytes
 pub mod ReadRules
 pub mod Namespaces

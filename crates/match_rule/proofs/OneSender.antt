@@ -1,12 +1,15 @@
 -- A rule that was read asks for one sender at most.
-use Rattle.std.proofs.Common.{◌≡◌, ℕ, zero, suc, ◌<◌, Bool, true, false, List, [], ◌∷◌, ◌++◌, length, get_or, refl, sym, ap, ◌∙◌, subst, below_more, arith, ◌+◌, ◌⊎◌}
+use Rattle.std.proofs.Common.{◌≡◌, ℕ, ◌<◌, Bool, true, false, List, [], ◌∷◌, ◌++◌, length, get_or, refl, sym, ap, ◌∙◌, subst, below_more, ◌+◌, ◌⊎◌}
 use Rattle.std.specs.Prelude.{Option, Some, None, not, ◌&&◌, ◌||◌, All, IfSome, IsTrue, ◌↔◌}
 use Rattle.std.specs.List.{list_any}
+use Rattle.std.proofs.Math.Bool.{or-true}
+use Rattle.std.proofs.lemmas.Bool.{and_parts, or_parts, not-true}
 use Rattle.std.proofs.lemmas.List.{get_or_read}
+use Rattle.std.proofs.lemmas.List.Elements.{All-cons, All-nil}
 use Rattle.std.proofs.lemmas.List.Folds.{list_any-append}
 use Rattle.match_key.specs.declared.key.Key.TheVariants as keys
 use Rattle.match_rule.specs.declared.condition.Condition.{Condition}
-use Rattle.match_rule.specs.declared.condition.Condition.TheVariants.{Kind, Sender, Compares}
+use Rattle.match_rule.specs.declared.condition.Condition.TheVariants.{Sender}
 use Rattle.match_rule.specs.declared.term.Term.{Term}
 use Rattle.match_rule.specs.declared.term.Term.TheVariants.{Asks, Eavesdrop}
 use Rattle.match_key.specs.Key.{is_twice}
@@ -17,20 +20,11 @@ use Rattle.match_rule.specs.Parts.{is_sender, has_one_sender}
 use Rattle.match_rule.specs.Holds.{ConditionHolds, Holds, Agrees}
 use Rattle.message_view.specs.Message.{Message, destination_of}
 
-both : (a b : Bool) → (a && b) ≡ true → (a ≡ true) × (b ≡ true)
-both true b e = (refl, e)
-both false b e = absurd cc
-
-or_right : (a b : Bool) → b ≡ true → (a || b) ≡ true
-or_right true b e = refl
-or_right false b e = e
-
 -- ---- what was read
 
 sender_key : (c : Condition) → is_sender c ≡ true → key_of c ≡ keys.Sender
 sender_key (Sender name) e = refl
-sender_key (Kind kind) e = absurd cc
-sender_key (Compares source relation value) e = absurd cc
+sender_key _ e = absurd cc
 
 -- after a sender there is no other
 none_later : (front terms : List Term) → has_key keys.Sender front ≡ true → HaveOwnKeys front terms → list_any is_sender (conditions_in terms) ≡ false
@@ -51,7 +45,7 @@ own_keys_one_sender front (Asks c ∷ terms) own = go (is_sender c) refl (own_ke
     go false is later = later
     go true is later =
         let key : is_twice (key_of c) keys.Sender ≡ true = ap (λ k. is_twice k keys.Sender) (sender_key c is) in
-        let has : has_key keys.Sender (front ++ Asks c ∷ []) ≡ true = list_any-append (λ t. is_twice (term_key t) keys.Sender) front (Asks c ∷ []) ∙ or_right (has_key keys.Sender front) (is_twice (key_of c) keys.Sender || false) (ap (λ b. b || false) key) in
+        let has : has_key keys.Sender (front ++ Asks c ∷ []) ≡ true = list_any-append (λ t. is_twice (term_key t) keys.Sender) front (Asks c ∷ []) ∙ ap (λ b. has_key keys.Sender front || (b || false)) key ∙ or-true (has_key keys.Sender front) in
         rw (none_later (front ++ Asks c ∷ []) terms has own.2) later
 
 -- ---- what is agreed of the first owned name is agreed of each
@@ -59,33 +53,22 @@ own_keys_one_sender front (Asks c ∷ terms) own = go (is_sender c) refl (own_ke
 -- a condition that is no sender has no owned name
 no_name : (c : Condition) → is_sender c ≡ false → owned_name_in c ≡ None
 no_name (Sender name) e = absurd cc
-no_name (Kind kind) e = refl
-no_name (Compares source relation value) e = refl
-
-or_parts : (a b : Bool) → (a || b) ≡ false → (a ≡ false) × (b ≡ false)
-or_parts true b e = absurd cc
-or_parts false b e = (refl, e)
+no_name _ e = refl
 
 no_names : (P : List ℕ → Type 0) (cs : List Condition) → list_any is_sender cs ≡ false → All (λ c. IfSome (owned_name_in c) P) cs
-no_names P [] e k d lt = absurd (omega arith)
-no_names P (c ∷ cs) e zero d lt = let h = or_parts (is_sender c) (list_any is_sender cs) e in rw (no_name c h.0) tt
-no_names P (c ∷ cs) e (suc k) d lt = let h = or_parts (is_sender c) (list_any is_sender cs) e in no_names P cs h.1 k d (omega arith)
-
-not_true : (b : Bool) → not b ≡ true → b ≡ false
-not_true true e = absurd cc
-not_true false e = refl
-
-joined : (P : List ℕ → Type 0) (c : Condition) (cs : List Condition) → IfSome (owned_name_in c) P → All (λ c. IfSome (owned_name_in c) P) cs → All (λ c. IfSome (owned_name_in c) P) (c ∷ cs)
-joined P c cs head tail zero d lt = head
-joined P c cs head tail (suc k) d lt = tail k d (omega arith)
+no_names P [] e = All-nil (λ (c : Condition). IfSome (owned_name_in c) P)
+no_names P (c ∷ cs) e =
+    let h = or_parts (is_sender c) (list_any is_sender cs) e in
+    All-cons (λ (c : Condition). IfSome (owned_name_in c) P) c cs (rw (no_name c h.0) tt) (no_names P cs h.1)
 
 pub agreed_each : (P : List ℕ → Type 0) (cs : List Condition) → has_one_sender cs ≡ true → IfSome (first_owned_name cs) P → All (λ c. IfSome (owned_name_in c) P) cs
-agreed_each P [] one agreed = λ k d lt. absurd (omega arith)
-agreed_each P (c ∷ cs) one agreed = go (is_sender c) refl (both (not (is_sender c && list_any is_sender cs)) (has_one_sender cs) one) (λ h p. agreed_each P cs h p) (owned_name_in c) refl agreed
+agreed_each P [] one agreed = All-nil (λ (c : Condition). IfSome (owned_name_in c) P)
+agreed_each P (c ∷ cs) one agreed = go (is_sender c) refl (and_parts (not (is_sender c && list_any is_sender cs)) (has_one_sender cs) one) (λ h p. agreed_each P cs h p) (owned_name_in c) refl agreed
   where
     go : (s : Bool) → is_sender c ≡ s → (not (is_sender c && list_any is_sender cs) ≡ true) × (has_one_sender cs ≡ true) → (has_one_sender cs ≡ true → IfSome (first_owned_name cs) P → All (λ c. IfSome (owned_name_in c) P) cs) → (name : Option (List ℕ)) → owned_name_in c ≡ name → IfSome (or_else name (first_owned_name cs)) P → All (λ c. IfSome (owned_name_in c) P) (c ∷ cs)
-    go s is one more None none agreed = joined P c cs (rw none tt) (more one.1 agreed)
-    go true is one more (Some name) some agreed = joined P c cs (rw some agreed) (no_names P cs (not_true (list_any is_sender cs) (rw is at one.0)))
+    go s is one more None none agreed = All-cons (λ (c : Condition). IfSome (owned_name_in c) P) c cs (rw none tt) (more one.1 agreed)
+    go true is one more (Some name) some agreed =
+        All-cons (λ (c : Condition). IfSome (owned_name_in c) P) c cs (rw some agreed) (no_names P cs (not-true (list_any is_sender cs) (rw is at one.0)))
     go false is one more (Some name) some agreed = let none : None ≡ Some name = sym (no_name c is) ∙ some in absurd cc
 
 -- one more of a list has what those in front have

@@ -1,13 +1,13 @@
 -- What it means that a part was read.
-use Rattle.std.proofs.Common.{◌≡◌, ℕ, ◌+◌, ◌<◌, ◌≤◌, Bool, true, false, cond, List, [], ◌∷◌, ◌++◌, length, refl, sym, ap, ◌∙◌, arith, length-append}
+use Rattle.std.proofs.Common.{◌≡◌, ℕ, ◌+◌, ◌<◌, ◌≤◌, Bool, true, false, cond, List, [], ◌∷◌, ◌++◌, length, refl, sym, ap, ◌∙◌, subst, arith, length-append}
 use Rattle.std.specs.Prelude.{Result, Ok, Err, Option, Some, None, option_map, ◌==◌}
 use Rattle.std.proofs.lemmas.Bool.{eqb-true}
-use Rattle.std.specs.Str.{bytes_eq}
+use Rattle.std.specs.List.{list_any}
+use Rattle.std.specs.Str.{bytes_eq, is_utf8}
 use Rattle.std.proofs.lemmas.Slice.Eq.{bytes_eq-Decides}
-use Rattle.std.specs.Str.{is_utf8}
 use Rattle.signature.specs.Name.{is_bus_name}
 use Rattle.match_key.specs.declared.error.RuleError.{RuleError}
-use Rattle.match_key.specs.declared.error.RuleError.TheVariants.{UnknownKey, KeyTwice, PathTwice, BadValue}
+use Rattle.match_key.specs.declared.error.RuleError.TheVariants.{UnknownKey, BadValue}
 use Rattle.match_key.specs.declared.key.Key.{Key}
 use Rattle.match_key.specs.declared.key.Key.TheVariants as keys
 use Rattle.match_rule.specs.declared.condition.Condition.{Condition}
@@ -16,15 +16,15 @@ use Rattle.match_rule.specs.declared.term.Term.{Term}
 use Rattle.match_rule.specs.declared.term.Term.TheVariants.{Asks, Eavesdrop}
 use Rattle.match_key.specs.declared.kind_name.KindName.{KindName}
 use Rattle.match_rule.specs.declared.quoting.Quoting.{Quoting}
-use Rattle.match_rule.specs.declared.quoting.Quoting.TheVariants.{Outside, Inside, Escaped}
+use Rattle.match_rule.specs.declared.quoting.Quoting.TheVariants.{Outside, Inside}
 use Rattle.match_rule.specs.declared.quoting.Step.{Step}
 use Rattle.match_rule.specs.declared.quoting.Step.TheVariants.{End, Skip, Take}
-use Rattle.match_key.specs.Key.{key_named}
+use Rattle.match_key.specs.Key.{key_named, is_twice, is_path_twice}
 use Rattle.match_key.specs.Kinds.{kind_words, kind_named, kind_word}
-use Rattle.match_rule.specs.Condition.{term_key, term_of, term_with, is_value, asks_if, key_of, value_of, has_key, has_path, flag_named}
+use Rattle.match_rule.specs.Condition.{term_key, term_of, term_with, is_value, asks_if, value_of, has_key, has_path, flag_named}
 use Rattle.match_rule.specs.Bytes.{begins_with}
 use Rattle.match_rule.specs.Grammar.{equals, comma, apostrophe}
-use Rattle.match_rule.specs.Reading.{◌>>=◌, step, after_step, value_from, with_byte, word_at, key_at, own_key, part_at, or_fault, value_ended}
+use Rattle.match_rule.specs.Reading.{◌>>=◌, step, after_step, value_from, with_byte, word_at, key_at, own_key, part_at, or_fault}
 use Rattle.match_key.proofs.Rows.{row_found}
 
 pub bind_ok : {A B : Type 0} (r : Result A RuleError) (f : A → Result B RuleError) (y : B) → (r >>= f) ≡ Ok y → (x : A) × (r ≡ Ok x) × (f x ≡ Ok y)
@@ -41,12 +41,10 @@ pair_some : {A B : Type 0} (x y : A × B) → Some x ≡ Some y → (x.0 ≡ y.0
 pair_some x y e = let same : x ≡ y = cc in (ap (λ p. p.0) same, ap (λ p. p.1) same)
 
 or_fault_ok : {A : Type 0} (fault : RuleError) (o : Option A) (x : A) → or_fault fault o ≡ Ok x → o ≡ Some x
-or_fault_ok fault (Some y) x e = cc
-or_fault_ok fault None x e = absurd cc
+or_fault_ok fault o x e = grind arith
 
 pub guard_ok : {A : Type 0} (b : Bool) (fault : RuleError) (r : Result A RuleError) (x : A) → cond b (Err fault) r ≡ Ok x → (b ≡ false) × (r ≡ Ok x)
-guard_ok true fault r x e = absurd cc
-guard_ok false fault r x e = (refl, e)
+guard_ok b fault r x e = (grind arith, grind arith)
 
 -- the part in front of the rest says the term
 pub record Reads (front : List Term) (bytes : List ℕ) (term : Term) (rest : List ℕ) : Type 0 where
@@ -71,11 +69,7 @@ key_reads bytes found e =
     (w.0.0, word ∙ ap (λ (x : List ℕ). Some (w.0.0, x)) same.1, n.1 ∙ ap (λ k. Ok k) same.0)
 
 own_ok : (front : List Term) (key own : Key) → own_key front key ≡ Ok own → (has_key key front ≡ false) × (has_path key front ≡ false) × (key ≡ own)
-own_ok front key own e =
-    let g = guard_ok (has_key key front) KeyTwice (cond (has_path key front) (Err PathTwice) (Ok key)) own e in
-    let h = guard_ok (has_path key front) PathTwice (Ok key) own g.1 in
-    let same : key ≡ own = let is = h.1 in cc in
-    (g.0, h.0, same)
+own_ok front key own e = (grind arith, grind arith, grind arith)
 
 pub reads_from : (front : List Term) (bytes : List ℕ) (term : Term) (rest : List ℕ) → part_at front bytes ≡ Ok (term, rest) → Reads front bytes term rest
 unfolding part_at
@@ -104,25 +98,22 @@ pub reads_to : (front : List Term) (bytes : List ℕ) (term : Term) (rest : List
 unfolding part_at key_at
 reads_to front bytes term rest r = rw (r.has_word, r.known, r.new, r.apart, r.spelled, r.allowed) refl
 
-own_same : (front others : List Term) (key : Key) → has_key key front ≡ has_key key others → has_path key front ≡ has_path key others → own_key front key ≡ own_key others key
-own_same front others key p q = ap (λ b. cond b (Err KeyTwice) (cond (has_path key front) (Err PathTwice) (Ok key))) p ∙ ap (λ b. cond (has_key key others) (Err KeyTwice) (cond b (Err PathTwice) (Ok key))) q
-
--- what a part gives from its key on, where a rule may have the key
-abbrev after_own : Key × List ℕ → Result Key RuleError → Result (Term × List ℕ) RuleError
-after_own key found = do
-  own ← found
+-- what a part gives from its key on, after these terms
+abbrev after_key : List Term → Key × List ℕ → Result (Term × List ℕ) RuleError
+after_key front key = do
+  own ← own_key front key.0
   value ← value_from Outside key.1
   term ← or_fault BadValue (term_with own value.0)
   Ok (term, value.1)
 
--- a part is read alike after terms of the same keys
-pub part_same : (front others : List Term) (bytes : List ℕ) → ((key : Key) → has_key key front ≡ has_key key others) → ((key : Key) → has_path key front ≡ has_path key others) → part_at front bytes ≡ part_at others bytes
+-- a part is read alike after terms of which the same is true
+pub part_same : (front others : List Term) (bytes : List ℕ) → ((p : Term → Bool) → list_any p front ≡ list_any p others) → part_at front bytes ≡ part_at others bytes
 unfolding part_at
-part_same front others bytes keys paths = go (key_at bytes)
+part_same front others bytes any = go (key_at bytes)
   where
-    go : (found : Result (Key × List ℕ) RuleError) → (found >>= λ key. after_own key (own_key front key.0)) ≡ (found >>= λ key. after_own key (own_key others key.0))
+    go : (found : Result (Key × List ℕ) RuleError) → (found >>= after_key front) ≡ (found >>= after_key others)
     go (Err fault) = refl
-    go (Ok key) = ap (after_own key) (own_same front others key.0 (keys key.0) (paths key.0))
+    go (Ok key) = rw (any (λ t. is_twice (term_key t) key.0), any (λ t. is_path_twice (term_key t) key.0)) refl
 
 -- ---- what is read is spelled
 
@@ -151,71 +142,70 @@ abbrev pub term_value : Term → List ℕ
 term_value (Asks condition) = value_of condition
 term_value (Eavesdrop flag) = []
 
--- a term has the key that it was made of, and no longer a value
-abbrev IsOf : Key → List ℕ → Term → Type 0
-IsOf key value term = (term_key term ≡ key) × (length (term_value term) ≤ length value)
+-- a condition has the value that it was made of
+abbrev pub IsSaidBy : List ℕ → Term → Type 0
+IsSaidBy value (Asks condition) = value_of condition ≡ value
+IsSaidBy value (Eavesdrop flag) = Unit {0}
 
-asked : (allowed : Bool) (condition : Condition) (term : Term) → asks_if allowed condition ≡ Some term → Asks condition ≡ term
-asked true condition term e = cc
-asked false condition term e = absurd cc
+-- a term has the key and the value that it was made of
+abbrev pub IsOf : Key → List ℕ → Term → Type 0
+IsOf key value term = (term_key term ≡ key) × IsSaidBy value term
 
-is_asked : (allowed : Bool) (condition : Condition) (key : Key) (value : List ℕ) (term : Term) → key_of condition ≡ key → value_of condition ≡ value → asks_if allowed condition ≡ Some term → IsOf key value term
-is_asked allowed condition key value term k v e =
-    let same = asked allowed condition term e in
-    let len : length (term_value term) ≡ length value = ap (λ t. length (term_value t)) (sym same) ∙ ap length v in
-    (ap term_key (sym same) ∙ k, omega arith)
+pub asks_ok : (allowed : Bool) (condition : Condition) (term : Term) → asks_if allowed condition ≡ Some term → (allowed ≡ true) × (Asks condition ≡ term)
+asks_ok true condition term e = (refl, cc)
+asks_ok false condition term e = absurd cc
 
 text_is : (key : Key) (text : List ℕ) (term : Term) → term_of key text ≡ Some term → IsOf key text term
 text_is keys.Kind text term e = go (kind_named text) refl e
   where
     go : (o : Option KindName) → kind_named text ≡ o → option_map (λ kind. Asks (conditions.Kind kind)) o ≡ Some term → IsOf keys.Kind text term
     go None is e = absurd cc
-    go (Some kind) is e = is_asked true (conditions.Kind kind) keys.Kind text term refl (kind_is text kind is) e
-text_is keys.Sender text term e = is_asked (is_bus_name text) (conditions.Sender text) keys.Sender text term refl refl e
-text_is (keys.Compares source relation) text term e = is_asked (is_value source relation text) (conditions.Compares source relation text) (keys.Compares source relation) text term refl refl e
+    go (Some kind) is e = let same : Asks (conditions.Kind kind) ≡ term = cc in subst (IsOf keys.Kind text) same (refl, kind_is text kind is)
+text_is keys.Sender text term e = subst (IsOf keys.Sender text) (asks_ok (is_bus_name text) (conditions.Sender text) term e).1 (refl, refl)
+text_is (keys.Compares source relation) text term e =
+    subst (IsOf (keys.Compares source relation) text)
+    (asks_ok (is_value source relation text) (conditions.Compares source relation text) term e).1 (refl, refl)
 text_is keys.Eavesdrop text term e = go (flag_named text) e
   where
     go : (o : Option Bool) → option_map Eavesdrop o ≡ Some term → IsOf keys.Eavesdrop text term
     go None e = absurd cc
-    go (Some flag) e = let same : Eavesdrop flag ≡ term = cc in let len : length (term_value term) ≡ 0 = ap (λ t. length (term_value t)) (sym same) in (ap term_key (sym same), omega arith)
+    go (Some flag) e = let same : Eavesdrop flag ≡ term = cc in subst (IsOf keys.Eavesdrop text) same (refl, tt)
 
 -- a value that says a term is a text that says it
 pub said_text : (key : Key) (value : List ℕ) (term : Term) → term_with key value ≡ Some term → (is_utf8 value ≡ true) × (term_of key value ≡ Some term)
-said_text key value term e = go (is_utf8 value) refl e
-  where
-    go : (b : Bool) → is_utf8 value ≡ b → cond b (term_of key value) None ≡ Some term → (is_utf8 value ≡ true) × (term_of key value ≡ Some term)
-    go true is e = (is, e)
-    go false is e = absurd cc
+said_text key value term e = (grind arith, grind arith)
 
-pub term_is : (key : Key) (value : List ℕ) (term : Term) → term_with key value ≡ Some term → (term_key term ≡ key) × (length (term_value term) ≤ length value)
+pub term_is : (key : Key) (value : List ℕ) (term : Term) → term_with key value ≡ Some term → IsOf key value term
 term_is key value term e = text_is key value term (said_text key value term e).1
 
 -- ---- a value takes no more bytes than it has
 
-ended_len : (q : Quoting) (value rest : List ℕ) → value_ended q ≡ Ok (value, rest) → length value + length rest ≤ 0
-ended_len Outside value rest e = let h = pair_ok ([], []) (value, rest) e in rw (← h.0, ← h.1) (omega arith)
-ended_len Inside value rest e = absurd cc
-ended_len Escaped value rest e = let h = pair_ok ([], []) (value, rest) e in rw (← h.0, ← h.1) (omega arith)
+-- a byte that was taken, and what follows it
+pub take_ok : (b : ℕ) (read : Result (List ℕ × List ℕ) RuleError) (value rest : List ℕ) → (read >>= λ found. Ok (with_byte b found)) ≡ Ok (value, rest) → (later : List ℕ) × (value ≡ b ∷ later) × (read ≡ Ok (later, rest))
+take_ok b (Ok found) value rest e = let h = pair_ok (b ∷ found.0, found.1) (value, rest) e in (found.0, sym h.0, ap (λ (x : List ℕ). Ok (found.0, x)) h.1)
+take_ok b (Err fault) value rest e = absurd cc
 
-pub value_len : (bytes : List ℕ) (q : Quoting) (value rest : List ℕ) → value_from q bytes ≡ Ok (value, rest) → length value + length rest ≤ length bytes
-value_len [] q value rest e = ended_len q value rest e
+value_len : (bytes : List ℕ) (q : Quoting) (value rest : List ℕ) → value_from q bytes ≡ Ok (value, rest) → length value + length rest ≤ length bytes
+value_len [] Inside value rest e = absurd cc
+value_len [] _ value rest e = let h = pair_ok ([], []) (value, rest) e in rw (← h.0, ← h.1) (omega arith)
 value_len (b ∷ bs) q value rest e = go (step q b (begins_with apostrophe bs)) e (λ next v r. value_len bs next v r)
   where
     go : (s : Step) → after_step s b bs (λ next. value_from next bs) ≡ Ok (value, rest) → ((next : Quoting) (v r : List ℕ) → value_from next bs ≡ Ok (v, r) → length v + length r ≤ length bs) → length value + length rest ≤ length (b ∷ bs)
     go End e more = let h = pair_ok ([], bs) (value, rest) e in rw (← h.0, ← h.1) (omega arith)
     go (Skip next) e more = let h = more next value rest e in omega arith
     go (Take next) e more =
-        let f = bind_ok (value_from next bs) _ (value, rest) e in
-        let h = more next f.0.0 f.0.1 f.1 in
-        let g = pair_ok (b ∷ f.0.0, f.0.1) (value, rest) f.2 in
-        let a = ap length g.0 in
-        let b = ap length g.1 in
-        omega arith
+        let t = take_ok b (value_from next bs) value rest e in
+        let h = more next t.0 rest t.2 in
+        rw t.1 (omega arith)
+
+term_len : (value : List ℕ) (term : Term) → IsSaidBy value term → length (term_value term) ≤ length value
+term_len value (Asks condition) said = rw said (omega arith)
+term_len value (Eavesdrop flag) said = omega arith
 
 pub part_len : (front : List Term) (bytes : List ℕ) (term : Term) (rest : List ℕ) → part_at front bytes ≡ Ok (term, rest) → length (term_value term) + length rest < length bytes
 part_len front bytes term rest e =
     let r = reads_from front bytes term rest e in
     let v = value_len r.spelling Outside r.value rest r.spelled in
-    let has = (term_is r.key r.value term r.allowed).1 in
+    let has = term_len r.value term (term_is r.key r.value term r.allowed).1 in
     let whole = ap length (word_is bytes r.word r.spelling r.has_word) ∙ length-append r.word (equals ∷ r.spelling) in
     omega arith

@@ -1,8 +1,8 @@
 -- What is spelled is read.
-use Rattle.std.proofs.Common.{◌≡◌, ℕ, zero, suc, ◌≤◌, Bool, true, false, cond, List, [], ◌∷◌, ◌++◌, length, refl, sym, ap, ◌∙◌, append_assoc}
-use Rattle.std.specs.Prelude.{Result, Ok, Err, Option, Some, None, not, ◌==◌, ◌&&◌, ◌||◌}
+use Rattle.std.proofs.Common.{◌≡◌, ℕ, ◌≤◌, Bool, true, false, cond, List, [], ◌∷◌, ◌++◌, length, refl, sym, ap, ◌∙◌, append_assoc, arith}
+use Rattle.std.specs.Prelude.{Result, Ok, Option, Some, None, not, ◌==◌, ◌&&◌, ◌||◌}
 use Rattle.std.specs.List.{list_all}
-use Rattle.std.proofs.lemmas.Bool.{le-ltb}
+use Rattle.std.proofs.lemmas.Bool.{and_parts, le-ltb, not-true}
 use Rattle.std.proofs.lemmas.List.{append-nil}
 use Rattle.match_key.specs.declared.error.RuleError.{RuleError}
 use Rattle.match_rule.specs.declared.term.Term.{Term}
@@ -32,34 +32,23 @@ tail_rest (Some rest) = rest
 
 pub begins_tail : (bytes : List ℕ) (tail : Option (List ℕ)) → begins_with apostrophe (bytes ++ tail_bytes tail) ≡ begins_with apostrophe bytes
 begins_tail [] None = refl
-begins_tail [] (Some rest) = refl
-begins_tail (b ∷ bs) tail = refl
+begins_tail _ _ = refl
 
 with_front-nil : (read : Result (List ℕ × List ℕ) RuleError) → read ≡ with_front [] read
-with_front-nil (Ok found) = refl
-with_front-nil (Err fault) = refl
+with_front-nil read = grind arith
 
 with_front-cons : (b : ℕ) (front : List ℕ) (read : Result (List ℕ × List ℕ) RuleError) → (with_front front read >>= λ found. Ok (with_byte b found)) ≡ with_front (b ∷ front) read
-with_front-cons b front (Ok found) = refl
-with_front-cons b front (Err fault) = refl
-
-not_and : (a b : Bool) → (not a && b) ≡ true → (a ≡ false) × (b ≡ true)
-not_and true b e = absurd cc
-not_and false b e = (refl, e)
+with_front-cons b front read = grind arith
 
 inside_read : (inside rest : List ℕ) → list_all (λ byte. not (byte == apostrophe)) inside ≡ true → value_from Inside (inside ++ apostrophe ∷ rest) ≡ with_front inside (value_from Outside rest)
 inside_read [] rest e = with_front-nil (value_from Outside rest)
 inside_read (b ∷ bs) rest e =
-    let h = not_and (b == apostrophe) (list_all (λ byte. not (byte == apostrophe)) bs) e in
-    rw h.0 (ap (λ read. read >>= λ found. Ok (with_byte b found)) (inside_read bs rest h.1) ∙ with_front-cons b bs (value_from Outside rest))
+    let h = and_parts (not (b == apostrophe)) (list_all (λ byte. not (byte == apostrophe)) bs) e in
+    rw (not-true (b == apostrophe) h.0)
+    (ap (λ read. read >>= λ found. Ok (with_byte b found)) (inside_read bs rest h.1) ∙ with_front-cons b bs (value_from Outside rest))
 
-plain_step : (ends opens slash follows : Bool) → (opens || ends || slash && follows) ≡ false → cond ends End (cond opens (Skip Inside) (cond slash (cond follows (Skip Escaped) (Take Outside)) (Take Outside))) ≡ Take Outside
-plain_step true true slash follows e = absurd cc
-plain_step true false slash follows e = absurd cc
-plain_step false true slash follows e = absurd cc
-plain_step false false true true e = absurd cc
-plain_step false false true false e = refl
-plain_step false false false follows e = refl
+plain_step : (opens ends slash follows : Bool) → (opens || ends || slash && follows) ≡ false → cond ends End (cond opens (Skip Inside) (cond slash (cond follows (Skip Escaped) (Take Outside)) (Take Outside))) ≡ Take Outside
+plain_step opens ends slash follows e = grind arith
 
 pub quoted_regroup : (inside pieces tail : List ℕ) → ((inside ++ apostrophe ∷ []) ++ pieces) ++ tail ≡ inside ++ apostrophe ∷ (pieces ++ tail)
 quoted_regroup inside pieces tail = append_assoc (inside ++ apostrophe ∷ []) pieces tail ∙ append_assoc inside (apostrophe ∷ []) (pieces ++ tail)
@@ -75,19 +64,15 @@ value_spelled (escaped ∷ pieces) tail are = ap (λ read. read >>= λ found. Ok
 value_spelled (plain b ∷ pieces) tail are =
     let rest = pieces_bytes pieces ++ tail_bytes tail in
     let follows = begins_tail (pieces_bytes pieces) tail in
-    let is : step Outside b (begins_with apostrophe rest) ≡ Take Outside = ap (step Outside b) follows ∙ plain_step (b == comma) (b == apostrophe) (b == 92) (begins_with apostrophe (pieces_bytes pieces)) are.0 in
+    let is : step Outside b (begins_with apostrophe rest) ≡ Take Outside = ap (step Outside b) follows ∙ plain_step (b == apostrophe) (b == comma) (b == 92) (begins_with apostrophe (pieces_bytes pieces)) are.0 in
     ap (λ s. after_step s b rest (λ next. value_from next rest)) is
     ∙ ap (λ read. read >>= λ found. Ok (with_byte b found)) (value_spelled pieces tail are.1)
 
 -- ---- blanks
 
-both : (a b : Bool) → (a && b) ≡ true → (a ≡ true) × (b ≡ true)
-both true b e = (refl, e)
-both false b e = absurd cc
-
 blanks_read : (blanks rest : List ℕ) → list_all is_blank blanks ≡ true → after_blanks (blanks ++ rest) ≡ after_blanks rest
 blanks_read [] rest e = refl
-blanks_read (b ∷ bs) rest e = let h = both (is_blank b) (list_all is_blank bs) e in rw h.0 (blanks_read bs rest h.1)
+blanks_read (b ∷ bs) rest e = let h = and_parts (is_blank b) (list_all is_blank bs) e in rw h.0 (blanks_read bs rest h.1)
 
 -- ---- parts
 
@@ -97,19 +82,11 @@ tail_of [] [] = None
 tail_of [] (byte ∷ blanks) = Some blanks
 tail_of (part ∷ parts) ending = Some (parts_bytes (part ∷ parts) ending)
 
--- a part has stood before
-abbrev IsLaterEnding : List ℕ → Type 0
-IsLaterEnding [] = Unit {0}
-IsLaterEnding (byte ∷ blanks) = (byte ≡ comma) × (list_all is_blank blanks ≡ true)
-
-later_ending : (part : Part) (parts : List Part) (ending : List ℕ) → IsEnding (part ∷ parts) ending → IsLaterEnding ending
-later_ending part parts [] is = is
-later_ending part parts (b ∷ bs) is = is
-
-further_is : (parts : List Part) (ending : List ℕ) → IsLaterEnding ending → further_bytes parts ending ≡ tail_bytes (tail_of parts ending)
-further_is [] [] is = refl
-further_is [] (b ∷ bs) is = ap (λ (x : ℕ). x ∷ bs) is.0
-further_is (part ∷ parts) ending is = refl
+further_is : (part : Part) (parts : List Part) (ending : List ℕ) → IsEnding (part ∷ parts) ending
+    → further_bytes parts ending ≡ tail_bytes (tail_of parts ending)
+further_is part [] [] is = refl
+further_is part [] (b ∷ bs) is = ap (λ (x : ℕ). x ∷ bs) is.0
+further_is part (next ∷ parts) ending is = refl
 
 pub part_regroup : (blanks word pieces rest : List ℕ) → (blanks ++ (word ++ equals ∷ pieces)) ++ rest ≡ blanks ++ (word ++ equals ∷ (pieces ++ rest))
 part_regroup blanks word pieces rest = append_assoc blanks (word ++ equals ∷ pieces) rest ∙ ap (λ (x : List ℕ). blanks ++ x) (append_assoc word (equals ∷ pieces) rest)
@@ -118,7 +95,7 @@ after_part_blanks : (part : Part) (term : Term) (rest : List ℕ) → IsPart par
 after_part_blanks part term rest is =
     ap after_blanks (part_regroup part.blanks part.word (pieces_bytes part.pieces) rest)
     ∙ blanks_read part.blanks (part.word ++ equals ∷ (pieces_bytes part.pieces ++ rest)) is.blank
-    ∙ word_no_blank part.word (equals ∷ (pieces_bytes part.pieces ++ rest)) (known_plain part.word (term_key term) is.known)
+    ∙ word_no_blank part.word (equals ∷ (pieces_bytes part.pieces ++ rest)) (known_plain part.word (term_key term) is.known).0
 
 part_read : (front : List Term) (part : Part) (term : Term) (tail : Option (List ℕ)) → IsPart part term → has_key (term_key term) front ≡ false → has_path (term_key term) front ≡ false → part_at front (part.word ++ equals ∷ (pieces_bytes part.pieces ++ tail_bytes tail)) ≡ Ok (term, tail_rest tail)
 part_read front part term tail is new apart =
@@ -128,7 +105,7 @@ part_read front part term tail is new apart =
       spelling = spelling;
       key = term_key term;
       value = pieces_value part.pieces;
-      has_word = word_read part.word spelling (known_plain part.word (term_key term) is.known);
+      has_word = word_read part.word spelling (known_plain part.word (term_key term) is.known).0;
       known = is.known;
       new = new;
       apart = apart;
@@ -140,17 +117,14 @@ part_read front part term tail is new apart =
 abbrev parts_in : List Term → List ℕ → Result (List Term) RuleError
 parts_in front bytes = parts_from (length (after_blanks bytes)) front (after_blanks bytes)
 
-first_read : (front : List Term) (part : Part) (parts : List Part) (ending : List ℕ) (term : Term) → IsPart part term → IsLaterEnding ending → has_key (term_key term) front ≡ false → has_path (term_key term) front ≡ false → parts_in front (parts_bytes (part ∷ parts) ending) ≡ parts_in (front ++ term ∷ []) (tail_rest (tail_of parts ending))
+first_read : (front : List Term) (part : Part) (parts : List Part) (ending : List ℕ) (term : Term)
+    → IsPart part term → IsEnding (part ∷ parts) ending → has_key (term_key term) front ≡ false → has_path (term_key term) front ≡ false → parts_in front (parts_bytes (part ∷ parts) ending) ≡ parts_in (front ++ term ∷ []) (tail_rest (tail_of parts ending))
 first_read front part parts ending term is ends new apart =
     let tail = tail_of parts ending in
     let text = part.word ++ equals ∷ (pieces_bytes part.pieces ++ tail_bytes tail) in
-    let back : after_blanks (parts_bytes (part ∷ parts) ending) ≡ text = ap (λ (rest : List ℕ). after_blanks (part_bytes part ++ rest)) (further_is parts ending ends) ∙ after_part_blanks part term (tail_bytes tail) is in
+    let back : after_blanks (parts_bytes (part ∷ parts) ending) ≡ text = ap (λ (rest : List ℕ). after_blanks (part_bytes part ++ rest)) (further_is part parts ending ends) ∙ after_part_blanks part term (tail_bytes tail) is in
     ap (λ (bytes : List ℕ). parts_from (length bytes) front bytes) back
     ∙ sym (turn front text term (tail_rest tail) (part_read front part term tail is new apart))
-
-pub parts_from-nil : (n : ℕ) (front : List Term) → parts_from n front [] ≡ Ok front
-parts_from-nil zero front = refl
-parts_from-nil (suc n) front = refl
 
 pub parts_read : (parts : List Part) (terms front : List Term) (ending : List ℕ) → IsEnding parts ending → AreParts parts terms → HaveOwnKeys front terms → parts_in front (parts_bytes parts ending) ≡ Ok (front ++ terms)
 parts_read [] [] front ending ends said once =
@@ -159,7 +133,7 @@ parts_read [] [] front ending ends said once =
 parts_read [] (term ∷ terms) front ending ends said once = absurd said
 parts_read (part ∷ parts) [] front ending ends said once = absurd said
 parts_read (part ∷ []) (term ∷ terms) front [] ends said once =
-    first_read front part [] [] term said.0 tt once.0 once.1
+    first_read front part [] [] term said.0 ends once.0 once.1
     ∙ parts_read [] terms (front ++ term ∷ []) [] refl said.1 once.2
     ∙ ap (λ (cs : List Term). Ok cs) (append_assoc front (term ∷ []) terms)
 parts_read (part ∷ []) (term ∷ terms) front (b ∷ blanks) ends said once =
@@ -167,14 +141,9 @@ parts_read (part ∷ []) (term ∷ terms) front (b ∷ blanks) ends said once =
     ∙ parts_read [] terms (front ++ term ∷ []) blanks ends.1 said.1 once.2
     ∙ ap (λ (cs : List Term). Ok cs) (append_assoc front (term ∷ []) terms)
 parts_read (part ∷ next ∷ parts) (term ∷ terms) front ending ends said once =
-    let later = later_ending part (next ∷ parts) ending ends in
-    first_read front part (next ∷ parts) ending term said.0 later once.0 once.1
-    ∙ parts_read (next ∷ parts) terms (front ++ term ∷ []) ending (ending_of next parts ending later) said.1 once.2
+    first_read front part (next ∷ parts) ending term said.0 ends once.0 once.1
+    ∙ parts_read (next ∷ parts) terms (front ++ term ∷ []) ending ends said.1 once.2
     ∙ ap (λ (cs : List Term). Ok cs) (append_assoc front (term ∷ []) terms)
-  where
-    ending_of : (part : Part) (parts : List Part) (ending : List ℕ) → IsLaterEnding ending → IsEnding (part ∷ parts) ending
-    ending_of part parts [] is = is
-    ending_of part parts (b ∷ bs) is = is
 
 -- a text that isn't too long has the rule of its terms
 pub rule_at-tree : (text : List ℕ) → length text ≤ 1024 → rule_at text ≡ tree_at text

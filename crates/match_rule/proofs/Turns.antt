@@ -1,34 +1,30 @@
 -- As many turns as there are bytes are enough.
-use Rattle.std.proofs.Common.{◌≡◌, ℕ, zero, suc, ◌+◌, ◌*◌, ◌≤◌, Bool, true, false, cond, List, [], ◌∷◌, ◌++◌, length, refl, sym, ap, ◌∙◌, arith}
+use Rattle.std.proofs.Common.{◌≡◌, ℕ, zero, suc, ◌+◌, ◌*◌, ◌≤◌, false, cond, List, [], ◌∷◌, ◌++◌, length, refl, sym, ap, ◌∙◌, arith}
 use Rattle.std.specs.Prelude.{Result, Ok, Err, sum_by, ◌==◌}
 use Rattle.std.proofs.lemmas.List.Sums.{sum_by-append, sum_by-cons}
 use Rattle.match_key.specs.declared.error.RuleError.{RuleError}
-use Rattle.match_rule.specs.declared.condition.Condition.TheVariants.{Kind, Sender, Compares}
+use Rattle.match_rule.specs.declared.condition.Condition.TheVariants.{Compares}
 use Rattle.match_key.specs.declared.relation.Relation.{Relation}
 use Rattle.match_key.specs.declared.relation.Relation.TheVariants.{NestedPath}
 use Rattle.match_rule.specs.declared.term.Term.{Term}
 use Rattle.match_rule.specs.declared.term.Term.TheVariants.{Asks, Eavesdrop}
 use Rattle.match_rule.specs.Condition.{conditions_in}
 use Rattle.match_rule.specs.RuleTree.{slashes, relation_weight, condition_weight}
-use Rattle.match_rule.specs.Grammar.{is_blank}
 use Rattle.match_rule.specs.Reading.{◌>>=◌, after_blanks, part_at, parts_from, terms_at}
 use Rattle.match_rule.proofs.PartReads.{part_len, bind_ok, term_value}
 
 pub blanks_len : (bytes : List ℕ) → length (after_blanks bytes) ≤ length bytes
 blanks_len [] = omega arith
-blanks_len (b ∷ bs) = go (is_blank b) (blanks_len bs)
-  where
-    go : (x : Bool) → length (after_blanks bs) ≤ length bs → length (cond x (after_blanks bs) (b ∷ bs)) ≤ length (b ∷ bs)
-    go true h = omega arith
-    go false h = omega arith
+blanks_len (b ∷ bs) = grind (arith, blanks_len bs)
 
-pub enough_turns : (n m : ℕ) (front : List Term) (bytes : List ℕ) → length bytes ≤ n → length bytes ≤ m → parts_from n front bytes ≡ parts_from m front bytes
-enough_turns zero zero front bytes p q = refl
-enough_turns zero (suc m) front [] p q = refl
-enough_turns zero (suc m) front (b ∷ bs) p q = absurd (omega arith)
-enough_turns (suc n) zero front [] p q = refl
+pub parts_from-nil : (n : ℕ) (front : List Term) → parts_from n front [] ≡ Ok front
+parts_from-nil zero front = refl
+parts_from-nil (suc n) front = refl
+
+enough_turns : (n m : ℕ) (front : List Term) (bytes : List ℕ) → length bytes ≤ n → length bytes ≤ m → parts_from n front bytes ≡ parts_from m front bytes
+enough_turns n m front [] p q = parts_from-nil n front ∙ sym (parts_from-nil m front)
+enough_turns zero m front (b ∷ bs) p q = absurd (omega arith)
 enough_turns (suc n) zero front (b ∷ bs) p q = absurd (omega arith)
-enough_turns (suc n) (suc m) front [] p q = refl
 enough_turns (suc n) (suc m) front (b ∷ bs) p q = go (part_at front (b ∷ bs)) refl (λ f rest. enough_turns n m f rest)
   where
     go : (found : Result (Term × List ℕ) RuleError) → part_at front (b ∷ bs) ≡ found → ((f : List Term) (rest : List ℕ) → length rest ≤ n → length rest ≤ m → parts_from n f rest ≡ parts_from m f rest) → (found >>= λ part. parts_from n (front ++ part.0 ∷ []) (after_blanks part.1)) ≡ (found >>= λ part. parts_from m (front ++ part.0 ∷ []) (after_blanks part.1))
@@ -57,22 +53,15 @@ abbrev term_weight : Term → ℕ
 term_weight (Asks condition) = condition_weight condition
 term_weight (Eavesdrop flag) = 0
 
-abbrev total : List Term → ℕ
-total terms = sum_by term_weight terms
-
-total-conditions_in : (terms : List Term) → sum_by condition_weight (conditions_in terms) ≡ total terms
+total-conditions_in : (terms : List Term) → sum_by condition_weight (conditions_in terms) ≡ sum_by term_weight terms
 total-conditions_in [] = refl
 total-conditions_in (Asks condition ∷ terms) = sum_by-cons condition_weight condition (conditions_in terms) ∙ ap (λ n. condition_weight condition + n) (total-conditions_in terms) ∙ sym (sum_by-cons term_weight (Asks condition) terms)
 total-conditions_in (Eavesdrop flag ∷ terms) = let joined = sum_by-cons term_weight (Eavesdrop flag) terms in let rest = total-conditions_in terms in omega arith
 
-slash_weight_le : (b : Bool) → cond b 1 0 ≤ 1
-slash_weight_le true = omega arith
-slash_weight_le false = omega arith
-
 slashes_le : (text : List ℕ) → slashes text ≤ length text
 slashes_le [] = omega arith
 slashes_le (b ∷ bs) =
-    let one : cond (b == 47) 1 0 ≤ 1 = slash_weight_le (b == 47) in
+    let one : cond (b == 47) 1 0 ≤ 1 = grind arith in
     let rest = slashes_le bs in
     let sum = sum_by-cons (λ (byte : ℕ). cond (byte == 47) 1 0) b bs in
     omega arith
@@ -83,13 +72,12 @@ relation_weight_le _ value = omega arith
 
 -- a byte of a value weighs at most 17
 term_weight_le : (term : Term) → term_weight term ≤ 24 + 17 * length (term_value term)
-term_weight_le (Asks (Kind kind)) = omega arith
-term_weight_le (Asks (Sender name)) = omega arith
 term_weight_le (Asks (Compares source relation value)) = let h = relation_weight_le relation value in omega arith
-term_weight_le (Eavesdrop flag) = omega arith
+term_weight_le _ = omega arith
 
 -- each byte of a text weighs at most 41
-parts_total : (n : ℕ) (front : List Term) (bytes : List ℕ) (terms : List Term) → parts_from n front bytes ≡ Ok terms → total terms ≤ total front + 41 * length bytes
+parts_total : (n : ℕ) (front : List Term) (bytes : List ℕ) (terms : List Term) → parts_from n front bytes ≡ Ok terms
+    → sum_by term_weight terms ≤ sum_by term_weight front + 41 * length bytes
 parts_total zero front bytes terms e = let same : front ≡ terms = cc in rw (← same) (omega arith)
 parts_total (suc n) front [] terms e = let same : front ≡ terms = cc in rw (← same) (omega arith)
 parts_total (suc n) front (b ∷ bs) terms e =

@@ -1,27 +1,13 @@
--- The values of a rule that was read are bytes.
+-- Each byte of UTF-8 is below 256.
 use Rattle.std.proofs.Common.{◌≡◌, ℕ, zero, suc, ◌+◌, ◌/◌, ◌<◌, Bool, true, false, cond, List, [], ◌∷◌, ◌++◌, refl, subst, inl, inr, arith}
-use Rattle.std.specs.Prelude.{Some, All, nat_lt}
-use Rattle.std.specs.List.{list_all}
+use Rattle.std.specs.Prelude.{nat_lt}
 use Rattle.std.specs.Str.{IsUtf8}
 use Rattle.std.proofs.lemmas.Bool.{and_parts, ltb-true}
-use Rattle.std.proofs.lemmas.List.Elements.{All-cons, All-nil}
-use Rattle.std.proofs.lemmas.Str.{IsUtf8-from_is_utf8}
 use lib.Utf8.{scalar, scalars, next, encode, encodes, scalar_cases}
 use Rattle.message_value.specs.Bytes.{AreBytes}
-use Rattle.match_key.specs.declared.kind_name.KindName.{KindName}
-use Rattle.match_key.specs.declared.kind_name.KindName.TheVariants.{Signal, MethodCall, MethodReturn, Error}
-use Rattle.match_rule.specs.declared.condition.Condition.{Condition}
-use Rattle.match_rule.specs.declared.condition.Condition.TheVariants.{Kind, Sender, Compares}
-use Rattle.match_rule.specs.declared.term.Term.{Term}
-use Rattle.match_rule.specs.declared.term.Term.TheVariants.{Asks, Eavesdrop}
-use Rattle.match_key.specs.Kinds.{kind_word}
-use Rattle.match_rule.specs.Condition.{key_of, value_of, asks_if, term_of, conditions_in}
-use Rattle.match_rule.specs.Grammar.{Part, pieces_value, AreParts}
-use Rattle.match_rule.proofs.PartReads.{said_text}
 
 bytes_nil : AreBytes []
-bytes_nil zero = omega arith
-bytes_nil (suc i) = omega arith
+bytes_nil i = omega arith
 
 bytes_cons : (b : ℕ) (bs : List ℕ) → b < 256 → AreBytes bs → AreBytes (b ∷ bs)
 bytes_cons b bs h t zero = h
@@ -32,9 +18,6 @@ bytes_append [] ys h g = g
 bytes_append (x ∷ xs) ys h g = bytes_cons x (xs ++ ys) (h 0) (bytes_append xs ys (λ i. h (suc i)) g)
 
 -- ---- UTF-8
-
-next_byte : (bits : ℕ) → next bits < 256
-next_byte bits = omega arith
 
 scalar_low : (c : ℕ) → scalar c ≡ true → c < 1114112
 scalar_low c e = elim (scalar_cases c e) [ inl h ↦ omega arith | inr h ↦ omega arith ]
@@ -54,49 +37,14 @@ encode_bytes c small = go (nat_lt c 128) (nat_lt c 2048) (nat_lt c 65536) refl r
   where
     go : (in_one in_two in_three : Bool) → nat_lt c 128 ≡ in_one → nat_lt c 2048 ≡ in_two → nat_lt c 65536 ≡ in_three → AreBytes (cond in_one (c ∷ []) (cond in_two ((192 + c / 64) ∷ next c ∷ []) (cond in_three ((224 + c / 4096) ∷ next (c / 64) ∷ next c ∷ []) ((240 + c / 262144) ∷ next (c / 4096) ∷ next (c / 64) ∷ next c ∷ []))))
     go true in_two in_three a b d = let h = ltb-true c 128 a in bytes_cons c [] (omega arith) bytes_nil
-    go false true in_three a b d = let h = ltb-true c 2048 b in two_bytes (192 + c / 64) (next c) (omega arith) (next_byte c)
-    go false false true a b d = let h = ltb-true c 65536 d in three_bytes (224 + c / 4096) (next (c / 64)) (next c) (omega arith) (next_byte (c / 64)) (next_byte c)
-    go false false false a b d = four_bytes (240 + c / 262144) (next (c / 4096)) (next (c / 64)) (next c) (omega arith) (next_byte (c / 4096)) (next_byte (c / 64)) (next_byte c)
+    go false true in_three a b d = let h = ltb-true c 2048 b in two_bytes (192 + c / 64) (next c) (omega arith) (omega arith)
+    go false false true a b d = let h = ltb-true c 65536 d in three_bytes (224 + c / 4096) (next (c / 64)) (next c) (omega arith) (omega arith) (omega arith)
+    go false false false a b d = four_bytes (240 + c / 262144) (next (c / 4096)) (next (c / 64)) (next c) (omega arith) (omega arith) (omega arith) (omega arith)
 
 encodes_bytes : (cs : List ℕ) → scalars cs ≡ true → AreBytes (encodes cs)
 encodes_bytes [] e = bytes_nil
 encodes_bytes (c ∷ cs) e =
     let h = and_parts (scalar c) (scalars cs) e in bytes_append (encode c) (encodes cs) (encode_bytes c (scalar_low c h.0)) (encodes_bytes cs h.1)
 
-text_bytes : (text : List ℕ) → IsUtf8 text → AreBytes text
+pub text_bytes : (text : List ℕ) → IsUtf8 text → AreBytes text
 text_bytes text u = subst AreBytes u.1.1 (encodes_bytes u.0 u.1.0)
-
--- ---- values
-
-asks_same : (allowed : Bool) (said c : Condition) → asks_if allowed said ≡ Some (Asks c) → said ≡ c
-asks_same true said c e = cc
-asks_same false said c e = cc
-
--- a condition that is said with a value has it
-same_value : (allowed : Bool) (said c : Condition) → asks_if allowed said ≡ Some (Asks c) → AreBytes (value_of said) → AreBytes (value_of c)
-same_value allowed said c e bytes = subst (λ (d : Condition). AreBytes (value_of d)) (asks_same allowed said c e) bytes
-
-small_bytes : (bs : List ℕ) → list_all (λ b. nat_lt b 256) bs ≡ true → AreBytes bs
-small_bytes [] e = bytes_nil
-small_bytes (b ∷ bs) e = let h = and_parts (nat_lt b 256) (list_all (λ b. nat_lt b 256) bs) e in bytes_cons b bs (ltb-true b 256 h.0) (small_bytes bs h.1)
-
-word_bytes : (kind : KindName) → AreBytes (kind_word kind)
-word_bytes Signal = small_bytes (kind_word Signal) refl
-word_bytes MethodCall = small_bytes (kind_word MethodCall) refl
-word_bytes MethodReturn = small_bytes (kind_word MethodReturn) refl
-word_bytes Error = small_bytes (kind_word Error) refl
-
-said_bytes : (c : Condition) (text : List ℕ) → term_of (key_of c) text ≡ Some (Asks c) → AreBytes text → AreBytes (value_of c)
-said_bytes (Kind kind) text e bytes = word_bytes kind
-said_bytes (Sender name) text e bytes = same_value _ (Sender text) (Sender name) e bytes
-said_bytes (Compares source relation value) text e bytes = same_value _ (Compares source relation text) (Compares source relation value) e bytes
-
-pub parts_bytes_are : (parts : List Part) (terms : List Term) → AreParts parts terms → All (λ c. AreBytes (value_of c)) (conditions_in terms)
-parts_bytes_are [] [] said = All-nil (λ (c : Condition). AreBytes (value_of c))
-parts_bytes_are [] (term ∷ terms) said = absurd said
-parts_bytes_are (part ∷ parts) [] said = absurd said
-parts_bytes_are (part ∷ parts) (Eavesdrop flag ∷ terms) said = parts_bytes_are parts terms said.1
-parts_bytes_are (part ∷ parts) (Asks c ∷ terms) said =
-    let value = pieces_value part.pieces in
-    let is = said_text (key_of c) value (Asks c) said.0.allowed in
-    All-cons (λ (c : Condition). AreBytes (value_of c)) c (conditions_in terms) (said_bytes c value is.1 (text_bytes value (IsUtf8-from_is_utf8 value is.0))) (parts_bytes_are parts terms said.1)

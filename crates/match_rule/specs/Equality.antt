@@ -2,19 +2,18 @@
 -- proofs/.
 use Rattle.std.specs.Prelude.{◌≡◌, List, unwrap_or}
 use Rattle.std.specs.Bool.{Decides, one_answer}
-use Rattle.std.specs.Cmp.{IsPartialEquivalence, IsEquivalence, decided, equiv, partial_equiv_from_equiv}
-use Rattle.std.proofs.Common.{ℕ, refl, sym, ◌∙◌}
-use Rattle.std.specs.Str.{bytes_eq}
+use Rattle.std.specs.Cmp.{IsPartialEquivalence, IsEquivalence, booleans_Decides, decided, equiv, partial_equiv_from_equiv}
+use Rattle.std.proofs.Common.{ℕ, refl, sym, ap, ◌∙◌}
+use Rattle.std.proofs.lemmas.Bool.Decides.{Decides-and}
 use Rattle.std.proofs.lemmas.Slice.Eq.{bytes_eq-Decides}
 use Rattle.match_key.specs.declared.key.Key.{Key}
 use Rattle.match_key.specs.declared.key.Key.TheVariants as keys
-use Rattle.match_key.specs.declared.kind_name.KindName.TheVariants.{Signal, MethodCall, MethodReturn, Error}
+use Rattle.match_key.specs.declared.kind_name.KindName.TheVariants.{Signal}
 use Rattle.match_rule.specs.declared.condition.Condition.{Condition}
 use Rattle.match_rule.specs.declared.condition.Condition.TheVariants.{Kind, Sender, Compares}
-use Rattle.match_key.specs.Key.{key_eq}
 use Rattle.match_key.specs.Kinds.{kind_named}
 use Rattle.match_key.proofs.KeyNumbers.{keys_decide}
-use Rattle.match_key.proofs.SameSets.{parts_decide, sets_decide}
+use Rattle.match_key.proofs.SameSets.{in_decides}
 use Rattle.match_rule.specs.Condition.{key_of, value_of, condition_eq}
 use Rattle.match_rule.specs.RuleTree.{RuleTree, rule_eq, AreSame}
 
@@ -28,15 +27,18 @@ condition_of keys.Eavesdrop value = Kind Signal
 condition_of-parts : (c : Condition) → condition_of (key_of c) (value_of c) ≡ c
 unfolding condition_of
 condition_of-parts (Kind Signal) = refl
-condition_of-parts (Kind MethodCall) = refl
-condition_of-parts (Kind MethodReturn) = refl
-condition_of-parts (Kind Error) = refl
-condition_of-parts (Sender name) = refl
-condition_of-parts (Compares source relation value) = refl
+condition_of-parts _ = refl
 
 -- conditions that test as equal are one
 pub condition_decides : (a b : Condition) → Decides (condition_eq a b) (a ≡ b)
-condition_decides = parts_decide key_of value_of condition_of key_eq bytes_eq condition_of-parts keys_decide bytes_eq-Decides
+condition_decides a b =
+    let keys_and_values = Decides-and _ _ (keys_decide (key_of a) (key_of b)) (bytes_eq-Decides (value_of a) (value_of b)) in (
+      λ e.
+          let h = keys_and_values.0 e in
+          sym (condition_of-parts a) ∙ ap (λ k. condition_of k (value_of a)) h.0
+          ∙ ap (condition_of (key_of b)) h.1 ∙ condition_of-parts b,
+      λ e. keys_and_values.1 (ap key_of e, ap value_of e),
+    )
 
 pub conditions_equiv : IsEquivalence condition_eq
 conditions_equiv = decided condition_eq condition_decides
@@ -47,8 +49,10 @@ conditions_partial = partial_equiv_from_equiv conditions_equiv
 -- rules that test as equal are the same set of conditions with the same eavesdropping
 pub rule_decides : (a b : RuleTree) → Decides (rule_eq a b) (AreSame a b)
 rule_decides a b =
-    let sets = sets_decide condition_eq condition_decides a.conditions b.conditions a.eavesdrops b.eavesdrops in
-    (λ e. let s = sets.0 e in record { within = s.within; without = s.without; eavesdrop = s.flag }, λ (s : AreSame a b). sets.1 (record { within = s.within; without = s.without; flag = s.eavesdrop }))
+    let within = in_decides condition_eq condition_decides a.conditions b.conditions in
+    let without = in_decides condition_eq condition_decides b.conditions a.conditions in
+    let same = Decides-and _ _ (Decides-and _ _ within without) (booleans_Decides a.eavesdrops b.eavesdrops) in
+    (λ e. let s = same.0 e in record { within = s.0.0; without = s.0.1; eavesdrop = s.1 }, λ (s : AreSame a b). same.1 ((s.within, s.without), s.eavesdrop))
 
 flip_same : (a b : RuleTree) → AreSame a b → AreSame b a
 flip_same a b s = record { within = s.without; without = s.within; eavesdrop = sym s.eavesdrop }

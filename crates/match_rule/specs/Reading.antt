@@ -50,9 +50,8 @@ step Escaped b follows = Take Outside
 
 -- the end of the text: a section has to be closed
 abbrev pub value_ended : Quoting → Result (List ℕ × List ℕ) RuleError
-value_ended Outside = Ok ([], [])
 value_ended Inside = Err Unquoted
-value_ended Escaped = Ok ([], [])
+value_ended _ = Ok ([], [])
 
 -- what comes of a step over a byte, with the bytes after it and what reading them gives
 abbrev pub after_step : Step → ℕ → List ℕ → (Quoting → Result (List ℕ × List ℕ) RuleError) → Result (List ℕ × List ℕ) RuleError

@@ -23,27 +23,22 @@ struct TextArg<'a> {
 }
 
 /// An argument, where it is a text.
-fn text_of<'a>(arg: Arg<'a>) -> Option<TextArg<'a>>
-    ensures { option_map (λ a. (a.code, a.text.now)) result ≡ text_in (Some (shown_arg arg.entry)) }
+fn text_of<'a>(arg: Option<Arg<'a>>) -> Option<TextArg<'a>>
+    ensures { option_map (λ a. (a.code, a.text.now)) result ≡ text_in (option_map shown_arg arg.entry) }
 {
-    match arg.text {
-        None => None,
-        Some(text) => Some(TextArg {
-            code: arg.code,
-            text,
-        }),
-    }
+    let arg = arg?;
+    let text = arg.text?;
+    Some(TextArg {
+        code: arg.code,
+        text,
+    })
 }
 
 /// Argument n of a message, where it is a text.
 fn argument<'a>(view: &View<'a>, n: u8) -> Option<TextArg<'a>>
     ensures { (m : Message) → Valid view.now m → option_map (λ a. (a.code, a.text.now)) result ≡ text_in (slice_get (arguments_of m) n) }
 {
-    let mut args = view.args();
-    match args.nth(usize::from(n)) {
-        None => None,
-        Some(arg) => text_of(arg),
-    }
+    text_of(view.args().nth(usize::from(n)))
 }
 
 /// Whether a relation compares arguments of the type of this code.
@@ -61,14 +56,8 @@ fn compared_text<'a>(relation: Relation, argument: Option<TextArg<'a>>) -> Optio
     ensures { option_map (λ text. text.now) result ≡ compared_text relation (option_map (λ a. (a.code, a.text.now)) argument.entry) }
 {
     match argument {
-        None => None,
-        Some(argument) => {
-            if is_compared(relation, argument.code) {
-                Some(argument.text)
-            } else {
-                None
-            }
-        }
+        Some(argument) if is_compared(relation, argument.code) => Some(argument.text),
+        _ => None,
     }
 }
 
@@ -110,20 +99,7 @@ fn relates(relation: Relation, text: &str, value: &str) -> bool
 fn is_related(relation: Relation, found: Option<&str>, value: &str) -> bool
     ensures { IsTrue result ↔ IsSomeAnd (option_map (λ text. text.now) found.entry) (λ text. Relates relation text value.now) }
 {
-    match found {
-        None => false,
-        Some(text) => relates(relation, text, value),
-    }
-}
-
-/// Whether a field is there and has the text.
-fn is_equal(found: Option<&str>, text: &str) -> bool
-    ensures { IsTrue result ↔ (option_map (λ name. name.now) found.entry ≡ Some text.now) }
-{
-    match found {
-        None => false,
-        Some(name) => name == text,
-    }
+    found.is_some_and(|text| relates(relation, text, value))
 }
 
 /// Whether a message was sent by a name: it is the sender's own, or `owns` says that the sender owns it.
@@ -134,7 +110,7 @@ fn is_sent_by(sender: Option<&str>, name: &str, owns: bool) -> bool
     if is_owned_name(name) {
         owns
     } else {
-        is_equal(sender, name)
+        sender == Some(name)
     }
 }
 

@@ -18,8 +18,7 @@ fn key_at(bytes: &[u8]) -> Result<(Key, &[u8]), RuleError>
     ensures { Gives (λ x. (x.0, x.1.now)) result (key_at bytes.now) }
 {
     let (word, rest) = word_at(bytes).ok_or(RuleError::UnknownKey)?;
-    let key = Key::of_word(word)?;
-    Ok((key, rest))
+    Ok((Key::of_word(word)?, rest))
 }
 
 /// A value up to its comma or the end, and what follows.

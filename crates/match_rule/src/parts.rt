@@ -51,18 +51,16 @@ impl Parts {
     }
 
     /// Whether a part has the key, or one that a rule may not have beside it.
+    #[tactic(auto, using(crate::proofs::KeptParts::asked_keys))]
     fn has_key(&self, key: Key) -> bool
         ensures { result ≡ has_key key (terms_of self.now.conditions.items self.now.eavesdrop) }
     {
-        match self.eavesdrop {
-            None => any_is_twice(self.conditions.as_slice(), key),
-            Some(_) => {
-                Key::Eavesdrop.is_twice(key) || any_is_twice(self.conditions.as_slice(), key)
-            }
-        }
+        self.eavesdrop.is_some() && Key::Eavesdrop.is_twice(key)
+            || any_is_twice(self.conditions.as_slice(), key)
     }
 
     /// Whether a part has `path_namespace` and the key is `path`, or the other way round.
+    #[tactic(auto, using(crate::proofs::KeptParts::asked_paths))]
     fn has_path(&self, key: Key) -> bool
         ensures { result ≡ has_path key (terms_of self.now.conditions.items self.now.eavesdrop) }
     {

@@ -24,10 +24,7 @@ impl Rule {
 pub fn has_path_in(path: Option<&str>, namespace: &str) -> bool
     ensures { IsTrue result ↔ HasPathIn (option_map (λ text. text.now) path.entry) namespace.now }
 {
-    match path {
-        None => false,
-        Some(path) => is_in_path_namespace(path, namespace),
-    }
+    path.is_some_and(|path| is_in_path_namespace(path, namespace))
 }
 
 /// How a namespace ends, by which most that can't have a path are told without a look at their texts.
@@ -45,13 +42,9 @@ impl NamespaceEnd {
         ensures { result ≡ end_of namespace.now }
     {
         let bytes = namespace.as_bytes();
-        let last = match bytes.last() {
-            Some(byte) => *byte,
-            None => 0,
-        };
         NamespaceEnd {
             len: bytes.len(),
-            last,
+            last: bytes.last().copied().unwrap_or(0),
         }
     }
 

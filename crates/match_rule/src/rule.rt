@@ -40,7 +40,6 @@ impl Rule {
     ghost use Rattle.message_view.specs.Valid.{Valid};
     ghost use Rattle.match_key.specs.declared.error.RuleError.TheVariants.{NoMemory};
     ghost use Rattle.match_rule.specs.RuleTree.{RuleTree, sender_name_of, weight_of};
-    ghost use Rattle.match_rule.specs.Parts.{has_one_sender};
     ghost use Rattle.match_rule.specs.Holds.{Holds, Agrees};
     ghost use Rattle.match_rule.specs.Grammar.{ReadsAs};
     ghost use Rattle.match_rule.specs.Reading.{Gives, rule_at};

@@ -22,12 +22,10 @@ pub(crate) enum Term {
 fn flag_named(word: &[u8]) -> Option<bool>
     ensures { result ≡ flag_named word.now }
 {
-    if word == b"true".as_slice() {
-        Some(true)
-    } else if word == b"false".as_slice() {
-        Some(false)
-    } else {
-        None
+    match word {
+        b"true" => Some(true),
+        b"false" => Some(false),
+        _ => None,
     }
 }
 
@@ -35,11 +33,7 @@ fn flag_named(word: &[u8]) -> Option<bool>
 fn asks_if(allowed: bool, condition: Condition) -> Option<Term>
     ensures { result ≡ asks_if allowed condition }
 {
-    if allowed {
-        Some(Term::Asks(condition))
-    } else {
-        None
-    }
+    allowed.then_some(Term::Asks(condition))
 }
 
 /// Whether a field may be compared with the text.

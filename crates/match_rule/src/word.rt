@@ -15,10 +15,7 @@ fn is_blank(byte: u8) -> bool
 pub(crate) fn begins_with_apostrophe(bytes: &[u8]) -> bool
     ensures { result ≡ begins_with apostrophe bytes.now }
 {
-    match bytes.split_first() {
-        None => false,
-        Some((first, _)) => *first == b'\'',
-    }
+    bytes.first() == Some(&b'\'')
 }
 
 /// The bytes without the blanks in front.

@@ -12,18 +12,15 @@ use Rattle.match_rule.specs.Arguments.{text_in}
 use Rattle.match_rule.specs.Holds.{is_compared, compared_text}
 use Rattle.summary.specs.Shown.{Tells, ShowsArgument}
 use Rattle.summary.specs.Layout.{argument_place}
-use Rattle.rule_compile.specs.Code.{image_word, want, settle}
-use Rattle.rule_compile.specs.RuleCode.{has_type, has_text_type, type_code}
+use Rattle.rule_compile.specs.Code.{want, settle}
+use Rattle.rule_compile.specs.RuleCode.{has_text_type, type_code}
 use Rattle.rule_compile.proofs.Pieces.{Any, Tests}
 use Rattle.rule_compile.proofs.Runs.{runs_image_word, runs_want, stops_want, runs_settle, stays_settle}
-use Rattle.rule_compile.proofs.Combined.{Extends, extends_more, extends_want, extends_settle, guards, tests_same, tests_word}
+use Rattle.rule_compile.proofs.Combined.{Extends, extends_want, extends_settle, guards, tests_same, tests_word}
 use Rattle.rule_compile.proofs.InTurn.{InTurn, turn_same, turn_after}
 use Rattle.rule_compile.proofs.TextArguments.{IsText}
 
 -- ---- the type
-
-extends_has_type : (n code : ℕ) → Extends (has_type n code)
-extends_has_type n code = extends_more (want Equal code) (λ _. image_word (argument_place n)) (extends_want Equal code)
 
 extends_has_text_type : (n : ℕ) → Extends (has_text_type n)
 extends_has_text_type n = extends_settle (want Equal 111) (argument_place n) Equal 115 (extends_want Equal 111)
@@ -51,16 +48,10 @@ tests_has_text_type image n w is = elim (cases_Bool (eqb w 115)) [
 -- ---- the types that a relation compares
 
 compared_text_type : (w : ℕ) → IsText w ↔ ((w == 115 || w == 111) ≡ true)
-compared_text_type w = (forth, go (w == 115) (w == 111) refl refl)
-  where
-    forth : IsText w → (w == 115 || w == 111) ≡ true
-    forth (inl e) = rw e refl
-    forth (inr e) = rw e refl
-
-    go : (x y : Bool) → (w == 115) ≡ x → (w == 111) ≡ y → (x || y) ≡ true → IsText w
-    go true y p q e = inl (eqb-true w 115 p)
-    go false true p q e = inr (eqb-true w 111 q)
-    go false false p q e = absurd cc
+compared_text_type w = (
+  λ text. elim text [ inl e ↦ rw e refl | inr e ↦ rw e refl ],
+  λ e. elim (cases_Bool (w == 115)) [ inl string ↦ inl (eqb-true w 115 string) | inr other ↦ inr (eqb-true w 111 (rw other at e)) ],
+)
 
 -- what a relation compares is a string or an object path
 compared_is_text : (relation : Relation) (code : ℕ) → is_compared relation code ≡ true → IsText code

@@ -2,7 +2,6 @@
 use Rattle.std.proofs.Common.{◌≡◌, ℕ, zero, suc, ◌+◌, ◌-◌, ◌*◌, ◌/◌, ◌<◌, ◌≤◌, inl, inr, List, [], ◌∷◌, ◌++◌, length, drop, Some, ◌↔◌, refl, sym, ap, ◌∙◌, arith, subst, slice_index}
 use Rattle.std.proofs.lemmas.Bool.{eqb-true, eq-eqb, le-leb, cases_lt}
 use Rattle.std.proofs.lemmas.List.{length-append, get_or-append-add, get_or_append_left, get_or-drop, drop_more}
-use Rattle.bpf_code.specs.declared.operation.Width.{Width}
 use Rattle.bpf_code.specs.declared.operation.Width.TheVariants.{Word, Half, Byte}
 use Rattle.bpf_code.specs.declared.operation.Test.TheVariants.{Equal}
 use Rattle.bpf_code.specs.Loads.{load_byte, load_half, load_word}
@@ -10,7 +9,7 @@ use Rattle.summary.specs.Shown.{Lies}
 use Rattle.message_value.specs.Bytes.{AreBytes}
 use Rattle.rule_compile.specs.Code.{load_indexed, want, half_number, four, same_word, same_words, same_bytes}
 use Rattle.rule_compile.proofs.Pieces.{Tests}
-use Rattle.rule_compile.proofs.Combined.{Extends, extends_none, extends_more, extends_then, extends_want, tests_none, tests_same, tests_then, tests_both, tests_indexed}
+use Rattle.rule_compile.proofs.Combined.{Extends, extends_none, extends_then, extends_test, tests_none, tests_same, tests_then, tests_both, tests_indexed}
 
 -- ---- where a text lies
 
@@ -62,17 +61,11 @@ Stands text at value = (rest : List ℕ) × (drop at text ≡ value ++ rest)
 stands_none : (text : List ℕ) (at : ℕ) → Stands text at []
 stands_none text at = (drop at text, refl)
 
-heads : (a b : ℕ) (xs ys : List ℕ) → (a ∷ xs) ≡ (b ∷ ys) → a ≡ b
-heads a b xs ys h = cc
-
-tails : (a b : ℕ) (xs ys : List ℕ) → (a ∷ xs) ≡ (b ∷ ys) → xs ≡ ys
-tails a b xs ys h = cc
-
 stands_more : (text : List ℕ) (at a : ℕ) (more : List ℕ) → at < length text → ((slice_index text at ≡ a) × Stands text (at + 1) more) ↔ Stands text at (a ∷ more)
 stands_more text at a more inside =
     let e : drop at text ≡ slice_index text at ∷ drop (at + 1) text = drop_more text at 0 inside in (
       λ both. (both.1.0, e ∙ ap (λ (b : ℕ). b ∷ drop (at + 1) text) both.0 ∙ ap (λ (bs : List ℕ). a ∷ bs) both.1.1),
-      λ stands. (heads _ _ _ _ (sym e ∙ stands.1), (stands.0, tails _ _ _ _ (sym e ∙ stands.1))),
+      λ stands. let is : slice_index text at ∷ drop (at + 1) text ≡ a ∷ (more ++ stands.0) = sym e ∙ stands.1 in (cc, (stands.0, cc)),
     )
 
 stands_on : (text : List ℕ) (at to : ℕ) (value : List ℕ) → at ≡ to → Stands text at value → Stands text to value
@@ -124,9 +117,6 @@ four_same a b c d e f g h sb sc sd sf sg sh is =
 abbrev pub At : ℕ → ℕ → Type 0
 At place x = x ≡ place
 
-pub extends_indexed : (width : Width) (at k : ℕ) → Extends (λ rest. load_indexed width at ∷ want Equal k rest)
-extends_indexed width at k = extends_more (want Equal k) (λ _. load_indexed width at) (extends_want Equal k)
-
 pub tests_byte : (image : List ℕ) (place : ℕ) (text : List ℕ) (at a : ℕ) → Lies image place text → at + 1 ≤ length text → Tests image (At place) (slice_index text at ≡ a) (λ rest. load_indexed Byte at ∷ want Equal a rest)
 tests_byte image place text at a lies inside =
     tests_same image (At place) _ _ (λ rest. load_indexed Byte at ∷ want Equal a rest) (eqb-true (slice_index text at) a, eq-eqb (slice_index text at) a) (tests_indexed image place Byte at (slice_index text at) Equal a (loads_byte image place text at lies inside))
@@ -139,14 +129,6 @@ tests_two image place text at a b lies are small inside =
       λ both. eq-eqb w (half_number a b) (rw (both.0, both.1) refl),
     ) (tests_indexed image place Half at w Equal (half_number a b) (loads_half image place text at lies inside))
 
-tests_four : (image : List ℕ) (place : ℕ) (text : List ℕ) (at a b c d : ℕ) → Lies image place text → AreBytes text → b < 256 → c < 256 → d < 256 → at + 4 ≤ length text → Tests image (At place) (AreFour text at a b c d) (λ rest. load_indexed Word at ∷ want Equal (four a b c d) rest)
-tests_four image place text at a b c d lies are small_b small_c small_d inside =
-    let w : ℕ = four (slice_index text at) (slice_index text (at + 1)) (slice_index text (at + 2)) (slice_index text (at + 3)) in
-    tests_same image (At place) _ _ (λ rest. load_indexed Word at ∷ want Equal (four a b c d) rest) (
-      λ e. four_same (slice_index text at) (slice_index text (at + 1)) (slice_index text (at + 2)) (slice_index text (at + 3)) a b c d (are (at + 1)) (are (at + 2)) (are (at + 3)) small_b small_c small_d (eqb-true w (four a b c d) e),
-      λ each. eq-eqb w (four a b c d) (rw (each.0, each.1, each.2, each.3) refl),
-    ) (tests_indexed image place Word at w Equal (four a b c d) (loads_word image place text at lies inside))
-
 -- ---- the words of a value
 
 -- a word of a text is that of a value
@@ -155,12 +137,7 @@ SameWord text at value i =
     AreFour text (at + i) (slice_index value i) (slice_index value (i + 1)) (slice_index value (i + 2)) (slice_index value (i + 3))
 
 extends_word : (at : ℕ) (value : List ℕ) (i : ℕ) → Extends (same_word at value i)
-extends_word at value i =
-    extends_indexed Word (at + i) (four (slice_index value i) (slice_index value (i + 1)) (slice_index value (i + 2)) (slice_index value (i + 3)))
-
-tests_same_word : (image : List ℕ) (place : ℕ) (text : List ℕ) (at : ℕ) (value : List ℕ) (i : ℕ) → Lies image place text → AreBytes text → AreBytes value → at + i + 4 ≤ length text → Tests image (At place) (SameWord text at value i) (same_word at value i)
-tests_same_word image place text at value i lies are bytes inside =
-    tests_four image place text (at + i) (slice_index value i) (slice_index value (i + 1)) (slice_index value (i + 2)) (slice_index value (i + 3)) lies are (bytes (i + 1)) (bytes (i + 2)) (bytes (i + 3)) inside
+extends_word at value i = extends_test (load_indexed Word (at + i)) Equal _
 
 word_agrees : (text : List ℕ) (at : ℕ) (value : List ℕ) (i : ℕ) → SameWord text at value i → Agree text at value i (i + 4)
 word_agrees text at value i same k low high = go (k - i) (omega arith)
@@ -193,6 +170,16 @@ agree_word text at value i agree = (
         let e : at + i + d ≡ at + (i + d) = omega arith in
         ap (slice_index text) e ∙ agree (i + d) (omega arith) (omega arith)
 
+tests_same_word : (image : List ℕ) (place : ℕ) (text : List ℕ) (at : ℕ) (value : List ℕ) (i : ℕ) → Lies image place text → AreBytes text → AreBytes value → at + i + 4 ≤ length text → Tests image (At place) (Agree text at value i (i + 4)) (same_word at value i)
+tests_same_word image place text at value i lies are bytes inside =
+    let there = at + i in
+    let w : ℕ = four (slice_index text there) (slice_index text (there + 1)) (slice_index text (there + 2)) (slice_index text (there + 3)) in
+    let k : ℕ = four (slice_index value i) (slice_index value (i + 1)) (slice_index value (i + 2)) (slice_index value (i + 3)) in
+    tests_same image (At place) _ _ (same_word at value i) (
+      λ e. word_agrees text at value i (four_same (slice_index text there) _ _ _ (slice_index value i) _ _ _ (are (there + 1)) (are (there + 2)) (are (there + 3)) (bytes (i + 1)) (bytes (i + 2)) (bytes (i + 3)) (eqb-true w k e)),
+      λ agree. let each = agree_word text at value i agree in eq-eqb w k (rw (each.0, each.1, each.2, each.3) refl),
+    ) (tests_indexed image place Word there w Equal k (loads_word image place text there lies inside))
+
 pub extends_words : (at : ℕ) (value : List ℕ) (n : ℕ) → Extends (same_words at value n)
 extends_words at value zero = extends_none
 extends_words at value (suc n) =
@@ -215,18 +202,18 @@ tests_same_words image place text at value (suc n) lies are bytes inside =
     let front : Agree text at value 0 (4 * n) × Agree text at value (4 * n) (4 * suc n) ↔ Agree text at value 0 (4 * suc n) = agree_more text at value 0 (4 * n) (4 * suc n) (omega arith) (omega arith) in
     let e : 4 * n + 4 ≡ 4 * suc n = omega arith in
     tests_same image (At place) _ _ (same_words at value (suc n)) (
-      λ both. front.0 (both.0, subst (λ (to : ℕ). Agree text at value (4 * n) to) e (word_agrees text at value (4 * n) both.1)),
-      λ all. let parts = front.1 all in (parts.0, agree_word text at value (4 * n) (subst (λ (to : ℕ). Agree text at value (4 * n) to) (sym e) parts.1)),
+      λ both. front.0 (both.0, subst (λ (to : ℕ). Agree text at value (4 * n) to) e both.1),
+      λ all. let parts = front.1 all in (parts.0, subst (λ (to : ℕ). Agree text at value (4 * n) to) (sym e) parts.1),
     ) (tests_both image (At place) _ _ (same_words at value n) (same_word at value (4 * n)) (tests_same_words image place text at value n lies are bytes (omega (arith, inside))) (tests_same_word image place text at value (4 * n) lies are bytes (omega (arith, inside))))
 
 -- ---- the piece that compares all bytes of a value
 
 pub extends_same_bytes : (at : ℕ) (value : List ℕ) → Extends (same_bytes at value)
 extends_same_bytes at [] = extends_none
-extends_same_bytes at (a ∷ []) = extends_indexed Byte at a
-extends_same_bytes at (a ∷ b ∷ []) = extends_indexed Half at (half_number a b)
+extends_same_bytes at (a ∷ []) = extends_test (load_indexed Byte at) Equal a
+extends_same_bytes at (a ∷ b ∷ []) = extends_test (load_indexed Half at) Equal (half_number a b)
 extends_same_bytes at (a ∷ b ∷ c ∷ []) =
-    extends_then (λ rest. load_indexed Half at ∷ want Equal (half_number a b) rest) (λ rest. load_indexed Byte (at + 2) ∷ want Equal c rest) (extends_indexed Half at (half_number a b)) (extends_indexed Byte (at + 2) c)
+    extends_then (λ rest. load_indexed Half at ∷ want Equal (half_number a b) rest) (λ rest. load_indexed Byte (at + 2) ∷ want Equal c rest) (extends_test (load_indexed Half at) Equal (half_number a b)) (extends_test (load_indexed Byte (at + 2)) Equal c)
 extends_same_bytes at (a ∷ b ∷ c ∷ d ∷ more) =
     let value = a ∷ b ∷ c ∷ d ∷ more in
     extends_then (same_word at value (length more)) (same_words at value ((length more + 3) / 4)) (extends_word at value (length more)) (extends_words at value ((length more + 3) / 4))
@@ -234,13 +221,13 @@ extends_same_bytes at (a ∷ b ∷ c ∷ d ∷ more) =
 -- the last four bytes of a value, and words that have those before
 tests_many : (image : List ℕ) (place : ℕ) (text : List ℕ) (at : ℕ) (value : List ℕ) (last n : ℕ) → Lies image place text → AreBytes text → AreBytes value → last + 4 ≡ length value → last ≤ 4 * n → 4 * n ≤ length value → at + length value ≤ length text → Tests image (At place) (Stands text at value) (λ rest. same_word at value last (same_words at value n rest))
 tests_many image place text at value last n lies are bytes is enough few inside =
-    tests_same image (At place) (SameWord text at value last × Agree text at value 0 (4 * n)) (Stands text at value) (λ rest. same_word at value last (same_words at value n rest)) (
+    tests_same image (At place) (Agree text at value last (last + 4) × Agree text at value 0 (4 * n)) (Stands text at value) (λ rest. same_word at value last (same_words at value n rest)) (
       λ both. agree_stands text at value inside (λ i low high. elim (cases_lt i (4 * n)) [
         | inl less ↦ both.1 i low less
-        | inr more ↦ word_agrees text at value last both.0 i (omega arith) (omega arith)
+        | inr more ↦ both.0 i (omega arith) (omega arith)
       ]),
-      λ stands. let all = stands_agree text at value stands in (agree_word text at value last (λ i low high. all i (omega arith) (omega arith)), λ i low high. all i low (omega arith)),
-    ) (tests_both image (At place) (SameWord text at value last) (Agree text at value 0 (4 * n)) (same_word at value last) (same_words at value n) (tests_same_word image place text at value last lies are bytes (omega arith)) (tests_same_words image place text at value n lies are bytes (omega arith)))
+      λ stands. let all = stands_agree text at value stands in (λ i low high. all i (omega arith) (omega arith), λ i low high. all i low (omega arith)),
+    ) (tests_both image (At place) (Agree text at value last (last + 4)) (Agree text at value 0 (4 * n)) (same_word at value last) (same_words at value n) (tests_same_word image place text at value last lies are bytes (omega arith)) (tests_same_words image place text at value n lies are bytes (omega arith)))
 
 -- The bytes of a text that lies where X points to are those of a value, from a place of the text on.
 pub tests_same_bytes : (image : List ℕ) (place : ℕ) (text : List ℕ) (at : ℕ) (value : List ℕ) → Lies image place text → AreBytes text → AreBytes value → at + length value ≤ length text → Tests image (λ x. x ≡ place) ((rest : List ℕ) × (drop at text ≡ value ++ rest)) (same_bytes at value)
@@ -258,6 +245,6 @@ tests_same_bytes image place text at (a ∷ b ∷ c ∷ []) lies are bytes insid
     tests_same image (At place) _ _ (same_bytes at (a ∷ b ∷ c ∷ [])) (
       λ both. same.0 (both.0, last.0 (both.1, stands_none text (at + 2 + 1))),
       λ stands. let x = same.1 stands in (x.0, (last.1 x.1).0),
-    ) (tests_then image (At place) _ _ (λ rest. load_indexed Half at ∷ want Equal (half_number a b) rest) (λ rest. load_indexed Byte (at + 2) ∷ want Equal c rest) (tests_two image place text at a b lies are (bytes 1) (omega arith)) (extends_indexed Byte (at + 2) c) (λ _. tests_byte image place text (at + 2) c lies (omega arith)))
+    ) (tests_then image (At place) _ _ (λ rest. load_indexed Half at ∷ want Equal (half_number a b) rest) (λ rest. load_indexed Byte (at + 2) ∷ want Equal c rest) (tests_two image place text at a b lies are (bytes 1) (omega arith)) (extends_test (load_indexed Byte (at + 2)) Equal c) (λ _. tests_byte image place text (at + 2) c lies (omega arith)))
 tests_same_bytes image place text at (a ∷ b ∷ c ∷ d ∷ more) lies are bytes inside =
     tests_many image place text at (a ∷ b ∷ c ∷ d ∷ more) (length more) ((length more + 3) / 4) lies are bytes (omega arith) (omega arith) (omega arith) inside

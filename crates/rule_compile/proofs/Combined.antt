@@ -1,5 +1,5 @@
 -- Pieces of programs joined: what they test together.
-use Rattle.std.proofs.Common.{◌≡◌, ℕ, ◌+◌, ◌-◌, length, true, false, List, [], ◌∷◌, ◌++◌, Some, ◌⊎◌, ◌↔◌, inl, inr, refl, sym, ap, ◌∙◌, subst}
+use Rattle.std.proofs.Common.{◌≡◌, ℕ, ◌+◌, ◌-◌, length, Bool, true, false, if◌then◌else◌, List, [], ◌∷◌, ◌++◌, Some, ◌⊎◌, ◌↔◌, inl, inr, refl, sym, ap, ◌∙◌, subst}
 use Rattle.std.proofs.lemmas.Bool.{cases_Bool, true≢false}
 use Rattle.std.proofs.lemmas.List.{append_assoc}
 use Rattle.bpf_code.specs.declared.instruction.Ins.{Ins}
@@ -20,6 +20,10 @@ Extends piece = (rest : List Ins) → (middle : List Ins) × (piece rest ≡ mid
 pub extends_none : Extends (λ rest. rest)
 extends_none rest = ([], refl)
 
+pub extends_choice : (b : Bool) (f g : List Ins → List Ins) → Extends f → Extends g → Extends (λ rest. if b then f rest else g rest)
+extends_choice true f g first other = first
+extends_choice false f g first other = other
+
 pub extends_more : (f : List Ins → List Ins) (ins : List Ins → Ins) → Extends f → Extends (λ rest. ins rest ∷ f rest)
 extends_more f ins more rest = (ins rest ∷ (more rest).0, ap (λ (code : List Ins). ins rest ∷ code) (more rest).1)
 
@@ -31,6 +35,10 @@ extends_then f g first next rest =
 
 pub extends_want : (test : Test) (k : ℕ) → Extends (want test k)
 extends_want test k rest = (_ ∷ [], refl)
+
+-- an instruction, and a test of what it gives
+pub extends_test : (ins : Ins) (test : Test) (k : ℕ) → Extends (λ rest. ins ∷ want test k rest)
+extends_test ins test k rest = (ins ∷ _ ∷ [], refl)
 
 -- a piece in front of a rest that says no match at its end does so too
 pub guards : (f : List Ins → List Ins) → Extends f → (rest : List Ins) → Guarded rest → Guarded (f rest)
@@ -91,7 +99,7 @@ tests_both image X P Q f g first next = record {
 pub tests_word : (image : List ℕ) (X : ℕ → Type 0) (at w : ℕ) (test : Test) (k : ℕ) → load_word image at ≡ Some w → Tests image X (passes test w k ≡ true) (λ rest. image_word at ∷ want test k rest)
 tests_word image X at w test k is = record {
   decided = elim (cases_Bool (passes test w k)) [ inl h ↦ inl h | inr h ↦ inr (λ e. true≢false (sym e ∙ h)) ];
-  guarded = guards (λ rest. image_word at ∷ want test k rest) (extends_more (want test k) (λ _. image_word at) (extends_want test k));
+  guarded = guards (λ rest. image_word at ∷ want test k rest) (extends_test (image_word at) test k);
   passes = λ rest v g leads holds a x fits. runs_image_word (want test k rest) image at w a x v is (runs_want rest image test k w x v holds (leads w x fits));
   fails = λ rest g n a x fits. runs_image_word (want test k rest) image at w a x 0 is (stops_want rest image test k w x g (elim (cases_Bool (passes test w k)) [ inl h ↦ absurd (n h) | inr h ↦ h ]));
 }
@@ -100,7 +108,7 @@ tests_word image X at w test k is = record {
 pub tests_indexed : (image : List ℕ) (place : ℕ) (width : Width) (at w : ℕ) (test : Test) (k : ℕ) → load width image (place + at) ≡ Some w → Tests image (λ x. x ≡ place) (passes test w k ≡ true) (λ rest. load_indexed width at ∷ want test k rest)
 tests_indexed image place width at w test k is = record {
   decided = elim (cases_Bool (passes test w k)) [ inl h ↦ inl h | inr h ↦ inr (λ e. true≢false (sym e ∙ h)) ];
-  guarded = guards (λ rest. load_indexed width at ∷ want test k rest) (extends_more (want test k) (λ _. load_indexed width at) (extends_want test k));
+  guarded = guards (λ rest. load_indexed width at ∷ want test k rest) (extends_test (load_indexed width at) test k);
   passes = λ rest v g leads holds a x fits. runs_indexed (want test k rest) image width at w a x v (subst (λ (y : ℕ). load width image (y + at) ≡ Some w) (sym fits) is) (runs_want rest image test k w x v holds (leads w x fits));
   fails = λ rest g n a x fits. runs_indexed (want test k rest) image width at w a x 0 (subst (λ (y : ℕ). load width image (y + at) ≡ Some w) (sym fits) is) (stops_want rest image test k w x g (elim (cases_Bool (passes test w k)) [ inl h ↦ absurd (n h) | inr h ↦ h ]));
 }

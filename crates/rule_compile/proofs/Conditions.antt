@@ -6,7 +6,8 @@ use Rattle.std.proofs.lemmas.Bool.{false≢true, eqb-true, eq-eqb, ne_eqb, leb-t
 use Rattle.std.proofs.lemmas.Nat.{pow_pos}
 use Rattle.std.proofs.lemmas.Nat.Bits.{and_pow, bit_at-lt}
 use Rattle.std.proofs.lemmas.Slice.Eq.{bytes_eq-Decides}
-use Rattle.bpf_code.specs.declared.operation.Test.TheVariants.{Equal, AtLeast, SharesBit}
+use Rattle.std.proofs.lemmas.Option.{same_Some}
+use Rattle.bpf_code.specs.declared.operation.Test.TheVariants.{Equal, Above, AtLeast, SharesBit}
 use Rattle.bpf_code.specs.declared.instruction.Ins.{Ins}
 use Rattle.bpf_code.specs.Loads.{load_word}
 use Rattle.bpf_code.specs.Effects.{passes}
@@ -17,7 +18,7 @@ use Rattle.message_view.specs.Message.{Message, sender_of}
 use Rattle.message_view.specs.Spelling.{arguments_of}
 use Rattle.message_view.specs.Valid.{Valid}
 use Rattle.match_key.specs.declared.kind_name.KindName.{KindName}
-use Rattle.match_key.specs.declared.kind_name.KindName.TheVariants.{Signal, MethodCall, MethodReturn, Error}
+use Rattle.match_key.specs.declared.kind_name.KindName.TheVariants.{Signal}
 use Rattle.match_key.specs.declared.source.Field.{Field}
 use Rattle.match_key.specs.declared.source.Field.TheVariants.{Interface, Member, Path, Destination}
 use Rattle.match_key.specs.declared.source.Source.TheVariants.{Header, Arg}
@@ -37,11 +38,11 @@ use Rattle.message_value.specs.Bytes.{AreBytes}
 use Rattle.summary.specs.Layout.{kind_place, text_place, argument_place, ownership_place}
 use Rattle.rule_compile.specs.Code.{image_word, want, is_there, has_text_len, has_bytes, in_namespace}
 use Rattle.rule_compile.specs.Folders.{is_nested}
-use Rattle.rule_compile.specs.RuleCode.{field_at, owns, relation_len, relation_bytes, there_code, condition_words, condition_bytes}
+use Rattle.rule_compile.specs.RuleCode.{words_at, owns, relation_len, relation_bytes, there_code, condition_words, condition_bytes}
 use Rattle.rule_compile.proofs.Pieces.{Any, Tests}
-use Rattle.rule_compile.proofs.Combined.{Extends, extends_none, tests_none, tests_same, tests_word}
-use Rattle.rule_compile.proofs.InTurn.{InTurn, turn_first, turn_second, turn_then, turn_same, turn_one}
-use Rattle.rule_compile.proofs.Texts.{extends_is_there, tests_is_there, extends_text_len, extends_bytes, turn_is_text, extends_in_namespace, turn_in_namespace}
+use Rattle.rule_compile.proofs.Combined.{Extends, extends_none, extends_choice, extends_test, tests_none, tests_same, tests_word}
+use Rattle.rule_compile.proofs.InTurn.{InTurn, turn_first, turn_second, turn_then, turn_same}
+use Rattle.rule_compile.proofs.Texts.{tests_is_there, extends_text_len, extends_bytes, turn_is_text, extends_in_namespace, turn_in_namespace}
 use Rattle.rule_compile.proofs.TextArguments.{argument_has_text}
 use Rattle.rule_compile.proofs.NestedPaths.{extends_is_nested, is_nested_tests}
 use Rattle.rule_compile.proofs.Arguments.{turn_argument}
@@ -50,17 +51,12 @@ use Rattle.rule_compile.proofs.Arguments.{turn_argument}
 
 kind_back : (kind : KindName) → kind_of (kind_byte (kind_meant kind)) ≡ Some (kind_meant kind)
 kind_back Signal = refl
-kind_back MethodCall = refl
-kind_back MethodReturn = refl
-kind_back Error = refl
-
-same_kind : (a b : kinds.Kind) → Some a ≡ Some b → a ≡ b
-same_kind a b h = cc
+kind_back _ = refl
 
 tests_kind : (image : List ℕ) (kind : kinds.Kind) (name : KindName) → load_word image kind_place ≡ Some (kind_byte kind) → kind_of (kind_byte kind) ≡ Some kind → Tests image Any (kind ≡ kind_meant name) (λ rest. image_word kind_place ∷ want Equal (kind_byte (kind_meant name)) rest)
 tests_kind image kind name is known =
     tests_same image Any _ _ (λ rest. image_word kind_place ∷ want Equal (kind_byte (kind_meant name)) rest) (
-      λ e. same_kind kind (kind_meant name) (sym known ∙ ap kind_of (eqb-true (kind_byte kind) (kind_byte (kind_meant name)) e) ∙ kind_back name),
+      λ e. same_Some kind (kind_meant name) (sym known ∙ ap kind_of (eqb-true (kind_byte kind) (kind_byte (kind_meant name)) e) ∙ kind_back name),
       λ same. eq-eqb (kind_byte kind) (kind_byte (kind_meant name)) (ap kind_byte same),
     ) (tests_word image Any kind_place (kind_byte kind) Equal (kind_byte (kind_meant name)) is)
 
@@ -86,16 +82,13 @@ turn_sender image slots slot name sender false owned word shows bytes agrees =
 
 -- ---- a text that stands in a relation to a value
 
-same_text : (a b : List ℕ) → Some a ≡ Some b → a ≡ b
-same_text a b h = cc
-
 some_shown : (shown : Option (List ℕ)) (Q : List ℕ → Type 0) → ((text : List ℕ) × (shown ≡ Some text) × Q text) ↔ IsSomeAnd shown Q
 some_shown None Q = (λ p. let e = p.1 in absurd cc, λ none. absurd none)
-some_shown (Some text) Q = (λ p. subst Q (sym (same_text text p.0 p.1)) p.2, λ q. (text, refl, q))
+some_shown (Some text) Q = (λ p. subst Q (sym (same_Some text p.0 p.1)) p.2, λ q. (text, refl, q))
 
 equal_shown : (shown : Option (List ℕ)) (value : List ℕ) → (shown ≡ Some value) ↔ IsSomeAnd shown (λ text. text ≡ value)
 equal_shown None value = (λ e. absurd cc, λ none. absurd none)
-equal_shown (Some text) value = (λ e. same_text text value e, λ e. ap (λ (x : List ℕ). Some x) e)
+equal_shown (Some text) value = (λ e. same_Some text value e, λ e. ap (λ (x : List ℕ). Some x) e)
 
 -- a text that has to be there, and is tested then
 turn_if_there : (image : List ℕ) (at : ℕ) (shown : Option (List ℕ)) (Q : List ℕ → Type 0) (g : List Ins → List Ins) → ShowsText image at shown → Extends g → ((text : List ℕ) → Tells image at text → Tests image Any (Q text) g) → InTurn image (IsSomeAnd shown Q) (is_there at) g
@@ -103,14 +96,6 @@ turn_if_there image at None Q g shows extends tail =
     turn_then image (0 < 0) ⊥ (is_there at) g (tests_is_there image Any at 0 shows.0) extends (λ less. absurd (omega arith)) (λ none. absurd none)
 turn_if_there image at (Some text) Q g tells extends tail =
     turn_then image (0 < tells.place) (Q text) (is_there at) g (tests_is_there image Any at tells.place tells.place_word) extends (λ less. tail text tells) (λ q. tells.after_start)
-
-any_path : (image : List ℕ) (at : ℕ) (path : Option (List ℕ)) → ShowsText image at path → Tests image Any (IsSomeAnd path (λ p. Unit {0})) (is_there at)
-any_path image at path shows =
-    turn_one image _ (is_there at) (λ rest. rest) (turn_if_there image at path (λ p. Unit {0}) (λ rest. rest) shows extends_none (λ text tells. tests_none image Any (Unit {0}) tt))
-
-every_path : (path : Option (List ℕ)) (value : List ℕ) → value ≡ 47 ∷ [] → IsSomeAnd path (λ p. Unit {0}) ↔ IsSomeAnd path (λ p. InPathNamespace p value)
-every_path None value root = (λ none. none, λ none. none)
-every_path (Some p) value root = (λ _. inr (inr root), λ _. tt)
 
 below : (p value : List ℕ) → bytes_eq value (47 ∷ []) ≡ false → ((p ≡ value) ⊎ Begins p (value ++ 47 ∷ [])) ↔ InPathNamespace p value
 below p value is = (
@@ -120,7 +105,9 @@ below p value is = (
 
 turn_path_namespace : (image : List ℕ) (at : ℕ) (path : Option (List ℕ)) (value : List ℕ) (root : Bool) → bytes_eq value (47 ∷ []) ≡ root → ShowsText image at path → AreBytes value → InTurn image (IsSomeAnd path (λ p. InPathNamespace p value)) (λ rest. if root then is_there at rest else has_text_len AtLeast (length value) at rest) (λ rest. if root then rest else in_namespace at 47 value rest)
 turn_path_namespace image at path value true is shows bytes =
-    turn_first image _ (is_there at) (tests_same image Any _ _ (is_there at) (every_path path value ((bytes_eq-Decides value (47 ∷ [])).0 is)) (any_path image at path shows))
+    let root = (bytes_eq-Decides value (47 ∷ [])).0 is in
+    turn_if_there image at path (λ p. InPathNamespace p value) (λ rest. rest) shows extends_none
+    (λ p tells. tests_none image Any (InPathNamespace p value) (inr (inr root)))
 turn_path_namespace image at path value false is shows bytes =
     turn_same image _ _ (has_text_len AtLeast (length value) at) (in_namespace at 47 value) (
       λ p. (some_shown path (λ p. InPathNamespace p value)).0 (p.0, p.1, (below p.0 value is).0 p.2),
@@ -129,21 +116,16 @@ turn_path_namespace image at path value false is shows bytes =
 
 extends_len : (relation : Relation) (at : ℕ) (value : List ℕ) → Extends (relation_len relation at value)
 extends_len relations.Equal at value = extends_text_len Equal (length value) at
-extends_len relations.PathNamespace at value = go (bytes_eq value (47 ∷ []))
-  where
-    go : (root : Bool) → Extends (λ rest. if root then is_there at rest else has_text_len AtLeast (length value) at rest)
-    go true = extends_is_there at
-    go false = extends_text_len AtLeast (length value) at
+extends_len relations.PathNamespace at value =
+    let len = has_text_len AtLeast (length value) at in
+    extends_choice (bytes_eq value (47 ∷ [])) (is_there at) len (extends_test (image_word at) Above 0) (extends_text_len AtLeast (length value) at)
 extends_len relations.NameNamespace at value = extends_text_len AtLeast (length value) at
 extends_len relations.NestedPath at value = extends_none
 
 extends_relation : (relation : Relation) (at : ℕ) (value : List ℕ) → Extends (relation_bytes relation at value)
 extends_relation relations.Equal at value = extends_bytes at value
-extends_relation relations.PathNamespace at value = go (bytes_eq value (47 ∷ []))
-  where
-    go : (root : Bool) → Extends (λ rest. if root then rest else in_namespace at 47 value rest)
-    go true = extends_none
-    go false = extends_in_namespace at 47 value
+extends_relation relations.PathNamespace at value =
+    extends_choice (bytes_eq value (47 ∷ [])) (λ rest. rest) (in_namespace at 47 value) extends_none (extends_in_namespace at 47 value)
 extends_relation relations.NameNamespace at value = extends_in_namespace at 46 value
 extends_relation relations.NestedPath at value = extends_is_nested at value
 
@@ -160,19 +142,17 @@ turn_shown relations.NestedPath image at shown value shows bytes =
 
 -- the text of an argument, which is there
 turn_told : (relation : Relation) (image : List ℕ) (at : ℕ) (text value : List ℕ) → Tells image at text → AreBytes value → InTurn image (Relates relation text value) (relation_len relation at value) (relation_bytes relation at value)
-turn_told relations.Equal image at text value tells bytes = turn_shown relations.Equal image at (Some text) value tells bytes
-turn_told relations.PathNamespace image at text value tells bytes = turn_shown relations.PathNamespace image at (Some text) value tells bytes
-turn_told relations.NameNamespace image at text value tells bytes = turn_shown relations.NameNamespace image at (Some text) value tells bytes
 turn_told relations.NestedPath image at text value tells bytes =
     turn_second image (AreNested text value) (is_nested at value) (is_nested_tests image at text value tells bytes)
+turn_told relation image at text value tells bytes = turn_shown relation image at (Some text) value tells bytes
 
 -- ---- what an image shows of each source
 
-shows_field : (image : List ℕ) (m : Message) (slots : List ℕ) (field : Field) → Shows Two image m slots → ShowsText image (field_at field) (field_of field m)
-shows_field image m slots Interface shows = shows.interface
-shows_field image m slots Member shows = shows.member
-shows_field image m slots Path shows = shows.path
-shows_field image m slots Destination shows = shows.destination
+shows_field : (image slots : List ℕ) (m : Message) (field : Field) → Shows Two image m slots → ShowsText image (words_at (Header field)) (field_of field m)
+shows_field image slots m Interface shows = shows.interface
+shows_field image slots m Member shows = shows.member
+shows_field image slots m Path shows = shows.path
+shows_field image slots m Destination shows = shows.destination
 
 -- ---- each condition
 
@@ -187,6 +167,6 @@ turn_condition image bytes m slots owned slot (Kind kind) valid shows slot_small
 turn_condition image bytes m slots owned slot (Sender name) valid shows slot_small fits small are =
     turn_sender image slots slot name (sender_of m) (is_owned_name name) (owned name) (shows.owned slot slot_small) shows.sender are fits
 turn_condition image bytes m slots owned slot (Compares (Header field) relation value) valid shows slot_small fits small are =
-    turn_shown relation image (field_at field) (field_of field m) value (shows_field image m slots field shows) are
+    turn_shown relation image (words_at (Header field)) (field_of field m) value (shows_field image slots m field shows) are
 turn_condition image bytes m slots owned slot (Compares (Arg n) relation value) valid shows slot_small fits small are =
     turn_argument image n relation (slice_get (arguments_of m) n) (λ text. Relates relation text value) (relation_len relation (argument_place n + 4) value) (relation_bytes relation (argument_place n + 4) value) (shows.argument n (let l = leb-true n 63 small in omega arith)) (λ a is text. argument_has_text bytes m n a valid is text) (extends_len relation (argument_place n + 4) value) (extends_relation relation (argument_place n + 4) value) (λ text tells. turn_told relation image (argument_place n + 4) text value tells are)

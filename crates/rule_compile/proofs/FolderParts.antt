@@ -48,9 +48,6 @@ follow_parts_more : (at place : ℕ) (part : List ℕ) (parts : List (List ℕ))
 follow_parts_more at place part [] rest h = absurd (omega (arith, h))
 follow_parts_more at place part (next ∷ more) rest h = refl
 
-length_part : (text : List ℕ) (start end : ℕ) → start ≤ end → end ≤ length text → length (take (end - start) (drop start text)) ≡ end - start
-length_part text start end h k = grind (arith, length-take, length-drop)
-
 -- the part from a start up to the end that another part begins at
 pub follow_parts_before : (at start end : ℕ) (text : List ℕ) (rest : List Ins) → start < end → end < length text → ((k : ℕ) → start ≤ k → k + 1 < end → get_or text k 0 ≢ 47) → get_or text (end - 1) 0 ≡ 47 → follow_parts at start (parts_of (drop start text)) rest ≡ inner at start (take (end - start) (drop start text)) rest (follow_parts at end (parts_of (drop end text)) rest)
 follow_parts_before at start end text rest before within one slash =
@@ -66,7 +63,7 @@ follow_parts_before at start end text rest before within one slash =
     let same : drop (suc n) left ≡ drop end text = drop-drop (suc n) start text ∙ ap (λ (i : ℕ). drop i text) to in
     let cut_so : parts_of left ≡ take (end - start) left ∷ parts_of (drop end text) = cut ∙ ap (λ (i : ℕ). take i left ∷ parts_of (drop (suc n) left)) size ∙ ap (λ (others : List ℕ). take (end - start) left ∷ parts_of others) same in
     let some_left : 0 < length (drop end text) = rw length-drop (omega arith) in
-    let here : start + length (take (end - start) left) ≡ end = rw (length_part text start end (omega arith) (omega arith)) (omega arith) in
+    let here : start + length (take (end - start) left) ≡ end = grind (arith, length-take, length-drop) in
     ap (λ (parts : List (List ℕ)). follow_parts at start parts rest) cut_so ∙ follow_parts_more at start (take (end - start) left) (parts_of (drop end text)) rest (some_parts (drop end text) some_left) ∙ ap (λ (i : ℕ). inner at start (take (end - start) left) rest (follow_parts at i (parts_of (drop end text)) rest)) here
 
 -- the last part of a text

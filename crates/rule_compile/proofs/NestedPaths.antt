@@ -1,7 +1,7 @@
 -- What the program of a path's condition tests: whether the paths are nested.
-use Rattle.std.proofs.Common.{◌≡◌, ℕ, zero, suc, ◌+◌, ◌<◌, ◌≤◌, Bool, true, false, List, [], ◌∷◌, length, inl, inr, ◌⊎◌, refl, arith}
-use Rattle.std.specs.Prelude.{◌==◌, ◌↔◌, MatchBool, if◌then◌else◌}
-use Rattle.std.proofs.lemmas.Bool.{eqb-true, eq-eqb}
+use Rattle.std.proofs.Common.{◌≡◌, ℕ, zero, suc, ◌+◌, ◌<◌, ◌≤◌, Bool, true, false, List, [], ◌∷◌, length, inl, inr, ◌⊎◌, arith}
+use Rattle.std.specs.Prelude.{◌==◌, MatchBool, if◌then◌else◌}
+use Rattle.std.proofs.lemmas.Bool.{eqb-true, eq-eqb, ne_eqb}
 use Rattle.bpf_code.specs.declared.instruction.Ins.{Ins}
 use Rattle.bpf_code.specs.declared.operation.Test.{Test}
 use Rattle.bpf_code.specs.declared.operation.Test.TheVariants.{Equal, AtLeast}
@@ -9,12 +9,12 @@ use Rattle.match_rule.specs.Bytes.{ends_with}
 use Rattle.match_rule.specs.Holds.{AreNested}
 use Rattle.summary.specs.Shown.{Tells}
 use Rattle.message_value.specs.Bytes.{AreBytes}
-use Rattle.rule_compile.specs.Code.{same_bytes, has_len, index_text, may_end}
+use Rattle.rule_compile.specs.Code.{image_word, same_bytes, has_len, may_end}
 use Rattle.rule_compile.specs.Folders.{with_front, parts_of, follow_parts, is_nested}
 use Rattle.rule_compile.proofs.Pieces.{Any, Tests}
-use Rattle.rule_compile.proofs.Combined.{Extends, extends_none, extends_then, extends_settle, extends_index_text, tests_none, tests_same, tests_then, tests_both, tests_settle, tests_index_text}
+use Rattle.rule_compile.proofs.Combined.{Extends, extends_none, extends_choice, extends_then, extends_test, extends_settle, extends_index_text, tests_none, tests_same, tests_then, tests_both, tests_settle, tests_index_text}
 use Rattle.rule_compile.proofs.Bytes.{Stands, At, extends_same_bytes, tests_same_bytes}
-use Rattle.rule_compile.proofs.Texts.{extends_has_len, tests_len_is, tests_len_from}
+use Rattle.rule_compile.proofs.Texts.{tests_len_is, tests_len_from}
 use Rattle.rule_compile.proofs.NestedTexts.{AlongParts, nested_follow_parts, nested_empty}
 
 -- ---- the bytes of the parts
@@ -51,30 +51,25 @@ part_tests image at text place part test P tells are fits t =
 
 -- the text ends here, or the piece tests the rest
 ends_here : (image : List ℕ) (X : ℕ → Type 0) (P : Type 0) (f : List Ins → List Ins) (at : ℕ) (text : List ℕ) (n : ℕ) → Tells image at text → Extends f → Tests image X P f → Tests image X ((length text ≡ n) ⊎ P) (λ rest. may_end at n rest (f rest))
-ends_here image X P f at text n tells extends t = tests_same image X _ ((length text ≡ n) ⊎ P) (λ rest. may_end at n rest (f rest)) (forth, back) (tests_settle image X P f (at + 4) (length text) Equal n tells.len_word extends (λ _. t))
-  where
-    forth : ((length text == n) ≡ true) ⊎ P → (length text ≡ n) ⊎ P
-    forth (inl e) = inl (eqb-true (length text) n e)
-    forth (inr p) = inr p
-
-    back : (length text ≡ n) ⊎ P → ((length text == n) ≡ true) ⊎ P
-    back (inl e) = inl (eq-eqb (length text) n e)
-    back (inr p) = inr p
+ends_here image X P f at text n tells extends t =
+    tests_same image X _ ((length text ≡ n) ⊎ P) (λ rest. may_end at n rest (f rest)) (
+      λ h. elim h [ inl e ↦ inl (eqb-true (length text) n e) | inr p ↦ inr p ],
+      λ h. elim h [ inl e ↦ inl (eq-eqb (length text) n e) | inr p ↦ inr p ],
+    ) (tests_settle image X P f (at + 4) (length text) Equal n tells.len_word extends (λ _. t))
 
 -- ---- along the parts
 
 extends_part : (test : Test) (n at place : ℕ) (part : List ℕ) (f : List Ins → List Ins) → Extends f → Extends (λ rest. has_len test n at (same_bytes place part (f rest)))
 extends_part test n at place part f more =
     let bytes = extends_then (same_bytes place part) f (extends_same_bytes place part) more in
-    extends_then (has_len test n at) (λ rest. same_bytes place part (f rest)) (extends_has_len test n at) bytes
+    extends_then (has_len test n at) (λ rest. same_bytes place part (f rest)) (extends_test (image_word (at + 4)) test n) bytes
 
 extends_follow_parts : (at place : ℕ) (parts : List (List ℕ)) → Extends (follow_parts at place parts)
 extends_follow_parts at place [] = extends_none
-extends_follow_parts at place (part ∷ []) = go (ends_with 47 part)
-  where
-    go : (slash : Bool) → Extends (λ rest. if slash then has_len AtLeast (place + length part) at (same_bytes place part rest) else has_len Equal (place + length part) at (same_bytes place part rest))
-    go true = extends_part AtLeast (place + length part) at place part (λ rest. rest) extends_none
-    go false = extends_part Equal (place + length part) at place part (λ rest. rest) extends_none
+extends_follow_parts at place (part ∷ []) =
+    let n = place + length part in
+    let from = extends_part AtLeast n at place part (λ rest. rest) extends_none in
+    extends_choice (ends_with 47 part) _ _ from (extends_part Equal n at place part (λ rest. rest) extends_none)
 extends_follow_parts at place (part ∷ next ∷ more) =
     let n = place + length part in
     let later = extends_settle (follow_parts at n (next ∷ more)) (at + 4) Equal n (extends_follow_parts at n (next ∷ more)) in
@@ -102,25 +97,19 @@ follow_parts_tests (part ∷ next ∷ more) image at text place tells are =
 -- ---- the whole piece
 
 pub extends_is_nested : (at : ℕ) (value : List ℕ) → Extends (is_nested at value)
-extends_is_nested at value = go (length value == 0)
-  where
-    go : (empty : Bool) → Extends (λ rest. if empty then has_len Equal 0 at rest else index_text at (follow_parts at 0 (parts_of value) rest))
-    go true = extends_has_len Equal 0 at
-    go false = extends_index_text (follow_parts at 0 (parts_of value)) at (extends_follow_parts at 0 (parts_of value))
+extends_is_nested at value =
+    let parts = parts_of value in
+    let parts_extend = extends_index_text (follow_parts at 0 parts) at (extends_follow_parts at 0 parts) in
+    extends_choice (length value == 0) (has_len Equal 0 at) _ (extends_test (image_word (at + 4)) Equal 0) parts_extend
 
 -- the piece tests whether the text and the value are nested
 pub is_nested_tests : (image : List ℕ) (at : ℕ) (text value : List ℕ) → Tells image at text → AreBytes value → Tests image Any (AreNested text value) (is_nested at value)
 is_nested_tests image at text [] tells are =
     let same = nested_empty text in
     tests_same image Any (length text ≡ 0) (AreNested text []) (is_nested at []) (same.1, same.0) (tests_len_is image Any at (length text) 0 tells.len_word)
-is_nested_tests image at text (b ∷ bs) tells are = tests_same image Any (AlongParts text 0 parts) (AreNested text (b ∷ bs)) (is_nested at (b ∷ bs)) (same.1, same.0) (go (length (b ∷ bs) == 0) refl)
-  where
-    parts : List (List ℕ)
-    parts = parts_of (b ∷ bs)
-
-    same : AreNested text (b ∷ bs) ↔ AlongParts text 0 parts
-    same = nested_follow_parts text b bs
-
-    go : (empty : Bool) → (length (b ∷ bs) == 0) ≡ empty → Tests image Any (AlongParts text 0 parts) (λ rest. if empty then has_len Equal 0 at rest else index_text at (follow_parts at 0 parts rest))
-    go true is = absurd (let e = eqb-true (length (b ∷ bs)) 0 is in omega arith)
-    go false is = tests_index_text image (AlongParts text 0 parts) (follow_parts at 0 parts) at tells.place tells.place_word (follow_parts_tests parts image at text 0 tells (parts_are_bytes (b ∷ bs) are))
+is_nested_tests image at text (b ∷ bs) tells are =
+    let parts = parts_of (b ∷ bs) in
+    let same = nested_follow_parts text b bs in
+    let filled : (length (b ∷ bs) == 0) ≡ false = ne_eqb (length (b ∷ bs)) 0 (λ e. omega arith) in
+    tests_same image Any (AlongParts text 0 parts) (AreNested text (b ∷ bs)) (is_nested at (b ∷ bs)) (same.1, same.0)
+    (rw (filled, is_nested) (tests_index_text image (AlongParts text 0 parts) (follow_parts at 0 parts) at tells.place tells.place_word (follow_parts_tests parts image at text 0 tells (parts_are_bytes (b ∷ bs) are))))

@@ -22,22 +22,17 @@ Meets text (part ∷ []) = MatchBool (ends_with 47 part) (Begins text part) (tex
 Meets text (part ∷ next ∷ more) = (remainder : List ℕ) × (text ≡ part ++ remainder) × ((remainder ≡ []) ⊎ Meets remainder (next ∷ more))
 
 -- the first part of a text that isn't empty has a byte
-record Parted (parts : List (List ℕ)) : Type 0 where
-  pub byte : ℕ
-  pub bytes : List ℕ
-  pub more : List (List ℕ)
-  pub is : parts ≡ (byte ∷ bytes) ∷ more
+abbrev IsParted : List (List ℕ) → Type 0
+IsParted ((q ∷ qs) ∷ more) = Unit {0}
+IsParted _ = ⊥
 
-fronted : (b : ℕ) (parts : List (List ℕ)) → Parted (with_front b parts)
-fronted b [] = record { byte = b; bytes = []; more = []; is = refl }
-fronted b (part ∷ more) = record { byte = b; bytes = part; more = more; is = refl }
-
-parted : (b : ℕ) (bs : List ℕ) → Parted (parts_of (b ∷ bs))
-parted b bs = go (b == 47)
+parted : (b : ℕ) (bs : List ℕ) → IsParted (parts_of (b ∷ bs))
+parted b bs = go (b == 47) (parts_of bs)
   where
-    go : (slash : Bool) → Parted (if slash then (b ∷ []) ∷ parts_of bs else with_front b (parts_of bs))
-    go true = record { byte = b; bytes = []; more = parts_of bs; is = refl }
-    go false = fronted b (parts_of bs)
+    go : (slash : Bool) (parts : List (List ℕ)) → IsParted (if slash then (b ∷ []) ∷ parts else with_front b parts)
+    go true parts = tt
+    go false [] = tt
+    go false (part ∷ more) = tt
 
 -- the text begins with the value's first byte, and ends after it where that is a `/`, or goes on nested
 abbrev Follows : List ℕ → ℕ → List ℕ → Type 0
@@ -58,16 +53,13 @@ nested_follows (t ∷ u ∷ us) b c cs (inr (inl folder)) =
 nested_follows text b c cs (inr (inr folder)) = (c ∷ cs ++ folder.1.0, folder.1.1, inr (inr (inr (folder.0, (folder.1.0, refl)))))
 
 follows_nested : (text : List ℕ) (b c : ℕ) (cs : List ℕ) → Follows text b (c ∷ cs) → AreNested text (b ∷ c ∷ cs)
-follows_nested text b c cs w = go w.0 w.1 w.2
-  where
-    go : (remainder : List ℕ) → text ≡ b ∷ remainder → (((b == 47) ≡ true) × (remainder ≡ []) ⊎ AreNested remainder (c ∷ cs)) → AreNested text (b ∷ c ∷ cs)
-    go remainder is (inl ends) =
-        let one : text ≡ b ∷ [] = is ∙ ap (λ (x : List ℕ). b ∷ x) ends.1 in
-        inr (inl (ap (ends_with 47) one ∙ ends.0, (c ∷ cs, ap (λ (x : List ℕ). x ++ (c ∷ cs)) (sym one))))
-    go remainder is (inr (inl same)) = inl (is ∙ ap (λ (x : List ℕ). b ∷ x) same)
-    go [] is (inr (inr (inl folder))) = absurd (let h : false ≡ true = folder.0 in cc)
-    go (u ∷ us) is (inr (inr (inl folder))) = inr (inl (ap (ends_with 47) is ∙ folder.0, (folder.1.0, ap (λ (x : List ℕ). b ∷ x) folder.1.1 ∙ ap (λ (x : List ℕ). x ++ folder.1.0) (sym is))))
-    go remainder is (inr (inr (inr folder))) = inr (inr (folder.0, (folder.1.0, is ∙ ap (λ (x : List ℕ). b ∷ x) folder.1.1)))
+follows_nested text b c cs (remainder, is, inl ends) =
+    let one : text ≡ b ∷ [] = is ∙ ap (λ (x : List ℕ). b ∷ x) ends.1 in
+    inr (inl (ap (ends_with 47) one ∙ ends.0, (c ∷ cs, ap (λ (x : List ℕ). x ++ (c ∷ cs)) (sym one))))
+follows_nested text b c cs (remainder, is, inr (inl same)) = inl (is ∙ ap (λ (x : List ℕ). b ∷ x) same)
+follows_nested text b c cs ([], is, inr (inr (inl folder))) = absurd (let h : false ≡ true = folder.0 in cc)
+follows_nested text b c cs (u ∷ us, is, inr (inr (inl folder))) = inr (inl (ap (ends_with 47) is ∙ folder.0, (folder.1.0, ap (λ (x : List ℕ). b ∷ x) folder.1.1 ∙ ap (λ (x : List ℕ). x ++ folder.1.0) (sym is))))
+follows_nested text b c cs (remainder, is, inr (inr (inr folder))) = inr (inr (folder.0, (folder.1.0, is ∙ ap (λ (x : List ℕ). b ∷ x) folder.1.1)))
 
 -- a value of one byte
 nested_one : (text : List ℕ) (b : ℕ) (slash : Bool) → (b == 47) ≡ slash → AreNested text (b ∷ []) ↔ MatchBool slash (Begins text (b ∷ [])) (text ≡ b ∷ [])
@@ -101,26 +93,17 @@ meets_more : (text : List ℕ) (b c : ℕ) (cs : List ℕ) (slash : Bool) (q : �
 meets_more text b c cs true q qs more is rest = (λ n. forth (nested_follows text b c cs n), λ m. follows_nested text b c cs (back m))
   where
     forth : Follows text b (c ∷ cs) → Meets text ((b ∷ []) ∷ (q ∷ qs) ∷ more)
-    forth w = (w.0, w.1, alternative w.2)
-      where
-        alternative : (((b == 47) ≡ true) × (w.0 ≡ []) ⊎ AreNested w.0 (c ∷ cs)) → (w.0 ≡ []) ⊎ Meets w.0 ((q ∷ qs) ∷ more)
-        alternative (inl ends) = inl ends.1
-        alternative (inr nested) = inr ((rest w.0).0 nested)
+    forth (remainder, is_front, inl ends) = (remainder, is_front, inl ends.1)
+    forth (remainder, is_front, inr nested) = (remainder, is_front, inr ((rest remainder).0 nested))
 
     back : Meets text ((b ∷ []) ∷ (q ∷ qs) ∷ more) → Follows text b (c ∷ cs)
-    back w = (w.0, w.1, alternative w.2)
-      where
-        alternative : (w.0 ≡ []) ⊎ Meets w.0 ((q ∷ qs) ∷ more) → (((b == 47) ≡ true) × (w.0 ≡ []) ⊎ AreNested w.0 (c ∷ cs))
-        alternative (inl ends) = inl (is, ends)
-        alternative (inr meets) = inr ((rest w.0).1 meets)
+    back (remainder, is_front, inl ends) = (remainder, is_front, inl (is, ends))
+    back (remainder, is_front, inr meets) = (remainder, is_front, inr ((rest remainder).1 meets))
 meets_more text b c cs false q qs more is rest = (λ n. (meets_front text b q qs more).1 (forth (nested_follows text b c cs n)), λ m. let w = (meets_front text b q qs more).0 m in follows_nested text b c cs (w.0, w.1, inr ((rest w.0).1 w.2)))
   where
     forth : Follows text b (c ∷ cs) → (remainder : List ℕ) × (text ≡ b ∷ remainder) × Meets remainder ((q ∷ qs) ∷ more)
-    forth w = (w.0, w.1, alternative w.2)
-      where
-        alternative : (((b == 47) ≡ true) × (w.0 ≡ []) ⊎ AreNested w.0 (c ∷ cs)) → Meets w.0 ((q ∷ qs) ∷ more)
-        alternative (inl ends) = absurd (let e : true ≡ false = sym ends.0 ∙ is in cc)
-        alternative (inr nested) = (rest w.0).0 nested
+    forth (remainder, is_front, inl ends) = absurd (let e : true ≡ false = sym ends.0 ∙ is in cc)
+    forth (remainder, is_front, inr nested) = (remainder, is_front, (rest remainder).0 nested)
 
 -- what is nested in a value that isn't empty meets its parts
 nested_meets : (b : ℕ) (bs text : List ℕ) → AreNested text (b ∷ bs) ↔ Meets text (parts_of (b ∷ bs))
@@ -131,10 +114,9 @@ nested_meets b [] text = go (b == 47)
     go false = nested_one text b (b == 47) refl
 nested_meets b (c ∷ cs) text = go (parts_of (c ∷ cs)) (parted c cs) (λ t. nested_meets c cs t)
   where
-    go : (parts : List (List ℕ)) → Parted parts → ((t : List ℕ) → AreNested t (c ∷ cs) ↔ Meets t parts) → AreNested text (b ∷ c ∷ cs) ↔ Meets text (if b == 47 then (b ∷ []) ∷ parts else with_front b parts)
-    go parts p =
-        let P : List (List ℕ) → Type 0 = λ ps. ((t : List ℕ) → AreNested t (c ∷ cs) ↔ Meets t ps) → AreNested text (b ∷ c ∷ cs) ↔ Meets text (if b == 47 then (b ∷ []) ∷ ps else with_front b ps) in
-        subst P (sym p.is) (meets_more text b c cs (b == 47) p.byte p.bytes p.more refl)
+    go : (parts : List (List ℕ)) → IsParted parts → ((t : List ℕ) → AreNested t (c ∷ cs) ↔ Meets t parts) → AreNested text (b ∷ c ∷ cs) ↔ Meets text (if b == 47 then (b ∷ []) ∷ parts else with_front b parts)
+    go ((q ∷ qs) ∷ more) filled rest = meets_more text b c cs (b == 47) q qs more refl rest
+    go _ none rest = absurd none
 
 -- ---- from a place on
 

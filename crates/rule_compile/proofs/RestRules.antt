@@ -1,5 +1,5 @@
 -- What is left of a rule, and where it holds.
-use Rattle.std.proofs.Common.{◌≡◌, ℕ, ◌≤◌, Bool, true, false, not, ◌&&◌, cond, List, [], ◌∷◌, filter, eqb, Option, Some, None, refl, ap, sym, subst, ◌∙◌, arith, All, IfSome}
+use Rattle.std.proofs.Common.{◌≡◌, ℕ, ◌≤◌, Bool, true, false, not, ◌&&◌, cond, List, [], ◌∷◌, filter, Option, Some, None, refl, ap, sym, subst, ◌∙◌, arith, All, IfSome}
 use Rattle.std.specs.Prelude.{◌↔◌, ◌==◌, IsSomeAnd, sum_by, slice_get, if◌then◌else◌, Result, Ok, Err, IfOk}
 use Rattle.std.specs.List.{list_any}
 use Rattle.std.proofs.lemmas.Bool.{false≢true, true≢false, eqb-true, and_parts, not-false}
@@ -26,24 +26,7 @@ use Rattle.rule_compile.specs.declared.rest.Tested.{Tested}
 use Rattle.rule_compile.specs.declared.rest.Tested.TheVariants.{All as AllTested, Left}
 use Rattle.rule_compile.specs.Compiled.{IsSlotOf, IsCompiled, AgreeOn}
 use Rattle.rule_compile.specs.Rest.{IsRest, is_fixed, fixed_source, is_left, is_tested, tested_of}
-use Rattle.rule_compile.specs.RuleCode.{rank_of, of_rank}
 use Rattle.match_rule.proofs.FixedFound.{same_string}
-
--- ---- the code of the conditions that are tested
-
--- one more condition in front
-pub of_rank_more : (piece : Condition → List Ins → List Ins) (rank : ℕ) (p : Condition → Bool) (c : Condition) (cs : List Condition) (rest : List Ins) → (p c && eqb (rank_of c) rank) ≡ true → of_rank piece rank (filter p (c ∷ cs)) rest ≡ piece c (of_rank piece rank (filter p cs) rest)
-of_rank_more piece rank p c cs rest e =
-    let parts = and_parts (p c) (eqb (rank_of c) rank) e in
-    rw (parts.0, parts.1) refl
-
-pub of_rank_less : (piece : Condition → List Ins → List Ins) (rank : ℕ) (p : Condition → Bool) (c : Condition) (cs : List Condition) (rest : List Ins) → (p c && eqb (rank_of c) rank) ≡ false → of_rank piece rank (filter p (c ∷ cs)) rest ≡ of_rank piece rank (filter p cs) rest
-of_rank_less piece rank p c cs rest e = go (p c) (eqb (rank_of c) rank) refl e
-  where
-    go : (b d : Bool) → eqb (rank_of c) rank ≡ d → (b && d) ≡ false → of_rank piece rank (cond b (c ∷ filter p cs) (filter p cs)) rest ≡ of_rank piece rank (filter p cs) rest
-    go false d is f = refl
-    go true false is f = rw is refl
-    go true true is f = absurd (true≢false f)
 
 -- ---- what stays true of fewer conditions
 

@@ -10,13 +10,12 @@ use Rattle.bpf_code.specs.Steps.{Ends}
 use Rattle.message_view.specs.declared.extent.TextField.TheVariants as texts
 use Rattle.message_view.specs.Message.{Message, destination_of}
 use Rattle.message_view.specs.Valid.{Valid}
-use Rattle.match_key.specs.declared.source.Field.{Field}
-use Rattle.match_key.specs.declared.source.Field.TheVariants.{Interface, Member, Path, Destination}
+use Rattle.match_key.specs.declared.source.Field.TheVariants.{Interface}
 use Rattle.match_key.specs.declared.source.Source.{Source}
 use Rattle.match_key.specs.declared.source.Source.TheVariants.{Header, Arg}
 use Rattle.match_key.specs.declared.relation.Relation.TheVariants as relations
 use Rattle.match_rule.specs.declared.condition.Condition.{Condition}
-use Rattle.match_rule.specs.declared.condition.Condition.TheVariants.{Kind, Sender, Compares}
+use Rattle.match_rule.specs.declared.condition.Condition.TheVariants.{Sender, Compares}
 use Rattle.match_rule.specs.Condition.{value_of}
 use Rattle.match_rule.specs.Holds.{ConditionHolds, Holds}
 use Rattle.match_rule.specs.Parts.{is_sender, has_one_sender, has_small_number, have_small_numbers}
@@ -30,7 +29,7 @@ use Rattle.summary.specs.Layout.{text_place}
 use Rattle.rule_compile.specs.declared.condition.Part.TheVariants.{Words, Bytes}
 use Rattle.rule_compile.specs.Code.{returns}
 use Rattle.rule_compile.specs.Compiled.{IsSlotOf, AgreeOn}
-use Rattle.rule_compile.specs.RuleCode.{part_code, field_rank, whole_rank, other_rank, rank_of, ranks, of_rank, rising, falling, destination_fits, verdicts, rule_code}
+use Rattle.rule_compile.specs.RuleCode.{part_code, whole_rank, other_rank, rank_of, ranks, of_rank, rising, falling, destination_fits, verdicts, rule_code}
 use Rattle.rule_compile.proofs.Pieces.{Guarded, Any, Tests}
 use Rattle.rule_compile.proofs.Runs.{runs_returns}
 use Rattle.rule_compile.proofs.Combined.{tests_none, tests_same, tests_both, tests_word}
@@ -82,25 +81,18 @@ module _ (image : List ℕ) (P : Condition → Type 0) (f g : Condition → List
         λ all. (λ k d inside low. all k d inside (omega arith), λ k d inside e. all k d inside (omega arith)),
       ) (turn_around image (BelowRank n P cs) (OfRank n P cs) (rising f n cs) (falling g n cs) (of_rank f n cs) (of_rank g n cs) (turn_below n cs each) (turn_of_rank n cs each))
 
-field_rank_small : (field : Field) → field_rank field < 5
-field_rank_small Interface = omega arith
-field_rank_small Member = omega arith
-field_rank_small Path = omega arith
-field_rank_small Destination = omega arith
-
 whole_rank_small : (source : Source) → whole_rank source < 8
-whole_rank_small (Header field) = let h = field_rank_small field in omega arith
-whole_rank_small (Arg n) = omega arith
+whole_rank_small (Header Interface) = omega arith
+whole_rank_small _ = omega arith
 
 other_rank_small : (source : Source) → other_rank source < 8
 other_rank_small (Header field) = omega arith
 other_rank_small (Arg n) = omega arith
 
 rank_small : (c : Condition) → rank_of c < 8
-rank_small (Kind kind) = omega arith
-rank_small (Sender name) = omega arith
 rank_small (Compares source relations.Equal value) = whole_rank_small source
 rank_small (Compares source relation value) = other_rank_small source
+rank_small _ = omega arith
 
 -- the words of all conditions, and then their bytes
 abbrev all_parts : ℕ → List Condition → List Ins → List Ins

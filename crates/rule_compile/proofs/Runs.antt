@@ -6,13 +6,12 @@ use Rattle.std.specs.Option.{IsSomeAnd, option_map, option_and_then}
 use Rattle.std.specs.List.{slice_get}
 use Rattle.bpf_code.specs.declared.instruction.Ins.{Ins}
 use Rattle.bpf_code.specs.declared.operation.Op.{Op}
-use Rattle.bpf_code.specs.declared.operation.Op.TheVariants.{Branch}
+use Rattle.bpf_code.specs.declared.operation.Op.TheVariants.{LoadIndexed, Branch}
 use Rattle.bpf_code.specs.declared.operation.Width.{Width}
-use Rattle.bpf_code.specs.declared.operation.Width.TheVariants.{Word, Half, Byte}
 use Rattle.bpf_code.specs.declared.operation.Operand.TheVariants.{Constant}
 use Rattle.bpf_code.specs.declared.operation.Test.{Test}
-use Rattle.bpf_code.specs.declared.operation.Test.TheVariants.{Equal, Above, AtLeast, SharesBit}
-use Rattle.bpf_code.specs.Table.{op_of, code_of}
+use Rattle.bpf_code.specs.Table.{op_of}
+use Rattle.bpf_code.proofs.OneTable.{row_of_code}
 use Rattle.bpf_code.specs.Loads.{load, load_word}
 use Rattle.bpf_code.specs.Effects.{Effect, SetA, SetX, SetWord, Skip, Finish, passes, effect_of}
 use Rattle.bpf_code.specs.Steps.{State, with_word, after, step_at, Arrives, EndsFrom}
@@ -34,21 +33,18 @@ state p a x words = record { place = p; a = a; x = x; words = words }
 -- what ends within n steps does so after the front
 abbrev Later : List Ins → List Ins → List ℕ → ℕ → ℕ → Type 0
 Later front more image v n =
-    (p a x : ℕ) (words : ℕ → Option ℕ) → EndsFrom more image v n (state p a x words) → EndsFrom (front ++ more) image v n (state (length front + p) a x words)
+    (p q a x : ℕ) (words : ℕ → Option ℕ) → q ≡ length front + p → EndsFrom more image v n (state p a x words)
+    → EndsFrom (front ++ more) image v n (state q a x words)
 
 arrives_after : (front more : List Ins) (image : List ℕ) (v n p a x : ℕ) (words : ℕ → Option ℕ) (k : ℕ) (effect : Effect) → Later front more image v n → Arrives (after (state p a x words) k effect) v n (EndsFrom more image v n) → Arrives (after (state (length front + p) a x words) k effect) v n (EndsFrom (front ++ more) image v n)
 arrives_after front more image v n p a x words k (SetA w) later h =
-    let e : length front + (p + 1) ≡ length front + p + 1 = omega arith in
-    subst (λ (q : ℕ). EndsFrom (front ++ more) image v n (state q w x words)) e (later (p + 1) w x words h)
+    later (p + 1) (length front + p + 1) w x words (omega arith) h
 arrives_after front more image v n p a x words k (SetX w) later h =
-    let e : length front + (p + 1) ≡ length front + p + 1 = omega arith in
-    subst (λ (q : ℕ). EndsFrom (front ++ more) image v n (state q a w words)) e (later (p + 1) a w words h)
+    later (p + 1) (length front + p + 1) a w words (omega arith) h
 arrives_after front more image v n p a x words k (SetWord w) later h =
-    let e : length front + (p + 1) ≡ length front + p + 1 = omega arith in
-    subst (λ (q : ℕ). EndsFrom (front ++ more) image v n (state q a x (with_word words k w))) e (later (p + 1) a x (with_word words k w) h)
+    later (p + 1) (length front + p + 1) a x (with_word words k w) (omega arith) h
 arrives_after front more image v n p a x words k (Skip d) later h =
-    let e : length front + (p + 1 + d) ≡ length front + p + 1 + d = omega arith in
-    subst (λ (q : ℕ). EndsFrom (front ++ more) image v n (state q a x words)) e (later (p + 1 + d) a x words h)
+    later (p + 1 + d) (length front + p + 1 + d) a x words (omega arith) h
 arrives_after front more image v n p a x words k (Finish w) later h = h
 
 effect_after : (front more : List Ins) (image : List ℕ) (v n p a x : ℕ) (words : ℕ → Option ℕ) (k : ℕ) (o : Option Effect) → Later front more image v n → IsSomeAnd (option_map (after (state p a x words) k) o) (λ next. Arrives next v n (EndsFrom more image v n)) → IsSomeAnd (option_map (after (state (length front + p) a x words) k) o) (λ next. Arrives next v n (EndsFrom (front ++ more) image v n))
@@ -67,18 +63,17 @@ ins_after front more image v n p a x words (Some ins) later h =
     op_after front more image v n p a x words ins (op_of ins.code) later h
 
 -- a run of the instructions after a front is one of the whole
-pub ends_after : (front more : List Ins) (image : List ℕ) (v n p a x : ℕ) (words : ℕ → Option ℕ) → EndsFrom more image v n (record { place = p; a = a; x = x; words = words }) → EndsFrom (front ++ more) image v n (record { place = length front + p; a = a; x = x; words = words })
-ends_after front more image v zero p a x words h = absurd h
-ends_after front more image v (suc n) p a x words h =
-    rw (slice_get-exit front more p) (ins_after front more image v n p a x words (slice_get more p) (ends_after front more image v n) h)
+ends_after : (front more : List Ins) (image : List ℕ) (v n : ℕ) → Later front more image v n
+ends_after front more image v zero p q a x words e h = absurd h
+ends_after front more image v (suc n) p q a x words e h =
+    rw (e, slice_get-exit front more p) (ins_after front more image v n p a x words (slice_get more p) (ends_after front more image v n) h)
 
 -- ---- one instruction
 
 -- from the place after a front on
 runs_after : (front more : List Ins) (image : List ℕ) (a x v d : ℕ) → length front ≡ d → RunsTo more image a x v → (n : ℕ) × EndsFrom (front ++ more) image v n (state d a x (λ k. None))
 runs_after front more image a x v d is run =
-    let e : length front + 0 ≡ d = omega arith in
-    (run.0, subst (λ (q : ℕ). EndsFrom (front ++ more) image v run.0 (state q a x (λ k. None))) e (ends_after front more image v run.0 0 a x (λ k. None) run.1))
+    (run.0, ends_after front more image v run.0 0 d a x (λ k. None) (omega arith) run.1)
 
 -- a load of the image's word
 pub runs_image_word : (rest : List Ins) (image : List ℕ) (at w a x v : ℕ) → load_word image at ≡ Some w → RunsTo rest image w x v → RunsTo (image_word at ∷ rest) image a x v
@@ -88,19 +83,9 @@ runs_image_word rest image at w a x v is run =
 
 -- a load at an offset from X
 pub runs_indexed : (rest : List Ins) (image : List ℕ) (width : Width) (k w a x v : ℕ) → load width image (x + k) ≡ Some w → RunsTo rest image w x v → RunsTo (load_indexed width k ∷ rest) image a x v
-runs_indexed rest image Word k w a x v is run =
-    let later = runs_after (load_indexed Word k ∷ []) rest image w x v 1 refl run in
-    (suc later.0, rw is later.1)
-runs_indexed rest image Half k w a x v is run =
-    let later = runs_after (load_indexed Half k ∷ []) rest image w x v 1 refl run in
-    (suc later.0, rw is later.1)
-runs_indexed rest image Byte k w a x v is run =
-    let later = runs_after (load_indexed Byte k ∷ []) rest image w x v 1 refl run in
-    (suc later.0, rw is later.1)
-
--- a load outside the image says no match
-pub outside_image_word : (rest : List Ins) (image : List ℕ) (at a x : ℕ) → load_word image at ≡ None → RunsTo (image_word at ∷ rest) image a x 0
-outside_image_word rest image at a x is = (1, rw is (refl, refl))
+runs_indexed rest image width k w a x v is run =
+    let later = runs_after (load_indexed width k ∷ []) rest image w x v 1 refl run in
+    (suc later.0, rw (row_of_code (LoadIndexed width), is) later.1)
 
 pub runs_index_from_a : (rest : List Ins) (image : List ℕ) (a x v : ℕ) → RunsTo rest image a a v → RunsTo (index_from_a ∷ rest) image a x v
 runs_index_from_a rest image a x v run =
@@ -110,23 +95,17 @@ runs_index_from_a rest image a x v run =
 pub runs_returns : (rest : List Ins) (image : List ℕ) (a x v : ℕ) → RunsTo (returns v ∷ rest) image a x v
 runs_returns rest image a x v = (1, (refl, refl))
 
-branch_op : (test : Test) → op_of (code_of (Branch test Constant)) ≡ Some (Branch test Constant)
-branch_op Equal = refl
-branch_op Above = refl
-branch_op AtLeast = refl
-branch_op SharesBit = refl
-
 -- A branch goes over the instructions of its first distance where the comparison holds, and over those of its second
 -- where it doesn't.
 pub runs_hit : (front exit : List Ins) (image : List ℕ) (test : Test) (k hit miss a x v : ℕ) → passes test a k ≡ true → length front ≡ hit → RunsTo exit image a x v → RunsTo (branch test k hit miss ∷ (front ++ exit)) image a x v
 runs_hit front exit image test k hit miss a x v holds is run =
     let later = runs_after (branch test k hit miss ∷ front) exit image a x v (1 + hit) (omega arith) run in
-    (suc later.0, rw (branch_op test, holds) later.1)
+    (suc later.0, rw (row_of_code (Branch test Constant), holds) later.1)
 
 pub runs_miss : (front exit : List Ins) (image : List ℕ) (test : Test) (k hit miss a x v : ℕ) → passes test a k ≡ false → length front ≡ miss → RunsTo exit image a x v → RunsTo (branch test k hit miss ∷ (front ++ exit)) image a x v
 runs_miss front exit image test k hit miss a x v fails is run =
     let later = runs_after (branch test k hit miss ∷ front) exit image a x v (1 + miss) (omega arith) run in
-    (suc later.0, rw (branch_op test, fails) later.1)
+    (suc later.0, rw (row_of_code (Branch test Constant), fails) later.1)
 
 -- ---- tests that end the run, and jumps past the piece
 

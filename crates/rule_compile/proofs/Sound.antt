@@ -1,19 +1,18 @@
 -- Programs under way stay sound: an instruction in front keeps what makes them well made.
-use Rattle.std.proofs.Common.{◌≡◌, ℕ, zero, suc, ◌-◌, ◌<◌, List, [], ◌∷◌, length, Option, Some, None, refl, subst, arith}
+use Rattle.std.proofs.Common.{◌≡◌, ℕ, zero, suc, ◌-◌, ◌<◌, List, ◌∷◌, length, Option, Some, None, refl, subst, arith}
 use Rattle.std.specs.Option.{IsSomeAnd}
 use Rattle.std.specs.List.{slice_get}
 use Rattle.bpf_code.specs.declared.instruction.Ins.{Ins}
 use Rattle.bpf_code.specs.declared.operation.Op.{Op}
 use Rattle.bpf_code.specs.declared.operation.Op.TheVariants.{LoadImage, LoadIndexed, IndexFromA, ReturnConstant, Jump, Branch}
 use Rattle.bpf_code.specs.declared.operation.Operand.TheVariants.{Constant}
-use Rattle.bpf_code.specs.declared.operation.Width.TheVariants.{Word, Half, Byte}
 use Rattle.bpf_code.specs.declared.operation.Test.{Test}
-use Rattle.bpf_code.specs.declared.operation.Test.TheVariants.{Equal, Above, AtLeast, SharesBit}
-use Rattle.bpf_code.specs.Table.{op_of, code_of}
+use Rattle.bpf_code.specs.Table.{op_of}
+use Rattle.bpf_code.proofs.OneTable.{row_of_code}
 use Rattle.bpf_code.specs.Flow.{At, Reads}
 use Rattle.bpf_code.specs.Program.{IsJumpFine, IsFine, IsReturn}
 use Rattle.jump_islands.specs.Source.{AreWellMade}
-use Rattle.rule_compile.specs.Code.{plain, returns, branch}
+use Rattle.rule_compile.specs.Code.{plain, branch}
 use Rattle.rule_compile.specs.Sound.{IsSound, IsOfPiece}
 
 some_map : {A : Type 0} (o : Option A) (P Q : A → Type 0) → ((x : A) → P x → Q x) → IsSomeAnd o P → IsSomeAnd o Q
@@ -56,37 +55,15 @@ in_front ins op rest row fine none s = record {
 -- ---- single instructions
 
 pub plain_sound : (op : Op) (k : ℕ) (rest : List Ins) → IsOfPiece op k → IsSound rest → IsSound (plain op k ∷ rest)
-plain_sound (LoadImage Word) k rest small s = in_front (plain (LoadImage Word) k) (LoadImage Word) rest refl (record { constant = tt; scratch = tt; jump = tt; load = small }) (λ j h. h) s
-plain_sound (LoadImage Half) k rest small s = in_front (plain (LoadImage Half) k) (LoadImage Half) rest refl (record { constant = tt; scratch = tt; jump = tt; load = small }) (λ j h. h) s
-plain_sound (LoadImage Byte) k rest small s = in_front (plain (LoadImage Byte) k) (LoadImage Byte) rest refl (record { constant = tt; scratch = tt; jump = tt; load = small }) (λ j h. h) s
-plain_sound (LoadIndexed Word) k rest is s = in_front (plain (LoadIndexed Word) k) (LoadIndexed Word) rest refl (record { constant = tt; scratch = tt; jump = tt; load = tt }) (λ j h. h) s
-plain_sound (LoadIndexed Half) k rest is s = in_front (plain (LoadIndexed Half) k) (LoadIndexed Half) rest refl (record { constant = tt; scratch = tt; jump = tt; load = tt }) (λ j h. h) s
-plain_sound (LoadIndexed Byte) k rest is s = in_front (plain (LoadIndexed Byte) k) (LoadIndexed Byte) rest refl (record { constant = tt; scratch = tt; jump = tt; load = tt }) (λ j h. h) s
+plain_sound (LoadImage width) k rest small s = in_front _ _ rest (row_of_code (LoadImage width)) (record { constant = tt; scratch = tt; jump = tt; load = small }) (λ j h. h) s
+plain_sound (LoadIndexed width) k rest is s = in_front _ _ rest (row_of_code (LoadIndexed width)) (record { constant = tt; scratch = tt; jump = tt; load = tt }) (λ j h. h) s
 plain_sound IndexFromA k rest is s = in_front (plain IndexFromA k) IndexFromA rest refl (record { constant = tt; scratch = tt; jump = tt; load = tt }) (λ j h. h) s
 plain_sound ReturnConstant k rest is s = in_front (plain ReturnConstant k) ReturnConstant rest refl (record { constant = tt; scratch = tt; jump = tt; load = tt }) (λ j h. h) s
 plain_sound _ k rest none s = absurd none
 
-branch_row : (test : Test) → op_of (code_of (Branch test Constant)) ≡ Some (Branch test Constant)
-branch_row Equal = refl
-branch_row Above = refl
-branch_row AtLeast = refl
-branch_row SharesBit = refl
-
 pub branch_sound : (test : Test) (k hit miss : ℕ) (rest : List Ins) → hit < length rest → miss < length rest → IsSound rest → IsSound (branch test k hit miss ∷ rest)
 branch_sound test k hit miss rest h m s =
-    in_front (branch test k hit miss) (Branch test Constant) rest (branch_row test) (record { constant = tt; scratch = tt; jump = (omega arith, omega arith); load = tt }) (λ k h. h) s
-
--- the program's last instruction, which says no match
-pub last_sound : IsSound (returns 0 ∷ [])
-last_sound = record { some = omega arith; fine = fine_at; last = tt; quiet = quiet_at }
-  where
-    fine_at : (place : ℕ) → place < 1 → At (returns 0 ∷ []) place (IsFine 1 place)
-    fine_at zero inside = record { constant = tt; scratch = tt; jump = tt; load = tt }
-    fine_at (suc p) inside = absurd (omega arith)
-
-    quiet_at : (place k : ℕ) → At (returns 0 ∷ []) place (Reads k) → ⊥
-    quiet_at zero k h = h
-    quiet_at (suc p) k h = h
+    in_front (branch test k hit miss) _ rest (row_of_code (Branch test Constant)) (record { constant = tt; scratch = tt; jump = (omega arith, omega arith); load = tt }) (λ k h. h) s
 
 pub well_made : (code : List Ins) → IsSound code → AreWellMade code
 well_made code s = record { some = s.some; fine = s.fine; last = s.last; stored = λ place earlier k path reads. absurd (s.quiet place k reads) }

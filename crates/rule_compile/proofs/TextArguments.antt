@@ -1,10 +1,11 @@
 -- A string or an object path among the arguments of a valid message has a text.
 use Rattle.std.proofs.Common.{◌≡◌, ℕ, zero, suc, ◌+◌, true, false, List, length, Some, ◌⊎◌, inl, inr, refl, sym, ◌∙◌, subst, slice_get}
 use Rattle.std.proofs.lemmas.Bool.{false≢true}
-use Rattle.signature.specs.DataType.{DataType, DataTypes, basic, variant, array, dict, struct, no_types, one_more}
+use Rattle.std.proofs.lemmas.Option.{same_Some}
+use Rattle.signature.specs.DataType.{DataType, DataTypes, basic, variant, array, dict, struct, one_more}
 use Rattle.signature.specs.Alignment.{alignment_of}
 use Rattle.message_value.specs.declared.order.Order.{Order}
-use Rattle.message_value.specs.Value.{Value, Values, number, text, elements, entries, members, of_type, no_values, one_value}
+use Rattle.message_value.specs.Value.{Value, Values, number, text, one_value}
 use Rattle.message_value.specs.Spelling.{align_up, value_bytes}
 use Rattle.message_value.specs.Arguments.{Argument, argument_of, arguments_from}
 use Rattle.message_value.specs.Fits.{is_text_code, BareFits, MembersFit, max_levels}
@@ -29,26 +30,19 @@ not_text code P none is = absurd (false≢true (sym none ∙ text_code code is))
 argument_text : (order : Order) (levels place : ℕ) (t : DataType) (v : Value) → BareFits order levels place t v → IsText (argument_of order place t v).code → HasText (argument_of order place t v)
 argument_text order levels place (basic code) (text bytes) fits is = (bytes, refl)
 argument_text order levels place (basic code) (number bits) fits is = not_text code _ fits.0 is
-argument_text order levels place (basic code) (elements vs) fits is = absurd fits
-argument_text order levels place (basic code) (entries es) fits is = absurd fits
-argument_text order levels place (basic code) (members vs) fits is = absurd fits
-argument_text order levels place (basic code) (of_type type v) fits is = absurd fits
+argument_text order levels place (basic code) _ fits is = absurd fits
 argument_text order levels place variant v fits is = not_text 118 _ refl is
 argument_text order levels place (array t) v fits is = not_text 97 _ refl is
 argument_text order levels place (dict k t) v fits is = not_text 97 _ refl is
 argument_text order levels place (struct t ts) v fits is = not_text 40 _ refl is
 
-some_same : (a b : Argument) → Some a ≡ Some b → a ≡ b
-some_same a b h = cc
-
 text_among : (order : Order) (levels place : ℕ) (ts : DataTypes) (vs : Values) (n : ℕ) (a : Argument) → MembersFit order levels place ts vs → slice_get (arguments_from order place ts vs) n ≡ Some a → IsText a.code → HasText a
-text_among order levels place no_types vs n a fits at is = absurd cc
-text_among order levels place (one_more t ts) no_values n a fits at is = absurd cc
 text_among order levels place (one_more t ts) (one_value v vs) zero a fits at is =
-    let same = some_same _ a at in
+    let same = same_Some _ a at in
     subst HasText same (argument_text order levels (align_up (alignment_of t) place) t v fits.0 (subst (λ (b : Argument). IsText b.code) (sym same) is))
 text_among order levels place (one_more t ts) (one_value v vs) (suc n) a fits at is =
     text_among order levels (place + length (value_bytes order place t v)) ts vs n a fits.1 at is
+text_among order levels place _ _ n a fits at is = absurd cc
 
 pub argument_has_text : (bytes : List ℕ) (m : Message) (n : ℕ) (a : Argument) → Valid bytes m → slice_get (arguments_of m) n ≡ Some a → IsText a.code → (t : List ℕ) × (a.text ≡ Some t)
 argument_has_text bytes m n a valid at is =

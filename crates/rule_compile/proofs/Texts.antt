@@ -2,6 +2,7 @@
 use Rattle.std.proofs.Common.{◌≡◌, ℕ, ◌+◌, ◌<◌, ◌≤◌, Bool, true, false, List, [], ◌∷◌, ◌++◌, length, eqb, Option, Some, None, ◌⊎◌, inl, inr, refl, sym, ap, ◌∙◌, arith, subst, slice_index, ◌==◌}
 use Rattle.std.proofs.lemmas.Bool.{false≢true, eqb-true, eqb-false, eq-eqb, leb-true, le-leb, lt-ltb, ltb-true}
 use Rattle.std.proofs.lemmas.List.{length-append, append-nil, append_assoc, get_or_at, nil_from_length}
+use Rattle.std.proofs.lemmas.Option.{same_Some}
 use Rattle.bpf_code.specs.declared.instruction.Ins.{Ins}
 use Rattle.bpf_code.specs.declared.operation.Width.TheVariants.{Byte}
 use Rattle.bpf_code.specs.declared.operation.Test.{Test}
@@ -14,28 +15,18 @@ use Rattle.message_value.specs.Bytes.{AreBytes}
 use Rattle.rule_compile.specs.Code.{image_word, load_indexed, want, same_bytes, has_len, is_there, is_there_if, has_text_len, index_text, has_bytes, may_end, in_namespace}
 use Rattle.rule_compile.proofs.Pieces.{Any, Tests}
 use Rattle.rule_compile.proofs.InTurn.{InTurn, turn_then, turn_same}
-use Rattle.rule_compile.proofs.Combined.{Extends, extends_none, extends_more, extends_then, extends_want, extends_settle, extends_index_text, tests_none, tests_same, tests_then, tests_both, tests_word, tests_settle, tests_index_text}
-use Rattle.rule_compile.proofs.Bytes.{Stands, At, extends_indexed, tests_byte, extends_same_bytes, tests_same_bytes}
+use Rattle.rule_compile.proofs.Combined.{Extends, extends_none, extends_choice, extends_then, extends_test, extends_settle, extends_index_text, tests_none, tests_same, tests_then, tests_both, tests_word, tests_settle, tests_index_text}
+use Rattle.rule_compile.proofs.Bytes.{Stands, At, tests_byte, extends_same_bytes, tests_same_bytes}
 
 -- ---- the length, and whether the text is there
 
-pub extends_has_len : (test : Test) (k at : ℕ) → Extends (has_len test k at)
-extends_has_len test k at = extends_more (want test k) (λ _. image_word (at + 4)) (extends_want test k)
-
--- the comparison holds of the length
-pub tests_has_len : (image : List ℕ) (X : ℕ → Type 0) (at n : ℕ) (test : Test) (k : ℕ) → load_word image (at + 4) ≡ Some n → Tests image X (passes test n k ≡ true) (has_len test k at)
-tests_has_len image X at n test k is = tests_word image X (at + 4) n test k is
-
 pub tests_len_is : (image : List ℕ) (X : ℕ → Type 0) (at n k : ℕ) → load_word image (at + 4) ≡ Some n → Tests image X (n ≡ k) (has_len Equal k at)
 tests_len_is image X at n k is =
-    tests_same image X _ _ (has_len Equal k at) (eqb-true n k, eq-eqb n k) (tests_has_len image X at n Equal k is)
+    tests_same image X _ _ (has_len Equal k at) (eqb-true n k, eq-eqb n k) (tests_word image X (at + 4) n Equal k is)
 
 pub tests_len_from : (image : List ℕ) (X : ℕ → Type 0) (at n k : ℕ) → load_word image (at + 4) ≡ Some n → Tests image X (k ≤ n) (has_len AtLeast k at)
 tests_len_from image X at n k is =
-    tests_same image X _ _ (has_len AtLeast k at) (leb-true k n, le-leb k n) (tests_has_len image X at n AtLeast k is)
-
-pub extends_is_there : (at : ℕ) → Extends (is_there at)
-extends_is_there at = extends_more (want Above 0) (λ _. image_word at) (extends_want Above 0)
+    tests_same image X _ _ (has_len AtLeast k at) (leb-true k n, le-leb k n) (tests_word image X (at + 4) n AtLeast k is)
 
 -- the text is there
 pub tests_is_there : (image : List ℕ) (X : ℕ → Type 0) (at place : ℕ) → load_word image at ≡ Some place → Tests image X (0 < place) (is_there at)
@@ -43,8 +34,7 @@ tests_is_there image X at place is =
     tests_same image X _ _ (is_there at) (ltb-true 0 place, lt-ltb 0 place) (tests_word image X at place Above 0 is)
 
 extends_is_there_if : (empty : Bool) (at : ℕ) → Extends (is_there_if empty at)
-extends_is_there_if true at = extends_is_there at
-extends_is_there_if false at = extends_none
+extends_is_there_if empty at = extends_choice empty (is_there at) (λ rest. rest) (extends_test (image_word at) Above 0) extends_none
 
 tests_is_there_if : (image : List ℕ) (empty : Bool) (at place : ℕ) → load_word image at ≡ Some place → 0 < place → Tests image Any (0 < place) (is_there_if empty at)
 tests_is_there_if image true at place is begun = tests_is_there image Any at place is
@@ -59,16 +49,16 @@ tests_absent image false at e is = absurd (false≢true e)
 
 pub extends_text_len : (test : Test) (n at : ℕ) → Extends (has_text_len test n at)
 extends_text_len test n at =
-    extends_then (has_len test n at) (is_there_if (n == 0) at) (extends_has_len test n at) (extends_is_there_if (n == 0) at)
+    extends_then (has_len test n at) (is_there_if (n == 0) at) (extends_test (image_word (at + 4)) test n) (extends_is_there_if (n == 0) at)
 
 -- an absent text has no length
 absent_text_len : (image : List ℕ) (test : Test) (n at : ℕ) → load_word image at ≡ Some 0 → load_word image (at + 4) ≡ Some 0 → (passes test 0 n ≡ true → n ≡ 0) → Tests image Any ⊥ (has_text_len test n at)
 absent_text_len image test n at place len small =
-    tests_same image Any ((passes test 0 n ≡ true) × ⊥) ⊥ (has_text_len test n at) (λ both. both.1, λ none. absurd none) (tests_then image Any (passes test 0 n ≡ true) ⊥ (has_len test n at) (is_there_if (n == 0) at) (tests_has_len image Any at 0 test n len) (extends_is_there_if (n == 0) at) (λ e. tests_absent image (n == 0) at (eq-eqb n 0 (small e)) place))
+    tests_same image Any ((passes test 0 n ≡ true) × ⊥) ⊥ (has_text_len test n at) (λ both. both.1, λ none. absurd none) (tests_then image Any (passes test 0 n ≡ true) ⊥ (has_len test n at) (is_there_if (n == 0) at) (tests_word image Any (at + 4) 0 test n len) (extends_is_there_if (n == 0) at) (λ e. tests_absent image (n == 0) at (eq-eqb n 0 (small e)) place))
 
 tests_text_len : (image : List ℕ) (test : Test) (n at : ℕ) (text : List ℕ) → (tells : Tells image at text) → Tests image Any (passes test (length text) n ≡ true) (has_text_len test n at)
 tests_text_len image test n at text tells =
-    tests_same image Any ((passes test (length text) n ≡ true) × (0 < tells.place)) _ (has_text_len test n at) (λ both. both.0, λ e. (e, tells.after_start)) (tests_both image Any (passes test (length text) n ≡ true) (0 < tells.place) (has_len test n at) (is_there_if (n == 0) at) (tests_has_len image Any at (length text) test n tells.len_word) (tests_is_there_if image (n == 0) at tells.place tells.place_word tells.after_start))
+    tests_same image Any ((passes test (length text) n ≡ true) × (0 < tells.place)) _ (has_text_len test n at) (λ both. both.0, λ e. (e, tells.after_start)) (tests_both image Any (passes test (length text) n ≡ true) (0 < tells.place) (has_len test n at) (is_there_if (n == 0) at) (tests_word image Any (at + 4) (length text) test n tells.len_word) (tests_is_there_if image (n == 0) at tells.place tells.place_word tells.after_start))
 
 -- ---- the length first, and then the bytes
 
@@ -92,16 +82,13 @@ whole text value rest is e =
     let none : rest ≡ [] = nil_from_length rest (omega (arith, ap length is, length-append value rest)) in
     is ∙ ap (λ (bytes : List ℕ). value ++ bytes) none ∙ append-nil value
 
-some_same : (a b : List ℕ) → Some a ≡ Some b → a ≡ b
-some_same a b h = cc
-
 pub turn_is_text : (image : List ℕ) (at : ℕ) (shown : Option (List ℕ)) (value : List ℕ) → ShowsText image at shown → AreBytes value → InTurn image (shown ≡ Some value) (has_text_len Equal (length value) at) (has_bytes at value)
 turn_is_text image at None value shows bytes =
     turn_absent image _ Equal (length value) at (has_bytes at value) shows.0 shows.1 (λ e. sym (eqb-true 0 (length value) e)) (extends_bytes at value) (λ h. cc)
 turn_is_text image at (Some text) value tells bytes =
     turn_same image _ _ (has_text_len Equal (length value) at) (has_bytes at value) (
       λ both. ap Some (whole text value both.1.0 both.1.1 (eqb-true (length text) (length value) both.0)),
-      λ h. let e = some_same text value h in (eq-eqb (length text) (length value) (ap length e), ([], e ∙ sym (append-nil value))),
+      λ h. let e = same_Some text value h in (eq-eqb (length text) (length value) (ap length e), ([], e ∙ sym (append-nil value))),
     ) (turn_text image (Stands text 0 value) Equal (length value) at text (same_bytes 0 value) tells (extends_same_bytes 0 value) (λ e. tests_same_bytes image tells.place text 0 value tells.lies tells.bytes bytes (let l = eqb-true (length text) (length value) e in omega arith)))
 
 -- ---- the text is in a namespace
@@ -112,7 +99,7 @@ end_or_separator at n separator rest = may_end at n rest (load_indexed Byte n �
 
 extends_end_or_separator : (at n separator : ℕ) → Extends (end_or_separator at n separator)
 extends_end_or_separator at n separator =
-    extends_settle (λ rest. load_indexed Byte n ∷ want Equal separator rest) (at + 4) Equal n (extends_indexed Byte n separator)
+    extends_settle (λ rest. load_indexed Byte n ∷ want Equal separator rest) (at + 4) Equal n (extends_test (load_indexed Byte n) Equal separator)
 
 extends_named : (at separator : ℕ) (value : List ℕ) → Extends (λ rest. same_bytes 0 value (end_or_separator at (length value) separator rest))
 extends_named at separator value =
@@ -127,7 +114,7 @@ Separated text n separator = (n < length text) × (slice_index text n ≡ separa
 
 tests_end_or_separator : (image : List ℕ) (at : ℕ) (text : List ℕ) (n separator : ℕ) → (tells : Tells image at text) → n ≤ length text → Tests image (At tells.place) ((eqb (length text) n ≡ true) ⊎ Separated text n separator) (end_or_separator at n separator)
 tests_end_or_separator image at text n separator tells few =
-    tests_settle image (At tells.place) (Separated text n separator) (λ rest. load_indexed Byte n ∷ want Equal separator rest) (at + 4) (length text) Equal n tells.len_word (extends_indexed Byte n separator) (
+    tests_settle image (At tells.place) (Separated text n separator) (λ rest. load_indexed Byte n ∷ want Equal separator rest) (at + 4) (length text) Equal n tells.len_word (extends_test (load_indexed Byte n) Equal separator) (
     λ differs. let less : n < length text = let ne = eqb-false (length text) n differs in omega arith in
     tests_same image (At tells.place) _ _ (λ rest. load_indexed Byte n ∷ want Equal separator rest) (λ e. (less, e), λ both. both.1) (tests_byte image tells.place text n separator tells.lies (omega arith))
     )
@@ -177,5 +164,5 @@ turn_in_namespace image at separator None value shows bytes =
 turn_in_namespace image at separator (Some text) value tells bytes =
     turn_same image _ _ (has_text_len AtLeast (length value) at) (in_namespace at separator value) (
       λ looked. (text, refl, looked_named text value separator looked),
-      λ p. named_looked text value separator (subst (λ (t : List ℕ). Named t value separator) (sym (some_same text p.0 p.1)) p.2),
+      λ p. named_looked text value separator (subst (λ (t : List ℕ). Named t value separator) (sym (same_Some text p.0 p.1)) p.2),
     ) (turn_text image (Stands text 0 value × ((eqb (length text) (length value) ≡ true) ⊎ Separated text (length value) separator)) AtLeast (length value) at text (λ rest. same_bytes 0 value (end_or_separator at (length value) separator rest)) tells (extends_named at separator value) (λ e. let l = leb-true (length value) (length text) e in tests_then image (At tells.place) _ _ (same_bytes 0 value) (end_or_separator at (length value) separator) (tests_same_bytes image tells.place text 0 value tells.lies tells.bytes bytes (omega arith)) (extends_end_or_separator at (length value) separator) (λ _. tests_end_or_separator image at text (length value) separator tells l)))

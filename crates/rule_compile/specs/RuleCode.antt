@@ -5,7 +5,6 @@ use Rattle.bpf_code.specs.declared.instruction.Ins.{Ins}
 use Rattle.bpf_code.specs.declared.operation.Test.TheVariants.{Equal, AtLeast, SharesBit}
 use Rattle.message_view.specs.declared.extent.TextField.TheVariants as texts
 use Rattle.message_view.specs.Header.{kind_byte}
-use Rattle.match_key.specs.declared.source.Field.{Field}
 use Rattle.match_key.specs.declared.source.Field.TheVariants.{Interface, Member, Path, Destination}
 use Rattle.match_key.specs.declared.source.Source.{Source}
 use Rattle.match_key.specs.declared.source.Source.TheVariants.{Header, Arg}
@@ -35,37 +34,27 @@ owns slot rest = image_word (ownership_place slot) ∷ want SharesBit (2 ^ (slot
 
 -- ---- the text at a source
 
--- the place of the words of a header field's text
-abbrev pub field_at : Field → ℕ
-field_at Path = text_place texts.Path
-field_at Interface = text_place texts.Interface
-field_at Member = text_place texts.Member
-field_at Destination = text_place texts.Destination
-
+-- the place of its words
 abbrev pub words_at : Source → ℕ
-words_at (Header field) = field_at field
+words_at (Header Path) = text_place texts.Path
+words_at (Header Interface) = text_place texts.Interface
+words_at (Header Member) = text_place texts.Member
+words_at (Header Destination) = text_place texts.Destination
 words_at (Arg n) = argument_place n + 4
 
--- the text is a path that isn't shorter than the value; of `/` any path
-abbrev pub path_namespace_len : ℕ → List ℕ → List Ins → List Ins
-path_namespace_len at value rest =
-    if bytes_eq value (47 ∷ []) then is_there at rest else has_text_len AtLeast (length value) at rest
-
--- such a path is in the namespace of the value
-abbrev pub path_namespace : ℕ → List ℕ → List Ins → List Ins
-path_namespace at value rest = if bytes_eq value (47 ∷ []) then rest else in_namespace at 47 value rest
-
--- the text has a length that a text in the relation to the value may have
+-- the text has a length that a text in the relation to the value may have; in the namespace of `/` is any path
 abbrev pub relation_len : Relation → ℕ → List ℕ → List Ins → List Ins
 relation_len relations.Equal at value rest = has_text_len Equal (length value) at rest
-relation_len relations.PathNamespace at value rest = path_namespace_len at value rest
+relation_len relations.PathNamespace at value rest =
+    if bytes_eq value (47 ∷ []) then is_there at rest else has_text_len AtLeast (length value) at rest
 relation_len relations.NameNamespace at value rest = has_text_len AtLeast (length value) at rest
 relation_len relations.NestedPath at value rest = rest
 
 -- a text of such a length stands in the relation to the value
 abbrev pub relation_bytes : Relation → ℕ → List ℕ → List Ins → List Ins
 relation_bytes relations.Equal at value rest = has_bytes at value rest
-relation_bytes relations.PathNamespace at value rest = path_namespace at value rest
+relation_bytes relations.PathNamespace at value rest =
+    if bytes_eq value (47 ∷ []) then rest else in_namespace at 47 value rest
 relation_bytes relations.NameNamespace at value rest = in_namespace at 46 value rest
 relation_bytes relations.NestedPath at value rest = is_nested at value rest
 
@@ -81,7 +70,7 @@ type_code _ n rest = has_type n 115 rest
 
 -- the source has a text of a type that the relation compares
 abbrev pub source_code : Source → Relation → List Ins → List Ins
-source_code (Header field) relation rest = there_code relation (field_at field) rest
+source_code (Header field) relation rest = there_code relation (words_at (Header field)) rest
 source_code (Arg n) relation rest = type_code relation n rest
 
 -- ---- the two parts of a condition's piece
@@ -107,15 +96,12 @@ part_code Bytes slot c rest = condition_bytes c rest
 -- ---- the order of conditions: of words first those that take few instructions and fail most messages; the kind fails
 -- hardly any, since rules are asked about signals alone
 
-abbrev pub field_rank : Field → ℕ
-field_rank Member = 0
-field_rank Interface = 2
-field_rank Path = 3
-field_rank Destination = 3
-
 -- the rank of a text that is tested for equality
 abbrev pub whole_rank : Source → ℕ
-whole_rank (Header field) = field_rank field
+whole_rank (Header Member) = 0
+whole_rank (Header Interface) = 2
+whole_rank (Header Path) = 3
+whole_rank (Header Destination) = 3
 whole_rank (Arg n) = 5
 
 -- the rank of a text that is tested in another way
@@ -123,14 +109,11 @@ abbrev pub other_rank : Source → ℕ
 other_rank (Header field) = 4
 other_rank (Arg n) = 6
 
-abbrev pub relation_rank : Relation → Source → ℕ
-relation_rank relations.Equal source = whole_rank source
-relation_rank _ source = other_rank source
-
 abbrev pub rank_of : Condition → ℕ
 rank_of (Kind kind) = 7
 rank_of (Sender name) = 1
-rank_of (Compares source relation value) = relation_rank relation source
+rank_of (Compares source relations.Equal value) = whole_rank source
+rank_of (Compares source _ value) = other_rank source
 
 abbrev pub ranks : ℕ
 ranks = 8

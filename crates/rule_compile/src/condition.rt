@@ -5,7 +5,7 @@ ghost use Rattle.message_view.specs.Header.{kind_byte};
 ghost use Rattle.bpf_code.specs.declared.operation.Test.TheVariants.{Equal};
 ghost use Rattle.match_rule.specs.RuleTree.{condition_weight};
 ghost use Rattle.rule_compile.specs.Code.{image_word, want};
-ghost use Rattle.rule_compile.specs.RuleCode.{field_at, words_at, has_type, has_text_type, owns, path_namespace_len, path_namespace, relation_len, relation_bytes, there_code, type_code, source_code, condition_words, condition_bytes, part_code};
+ghost use Rattle.rule_compile.specs.RuleCode.{words_at, has_type, has_text_type, owns, relation_len, relation_bytes, source_code, condition_words, condition_bytes, part_code};
 
 use crate::piece::Code;
 use bpf_code::Test;
@@ -23,24 +23,15 @@ pub(crate) enum Part {
     Bytes,
 }
 
-/// The place of the words of a header field's text.
-fn field_at(field: Field) -> u16
-    ensures { result ≡ field_at field }
-{
-    match field {
-        Field::Path => text_place(TextField::Path),
-        Field::Interface => text_place(TextField::Interface),
-        Field::Member => text_place(TextField::Member),
-        Field::Destination => text_place(TextField::Destination),
-    }
-}
-
 /// The place of the words of the text at a source.
 fn words_at(source: Source) -> u16
     ensures { result ≡ words_at source }
 {
     match source {
-        Source::Header(field) => field_at(field),
+        Source::Header(Field::Path) => text_place(TextField::Path),
+        Source::Header(Field::Interface) => text_place(TextField::Interface),
+        Source::Header(Field::Member) => text_place(TextField::Member),
+        Source::Header(Field::Destination) => text_place(TextField::Destination),
         Source::Arg(n) => argument_place(n) + 4,
     }
 }
@@ -72,64 +63,19 @@ impl Code {
         self.image_word(u32::from(ownership_place(slot)))
     }
 
-    /// The sender owns the name of a slot, or has a name as long as this one.
-    fn sender_words(&mut self, slot: u16, name: &str) -> Result<(), AllocError>
-        requires { length name.now < 2 ^ 32 }
-        ensures { OnOk result (self.new ≡ condition_words slot (Condition.Sender name.now) self.old) }
-    {
-        if is_owned_name(name) {
-            self.owns(slot)
-        } else {
-            self.has_text_len(
-                Test::Equal,
-                name.len() as u32,
-                text_place(TextField::Sender),
-            )
-        }
-    }
-
-    /// The sender, whose slot isn't asked for, is the one of this name.
-    fn sender_bytes(&mut self, name: &str) -> Result<(), AllocError>
-        requires { length name.now < 2 ^ 32 }
-        ensures { OnOk result (self.new ≡ condition_bytes (Condition.Sender name.now) self.old) }
-    {
-        if !is_owned_name(name) {
-            self.has_bytes(text_place(TextField::Sender), name)?;
-        }
-        Ok(())
-    }
-
-    /// The text is a path that isn't shorter than the value; of `/` any path.
-    fn path_namespace_len(&mut self, at: u16, value: &str) -> Result<(), AllocError>
-        requires { length value.now < 2 ^ 32 }
-        ensures { OnOk result (self.new ≡ path_namespace_len at value.now self.old) }
-    {
-        if value == "/" {
-            self.is_there(at)
-        } else {
-            self.has_text_len(Test::AtLeast, value.len() as u32, at)
-        }
-    }
-
-    /// Such a path is in the namespace of the value.
-    fn path_namespace(&mut self, at: u16, value: &str) -> Result<(), AllocError>
-        requires { length value.now < 2 ^ 32 }
-        ensures { OnOk result (self.new ≡ path_namespace at value.now self.old) }
-    {
-        if value != "/" {
-            self.in_namespace(at, b'/', value)?;
-        }
-        Ok(())
-    }
-
-    /// The text has a length that a text in the relation to the value may have.
+    /// The text has a length that a text in the relation to the value may have. In the namespace of `/` is any path.
     fn relation_len(&mut self, relation: Relation, at: u16, value: &str) -> Result<(), AllocError>
         requires { length value.now < 2 ^ 32 }
         ensures { OnOk result (self.new ≡ relation_len relation at value.now self.old) }
     {
         match relation {
             Relation::Equal => self.has_text_len(Test::Equal, value.len() as u32, at),
-            Relation::PathNamespace => self.path_namespace_len(at, value),
+            Relation::PathNamespace => {
+                if value == "/" {
+                    return self.is_there(at);
+                }
+                self.has_text_len(Test::AtLeast, value.len() as u32, at)
+            }
             Relation::NameNamespace => self.has_text_len(Test::AtLeast, value.len() as u32, at),
             Relation::NestedPath => Ok(()),
         }
@@ -142,31 +88,14 @@ impl Code {
     {
         match relation {
             Relation::Equal => self.has_bytes(at, value),
-            Relation::PathNamespace => self.path_namespace(at, value),
+            Relation::PathNamespace => {
+                if value == "/" {
+                    return Ok(());
+                }
+                self.in_namespace(at, b'/', value)
+            }
             Relation::NameNamespace => self.in_namespace(at, b'.', value),
             Relation::NestedPath => self.is_nested(at, value),
-        }
-    }
-
-    /// The text of a field is there, where the relation's piece doesn't test that.
-    fn has_field(&mut self, relation: Relation, field: Field) -> Result<(), AllocError>
-        ensures { OnOk result (self.new ≡ there_code relation (field_at field) self.old) }
-    {
-        match relation {
-            Relation::NestedPath => self.is_there(field_at(field)),
-            Relation::Equal | Relation::PathNamespace | Relation::NameNamespace => Ok(()),
-        }
-    }
-
-    /// Argument n has a type that the relation compares.
-    fn has_compared_type(&mut self, relation: Relation, n: u8) -> Result<(), AllocError>
-        ensures { OnOk result (self.new ≡ type_code relation n self.old) }
-    {
-        match relation {
-            Relation::NestedPath => self.has_text_type(n),
-            Relation::Equal | Relation::PathNamespace | Relation::NameNamespace => {
-                self.has_type(n, b's')
-            }
         }
     }
 
@@ -175,8 +104,17 @@ impl Code {
         ensures { OnOk result (self.new ≡ source_code source relation self.old) }
     {
         match source {
-            Source::Header(field) => self.has_field(relation, field),
-            Source::Arg(n) => self.has_compared_type(relation, n),
+            // The piece of any other relation tests whether the field is there.
+            Source::Header(_) => match relation {
+                Relation::NestedPath => self.is_there(words_at(source)),
+                Relation::Equal | Relation::PathNamespace | Relation::NameNamespace => Ok(()),
+            },
+            Source::Arg(n) => match relation {
+                Relation::NestedPath => self.has_text_type(n),
+                Relation::Equal | Relation::PathNamespace | Relation::NameNamespace => {
+                    self.has_type(n, b's')
+                }
+            },
         }
     }
 
@@ -190,7 +128,13 @@ impl Code {
                 self.want(Test::Equal, u32::from(kind.kind().byte()))?;
                 self.image_word(u32::from(KIND_PLACE))
             }
-            Condition::Sender(name) => self.sender_words(slot, name.as_str()),
+            Condition::Sender(name) => {
+                if is_owned_name(name.as_str()) {
+                    return self.owns(slot);
+                }
+                let len = name.as_str().len() as u32;
+                self.has_text_len(Test::Equal, len, text_place(TextField::Sender))
+            }
             Condition::Compares(source, relation, value) => {
                 self.relation_len(*relation, words_at(*source), value.as_str())?;
                 self.has_source(*source, *relation)
@@ -205,7 +149,12 @@ impl Code {
     {
         match condition {
             Condition::Kind(_) => Ok(()),
-            Condition::Sender(name) => self.sender_bytes(name.as_str()),
+            Condition::Sender(name) => {
+                if is_owned_name(name.as_str()) {
+                    return Ok(());
+                }
+                self.has_bytes(text_place(TextField::Sender), name.as_str())
+            }
             Condition::Compares(source, relation, value) => {
                 self.relates(*relation, words_at(*source), value.as_str())
             }

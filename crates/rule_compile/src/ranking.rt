@@ -5,7 +5,7 @@ ghost use Rattle.std.specs.Prelude.{◌≡◌, ◌<◌, ◌^◌, sum_by, filter,
 ghost use Rattle.match_rule.specs.RuleTree.{condition_weight};
 ghost use Rattle.jump_islands.specs.Source.{AreWellMade};
 ghost use Rattle.rule_compile.specs.Rest.{is_tested, tested_of};
-ghost use Rattle.rule_compile.specs.RuleCode.{field_rank, whole_rank, other_rank, relation_rank, rank_of, ranks, part_code, of_rank, rising, falling, destination_fits, rule_code};
+ghost use Rattle.rule_compile.specs.RuleCode.{whole_rank, other_rank, rank_of, ranks, part_code, of_rank, rising, falling, destination_fits, rule_code};
 
 use crate::condition::Part;
 use crate::piece::Code;
@@ -20,23 +20,14 @@ use summary::text_place;
 /// How many ranks there are.
 const RANKS: u8 = 8;
 
-/// The rank of a header field's text that is tested for equality.
-fn field_rank(field: Field) -> u8
-    ensures { result ≡ field_rank field }
-{
-    match field {
-        Field::Member => 0,
-        Field::Interface => 2,
-        Field::Path | Field::Destination => 3,
-    }
-}
-
 /// The rank of a text that is tested for equality.
 fn whole_rank(source: Source) -> u8
     ensures { result ≡ whole_rank source }
 {
     match source {
-        Source::Header(field) => field_rank(field),
+        Source::Header(Field::Member) => 0,
+        Source::Header(Field::Interface) => 2,
+        Source::Header(Field::Path | Field::Destination) => 3,
         Source::Arg(_) => 5,
     }
 }
@@ -51,18 +42,6 @@ fn other_rank(source: Source) -> u8
     }
 }
 
-/// The rank of a text that is compared by a relation.
-fn relation_rank(relation: Relation, source: Source) -> u8
-    ensures { result ≡ relation_rank relation source }
-{
-    match relation {
-        Relation::Equal => whole_rank(source),
-        Relation::PathNamespace | Relation::NameNamespace | Relation::NestedPath => {
-            other_rank(source)
-        }
-    }
-}
-
 /// The rank of a condition. Conditions of lower ranks are tested first.
 fn rank_of(condition: &Condition) -> u8
     ensures { result ≡ rank_of condition.now }
@@ -70,7 +49,12 @@ fn rank_of(condition: &Condition) -> u8
     match condition {
         Condition::Kind(_) => 7,
         Condition::Sender(_) => 1,
-        Condition::Compares(source, relation, _) => relation_rank(*relation, *source),
+        Condition::Compares(source, relation, _) => match relation {
+            Relation::Equal => whole_rank(*source),
+            Relation::PathNamespace | Relation::NameNamespace | Relation::NestedPath => {
+                other_rank(*source)
+            }
+        },
     }
 }
 

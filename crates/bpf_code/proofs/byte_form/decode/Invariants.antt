@@ -1,5 +1,4 @@
-use Rattle.std.proofs.Common.{◌≡◌, ◌++◌, List, ℕ}
-use Rattle.std.proofs.Common.{drop}
+use Rattle.std.proofs.Common.{◌≡◌, ◌++◌, List, ℕ, drop}
 use Rattle.std.specs.List.{flat_map}
 use Rattle.bpf_code.specs.Bytes.{byte_form}
 use Rattle.bpf_code.proofs.byte_form.decode.Given as goal

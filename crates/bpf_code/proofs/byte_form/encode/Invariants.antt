@@ -1,5 +1,4 @@
-use Rattle.std.proofs.Common.{◌≡◌, ◌++◌}
-use Rattle.std.proofs.Common.{drop}
+use Rattle.std.proofs.Common.{◌≡◌, ◌++◌, drop}
 use Rattle.bpf_code.specs.Bytes.{byte_form}
 use Rattle.bpf_code.proofs.byte_form.encode.Given as goal
 

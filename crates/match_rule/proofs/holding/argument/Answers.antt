@@ -1,5 +1,5 @@
-use Rattle.std.proofs.Common.{List, sym, ap, ◌∙◌}
-use Rattle.std.specs.Prelude.{option_map, slice_get}
+use Rattle.std.proofs.Common.{List, ap, ◌∙◌}
+use Rattle.std.specs.Prelude.{slice_get}
 use Rattle.std.proofs.lemmas.Iterator.Consumers.{nth_from_yields_List, YieldsList-from_first}
 use Rattle.message_value.specs.Arguments.{Argument}
 use Rattle.message_value.specs.ShownArguments.{shown_arg}
@@ -7,12 +7,7 @@ use Rattle.message_view.specs.Spelling.{arguments_of}
 use Rattle.match_rule.specs.Arguments.{text_in}
 use Rattle.match_rule.proofs.holding.argument.Goals as goal
 
-pub returns-in-None : goal.returns-in-None
-returns-in-None c = λ m valid.
-    let found = nth_from_yields_List c.nth.result c.nth.new.self c.from.result c.nth.ensures.ran (YieldsList-from_first shown_arg (λ (s : List Argument). s) (arguments_of m) (c.args-args.ensures m valid)) in
-    ap (λ r. text_in (option_map shown_arg r)) (sym c.in-None.is) ∙ ap text_in found ∙ ap (λ k. text_in (slice_get (arguments_of m) k)) c.from.ensures
-
-pub returns-in-Some : goal.returns-in-Some
-returns-in-Some c = λ m valid.
-    let found = nth_from_yields_List c.nth.result c.nth.new.self c.from.result c.nth.ensures.ran (YieldsList-from_first shown_arg (λ (s : List Argument). s) (arguments_of m) (c.args-args.ensures m valid)) in
-    c.text_of.ensures ∙ ap (λ r. text_in (option_map shown_arg r)) (sym c.in-Some.is) ∙ ap text_in found ∙ ap (λ k. text_in (slice_get (arguments_of m) k)) c.from.ensures
+pub returns : goal.returns
+returns c = λ m valid.
+    let found = nth_from_yields_List c.nth.result c.nth.new.self c.from.result c.nth.ensures.ran (YieldsList-from_first shown_arg (λ (s : List Argument). s) (arguments_of m) (c.args-2.ensures m valid)) in
+    c.text_of.ensures ∙ ap text_in found ∙ ap (λ k. text_in (slice_get (arguments_of m) k)) c.from.ensures

@@ -1,10 +1,14 @@
+use Rattle.std.proofs.Common.{◌≡◌, rules}
+use Rattle.jump_islands.specs.Tails.{with_islands}
 use Rattle.jump_islands.proofs.NearPlaces.{both_near}
 use Rattle.jump_islands.proofs.tail.Tail.add_branch.Goals as goal
 
-pub put_branch-requires-clause-near_yes : goal.put_branch-requires-clause-near_yes
-put_branch-requires-clause-near_yes c =
-    rw (c.in_ok-add_second.ensures.added, c.in_ok-add_first.ensures.added) (both_near c.args.yes c.args.no c.args.self.now c.requires.yes c.requires.no).0
+pub distance-jt-requires-clause-near : goal.distance-jt-requires-clause-near
+distance-jt-requires-clause-near c =
+    let e : c.add_island-2.new.self ≡ with_islands c.args.yes c.args.no c.args.self.now = search rules in
+    rw e (both_near c.args.yes c.args.no c.args.self.now c.requires.yes c.requires.no).0
 
-pub put_branch-requires-clause-near_no : goal.put_branch-requires-clause-near_no
-put_branch-requires-clause-near_no c =
-    rw (c.in_ok-add_second.ensures.added, c.in_ok-add_first.ensures.added) (both_near c.args.yes c.args.no c.args.self.now c.requires.yes c.requires.no).1
+pub distance-jf-requires-clause-near : goal.distance-jf-requires-clause-near
+distance-jf-requires-clause-near c =
+    let e : c.add_island-2.new.self ≡ with_islands c.args.yes c.args.no c.args.self.now = search rules in
+    rw e (both_near c.args.yes c.args.no c.args.self.now c.requires.yes c.requires.no).1

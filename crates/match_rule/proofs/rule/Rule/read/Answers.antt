@@ -1,11 +1,10 @@
 use Rattle.std.proofs.Common.{◌≡◌, sym, ◌∙◌, ap, arith}
 use Rattle.std.specs.Prelude.{Ok}
-use Rattle.match_rule.specs.RuleTree.{RuleTree}
 use Rattle.match_rule.specs.Gathering.{rule_of, tree_at}
 use Rattle.match_rule.proofs.Steps.{gives_err}
 use Rattle.match_rule.proofs.Spelled.{read_of, rule_at-tree}
 use Rattle.match_rule.proofs.Found.{rule_found}
-use Rattle.match_rule.proofs.ReadRules.{tree_weight, one_sender, small_numbers, value_bytes, sender_names}
+use Rattle.match_rule.proofs.ReadRules.{legal}
 use Rattle.match_rule.proofs.rule.Rule.read.Goals as goal
 
 pub returns-in_err-parts-clause-only : goal.returns-in_err-parts-clause-only
@@ -15,22 +14,16 @@ returns-in_err-parts-clause-only c = λ rule is.
 
 pub invariant_of-result : goal.invariant_of-result
 invariant_of-result c =
-    let tree : tree_at c.args.text.now ≡ Ok (rule_of c.in_ok-parts.parts) = ap tree_at (sym c.as_bytes.ensures.value) ∙ c.in_ok-parts.ensures in (
-      tree_weight c.args.text.now (rule_of c.in_ok-parts.parts) (omega arith) tree,
-      one_sender c.args.text.now (rule_of c.in_ok-parts.parts) (omega arith) tree,
-      small_numbers c.args.text.now (rule_of c.in_ok-parts.parts) (omega arith) tree,
-      value_bytes c.args.text.now (rule_of c.in_ok-parts.parts) (omega arith) tree,
-      sender_names c.args.text.now (rule_of c.in_ok-parts.parts) (omega arith) tree,
-    )
+    let tree : tree_at c.args.text.now ≡ Ok (rule_of c.in_ok-parts.parts) = ap tree_at (sym c.as_bytes.ensures.value) ∙ c.in_ok-parts.ensures in
+    legal c.args.text.now (rule_of c.in_ok-parts.parts) (omega arith) tree
 
 pub returns-clause-found : goal.returns-clause-found
 returns-clause-found c =
-    rule_found c.args.text.now _
-    (rule_at-tree c.args.text.now (omega arith) ∙ ap tree_at (sym c.as_bytes.ensures.value) ∙ c.in_ok-parts.ensures
-    ∙ ap (λ b. let rule : RuleTree = record { conditions = c.in_ok-parts.parts.conditions.items; eavesdrops = b } in Ok rule) (sym c.unwrap_or.ensures))
+    rw c.unwrap_or.ensures
+    (rule_found c.args.text.now (rule_of c.in_ok-parts.parts)
+    (rule_at-tree c.args.text.now (omega arith) ∙ ap tree_at (sym c.as_bytes.ensures.value) ∙ c.in_ok-parts.ensures))
 
 pub returns-clause-only : goal.returns-clause-only
 returns-clause-only c = λ rule is.
-    sym (read_of c.args.text.now rule is)
-    ∙ rule_at-tree c.args.text.now (omega arith) ∙ ap tree_at (sym c.as_bytes.ensures.value) ∙ c.in_ok-parts.ensures
-    ∙ ap (λ b. let rule : RuleTree = record { conditions = c.in_ok-parts.parts.conditions.items; eavesdrops = b } in Ok rule) (sym c.unwrap_or.ensures)
+    rw c.unwrap_or.ensures
+    (sym (read_of c.args.text.now rule is) ∙ rule_at-tree c.args.text.now (omega arith) ∙ ap tree_at (sym c.as_bytes.ensures.value) ∙ c.in_ok-parts.ensures)
