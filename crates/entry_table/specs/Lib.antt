@@ -11,3 +11,4 @@ pub mod FoundTexts
 pub mod HeldTexts
 pub mod RuleHints
 pub mod Elsewhere
+pub mod Envelopes

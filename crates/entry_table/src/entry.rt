@@ -3,6 +3,7 @@
 use crate::attachment::Attachment;
 use crate::rule_program::RuleProgram;
 use match_rule::Rule;
+use message_view::View;
 use std::alloc::AllocError;
 
 /// What decides whether an entry's connection gets a message.
@@ -14,7 +15,10 @@ pub enum Filter {
 
 impl Filter {
     ghost use Rattle.std.specs.Prelude.{◌≡◌, ◌↔◌, IfOk, IsTrue, option_map};
+    ghost use Rattle.message_view.specs.Message.{Message};
+    ghost use Rattle.message_view.specs.Valid.{Valid};
     ghost use Rattle.entry_table.specs.Elsewhere.{IsFilterElsewhere};
+    ghost use Rattle.entry_table.specs.Envelopes.{FilterFits};
     ghost use Rattle.entry_table.specs.Entries.{is_rule, is_attached};
     ghost use Rattle.entry_table.specs.OfferedEntries.{texts_fixed};
     ghost use Rattle.entry_table.specs.TextKeys.{shape_of};
@@ -46,6 +50,16 @@ impl Filter {
         match self {
             Filter::Rule(compiled) => compiled.is_elsewhere(path),
             Filter::Attached(_) => false,
+        }
+    }
+
+    /// Whether a message's envelope is as it asks: an attached program asks nothing of it.
+    pub fn fits_envelope(&self, view: &View<'_>) -> bool
+        ensures { (m : Message) → Valid view.now m → (IsTrue result ↔ FilterFits self.now m) }
+    {
+        match self {
+            Filter::Rule(compiled) => compiled.fits_envelope(view),
+            Filter::Attached(_) => true,
         }
     }
 

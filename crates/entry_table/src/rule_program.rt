@@ -1,6 +1,9 @@
 // Rules with their programs.
 
 ghost use Rattle.std.specs.Prelude.{◌≡◌, ◌↔◌, IsTrue, IsSomeAnd, option_map};
+ghost use Rattle.message_view.specs.Message.{Message};
+ghost use Rattle.message_view.specs.Valid.{Valid};
+ghost use Rattle.match_rule.specs.Envelope.{EnvelopeFits};
 ghost use Rattle.match_rule.specs.FixedTexts.{fixed_texts};
 ghost use Rattle.match_rule.specs.PathNamespaces.{end_of, HasPathIn, IsElsewhere};
 ghost use Rattle.entry_table.specs.TextKeys.{shape_of};
@@ -8,12 +11,14 @@ ghost use Rattle.entry_table.specs.TextKeys.{shape_of};
 use crate::texts::shape_of;
 use bpf_verify::Verified;
 use match_rule::{NamespaceEnd, Rule, has_path_in};
+use message_view::View;
 use rule_compile::{CompileError, compile, compile_rest};
 use std::alloc::{AllocError, Global};
 use std::marker::Model;
 use std::sync::Arc;
 
-/// A rule, its slot, its program, and the program of what is left of it beside the texts that it fixes.
+/// A rule, its slot, its program, and the program of what is left of it beside the texts that it fixes and what it asks
+/// of the envelope.
 #[derive(Drop)]
 struct Parts {
     rule: Rule,
@@ -23,9 +28,10 @@ struct Parts {
 }
 
 /// A rule with the program that it was compiled to, for images of edition 2. Shares are of one value. A message that
-/// was looked up has the texts which the rule fixes, so a second program tests only what is left of the rule. Which
-/// texts the rule fixes and how its path namespace ends are asked of each entry of a list that a message is looked
-/// up in, so they are kept here, where no share has to be followed.
+/// was looked up has the texts which the rule fixes, and its envelope is seen without an image, so a second program
+/// tests only what is left of the rule: of most rules nothing. Which texts the rule fixes and how its path namespace
+/// ends are asked of each entry of a list that a message is looked up in, so they are kept here, where no share has to
+/// be followed.
 #[derive(Drop)]
 pub struct RuleProgram {
     parts: Arc<Parts>,
@@ -150,6 +156,13 @@ impl RuleProgram {
         is_outside(path, self.parts.rule.path_namespace())
     }
 
+    /// Whether a message's envelope is as the rule asks.
+    pub fn fits_envelope(&self, view: &View<'_>) -> bool
+        ensures { (m : Message) → Valid view.now m → (IsTrue result ↔ EnvelopeFits self.now.rule m) }
+    {
+        self.parts.rule.fits_envelope(view)
+    }
+
     /// The program.
     pub fn program(&self) -> &Verified
         ensures value { result.now ≡ self.now.program }
@@ -159,7 +172,7 @@ impl RuleProgram {
         &self.parts.program
     }
 
-    /// The program of what is left of the rule where a message has the texts that the rule fixes.
+    /// The program of what is left of the rule where a message has the texts that the rule fixes and its envelope fits.
     pub fn rest(&self) -> &Verified
         // Its verdict on the image of such a message is nonzero exactly where the rule holds of the message.
         ensures { IsRest self.now.rule self.now.slot result.now }

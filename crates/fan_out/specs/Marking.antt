@@ -4,6 +4,7 @@ use Rattle.message_view.specs.Message.{Message}
 use Rattle.message_view.specs.Valid.{Valid}
 use Rattle.entry_table.specs.declared.entry.Entry.{Entry}
 use Rattle.entry_table.specs.declared.entry.Filter.{Filter}
+use Rattle.entry_table.specs.Envelopes.{FilterFits}
 use Rattle.summary.specs.declared.edition.Edition.TheVariants.{One}
 use Rattle.program_table.specs.Registrations.{Registrations}
 use Rattle.program_table.specs.Connections.{numbers_of, is_connected}
@@ -18,18 +19,23 @@ pub record IsPassedOver (before after : List Bool) (runs later : ℕ) : Type 0 w
   pub kept : after ≡ before
   pub none_run : later ≡ runs
 
+-- the filter matches no message of these bytes, whoever sent it
+abbrev pub IsMissed : List ℕ → Filter → Type 0
+IsMissed bytes filter = (r : Registrations) (sender : Option ℕ) (m : Message) → Valid bytes m → FilterMatches r sender m filter → ⊥
+
+-- the envelope of the message of these bytes is as the filter asks
+abbrev pub IsFit : List ℕ → Filter → Type 0
+IsFit bytes filter = (m : Message) → Valid bytes m → FilterFits filter m
+
 -- the entry's program was run, and its connection is marked where it matches
 pub record IsAsked (numbers : List ℕ) (part of : ℕ) (bytes words : List ℕ) (e : Entry) (before after : List Bool) (runs later : ℕ) : Type 0 where
   pub inside : IsInPiece part of e.connection
   pub unmarked : IsUnmarked numbers before e.connection
+  pub fits : IsFit bytes e.filter
   pub answer : Bool
   pub answered : IsAnswer bytes words e.filter answer
   pub marked : MatchBool answer (IsMarkedMore numbers e.connection before after) (after ≡ before)
   pub one_run : later ≡ runs + 1
-
--- the filter matches no message of these bytes, whoever sent it
-abbrev pub IsMissed : List ℕ → Filter → Type 0
-IsMissed bytes filter = (r : Registrations) (sender : Option ℕ) (m : Message) → Valid bytes m → FilterMatches r sender m filter → ⊥
 
 module _ {M : Type 0} where
   -- why an entry may be passed over: it can't match, or is of another piece, of no connection, or of a connection that is
@@ -41,15 +47,20 @@ module _ {M : Type 0} where
       ⊎ ((is_connected e.connection s.connections ≡ false)
       ⊎ IsMarked (numbers_of s.connections) marks e.connection))
 
-  -- the entry's connection is of the piece, and isn't marked
-  pub record MayBeMarked (s : State M) (part of : ℕ) (e : Entry) (marks : List Bool) : Type 0 where
+  -- the entry's connection is of the piece, and isn't marked, and the envelope is as the entry asks
+  pub record MayBeMarked (s : State M) (part of : ℕ) (bytes : List ℕ) (e : Entry) (marks : List Bool) : Type 0 where
     pub inside : IsInPiece part of e.connection
     pub unmarked : IsUnmarked (numbers_of s.connections) marks e.connection
+    pub fits : IsFit bytes e.filter
 
-  -- nothing was run, and the entry's program, which reads edition 1, has to be
-  pub record ReadsOne (s : State M) (part of : ℕ) (e : Entry) (before after : List Bool) (runs later : ℕ) : Type 0 where
+  -- nothing was run, and the entry's program has to be, over an image
+  pub record NeedsImage (s : State M) (part of : ℕ) (bytes : List ℕ) (e : Entry) (before after : List Bool) (runs later : ℕ) : Type 0 where
     pub passed : IsPassedOver before after runs later
-    pub unmarked : MayBeMarked s part of e before
+    pub unmarked : MayBeMarked s part of bytes e before
+
+  -- so, and the program reads edition 1
+  pub record ReadsOne (s : State M) (part of : ℕ) (bytes : List ℕ) (e : Entry) (before after : List Bool) (runs later : ℕ) : Type 0 where
+    pub needs : NeedsImage s part of bytes e before after runs later
     pub edition : edition_of e.filter ≡ One
 
   -- an entry is passed over, or its program is run
@@ -63,10 +74,10 @@ module _ {M : Type 0} where
   MatchesAmong s sender m entries n =
       (e : Entry) × Contains entries e × (e.connection ≡ n) × FilterMatches s.registrations sender m e.filter
 
-  -- each entry is of a connection, and its program tells whether it matches
+  -- each entry is of a connection, and its program tells whether it matches, where the envelope is as it asks
   pub record AreDecided (s : State M) (sender : Option ℕ) (m : Message) (bytes words : List ℕ) (entries : List Entry) : Type 0 where
     pub connected : (e : Entry) → Contains entries e → is_connected e.connection s.connections ≡ true
-    pub decided : (e : Entry) → Contains entries e → (answer : Bool) → IsAnswer bytes words e.filter answer → (IsTrue answer ↔ FilterMatches s.registrations sender m e.filter)
+    pub decided : (e : Entry) → Contains entries e → IsFit bytes e.filter → (answer : Bool) → IsAnswer bytes words e.filter answer → (IsTrue answer ↔ FilterMatches s.registrations sender m e.filter)
 
   -- exactly the connections of the piece with an entry that matches are marked
   pub record AreMarked (s : State M) (sender : Option ℕ) (m : Message) (part of : ℕ) (entries : List Entry) (marks : List Bool) : Type 0 where

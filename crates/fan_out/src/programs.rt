@@ -1,17 +1,16 @@
 // The programs of entries, run over one message.
 
-ghost use Rattle.std.specs.Prelude.{◌≡◌, ◌+◌, ◌<◌, true, option_map};
+ghost use Rattle.std.specs.Prelude.{◌≡◌, ◌+◌, ◌<◌, MatchBool, MatchOption, option_map};
 ghost use Rattle.message_view.specs.Message.{Message, path_of};
 ghost use Rattle.message_view.specs.Valid.{Valid};
-ghost use Rattle.summary.specs.declared.edition.Edition.TheVariants.{Two};
 ghost use Rattle.program_table.specs.Answers.{max_entries};
 ghost use Rattle.fan_out.specs.Answers.{IsImage, IsAnswer, edition_of};
-ghost use Rattle.fan_out.specs.Marking.{IsMissed};
+ghost use Rattle.fan_out.specs.Marking.{IsMissed, IsFit};
 
 use crate::tally::Tally;
 use bpf_verify::Verified;
 use entry_table::Filter;
-use match_rule::not_elsewhere_where_it_holds;
+use match_rule::{envelope_fits_where_it_holds, not_elsewhere_where_it_holds};
 use message_view::View;
 use summary::{Edition, Image, Slots};
 
@@ -25,27 +24,19 @@ pub(crate) fn edition_of(filter: &Filter) -> Edition
     }
 }
 
-/// A message, the slots of its sender, its image of edition 2, which rules read, its path, and the count of the programs
-/// that were run.
+/// A message, the slots of its sender, its path, and the count of the programs that were run.
 #[derive(Drop)]
 pub(crate) struct Programs<'v, 'a> {
     pub(crate) view: &'v View<'a>,
     pub(crate) owned: &'v Slots,
-    pub(crate) edition_two: &'v Image<'a>,
     path: Option<&'a str>,
     tally: Tally,
-    ghost second: { IsImage Two view.now owned.now edition_two.now },
     ghost asked: { (m : Message) → Valid view.now m → option_map (λ text. text.now) path ≡ path_of m },
 }
 
 impl<'v, 'a> Programs<'v, 'a> {
     /// The programs for a message whose sender owns the names of these slots.
-    pub(crate) fn new(
-        view: &'v View<'a>,
-        owned: &'v Slots,
-        edition_two: &'v Image<'a>,
-    ) -> Programs<'v, 'a>
-        requires { IsImage Two view.now owned.now edition_two.now }
+    pub(crate) fn new(view: &'v View<'a>, owned: &'v Slots) -> Programs<'v, 'a>
         ensures view { result.view.now ≡ view.entry.now }
         ensures owned { result.owned.now ≡ owned.entry.now }
         ensures none_run { result.tally.runs ≡ 0 }
@@ -53,7 +44,6 @@ impl<'v, 'a> Programs<'v, 'a> {
         Programs {
             view,
             owned,
-            edition_two,
             path: view.path(),
             tally: Tally::new(),
         }
@@ -66,16 +56,33 @@ impl<'v, 'a> Programs<'v, 'a> {
         self.tally.runs
     }
 
-    /// Whether a filter can't match, since it asks for a path namespace that the message's path isn't in.
+    /// Whether a filter can't match, since it asks for a path namespace that the message's path isn't in, or for another
+    /// envelope than the message's.
     pub(crate) fn misses(&self, filter: &Filter) -> bool
-        ensures { result ≡ true → IsMissed self.now.view.now filter.now }
+        ensures { MatchBool result (IsMissed self.now.view.now filter.now) (IsFit self.now.view.now filter.now) }
     {
         not_elsewhere_where_it_holds();
-        filter.is_elsewhere(self.path)
+        envelope_fits_where_it_holds();
+        filter.is_elsewhere(self.path) || !filter.fits_envelope(self.view)
+    }
+
+    /// Whether a filter's program has a verdict other than 0 on every image, where it returns a constant at once, as that
+    /// of a rule does of which nothing is left to test. No image has to be there for it.
+    pub(crate) fn matches_at_once(&mut self, filter: &Filter) -> Option<bool>
+        requires { self.old.tally.runs < max_entries }
+        ensures view { self.new.view.now ≡ self.old.view.now }
+        ensures owned { self.new.owned.now ≡ self.old.owned.now }
+        ensures answer { MatchOption result (self.new.tally.runs ≡ self.old.tally.runs) (λ answer. IsAnswer self.old.view.now self.old.owned.now filter.now answer × (self.new.tally.runs ≡ self.old.tally.runs + 1)) }
+    {
+        let verdict = match filter {
+            Filter::Rule(compiled) => self.tally.run_constant(compiled.rest())?,
+            Filter::Attached(attached) => self.tally.run_constant(attached.program())?,
+        };
+        Some(verdict != 0)
     }
 
     /// Whether a filter's program has a verdict other than 0 on the image that it reads. A message that is offered to a
-    /// rule has the texts that the rule fixes, so of a rule the program of what is left beside them is run.
+    /// rule has the texts that the rule fixes, and its envelope was seen, so of a rule the program of what is left is run.
     pub(crate) fn matches(&mut self, image: &Image<'a>, filter: &Filter) -> bool
         requires room { self.old.tally.runs < max_entries }
         requires image { IsImage (edition_of filter.now) self.old.view.now self.old.owned.now image.now }

@@ -3,7 +3,7 @@
 ghost use Rattle.std.specs.Prelude.{◌≡◌, ◌+◌, ◌<◌, ◌≤◌, List, [], ◌∷◌, MatchBool, Contains, true, false, length, replicate};
 ghost use Rattle.message_view.specs.Message.{Message};
 ghost use Rattle.message_view.specs.Valid.{Valid};
-ghost use Rattle.summary.specs.declared.edition.Edition.TheVariants.{One};
+ghost use Rattle.summary.specs.declared.edition.Edition.TheVariants.{One, Two};
 ghost use Rattle.entry_table.specs.declared.entry.Entry.{Entry};
 ghost use Rattle.entry_table.specs.OfferedEntries.{AreOffered};
 ghost use Rattle.program_table.specs.Answers.{max_entries};
@@ -13,7 +13,7 @@ ghost use Rattle.program_table.specs.Candidates.{candidates};
 ghost use Rattle.fan_out.specs.Answers.{IsImage, edition_of};
 ghost use Rattle.fan_out.specs.Marks.{mark_count, AreNoted, IsMarked, IsMarkedMore, IsUnmarked};
 ghost use Rattle.fan_out.specs.Pieces.{ArePieceRecipients};
-ghost use Rattle.fan_out.specs.Marking.{MayBeMarked, NeedsNoRun, IsAsked, ReadsOne, Considers, AreMarkedSoFar, AreMarkedRecipients};
+ghost use Rattle.fan_out.specs.Marking.{MayBeMarked, NeedsNoRun, NeedsImage, IsAsked, ReadsOne, Considers, AreMarkedSoFar, AreMarkedRecipients};
 
 use crate::marks::{MAX_RECIPIENTS, Marks};
 use crate::piece::Piece;
@@ -59,8 +59,8 @@ fn mark<M: Mailbox>(state: &BusState<M>, marks: &mut Marks, connection: u64)
     }
 }
 
-/// Whether the program of an entry needn't be run: the message's path tells that it doesn't match, or its connection is
-/// in another piece, or is marked already.
+/// Whether the program of an entry needn't be run: the message's path or envelope tells that it doesn't match, or its
+/// connection is in another piece, or is marked already.
 #[inline(always)]
 fn is_passed_over<M: Mailbox>(
     state: &BusState<M>,
@@ -72,7 +72,7 @@ fn is_passed_over<M: Mailbox>(
     requires state { IsState state.now }
     requires connected { is_connected entry.now.connection state.now.connections ≡ true }
     requires noted { AreNoted (numbers_of state.now.connections) marks.now.places marks.now.remainders }
-    ensures { MatchBool result (NeedsNoRun state.now piece.part piece.of programs.now.view.now entry.now marks.now.places) (MayBeMarked state.now piece.part piece.of entry.now marks.now.places) }
+    ensures { MatchBool result (NeedsNoRun state.now piece.part piece.of programs.now.view.now entry.now marks.now.places) (MayBeMarked state.now piece.part piece.of programs.now.view.now entry.now marks.now.places) }
 {
     if !piece.has(entry.connection) {
         return true;
@@ -98,7 +98,7 @@ fn ask<'a, M: Mailbox>(
     requires noted { AreNoted (numbers_of state.now.connections) marks.old.places marks.old.remainders }
     requires room { programs.old.tally.runs < max_entries }
     requires image { IsImage (edition_of entry.now.filter) programs.old.view.now programs.old.owned.now image.now }
-    requires unmarked { MayBeMarked state.now piece.part piece.of entry.now marks.old.places }
+    requires unmarked { MayBeMarked state.now piece.part piece.of programs.old.view.now entry.now marks.old.places }
     ensures view { programs.new.view.now ≡ programs.old.view.now }
     ensures owned { programs.new.owned.now ≡ programs.old.owned.now }
     ensures noted { AreNoted (numbers_of state.now.connections) marks.new.places marks.new.remainders }
@@ -110,13 +110,13 @@ fn ask<'a, M: Mailbox>(
 }
 
 /// Marks the connection of an entry of the piece where the entry matches, and tells whether its program still has to be
-/// run, over the image of edition 1.
+/// run, over an image.
 #[inline(always)]
-fn consider<'a, M: Mailbox>(
+fn consider<M: Mailbox>(
     state: &BusState<M>,
     piece: Piece,
     entry: &Entry,
-    programs: &mut Programs<'_, 'a>,
+    programs: &mut Programs<'_, '_>,
     marks: &mut Marks,
 ) -> bool
     requires state { IsState state.now }
@@ -126,28 +126,62 @@ fn consider<'a, M: Mailbox>(
     ensures view { programs.new.view.now ≡ programs.old.view.now }
     ensures owned { programs.new.owned.now ≡ programs.old.owned.now }
     ensures noted { AreNoted (numbers_of state.now.connections) marks.new.places marks.new.remainders }
-    ensures considered { MatchBool result (ReadsOne state.now piece.part piece.of entry.now marks.old.places marks.new.places programs.old.tally.runs programs.new.tally.runs) (Considers state.now piece.part piece.of programs.old.view.now programs.old.owned.now entry.now marks.old.places marks.new.places programs.old.tally.runs programs.new.tally.runs) }
+    ensures considered { MatchBool result (NeedsImage state.now piece.part piece.of programs.old.view.now entry.now marks.old.places marks.new.places programs.old.tally.runs programs.new.tally.runs) (Considers state.now piece.part piece.of programs.old.view.now programs.old.owned.now entry.now marks.old.places marks.new.places programs.old.tally.runs programs.new.tally.runs) }
 {
     if is_passed_over(state, piece, entry, programs, marks) {
+        return false;
+    }
+    match programs.matches_at_once(&entry.filter) {
+        None => true,
+        Some(matches) => {
+            if matches {
+                mark(state, marks, entry.connection);
+            }
+            false
+        }
+    }
+}
+
+/// As `consider`, with the image of edition 2: tells whether the program still has to be run, over the image of edition 1.
+#[inline(always)]
+fn consider_over_two<'a, M: Mailbox>(
+    state: &BusState<M>,
+    piece: Piece,
+    entry: &Entry,
+    programs: &mut Programs<'_, 'a>,
+    two: &Image<'a>,
+    marks: &mut Marks,
+) -> bool
+    requires state { IsState state.now }
+    requires connected { is_connected entry.now.connection state.now.connections ≡ true }
+    requires noted { AreNoted (numbers_of state.now.connections) marks.old.places marks.old.remainders }
+    requires room { programs.old.tally.runs < max_entries }
+    requires two { IsImage Two programs.old.view.now programs.old.owned.now two.now }
+    ensures view { programs.new.view.now ≡ programs.old.view.now }
+    ensures owned { programs.new.owned.now ≡ programs.old.owned.now }
+    ensures noted { AreNoted (numbers_of state.now.connections) marks.new.places marks.new.remainders }
+    ensures considered { MatchBool result (ReadsOne state.now piece.part piece.of programs.old.view.now entry.now marks.old.places marks.new.places programs.old.tally.runs programs.new.tally.runs) (Considers state.now piece.part piece.of programs.old.view.now programs.old.owned.now entry.now marks.old.places marks.new.places programs.old.tally.runs programs.new.tally.runs) }
+{
+    if !consider(state, piece, entry, programs, marks) {
         return false;
     }
     match edition_of(&entry.filter) {
         Edition::One => true,
         Edition::Two => {
-            let image = programs.edition_two;
-            ask(state, piece, entry, programs, image, marks);
+            ask(state, piece, entry, programs, two, marks);
             false
         }
     }
 }
 
 /// As `consider`, with the images of both editions.
-fn consider_either<'a, M: Mailbox>(
+fn consider_over_both<'a, M: Mailbox>(
     state: &BusState<M>,
     piece: Piece,
     entry: &Entry,
     programs: &mut Programs<'_, 'a>,
     one: &Image<'a>,
+    two: &Image<'a>,
     marks: &mut Marks,
 )
     requires state { IsState state.now }
@@ -155,12 +189,13 @@ fn consider_either<'a, M: Mailbox>(
     requires noted { AreNoted (numbers_of state.now.connections) marks.old.places marks.old.remainders }
     requires room { programs.old.tally.runs < max_entries }
     requires one { IsImage One programs.old.view.now programs.old.owned.now one.now }
+    requires two { IsImage Two programs.old.view.now programs.old.owned.now two.now }
     ensures view { programs.new.view.now ≡ programs.old.view.now }
     ensures owned { programs.new.owned.now ≡ programs.old.owned.now }
     ensures noted { AreNoted (numbers_of state.now.connections) marks.new.places marks.new.remainders }
     ensures considered { Considers state.now piece.part piece.of programs.old.view.now programs.old.owned.now entry.now marks.old.places marks.new.places programs.old.tally.runs programs.new.tally.runs }
 {
-    if consider(state, piece, entry, programs, marks) {
+    if consider_over_two(state, piece, entry, programs, two, marks) {
         ask(state, piece, entry, programs, one, marks);
     }
 }
@@ -169,7 +204,39 @@ fn consider_either<'a, M: Mailbox>(
 /// is a function of its own, since a function clears room for its values whenever it is called, and few messages need an
 /// image of edition 1.
 #[inline(never)]
-fn consider_rest<'a, M: Mailbox>(
+fn consider_with_one<'a, M: Mailbox>(
+    state: &BusState<M>,
+    piece: Piece,
+    first: &Entry,
+    others: &mut Offers<'_>,
+    mut programs: Programs<'_, 'a>,
+    two: &Image<'a>,
+    marks: &mut Marks,
+) -> u32
+    requires state { IsState state.now }
+    requires few { programs.tally.runs + (length others.old + 1) ≤ max_entries }
+    requires connected { (e : Entry) → Contains (first.now ∷ others.old) e → is_connected e.connection state.now.connections ≡ true }
+    requires noted { AreNoted (numbers_of state.now.connections) marks.old.places marks.old.remainders }
+    requires unmarked { MayBeMarked state.now piece.part piece.of programs.view.now first.now marks.old.places }
+    requires edition { edition_of first.now.filter ≡ One }
+    requires two { IsImage Two programs.view.now programs.owned.now two.now }
+    ensures marked { (all : List Entry)
+        → AreMarkedSoFar state.now piece.part piece.of programs.entry.view.now programs.entry.owned.now all (first.now ∷ others.old) marks.old.places programs.entry.tally.runs
+        → AreMarkedSoFar state.now piece.part piece.of programs.entry.view.now programs.entry.owned.now all [] marks.new.places result }
+{
+    let mut one = Image::empty();
+    one.fill(programs.view, programs.owned, Edition::One);
+    ask(state, piece, first, &mut programs, &one, marks);
+    while let Some(entry) = others.next() {
+        consider_over_both(state, piece, entry, &mut programs, &one, two, marks);
+    }
+    programs.runs()
+}
+
+/// Considers an entry whose program reads an image, and all entries after it, and tells how many programs were run. The
+/// image of edition 2, which rules read, is made here: most rules need none, since nothing is left of them to test.
+#[inline(never)]
+fn consider_with_two<'a, M: Mailbox>(
     state: &BusState<M>,
     piece: Piece,
     first: &Entry,
@@ -181,28 +248,31 @@ fn consider_rest<'a, M: Mailbox>(
     requires few { programs.tally.runs + (length others.old + 1) ≤ max_entries }
     requires connected { (e : Entry) → Contains (first.now ∷ others.old) e → is_connected e.connection state.now.connections ≡ true }
     requires noted { AreNoted (numbers_of state.now.connections) marks.old.places marks.old.remainders }
-    requires unmarked { MayBeMarked state.now piece.part piece.of first.now marks.old.places }
-    requires edition { edition_of first.now.filter ≡ One }
     ensures marked { (all : List Entry)
         → AreMarkedSoFar state.now piece.part piece.of programs.entry.view.now programs.entry.owned.now all (first.now ∷ others.old) marks.old.places programs.entry.tally.runs
         → AreMarkedSoFar state.now piece.part piece.of programs.entry.view.now programs.entry.owned.now all [] marks.new.places result }
 {
-    let mut one = Image::empty();
-    one.fill(programs.view, programs.owned, Edition::One);
-    ask(state, piece, first, &mut programs, &one, marks);
-    while let Some(entry) = others.next() {
-        consider_either(state, piece, entry, &mut programs, &one, marks);
+    let mut two = Image::empty();
+    two.fill(programs.view, programs.owned, Edition::Two);
+    let mut entry = first;
+    'entries: loop {
+        if consider_over_two(state, piece, entry, &mut programs, &two, marks) {
+            return consider_with_one(state, piece, entry, others, programs, &two, marks);
+        }
+        match others.next() {
+            Some(next) => entry = next,
+            None => return programs.runs(),
+        }
     }
-    programs.runs()
 }
 
 /// Considers the entries that a message is offered to, one after the other, and tells how many programs were run.
-fn consider_all<'a, M: Mailbox>(
+fn consider_all<M: Mailbox>(
     state: &BusState<M>,
     piece: Piece,
     first: &Entry,
     others: &mut Offers<'_>,
-    mut programs: Programs<'_, 'a>,
+    mut programs: Programs<'_, '_>,
     marks: &mut Marks,
 ) -> u32
     requires state { IsState state.now }
@@ -215,7 +285,7 @@ fn consider_all<'a, M: Mailbox>(
     let mut entry = first;
     'entries: loop {
         if consider(state, piece, entry, &mut programs, marks) {
-            return consider_rest(state, piece, entry, others, programs, marks);
+            return consider_with_two(state, piece, entry, others, programs, marks);
         }
         match others.next() {
             Some(next) => entry = next,
@@ -225,7 +295,7 @@ fn consider_all<'a, M: Mailbox>(
 }
 
 /// Considers the entries that a message is offered to, at least one. It is a function of its own, since a function
-/// clears room for its values whenever it is called, and a message that is offered to no entry needs no image.
+/// clears room for its values whenever it is called, and a message that is offered to no entry needs no sender's slots.
 #[inline(never)]
 fn consider_offered<'a, M: Mailbox>(
     state: &BusState<M>,
@@ -247,9 +317,7 @@ fn consider_offered<'a, M: Mailbox>(
     found_where_it_holds();
     let _ = view.raw();
     let owned = state.slots_of(sender);
-    let mut edition_two = Image::empty();
-    edition_two.fill(view, &owned, Edition::Two);
-    let programs = Programs::new(view, &owned, &edition_two);
+    let programs = Programs::new(view, &owned);
     consider_all(state, piece, first, others, programs, marks)
 }
 

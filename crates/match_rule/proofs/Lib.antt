@@ -9,6 +9,7 @@ pub mod OneSender
 pub mod ValueBytes
 pub mod ReadRules
 pub mod Namespaces
+pub mod EnvelopeFound
 pub mod FixedFound
 pub mod NamespaceFound
 pub mod PutFixed

@@ -8,6 +8,7 @@ pub mod Gathering
 pub mod Arguments
 pub mod Holds
 pub mod Equality
+pub mod Envelope
 pub mod FixedTexts
 pub mod PathNamespaces
 pub mod PutTexts

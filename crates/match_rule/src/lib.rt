@@ -4,6 +4,7 @@
 #![tactic(auto)]
 
 mod condition;
+mod envelope;
 mod fixed;
 mod holding;
 mod laws;
@@ -20,6 +21,7 @@ mod weight;
 mod word;
 
 pub use condition::Condition;
+pub use envelope::envelope_fits_where_it_holds;
 pub use fixed::FixedTexts;
 pub use laws::{equal_as_sets, found_where_it_holds, one_reading};
 pub use match_key::{Field, Key, KindName, Relation, RuleError, Source};

@@ -1,12 +1,12 @@
 -- What is left of a rule, and where it holds.
-use Rattle.std.proofs.Common.{◌≡◌, ℕ, ◌≤◌, Bool, true, false, not, ◌&&◌, cond, List, [], ◌∷◌, filter, Option, Some, None, refl, ap, sym, subst, ◌∙◌, arith, All, IfSome}
-use Rattle.std.specs.Prelude.{◌↔◌, ◌==◌, IsSomeAnd, sum_by, slice_get, if◌then◌else◌, Result, Ok, Err, IfOk}
+use Rattle.std.proofs.Common.{◌≡◌, inr, ℕ, ◌≤◌, Bool, true, false, not, ◌&&◌, cond, List, [], ◌∷◌, filter, Option, Some, None, refl, ap, sym, subst, ◌∙◌, arith, All, IfSome}
+use Rattle.std.specs.Prelude.{◌↔◌, ◌==◌, MatchBool, IsSomeAnd, sum_by, slice_get, if◌then◌else◌, Result, Ok, Err, IfOk}
 use Rattle.std.specs.List.{list_any}
 use Rattle.std.proofs.lemmas.Bool.{false≢true, true≢false, eqb-true, and_parts, not-false}
 use Rattle.std.proofs.lemmas.List.Elements.{All-nil, All-cons, All-head, All-tail, All-filter}
 use Rattle.std.proofs.lemmas.List.Sums.{sum_by-cons}
 use Rattle.std.proofs.lemmas.Slice.Eq.{bytes_eq-Decides}
-use Rattle.message_view.specs.Message.{Message, path_of, interface_of, member_of}
+use Rattle.message_view.specs.Message.{Message, path_of, interface_of, member_of, sender_of}
 use Rattle.message_view.specs.Spelling.{arguments_of}
 use Rattle.match_key.specs.declared.source.Field.TheVariants.{Interface, Member, Path, Destination}
 use Rattle.match_key.specs.declared.source.Source.{Source}
@@ -17,30 +17,29 @@ use Rattle.match_rule.specs.declared.condition.Condition.TheVariants.{Kind, Send
 use Rattle.match_rule.specs.Arguments.{text_in}
 use Rattle.match_rule.specs.Condition.{value_of}
 use Rattle.message_value.specs.Bytes.{AreBytes}
+use Rattle.match_rule.specs.Envelope.{is_of_envelope, ConditionFits, EnvelopeFits}
 use Rattle.match_rule.specs.FixedTexts.{member_asked, interface_asked, path_asked, arg0_asked, arg0_of, fixed_texts, texts_of, AreFound}
 use Rattle.match_rule.specs.Parts.{is_sender, has_one_sender, has_small_number, have_small_numbers}
-use Rattle.match_rule.specs.RuleTree.{RuleTree, condition_weight, weight_of, owned_name_in, or_else, first_owned_name, sender_name_of}
+use Rattle.match_rule.specs.RuleTree.{RuleTree, condition_weight, weight_of, is_owned_name, owned_name_in, or_else, first_owned_name, sender_name_of}
 use Rattle.match_rule.specs.Holds.{Holds, ConditionHolds, text_at}
 use Rattle.bpf_code.specs.declared.instruction.Ins.{Ins}
 use Rattle.rule_compile.specs.declared.rest.Tested.{Tested}
 use Rattle.rule_compile.specs.declared.rest.Tested.TheVariants.{All as AllTested, Left}
 use Rattle.rule_compile.specs.Compiled.{IsSlotOf, IsCompiled, AgreeOn}
-use Rattle.rule_compile.specs.Rest.{IsRest, is_fixed, fixed_source, is_left, is_tested, tested_of}
+use Rattle.rule_compile.specs.Rest.{IsRest, is_fixed, fixed_source, is_left, is_tested, eavesdrops_in, tested_of}
 use Rattle.match_rule.proofs.FixedFound.{same_string}
 
 -- ---- what stays true of fewer conditions
 
--- each condition on the sender is kept
-abbrev pub KeepsSenders : (Condition → Bool) → Type 0
-KeepsSenders p = (c : Condition) → is_sender c ≡ true → p c ≡ true
+-- each condition with an owned name is kept
+abbrev pub KeepsNames : (Condition → Bool) → Type 0
+KeepsNames p = (c : Condition) → p c ≡ false → owned_name_in c ≡ None
 
-name_kept : (c : Condition) (cs ds : List Condition) (b : Bool) → (is_sender c ≡ true → b ≡ true) → first_owned_name ds ≡ first_owned_name cs → first_owned_name (cond b (c ∷ ds) ds) ≡ first_owned_name (c ∷ cs)
+name_kept : (c : Condition) (cs ds : List Condition) (b : Bool) → (b ≡ false → owned_name_in c ≡ None) → first_owned_name ds ≡ first_owned_name cs → first_owned_name (cond b (c ∷ ds) ds) ≡ first_owned_name (c ∷ cs)
 name_kept c cs ds true keeps same = ap (or_else (owned_name_in c)) same
-name_kept (Sender name) cs ds false keeps same = absurd (false≢true (keeps refl))
-name_kept (Kind kind) cs ds false keeps same = same
-name_kept (Compares source relation value) cs ds false keeps same = same
+name_kept c cs ds false keeps same = rw (keeps refl) same
 
-names_kept : (p : Condition → Bool) → KeepsSenders p → (cs : List Condition) → first_owned_name (filter p cs) ≡ first_owned_name cs
+names_kept : (p : Condition → Bool) → KeepsNames p → (cs : List Condition) → first_owned_name (filter p cs) ≡ first_owned_name cs
 names_kept p keeps [] = refl
 names_kept p keeps (c ∷ cs) = name_kept c cs (filter p cs) (p c) (keeps c) (names_kept p keeps cs)
 
@@ -98,14 +97,18 @@ weight_kept p (c ∷ cs) = go (p c) (weight_kept p cs)
 
 -- ---- the conditions that are tested
 
-keeps_senders : (tested : Tested) → KeepsSenders (is_tested tested)
-keeps_senders AllTested c is = refl
-keeps_senders (Left rule) (Sender name) is = refl
-keeps_senders (Left rule) (Kind kind) is = absurd (false≢true is)
-keeps_senders (Left rule) (Compares source relation value) is = absurd (false≢true is)
+keeps_names : (tested : Tested) → KeepsNames (is_tested tested)
+keeps_names AllTested c out = absurd (true≢false out)
+keeps_names (Left rule) (Sender name) out = go (is_owned_name name) out
+  where
+    go : (b : Bool) → not (not b) ≡ false → (if b then Some name else None) ≡ None
+    go true e = absurd (true≢false e)
+    go false e = refl
+keeps_names (Left rule) (Kind kind) out = refl
+keeps_names (Left rule) (Compares source relation value) out = refl
 
 pub same_sender : (tested : Tested) (rule : RuleTree) → sender_name_of (tested_of tested rule) ≡ sender_name_of rule
-same_sender tested rule = names_kept (is_tested tested) (keeps_senders tested) rule.conditions
+same_sender tested rule = names_kept (is_tested tested) (keeps_names tested) rule.conditions
 
 pub one_sender : (tested : Tested) (rule : RuleTree) → has_one_sender rule.conditions ≡ true → has_one_sender (tested_of tested rule).conditions ≡ true
 one_sender tested rule = one_kept (is_tested tested) rule.conditions
@@ -142,7 +145,17 @@ there : (shown : Option (List ℕ)) (value : List ℕ) → shown ≡ Some value 
 there None value is = absurd cc
 there (Some text) value is = cc
 
-module _ (rule : RuleTree) (m : Message) (owned : List ℕ → Bool) (found : AreFound (fixed_texts rule) (texts_of m)) where
+-- a condition about the envelope that fits holds
+fitting_holds : (c : Condition) (m : Message) (owned : List ℕ → Bool) → is_of_envelope c ≡ true → ConditionFits c m → ConditionHolds c m owned
+fitting_holds (Kind kind) m owned of fits = fits
+fitting_holds (Sender name) m owned of fits = go (is_owned_name name) of fits
+  where
+    go : (b : Bool) → not b ≡ true → MatchBool b (Unit {0}) (sender_of m ≡ Some name) → MatchBool b (owned name ≡ true) (sender_of m ≡ Some name)
+    go true of fits = absurd (false≢true of)
+    go false of fits = fits
+fitting_holds (Compares source relation value) m owned of fits = absurd (false≢true of)
+
+module _ (rule : RuleTree) (m : Message) (owned : List ℕ → Bool) (found : AreFound (fixed_texts rule) (texts_of m)) (fits : EnvelopeFits rule m) where
   arg_fixed : (n : ℕ) (value : List ℕ) → is_fixed (fixed_source rule (Arg n)) value ≡ true → IsSomeAnd (text_at (Arg n) relations.Equal m) (λ text. text ≡ value)
   arg_fixed n value e = go (n == 0) refl e
     where
@@ -162,32 +175,31 @@ module _ (rule : RuleTree) (m : Message) (owned : List ℕ → Bool) (found : Ar
   source_fixed (Arg n) value e = arg_fixed n value e
 
   -- a condition that isn't left holds
-  not_left_holds : (c : Condition) → is_left rule c ≡ false → ConditionHolds c m owned
-  not_left_holds (Compares source relations.Equal value) e = source_fixed source value (not-false _ e)
-  not_left_holds (Compares source relation value) e = absurd (true≢false e)
-  not_left_holds (Kind kind) e = absurd (true≢false e)
-  not_left_holds (Sender name) e = absurd (true≢false e)
+  not_left_holds : (c : Condition) → is_left rule c ≡ false → ConditionFits c m → ConditionHolds c m owned
+  not_left_holds (Compares source relations.Equal value) e fit = source_fixed source value (not-false _ e)
+  not_left_holds (Compares source relation value) e fit = absurd (true≢false e)
+  not_left_holds c e fit = fitting_holds c m owned (not-false (is_of_envelope c) e) fit
 
-  all_hold : (p : Condition → Bool) → ((c : Condition) → p c ≡ false → ConditionHolds c m owned) → (cs : List Condition) → All (λ c. ConditionHolds c m owned) (filter p cs) → All (λ c. ConditionHolds c m owned) cs
-  all_hold p others [] each = All-nil (λ c. ConditionHolds c m owned)
-  all_hold p others (c ∷ cs) each = go (p c) refl each (all_hold p others cs)
+  all_hold : (p : Condition → Bool) → ((c : Condition) → p c ≡ false → ConditionFits c m → ConditionHolds c m owned) → (cs : List Condition) → All (λ c. ConditionFits c m) cs → All (λ c. ConditionHolds c m owned) (filter p cs) → All (λ c. ConditionHolds c m owned) cs
+  all_hold p others [] fit each = All-nil (λ c. ConditionHolds c m owned)
+  all_hold p others (c ∷ cs) fit each = go (p c) refl each (all_hold p others cs (All-tail (λ c. ConditionFits c m) c cs fit))
     where
       go : (b : Bool) → p c ≡ b → All (λ c. ConditionHolds c m owned) (cond b (c ∷ filter p cs) (filter p cs)) → (All (λ c. ConditionHolds c m owned) (filter p cs) → All (λ c. ConditionHolds c m owned) cs) → All (λ c. ConditionHolds c m owned) (c ∷ cs)
       go true is h more = All-cons (λ c. ConditionHolds c m owned) c cs (All-head (λ c. ConditionHolds c m owned) c (filter p cs) h) (more (All-tail (λ c. ConditionHolds c m owned) c (filter p cs) h))
-      go false is h more = All-cons (λ c. ConditionHolds c m owned) c cs (others c is) (more h)
+      go false is h more = All-cons (λ c. ConditionHolds c m owned) c cs (others c is (All-head (λ c. ConditionFits c m) c cs fit)) (more h)
 
-  rest_holds : (tested : Tested) → ((c : Condition) → is_tested tested c ≡ is_left rule c) → (Holds (tested_of tested rule) m owned ↔ Holds rule m owned)
-  rest_holds tested same = (
-    (λ h. record { each = all_hold (is_tested tested) (λ c e. not_left_holds c (sym (same c) ∙ e)) rule.conditions h.each; destination_fits = h.destination_fits }),
-    (λ h. record { each = All-filter (is_tested tested) (λ c. ConditionHolds c m owned) rule.conditions h.each; destination_fits = h.destination_fits }),
+  rest_holds : (tested : Tested) → ((c : Condition) → is_tested tested c ≡ is_left rule c) → eavesdrops_in tested rule.eavesdrops ≡ true → (Holds (tested_of tested rule) m owned ↔ Holds rule m owned)
+  rest_holds tested same untested = (
+    (λ h. record { each = all_hold (is_tested tested) (λ c e. not_left_holds c (sym (same c) ∙ e)) rule.conditions fits.each h.each; destination_fits = fits.destination_fits }),
+    (λ h. record { each = All-filter (is_tested tested) (λ c. ConditionHolds c m owned) rule.conditions h.each; destination_fits = inr untested }),
   )
 
-pub rest_compiled : (rule : RuleTree) (slot : Option ℕ) (tested : Tested) (program : List Ins) → ((c : Condition) → is_tested tested c ≡ is_left rule c) → IsCompiled (tested_of tested rule) slot program → IsRest rule slot program
-rest_compiled rule slot tested program same compiled = record {
-  decides = λ bytes m slots owned v n valid set agree found ends.
+pub rest_compiled : (rule : RuleTree) (slot : Option ℕ) (tested : Tested) (program : List Ins) → ((c : Condition) → is_tested tested c ≡ is_left rule c) → eavesdrops_in tested rule.eavesdrops ≡ true → IsCompiled (tested_of tested rule) slot program → IsRest rule slot program
+rest_compiled rule slot tested program same untested compiled = record {
+  decides = λ bytes m slots owned v n valid set agree found fits ends.
       let fewer : AgreeOn (tested_of tested rule) slot owned slots = rw (same_sender tested rule) agree in
       let tells = compiled bytes m slots owned v n valid set fewer ends in
-      let rest = rest_holds rule m owned found tested same in
+      let rest = rest_holds rule m owned found fits tested same untested in
       ((λ less. rest.0 (tells.0 less)), (λ holds. tells.1 (rest.1 holds)));
 }
 

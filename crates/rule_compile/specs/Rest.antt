@@ -1,4 +1,4 @@
--- The program of what is left of a rule, where a message has the texts that the rule fixes.
+-- The program of what is left of a rule, where a message has the texts that the rule fixes and its envelope fits.
 use Rattle.std.specs.Prelude.{◌↔◌, ℕ, ◌<◌, Bool, true, false, not, List, Option, Some, None, filter, ◌==◌, if◌then◌else◌}
 use Rattle.std.specs.Str.{bytes_eq}
 use Rattle.bpf_code.specs.declared.instruction.Ins.{Ins}
@@ -13,6 +13,7 @@ use Rattle.match_key.specs.declared.relation.Relation.{Relation}
 use Rattle.match_key.specs.declared.relation.Relation.TheVariants as relations
 use Rattle.match_rule.specs.declared.condition.Condition.{Condition}
 use Rattle.match_rule.specs.declared.condition.Condition.TheVariants.{Compares}
+use Rattle.match_rule.specs.Envelope.{is_of_envelope, EnvelopeFits}
 use Rattle.match_rule.specs.FixedTexts.{member_asked, interface_asked, path_asked, arg0_asked, fixed_texts, texts_of, AreFound}
 use Rattle.match_rule.specs.RuleTree.{RuleTree}
 use Rattle.match_rule.specs.Holds.{Holds}
@@ -23,14 +24,15 @@ use Rattle.rule_compile.specs.declared.rest.Tested.{Tested}
 use Rattle.rule_compile.specs.declared.rest.Tested.TheVariants.{All, Left}
 use Rattle.rule_compile.specs.Compiled.{AgreeOn}
 
--- The program's verdict on the image, of edition 2, of a message that has the texts that the rule fixes is nonzero
--- exactly where the rule holds of the message.
+-- The program's verdict on the image, of edition 2, of a message that has the texts that the rule fixes, and whose
+-- envelope fits, is nonzero exactly where the rule holds of the message.
 pub record IsRest (rule : RuleTree) (slot : Option ℕ) (program : List Ins) : Type 0 where
   pub decides : (bytes : List ℕ) (m : Message) (slots : List ℕ) (owned : List ℕ → Bool) (v n : ℕ)
       → Valid bytes m
       → IsSet slots
       → AgreeOn rule slot owned slots
       → AreFound (fixed_texts rule) (texts_of m)
+      → EnvelopeFits rule m
       → Ends program (image_bytes Two m slots) v n
       → (0 < v) ↔ Holds rule m owned
 
@@ -57,18 +59,23 @@ abbrev pub fixed_text : RuleTree → Relation → Source → Option (List ℕ)
 fixed_text rule relations.Equal source = fixed_source rule source
 fixed_text rule _ source = None
 
--- the condition is left to test where a message has the texts that the rule fixes
+-- the condition is left to test where a message has the texts that the rule fixes and its envelope fits
 abbrev pub is_left : RuleTree → Condition → Bool
 is_left rule (Compares source relation value) = not (is_fixed (fixed_text rule relation source) value)
-is_left rule _ = true
+is_left rule c = not (is_of_envelope c)
 
 abbrev pub is_tested : Tested → Condition → Bool
 is_tested All c = true
 is_tested (Left rule) c = is_left rule.now c
 
+-- whether a destination is tested for: of a rule that eavesdrops, and of what is left of one, it isn't
+abbrev pub eavesdrops_in : Tested → Bool → Bool
+eavesdrops_in All eavesdrops = eavesdrops
+eavesdrops_in (Left rule) eavesdrops = true
+
 -- the rule of those conditions that are tested
 abbrev pub tested_of : Tested → RuleTree → RuleTree
 tested_of tested rule = record {
   conditions = filter (is_tested tested) rule.conditions;
-  eavesdrops = rule.eavesdrops;
+  eavesdrops = eavesdrops_in tested rule.eavesdrops;
 }

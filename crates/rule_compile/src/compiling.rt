@@ -53,8 +53,8 @@ pub fn compile(alloc: Global, rule: &Rule, slot: Option<u16>) -> Result<Verified
 }
 
 /// The program of what is left of a rule, for images of edition 2 of messages that have the texts which the rule fixes,
-/// as they have where they were looked up by these texts: its verdict is nonzero exactly where the rule holds of such a
-/// message. The slot and the errors are those of `compile`.
+/// as they have where they were looked up by these texts, and whose envelope fits: its verdict is nonzero exactly where
+/// the rule holds of such a message. The slot and the errors are those of `compile`.
 pub fn compile_rest(alloc: Global, rule: &Rule, slot: Option<u16>) -> Result<Verified, CompileError>
     requires { IsSlotOf slot rule.now }
     ensures rest { IfOk result (λ program. IsRest rule.now slot program) }

@@ -138,7 +138,7 @@ pub(crate) fn rule_code(
     ensures made { IfOk result AreWellMade }
 {
     let mut code = Code::verdicts(alloc)?;
-    code.destination_fits(eavesdrops)?;
+    code.destination_fits(tested.eavesdrops(eavesdrops))?;
     code.all_bytes(slot, conditions, tested)?;
     code.all_words(slot, conditions, tested)?;
     Ok(code.finish())

@@ -1,6 +1,7 @@
-// The conditions of a rule that are left to test, where a message has the texts that the rule fixes.
+// The conditions of a rule that are left to test, where a message has the texts that the rule fixes and its envelope
+// fits.
 ghost use Rattle.std.specs.Prelude.{◌≡◌, option_map};
-ghost use Rattle.rule_compile.specs.Rest.{is_fixed, fixed_field, fixed_source, fixed_text, is_left, is_tested};
+ghost use Rattle.rule_compile.specs.Rest.{is_fixed, fixed_field, fixed_source, fixed_text, is_left, is_tested, eavesdrops_in};
 
 use match_rule::{Condition, Field, Relation, Rule, Source};
 
@@ -46,7 +47,8 @@ fn fixed_text(rule: &Rule, relation: Relation, source: Source) -> Option<&str>
     }
 }
 
-/// Whether a condition of a rule is left to test, where a message has the texts that the rule fixes.
+/// Whether a condition of a rule is left to test, where a message has the texts that the rule fixes and its envelope
+/// fits.
 fn is_left(rule: &Rule, condition: &Condition) -> bool
     ensures { result ≡ is_left rule.now condition.now }
 {
@@ -54,7 +56,7 @@ fn is_left(rule: &Rule, condition: &Condition) -> bool
         Condition::Compares(source, relation, value) => {
             !is_fixed(fixed_text(rule, *relation, *source), value.as_str())
         }
-        Condition::Kind(_) | Condition::Sender(_) => true,
+        Condition::Kind(_) | Condition::Sender(_) => !condition.is_of_envelope(),
     }
 }
 
@@ -73,6 +75,16 @@ impl<'a> Tested<'a> {
         match self {
             Tested::All => true,
             Tested::Left(rule) => is_left(rule, condition),
+        }
+    }
+
+    /// Whether the program may leave the destination untested: of a rule that eavesdrops, and of what is left of one.
+    pub(crate) fn eavesdrops(self, eavesdrops: bool) -> bool
+        ensures { result ≡ eavesdrops_in self.entry eavesdrops }
+    {
+        match self {
+            Tested::All => eavesdrops,
+            Tested::Left(_) => true,
         }
     }
 }

@@ -9,4 +9,4 @@ pub returns-clause-rest : goal.returns-clause-rest
 returns-clause-rest c =
     let rule = c.args.rule in
     let slot = c.args.slot in
-    ok_map c.compile_tested.result (λ program. IsCompiled (tested_of (Left rule) rule.now) slot program) (λ program. IsRest rule.now slot program) (λ program. rest_compiled rule.now slot (Left rule) program (λ d. refl)) c.compile_tested.ensures.compiled
+    ok_map c.compile_tested.result (λ program. IsCompiled (tested_of (Left rule) rule.now) slot program) (λ program. IsRest rule.now slot program) (λ program. rest_compiled rule.now slot (Left rule) program (λ d. refl) refl) c.compile_tested.ensures.compiled
