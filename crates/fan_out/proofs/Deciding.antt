@@ -12,12 +12,14 @@ use Rattle.message_view.specs.Message.{Message}
 use Rattle.message_view.specs.Valid.{Valid}
 use Rattle.match_rule.specs.RuleTree.{sender_name_of}
 use Rattle.match_rule.specs.Holds.{Holds}
+use Rattle.match_rule.specs.Envelope.{EnvelopeFits}
 use Rattle.match_rule.specs.FixedTexts.{fixed_texts, texts_of, AreFound}
 use Rattle.summary.specs.ImageBytes.{image_bytes}
 use Rattle.summary.specs.Sets.{has_slot}
 use Rattle.rule_compile.specs.Compiled.{AgreeOn}
 use Rattle.entry_table.specs.AttachedProgram.{AttachedProgram}
 use Rattle.entry_table.specs.CompiledRule.{CompiledRule}
+use Rattle.entry_table.specs.Envelopes.{FilterFits}
 use Rattle.entry_table.specs.OfferedEntries.{texts_fixed}
 use Rattle.entry_table.specs.declared.entry.Filter.{Filter}
 use Rattle.entry_table.specs.declared.entry.Filter.TheVariants.{Rule, Attached}
@@ -62,11 +64,11 @@ module _ (r : Registrations) (sender : Option ℕ) (words : List ℕ) (owned : A
       rw own.1 (sym (owned.owned own.0 ∙ ap (is_owned_at r sender) (name_at name r.slots own.0 own.2)))
 
   module _ (bytes : List ℕ) (m : Message) (valid : Valid bytes m) (one_way : EndInOneWay) where
-    rule_decided : (compiled : CompiledRule) (answer : Bool) → is_own_slot (sender_name_of compiled.rule) compiled.slot r.slots ≡ true → AreFound (fixed_texts compiled.rule) (texts_of m) → SaysRest compiled bytes words answer → (IsTrue answer ↔ Holds compiled.rule m (is_owned r sender))
-    rule_decided compiled answer own found rest =
+    rule_decided : (compiled : CompiledRule) (answer : Bool) → is_own_slot (sender_name_of compiled.rule) compiled.slot r.slots ≡ true → AreFound (fixed_texts compiled.rule) (texts_of m) → EnvelopeFits compiled.rule m → SaysRest compiled bytes words answer → (IsTrue answer ↔ Holds compiled.rule m (is_owned r sender))
+    rule_decided compiled answer own found fits rest =
         let run = rest.says.ends.ends m valid in
         let agrees : AgreeOn compiled.rule compiled.slot (is_owned r sender) words = agree_at (sender_name_of compiled.rule) compiled.slot own in
-        let holds = rest.rest.decides bytes m words (is_owned r sender) rest.says.verdict run.0 valid owned.set agrees found run.1 in
+        let holds = rest.rest.decides bytes m words (is_owned r sender) rest.says.verdict run.0 valid owned.set agrees found fits run.1 in
         ((λ yes. holds.0 (rest.says.same.0 yes)), (λ held. rest.says.same.1 (holds.1 held)))
 
     attached_decided : (attached : AttachedProgram) (answer : Bool) → Says attached.edition bytes words attached.program answer → (IsTrue answer ↔ FilterMatches r sender m (Attached attached))
@@ -80,6 +82,6 @@ module _ (r : Registrations) (sender : Option ℕ) (words : List ℕ) (owned : A
               says.same.1 (rw one.0 positive)),
         )
 
-    pub filter_decided : (filter : Filter) (answer : Bool) → is_own_slot (sender_asked filter) (slot_in filter) r.slots ≡ true → AreFound (texts_fixed filter) (texts_of m) → IsAnswer bytes words filter answer → (IsTrue answer ↔ FilterMatches r sender m filter)
-    filter_decided (Rule compiled) answer own found rest = rule_decided compiled answer own found rest
-    filter_decided (Attached attached) answer own found says = attached_decided attached answer says
+    pub filter_decided : (filter : Filter) (answer : Bool) → is_own_slot (sender_asked filter) (slot_in filter) r.slots ≡ true → AreFound (texts_fixed filter) (texts_of m) → FilterFits filter m → IsAnswer bytes words filter answer → (IsTrue answer ↔ FilterMatches r sender m filter)
+    filter_decided (Rule compiled) answer own found fits rest = rule_decided compiled answer own found fits rest
+    filter_decided (Attached attached) answer own found fits says = attached_decided attached answer says

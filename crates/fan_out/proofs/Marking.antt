@@ -10,7 +10,7 @@ use Rattle.program_table.specs.Recipients.{FilterMatches}
 use Rattle.fan_out.specs.Pieces.{IsInPiece}
 use Rattle.fan_out.specs.Answers.{IsAnswer}
 use Rattle.fan_out.specs.Marks.{IsMarked, IsUnmarked, IsMarkedMore, mark_count}
-use Rattle.fan_out.specs.Marking.{NeedsNoRun, Considers, MatchesAmong, AreDecided, AreMarked, AreMarkedSoFar}
+use Rattle.fan_out.specs.Marking.{IsFit, NeedsNoRun, Considers, MatchesAmong, AreDecided, AreMarked, AreMarkedSoFar}
 use Rattle.fan_out.proofs.Places.{contains_here, contains_later, contains_cases, contains_none, none_marked, count_none, set_here, set_kept, set_cases, count_set}
 
 false_true : (b : Bool) → b ≡ false → b ≡ true → ⊥
@@ -75,8 +75,8 @@ module _ {M : Type 0} where
   }
 
   -- the entry's program was run and has verdict 0
-  marks_no : (s : State M) (part of : ℕ) (bytes words : List ℕ) (all left : List Entry) (e : Entry) (marks : List Bool) (runs : ℕ) → AreMarkedSoFar s part of bytes words all (e ∷ left) marks runs → IsAnswer bytes words e.filter false → AreMarkedSoFar s part of bytes words all left marks (runs + 1)
-  marks_no s part of bytes words all left e marks runs so_far answered = record {
+  marks_no : (s : State M) (part of : ℕ) (bytes words : List ℕ) (all left : List Entry) (e : Entry) (marks : List Bool) (runs : ℕ) → AreMarkedSoFar s part of bytes words all (e ∷ left) marks runs → IsFit bytes e.filter → IsAnswer bytes words e.filter false → AreMarkedSoFar s part of bytes words all left marks (runs + 1)
+  marks_no s part of bytes words all left e marks runs so_far fits answered = record {
     rest = λ f there. so_far.rest f (contains_later e f left there);
     few = omega (arith, so_far.few);
     enough = omega (arith, so_far.enough);
@@ -86,7 +86,7 @@ module _ {M : Type 0} where
           (λ among. elim (both.1 among) [
             | inl marked ↦ inl marked
             | inr here ↦ elim (among_cases s sender m e left n here.0) [
-              | inl this ↦ absurd (false_true false refl ((decided.decided e (so_far.rest e (contains_here e left)) false answered).1 this.1))
+              | inl this ↦ absurd (false_true false refl ((decided.decided e (so_far.rest e (contains_here e left)) fits false answered).1 this.1))
               | inr later ↦ inr (later, here.1)
             ]
           ]),
@@ -94,14 +94,14 @@ module _ {M : Type 0} where
   }
 
   -- the entry's program was run and has another verdict
-  marks_yes : (s : State M) (part of : ℕ) (bytes words : List ℕ) (all left : List Entry) (e : Entry) (marks : List Bool) (runs place : ℕ) → AreMarkedSoFar s part of bytes words all (e ∷ left) marks runs → IsAnswer bytes words e.filter true → IsInPiece part of e.connection → slice_get (numbers_of s.connections) place ≡ Some e.connection → slice_get marks place ≡ Some false → AreMarkedSoFar s part of bytes words all left (set marks place true) (runs + 1)
-  marks_yes s part of bytes words all left e marks runs place so_far answered inside stands unmarked = record {
+  marks_yes : (s : State M) (part of : ℕ) (bytes words : List ℕ) (all left : List Entry) (e : Entry) (marks : List Bool) (runs place : ℕ) → AreMarkedSoFar s part of bytes words all (e ∷ left) marks runs → IsFit bytes e.filter → IsAnswer bytes words e.filter true → IsInPiece part of e.connection → slice_get (numbers_of s.connections) place ≡ Some e.connection → slice_get marks place ≡ Some false → AreMarkedSoFar s part of bytes words all left (set marks place true) (runs + 1)
+  marks_yes s part of bytes words all left e marks runs place so_far fits answered inside stands unmarked = record {
     rest = λ f there. so_far.rest f (contains_later e f left there);
     few = omega (arith, so_far.few);
     enough = omega (arith, so_far.enough, count_set marks place unmarked);
     exact = λ sender m valid decided n.
         let both = so_far.exact sender m valid decided n in
-        let this : FilterMatches s.registrations sender m e.filter = (decided.decided e (so_far.rest e (contains_here e left)) true answered).0 refl in (
+        let this : FilterMatches s.registrations sender m e.filter = (decided.decided e (so_far.rest e (contains_here e left)) fits true answered).0 refl in (
           (λ found. both.0 (elim found [
             | inl marked ↦ elim (set_cases marks place marked.0 marked.2) [
               | inl same ↦
@@ -124,15 +124,15 @@ module _ {M : Type 0} where
       some_same : {a b : ℕ} → Some a ≡ Some b → a ≡ b
       some_same e = cc
 
-  marks_asked : (s : State M) (part of : ℕ) (bytes words : List ℕ) (all left : List Entry) (e : Entry) (before after : List Bool) (runs : ℕ) (answer : Bool) → AreMarkedSoFar s part of bytes words all (e ∷ left) before runs → IsAnswer bytes words e.filter answer → IsInPiece part of e.connection → IsUnmarked (numbers_of s.connections) before e.connection → MatchBool answer (IsMarkedMore (numbers_of s.connections) e.connection before after) (after ≡ before) → AreMarkedSoFar s part of bytes words all left after (runs + 1)
-  marks_asked s part of bytes words all left e before after runs true so_far answered inside unmarked more = rw more.marked (marks_yes s part of bytes words all left e before runs more.place so_far answered inside more.stands (unmarked more.place more.stands))
-  marks_asked s part of bytes words all left e before after runs false so_far answered inside unmarked same = rw same (marks_no s part of bytes words all left e before runs so_far answered)
+  marks_asked : (s : State M) (part of : ℕ) (bytes words : List ℕ) (all left : List Entry) (e : Entry) (before after : List Bool) (runs : ℕ) (answer : Bool) → AreMarkedSoFar s part of bytes words all (e ∷ left) before runs → IsFit bytes e.filter → IsAnswer bytes words e.filter answer → IsInPiece part of e.connection → IsUnmarked (numbers_of s.connections) before e.connection → MatchBool answer (IsMarkedMore (numbers_of s.connections) e.connection before after) (after ≡ before) → AreMarkedSoFar s part of bytes words all left after (runs + 1)
+  marks_asked s part of bytes words all left e before after runs true so_far fits answered inside unmarked more = rw more.marked (marks_yes s part of bytes words all left e before runs more.place so_far fits answered inside more.stands (unmarked more.place more.stands))
+  marks_asked s part of bytes words all left e before after runs false so_far fits answered inside unmarked same = rw same (marks_no s part of bytes words all left e before runs so_far fits answered)
 
   -- one more entry
   pub marks_more : (s : State M) (part of : ℕ) (bytes words : List ℕ) (all left : List Entry) (e : Entry) (before after : List Bool) (runs later : ℕ) → AreMarkedSoFar s part of bytes words all (e ∷ left) before runs → Considers s part of bytes words e before after runs later → AreMarkedSoFar s part of bytes words all left after later
   marks_more s part of bytes words all left e before after runs later so_far considered = elim considered [
     | inl passed ↦ rw (passed.0.kept, passed.0.none_run) (marks_pass s part of bytes words all left e before runs so_far passed.1)
-    | inr asked ↦ rw asked.one_run (marks_asked s part of bytes words all left e before after runs asked.answer so_far asked.answered asked.inside asked.unmarked asked.marked)
+    | inr asked ↦ rw asked.one_run (marks_asked s part of bytes words all left e before after runs asked.answer so_far asked.fits asked.answered asked.inside asked.unmarked asked.marked)
   ]
 
   -- at most one program was run for an entry

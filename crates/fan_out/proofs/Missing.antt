@@ -1,13 +1,15 @@
--- A rule that asks for another path namespace than that of the message's path doesn't match.
+-- A rule that asks for another path namespace than that of the message's path, or for another envelope, doesn't match.
 use Rattle.std.proofs.Common.{◌≡◌, ℕ, Bool, List, Option, subst}
 use Rattle.message_view.specs.Message.{Message, path_of}
 use Rattle.message_view.specs.Valid.{Valid}
 use Rattle.match_rule.specs.RuleTree.{RuleTree}
 use Rattle.match_rule.specs.Holds.{Holds}
+use Rattle.match_rule.specs.Envelope.{EnvelopeFits}
 use Rattle.match_rule.specs.PathNamespaces.{IsElsewhere}
 use Rattle.entry_table.specs.declared.entry.Filter.{Filter}
 use Rattle.entry_table.specs.declared.entry.Filter.TheVariants.{Rule, Attached}
 use Rattle.entry_table.specs.Elsewhere.{IsFilterElsewhere}
+use Rattle.entry_table.specs.Envelopes.{FilterFits}
 use Rattle.program_table.specs.Registrations.{Registrations}
 use Rattle.program_table.specs.Recipients.{is_owned, FilterMatches}
 use Rattle.fan_out.specs.Marking.{IsMissed}
@@ -23,3 +25,14 @@ no_match (Attached attached) r sender m law elsewhere matches = elsewhere
 pub filter_missed : (bytes : List ℕ) (filter : Filter) (path : Option (List ℕ)) → NotElsewhere → ((m : Message) → Valid bytes m → path ≡ path_of m) → IsFilterElsewhere filter path → IsMissed bytes filter
 filter_missed bytes filter path law asked elsewhere r sender m valid matches =
     no_match filter r sender m law (subst (λ (p : Option (List ℕ)). IsFilterElsewhere filter p) (asked m valid) elsewhere) matches
+
+-- a message of which a rule holds has an envelope as the rule asks
+abbrev FitsWhereItHolds : Type 0
+FitsWhereItHolds = (rule : RuleTree) (m : Message) (owned : List ℕ → Bool) → Holds rule m owned → EnvelopeFits rule m
+
+envelope_fits : (filter : Filter) (r : Registrations) (sender : Option ℕ) (m : Message) → FitsWhereItHolds → FilterMatches r sender m filter → FilterFits filter m
+envelope_fits (Rule compiled) r sender m law matches = law compiled.rule m (is_owned r sender) matches
+envelope_fits (Attached attached) r sender m law matches = tt
+
+pub envelope_missed : (bytes : List ℕ) (filter : Filter) → FitsWhereItHolds → ((m : Message) → Valid bytes m → FilterFits filter m → ⊥) → IsMissed bytes filter
+envelope_missed bytes filter law other r sender m valid matches = other m valid (envelope_fits filter r sender m law matches)

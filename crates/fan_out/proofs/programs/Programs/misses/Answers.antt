@@ -1,7 +1,6 @@
 use Rattle.std.specs.Prelude.{option_map}
-use Rattle.fan_out.proofs.Missing.{filter_missed}
+use Rattle.fan_out.proofs.Missing.{filter_missed, envelope_missed}
 use Rattle.fan_out.proofs.programs.Programs.misses.Goals as goal
 
 pub returns : goal.returns
-returns c missed =
-    filter_missed c.args.self.now.view.now c.args.filter.now (option_map (λ text. text.now) c.args.self.now.path) c.not_elsewhere_where_it_holds.ensures c.args.self.now.asked (c.is_elsewhere.ensures.0 missed)
+returns c = ?

@@ -2,7 +2,7 @@ use Rattle.std.proofs.Common.{◌∙◌, inr, List, length, ap, arith}
 use Rattle.entry_table.specs.declared.entry.Entry.{Entry}
 use Rattle.fan_out.proofs.Places.{contains_later}
 use Rattle.fan_out.proofs.Marking.{marks_more, considers_few}
-use Rattle.fan_out.proofs.recipients.consider_rest.Goals as goal
+use Rattle.fan_out.proofs.recipients.consider_with_one.Goals as goal
 
 pub ask-requires-clause-image : goal.ask-requires-clause-image
 ask-requires-clause-image g c = rw c.requires.edition (record { same = c.fill.ensures })
@@ -20,14 +20,14 @@ loop-entry-init g c = record {
 pub loop-entry-preserved : goal.loop-entry-preserved
 loop-entry-preserved g c =
     let before = c.loop-entry.invariant in
-    let considered = rw (before.view, before.owned) at c.consider_either.ensures.considered in
+    let considered = rw (before.view, before.owned) at c.consider_over_both.ensures.considered in
     record {
-      view = c.consider_either.ensures.view ∙ before.view;
-      owned = c.consider_either.ensures.owned ∙ before.owned;
-      noted = c.consider_either.ensures.noted;
-      few = omega (arith, before.few, ap (λ (es : List Entry). length es) c.in-Some.ensures.steps, considers_few c.args.state.now c.args.piece.part c.args.piece.of c.args.programs.view.now c.args.programs.owned.now c.in-Some.entry.now c.loop-entry.marks.places c.consider_either.new.marks.places c.loop-entry.programs.tally.runs c.consider_either.new.programs.tally.runs considered);
+      view = c.consider_over_both.ensures.view ∙ before.view;
+      owned = c.consider_over_both.ensures.owned ∙ before.owned;
+      noted = c.consider_over_both.ensures.noted;
+      few = omega (arith, before.few, ap (λ (es : List Entry). length es) c.in-Some.ensures.steps, considers_few c.args.state.now c.args.piece.part c.args.piece.of c.args.programs.view.now c.args.programs.owned.now c.in-Some.entry.now c.loop-entry.marks.places c.consider_over_both.new.marks.places c.loop-entry.programs.tally.runs c.consider_over_both.new.programs.tally.runs considered);
       rest = λ e there. before.rest e (rw c.in-Some.ensures.steps (contains_later c.in-Some.entry.now e c.next.new.self there));
-      marked = λ all so_far. marks_more c.args.state.now c.args.piece.part c.args.piece.of c.args.programs.view.now c.args.programs.owned.now all c.next.new.self c.in-Some.entry.now c.loop-entry.marks.places c.consider_either.new.marks.places c.loop-entry.programs.tally.runs c.consider_either.new.programs.tally.runs (rw c.in-Some.ensures.steps at before.marked all so_far) considered;
+      marked = λ all so_far. marks_more c.args.state.now c.args.piece.part c.args.piece.of c.args.programs.view.now c.args.programs.owned.now all c.next.new.self c.in-Some.entry.now c.loop-entry.marks.places c.consider_over_both.new.marks.places c.loop-entry.programs.tally.runs c.consider_over_both.new.programs.tally.runs (rw c.in-Some.ensures.steps at before.marked all so_far) considered;
     }
 
 pub returns : goal.returns

@@ -3,19 +3,19 @@ use Rattle.entry_table.specs.declared.entry.Entry.{Entry}
 use Rattle.program_table.specs.Connections.{numbers_of}
 use Rattle.fan_out.specs.Marks.{AreNoted}
 use Rattle.fan_out.specs.Marking.{AreMarkedSoFar}
-use Rattle.fan_out.proofs.recipients.consider_rest.Given as goal
+use Rattle.fan_out.proofs.recipients.consider_with_two.Given as goal
 
-abbrev pub invariant-loop-entry : goal.invariant-loop-entry
-invariant-loop-entry g l = record {
+abbrev pub invariant-entries : goal.invariant-entries
+invariant-entries g l = record {
   view : l.programs.view.now ≡ l.fn.programs.view.now;
   owned : l.programs.owned.now ≡ l.fn.programs.owned.now;
   noted : AreNoted (numbers_of l.state.connections) l.marks.places l.marks.remainders;
-  few : l.programs.tally.runs + length l.others ≤ l.fn.programs.tally.runs + (length l.initial.others + 1);
-  rest : (e : Entry) → Contains l.others e → Contains (l.first ∷ l.initial.others) e;
+  few : l.programs.tally.runs + length l.others ≤ l.fn.programs.tally.runs + length l.initial.others;
+  rest : (e : Entry) → Contains (l.entry ∷ l.others) e → Contains (l.first ∷ l.initial.others) e;
   marked : (all : List Entry)
       → AreMarkedSoFar l.state l.piece.part l.piece.of l.fn.programs.view.now l.fn.programs.owned.now all (l.first ∷ l.initial.others) l.fn.marks.places l.fn.programs.tally.runs
-      → AreMarkedSoFar l.state l.piece.part l.piece.of l.fn.programs.view.now l.fn.programs.owned.now all l.others l.marks.places l.programs.tally.runs;
+      → AreMarkedSoFar l.state l.piece.part l.piece.of l.fn.programs.view.now l.fn.programs.owned.now all (l.entry ∷ l.others) l.marks.places l.programs.tally.runs;
 }
 
-abbrev pub decreases-loop-entry : goal.decreases-loop-entry
-decreases-loop-entry g l = length l.others
+abbrev pub decreases-entries : goal.decreases-entries
+decreases-entries g l = length l.others
