@@ -1,7 +1,9 @@
-//! Tests of recipients: what no contract says, how many programs are run where an index serves, and that workers run
-//! at once. Each is named after its worked example.
+//! Tests of recipients: what no contract says, how many programs are run where an index serves or an envelope
+//! tells enough, and that workers run at once.
 #![tactic(auto)]
 
+#[cfg(test)]
+mod envelopes;
 #[cfg(test)]
 mod gates;
 #[cfg(test)]
