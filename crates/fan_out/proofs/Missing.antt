@@ -1,5 +1,6 @@
 -- A rule that asks for another path namespace than that of the message's path, or for another envelope, doesn't match.
-use Rattle.std.proofs.Common.{◌≡◌, ℕ, Bool, List, Option, subst}
+use Rattle.std.proofs.Common.{◌≡◌, ◌↔◌, ℕ, Bool, true, false, not, List, Option, refl, subst}
+use Rattle.std.specs.Prelude.{IsTrue, MatchBool}
 use Rattle.message_view.specs.Message.{Message, path_of}
 use Rattle.message_view.specs.Valid.{Valid}
 use Rattle.match_rule.specs.RuleTree.{RuleTree}
@@ -12,7 +13,7 @@ use Rattle.entry_table.specs.Elsewhere.{IsFilterElsewhere}
 use Rattle.entry_table.specs.Envelopes.{FilterFits}
 use Rattle.program_table.specs.Registrations.{Registrations}
 use Rattle.program_table.specs.Recipients.{is_owned, FilterMatches}
-use Rattle.fan_out.specs.Marking.{IsMissed}
+use Rattle.fan_out.specs.Marking.{IsMissed, IsFit}
 
 -- a message of which a rule holds has a path in the rule's namespace
 abbrev NotElsewhere : Type 0
@@ -34,5 +35,9 @@ envelope_fits : (filter : Filter) (r : Registrations) (sender : Option ℕ) (m :
 envelope_fits (Rule compiled) r sender m law matches = law compiled.rule m (is_owned r sender) matches
 envelope_fits (Attached attached) r sender m law matches = tt
 
-pub envelope_missed : (bytes : List ℕ) (filter : Filter) → FitsWhereItHolds → ((m : Message) → Valid bytes m → FilterFits filter m → ⊥) → IsMissed bytes filter
-envelope_missed bytes filter law other r sender m valid matches = other m valid (envelope_fits filter r sender m law matches)
+pub fits_or_missed : (bytes : List ℕ) (filter : Filter) → FitsWhereItHolds → (fits : Bool) → ((m : Message) → Valid bytes m → (IsTrue fits ↔ FilterFits filter m)) → MatchBool (not fits) (IsMissed bytes filter) (IsFit bytes filter)
+fits_or_missed bytes filter law true told = λ m valid. (told m valid).0 refl
+fits_or_missed bytes filter law false told = λ r sender m valid matches. false_true ((told m valid).1 (envelope_fits filter r sender m law matches))
+  where
+    false_true : IsTrue false → ⊥
+    false_true e = cc

@@ -1,13 +1,12 @@
 -- A message that is offered to no entry reaches nobody, and the same holds of each message with its texts.
-use Rattle.std.proofs.Common.{◌≡◌, ◌↔◌, ℕ, true, false, List, [], ◌∷◌, Option, sym, subst, arith}
+use Rattle.std.proofs.Common.{◌≡◌, true, false, List, [], ◌∷◌, sym, subst, arith}
 use Rattle.std.specs.Prelude.{Contains}
 use Rattle.message_view.specs.Message.{Message}
 use Rattle.match_rule.specs.FixedTexts.{FixedTexts, texts_of, AreFound}
 use Rattle.entry_table.specs.declared.entry.Entry.{Entry}
-use Rattle.entry_table.specs.OfferedEntries.{texts_fixed, IsOffered, AreOffered}
+use Rattle.entry_table.specs.OfferedEntries.{texts_fixed, AreOffered}
 use Rattle.program_table.specs.State.{State}
-use Rattle.program_table.specs.Recipients.{AreRecipients}
-use Rattle.fan_out.specs.Reach.{ReachesNobody, TellsReach}
+use Rattle.fan_out.specs.Reach.{TellsReach}
 use Rattle.fan_out.proofs.Places.{contains_here, contains_none}
 use Rattle.fan_out.proofs.Offering.{FoundWhereItHolds, among_offered}
 

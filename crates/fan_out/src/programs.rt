@@ -74,11 +74,12 @@ impl<'v, 'a> Programs<'v, 'a> {
         ensures owned { self.new.owned.now ≡ self.old.owned.now }
         ensures answer { MatchOption result (self.new.tally.runs ≡ self.old.tally.runs) (λ answer. IsAnswer self.old.view.now self.old.owned.now filter.now answer × (self.new.tally.runs ≡ self.old.tally.runs + 1)) }
     {
-        let verdict = match filter {
-            Filter::Rule(compiled) => self.tally.run_constant(compiled.rest())?,
-            Filter::Attached(attached) => self.tally.run_constant(attached.program())?,
-        };
-        Some(verdict != 0)
+        match filter {
+            Filter::Rule(compiled) => Some(self.tally.run_constant(compiled.rest())? != 0),
+            Filter::Attached(attached) => {
+                Some(self.tally.run_constant(attached.program())? != 0)
+            }
+        }
     }
 
     /// Whether a filter's program has a verdict other than 0 on the image that it reads. A message that is offered to a

@@ -1,4 +1,4 @@
-use Rattle.std.proofs.Common.{◌∙◌, ◌∷◌, List, length, refl, sym, ap, arith}
+use Rattle.std.proofs.Common.{◌∙◌, List, length, refl, sym, ap, arith}
 use Rattle.entry_table.specs.declared.entry.Entry.{Entry}
 use Rattle.fan_out.specs.Marking.{AreMarkedSoFar}
 use Rattle.fan_out.proofs.Places.{contains_later}
@@ -38,11 +38,17 @@ entries-preserved g c =
       noted = c.consider_over_two.ensures.noted;
       few = omega (arith, before.few, ap (λ (es : List Entry). length es) c.in-Some.ensures.steps, considers_few c.args.state.now c.args.piece.part c.args.piece.of c.args.programs.view.now c.args.programs.owned.now c.entries.entry.now c.entries.marks.places c.consider_over_two.new.marks.places c.entries.programs.tally.runs c.consider_over_two.new.programs.tally.runs considered);
       rest = λ e there. before.rest e (contains_later c.entries.entry.now e c.entries.others (rw c.in-Some.ensures.steps there));
-      marked = λ all so_far. rw c.in-Some.ensures.steps at marks_more c.args.state.now c.args.piece.part c.args.piece.of c.args.programs.view.now c.args.programs.owned.now all c.entries.others c.entries.entry.now c.entries.marks.places c.consider_over_two.new.marks.places c.entries.programs.tally.runs c.consider_over_two.new.programs.tally.runs (before.marked all so_far) considered;
+      marked = λ all so_far.
+          let later : AreMarkedSoFar c.args.state.now c.args.piece.part c.args.piece.of c.args.programs.view.now c.args.programs.owned.now all c.entries.others c.consider_over_two.new.marks.places c.consider_over_two.new.programs.tally.runs = marks_more c.args.state.now c.args.piece.part c.args.piece.of c.args.programs.view.now c.args.programs.owned.now all c.entries.others c.entries.entry.now c.entries.marks.places c.consider_over_two.new.marks.places c.entries.programs.tally.runs c.consider_over_two.new.programs.tally.runs (before.marked all so_far) considered in
+          rw c.in-Some.ensures.steps at later;
     }
 
 pub returns-in-None : goal.returns-in-None
 returns-in-None g c =
     let before = c.entries.invariant in
     let considered = rw (c.if-consider_over_two.false, before.view, before.owned) at c.consider_over_two.ensures.considered in
-    record { marked = λ all so_far. rw c.runs.ensures (rw c.in-None.ensures.steps.0 at marks_more c.args.state.now c.args.piece.part c.args.piece.of c.args.programs.view.now c.args.programs.owned.now all c.entries.others c.entries.entry.now c.entries.marks.places c.consider_over_two.new.marks.places c.entries.programs.tally.runs c.consider_over_two.new.programs.tally.runs (before.marked all so_far) considered) }
+    record {
+      marked = λ all so_far.
+          let later : AreMarkedSoFar c.args.state.now c.args.piece.part c.args.piece.of c.args.programs.view.now c.args.programs.owned.now all c.entries.others c.consider_over_two.new.marks.places c.consider_over_two.new.programs.tally.runs = marks_more c.args.state.now c.args.piece.part c.args.piece.of c.args.programs.view.now c.args.programs.owned.now all c.entries.others c.entries.entry.now c.entries.marks.places c.consider_over_two.new.marks.places c.entries.programs.tally.runs c.consider_over_two.new.programs.tally.runs (before.marked all so_far) considered in
+          rw c.runs.ensures (rw c.in-None.ensures.steps.0 at later);
+    }
