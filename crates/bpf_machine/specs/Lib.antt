@@ -1,3 +1,4 @@
 pub mod Performs
 pub mod Rows
 pub mod Chains
+pub mod AtOnce

@@ -15,20 +15,23 @@ const TO_ONE: [u8; 112] = [
     0, 0, 6, 1, b's', 0, 4, 0, 0, 0, b':', b'1', b'.', b'9', 0, 0, 0, 0,
 ];
 
-/// A rule of each connection, from the first one on.
-const RULES: [&str; 5] = [
-    "type='signal',member='c'",
-    "type='error',member='c'",
-    "sender='org.freedesktop.DBus',member='c'",
-    "sender='org.freedesktop.DBus',member='c',eavesdrop='true'",
-    "sender=':1.7',member='c',eavesdrop='true'",
+/// Connections, each with its rule.
+const RULES: [(u64, &str); 5] = [
+    (1, "type='signal',member='c'"),
+    (2, "type='error',member='c'"),
+    (3, "sender='org.freedesktop.DBus',member='c'"),
+    (
+        4,
+        "sender='org.freedesktop.DBus',member='c',eavesdrop='true'",
+    ),
+    (5, "sender=':1.7',member='c',eavesdrop='true'"),
 ];
 
 /// One connection gets the message, and no program of another one's rule is run.
 fn expect_one<R: Abort>(rt: &R, state: &BusState<()>, message: &[u8], recipient: u64) {
     let view = View::read(message).expect(rt, "a message");
     let counted = select_counted(state, None, &view);
-    assert_eq!(rt; counted.recipients.as_slice(), &[recipient]);
+    assert_eq!(rt; counted.recipients.as_slice(), [recipient].as_slice());
     assert_eq!(rt; counted.runs, 1);
 }
 
@@ -36,10 +39,8 @@ fn expect_one<R: Abort>(rt: &R, state: &BusState<()>, message: &[u8], recipient:
 fn envelopes(rt: HostRuntime) {
     let alloc = rt.alloc();
     let mut state = empty(&rt, alloc);
-    let mut connection = 0;
-    for rule in RULES {
+    for (connection, rule) in RULES {
         connect(&rt, &mut state);
-        connection += 1;
         subscribe(&rt, alloc, &mut state, connection, rule);
     }
     expect_one(&rt, &state, &S1, 1);
