@@ -26,7 +26,8 @@ use Rattle.bpf_code.specs.declared.instruction.Ins.{Ins}
 use Rattle.rule_compile.specs.declared.rest.Tested.{Tested}
 use Rattle.rule_compile.specs.declared.rest.Tested.TheVariants.{All as AllTested, Left}
 use Rattle.rule_compile.specs.Compiled.{IsSlotOf, IsCompiled, AgreeOn}
-use Rattle.rule_compile.specs.Rest.{IsRest, is_fixed, fixed_source, is_left, is_tested, eavesdrops_in, tested_of}
+use Rattle.rule_compile.specs.Rest.{IsRest}
+use Rattle.rule_compile.specs.Tested.{is_fixed, fixed_source, is_left, is_tested, eavesdrops_in, tested_of}
 use Rattle.match_rule.proofs.FixedFound.{same_string}
 
 -- ---- what stays true of fewer conditions

@@ -4,5 +4,6 @@ pub mod Folders
 pub mod RuleCode
 pub mod Compiled
 pub mod Rest
+pub mod Tested
 pub mod Headline
 pub mod Numbers

@@ -2,7 +2,8 @@
 ghost use Rattle.std.specs.Prelude.{◌≡◌, IfOk, IfErr};
 ghost use Rattle.bpf_code.specs.Program.{WellFormed};
 ghost use Rattle.rule_compile.specs.Compiled.{IsSlotOf, IsCompiled, IsRefusal};
-ghost use Rattle.rule_compile.specs.Rest.{IsRest, tested_of};
+ghost use Rattle.rule_compile.specs.Rest.{IsRest};
+ghost use Rattle.rule_compile.specs.Tested.{tested_of};
 
 use crate::error::CompileError;
 use crate::ranking::rule_code;

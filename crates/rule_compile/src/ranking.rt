@@ -4,7 +4,7 @@
 ghost use Rattle.std.specs.Prelude.{◌≡◌, ◌<◌, ◌^◌, sum_by, filter, OnOk, IfOk};
 ghost use Rattle.match_rule.specs.RuleTree.{condition_weight};
 ghost use Rattle.jump_islands.specs.Source.{AreWellMade};
-ghost use Rattle.rule_compile.specs.Rest.{is_tested, tested_of};
+ghost use Rattle.rule_compile.specs.Tested.{is_tested, tested_of};
 ghost use Rattle.rule_compile.specs.RuleCode.{whole_rank, other_rank, rank_of, ranks, part_code, of_rank, rising, falling, destination_fits, rule_code};
 
 use crate::condition::Part;

@@ -1,7 +1,7 @@
 // The conditions of a rule that are left to test, where a message has the texts that the rule fixes and its envelope
 // fits.
 ghost use Rattle.std.specs.Prelude.{◌≡◌, option_map};
-ghost use Rattle.rule_compile.specs.Rest.{is_fixed, fixed_field, fixed_source, fixed_text, is_left, is_tested, eavesdrops_in};
+ghost use Rattle.rule_compile.specs.Tested.{is_fixed, fixed_field, fixed_source, fixed_text, is_left, is_tested, eavesdrops_in};
 
 use match_rule::{Condition, Field, Relation, Rule, Source};
 

@@ -1,7 +1,8 @@
 use Rattle.std.proofs.Common.{refl}
 use Rattle.rule_compile.specs.declared.rest.Tested.TheVariants.{Left}
 use Rattle.rule_compile.specs.Compiled.{IsCompiled}
-use Rattle.rule_compile.specs.Rest.{IsRest, tested_of}
+use Rattle.rule_compile.specs.Rest.{IsRest}
+use Rattle.rule_compile.specs.Tested.{tested_of}
 use Rattle.rule_compile.proofs.RestRules.{ok_map, rest_compiled}
 use Rattle.rule_compile.proofs.compiling.compile_rest.Goals as goal
 

@@ -6,7 +6,7 @@ use Rattle.match_rule.specs.declared.condition.Condition.{Condition}
 use Rattle.match_rule.specs.RuleTree.{RuleTree}
 use Rattle.rule_compile.specs.declared.rest.Tested.{Tested}
 use Rattle.rule_compile.specs.Compiled.{IsSlotOf}
-use Rattle.rule_compile.specs.Rest.{tested_of}
+use Rattle.rule_compile.specs.Tested.{tested_of}
 use Rattle.rule_compile.specs.RuleCode.{rule_code}
 use Rattle.summary.specs.declared.edition.Edition.TheVariants.{Two}
 use Rattle.summary.proofs.ImageShows.{image_shows}

@@ -1,7 +1,7 @@
 use Rattle.std.proofs.Common.{◌≡◌, filter}
 use Rattle.rule_compile.specs.declared.condition.Part.TheVariants.{Bytes}
 use Rattle.rule_compile.specs.RuleCode.{part_code, falling}
-use Rattle.rule_compile.specs.Rest.{is_tested}
+use Rattle.rule_compile.specs.Tested.{is_tested}
 use Rattle.rule_compile.proofs.piece.Code.all_bytes.Given as goal
 
 -- the conditions of the ranks below this one are tested

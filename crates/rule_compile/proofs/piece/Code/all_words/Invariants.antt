@@ -1,7 +1,7 @@
 use Rattle.std.proofs.Common.{◌≡◌, filter}
 use Rattle.rule_compile.specs.declared.condition.Part.TheVariants.{Words}
 use Rattle.rule_compile.specs.RuleCode.{part_code, ranks, rising}
-use Rattle.rule_compile.specs.Rest.{is_tested}
+use Rattle.rule_compile.specs.Tested.{is_tested}
 use Rattle.rule_compile.proofs.piece.Code.all_words.Given as goal
 
 -- the conditions of the ranks from this one on are tested

@@ -1,6 +1,6 @@
 use Rattle.std.proofs.Common.{◌≡◌, drop, filter}
 use Rattle.rule_compile.specs.RuleCode.{part_code, of_rank}
-use Rattle.rule_compile.specs.Rest.{is_tested}
+use Rattle.rule_compile.specs.Tested.{is_tested}
 use Rattle.rule_compile.proofs.piece.Code.of_rank.Given as goal
 
 -- the conditions from the place on are tested
