@@ -36,8 +36,8 @@ envelope_fits (Rule compiled) r sender m law matches = law compiled.rule m (is_o
 envelope_fits (Attached attached) r sender m law matches = tt
 
 pub fits_or_missed : (bytes : List ℕ) (filter : Filter) → FitsWhereItHolds → (fits : Bool) → ((m : Message) → Valid bytes m → (IsTrue fits ↔ FilterFits filter m)) → MatchBool (not fits) (IsMissed bytes filter) (IsFit bytes filter)
-fits_or_missed bytes filter law true told = λ m valid. (told m valid).0 refl
-fits_or_missed bytes filter law false told = λ r sender m valid matches. false_true ((told m valid).1 (envelope_fits filter r sender m law matches))
+fits_or_missed bytes filter law true tells = λ m valid. (tells m valid).0 refl
+fits_or_missed bytes filter law false tells = λ r sender m valid matches. false_true ((tells m valid).1 (envelope_fits filter r sender m law matches))
   where
     false_true : IsTrue false → ⊥
     false_true e = cc

@@ -144,19 +144,19 @@ fn consider<M: Mailbox>(
 
 /// As `consider`, with the image of edition 2: tells whether the program still has to be run, over the image of edition 1.
 #[inline(always)]
-fn consider_over_two<'a, M: Mailbox>(
+fn consider_over_edition_two<'a, M: Mailbox>(
     state: &BusState<M>,
     piece: Piece,
     entry: &Entry,
     programs: &mut Programs<'_, 'a>,
-    two: &Image<'a>,
+    edition_two: &Image<'a>,
     marks: &mut Marks,
 ) -> bool
     requires state { IsState state.now }
     requires connected { is_connected entry.now.connection state.now.connections ≡ true }
     requires noted { AreNoted (numbers_of state.now.connections) marks.old.places marks.old.remainders }
     requires room { programs.old.tally.runs < max_entries }
-    requires two { IsImage Two programs.old.view.now programs.old.owned.now two.now }
+    requires edition_two { IsImage Two programs.old.view.now programs.old.owned.now edition_two.now }
     ensures view { programs.new.view.now ≡ programs.old.view.now }
     ensures owned { programs.new.owned.now ≡ programs.old.owned.now }
     ensures noted { AreNoted (numbers_of state.now.connections) marks.new.places marks.new.remainders }
@@ -168,7 +168,7 @@ fn consider_over_two<'a, M: Mailbox>(
     match edition_of(&entry.filter) {
         Edition::One => true,
         Edition::Two => {
-            ask(state, piece, entry, programs, two, marks);
+            ask(state, piece, entry, programs, edition_two, marks);
             false
         }
     }
@@ -180,23 +180,23 @@ fn consider_over_both<'a, M: Mailbox>(
     piece: Piece,
     entry: &Entry,
     programs: &mut Programs<'_, 'a>,
-    one: &Image<'a>,
-    two: &Image<'a>,
+    edition_one: &Image<'a>,
+    edition_two: &Image<'a>,
     marks: &mut Marks,
 )
     requires state { IsState state.now }
     requires connected { is_connected entry.now.connection state.now.connections ≡ true }
     requires noted { AreNoted (numbers_of state.now.connections) marks.old.places marks.old.remainders }
     requires room { programs.old.tally.runs < max_entries }
-    requires one { IsImage One programs.old.view.now programs.old.owned.now one.now }
-    requires two { IsImage Two programs.old.view.now programs.old.owned.now two.now }
+    requires edition_one { IsImage One programs.old.view.now programs.old.owned.now edition_one.now }
+    requires edition_two { IsImage Two programs.old.view.now programs.old.owned.now edition_two.now }
     ensures view { programs.new.view.now ≡ programs.old.view.now }
     ensures owned { programs.new.owned.now ≡ programs.old.owned.now }
     ensures noted { AreNoted (numbers_of state.now.connections) marks.new.places marks.new.remainders }
     ensures considered { Considers state.now piece.part piece.of programs.old.view.now programs.old.owned.now entry.now marks.old.places marks.new.places programs.old.tally.runs programs.new.tally.runs }
 {
-    if consider_over_two(state, piece, entry, programs, two, marks) {
-        ask(state, piece, entry, programs, one, marks);
+    if consider_over_edition_two(state, piece, entry, programs, edition_two, marks) {
+        ask(state, piece, entry, programs, edition_one, marks);
     }
 }
 
@@ -204,13 +204,13 @@ fn consider_over_both<'a, M: Mailbox>(
 /// is a function of its own, since a function clears room for its values whenever it is called, and few messages need an
 /// image of edition 1.
 #[inline(never)]
-fn consider_with_one<'a, M: Mailbox>(
+fn consider_with_edition_one<'a, M: Mailbox>(
     state: &BusState<M>,
     piece: Piece,
     first: &Entry,
     others: &mut Offers<'_>,
     mut programs: Programs<'_, 'a>,
-    two: &Image<'a>,
+    edition_two: &Image<'a>,
     marks: &mut Marks,
 ) -> u32
     requires state { IsState state.now }
@@ -219,16 +219,24 @@ fn consider_with_one<'a, M: Mailbox>(
     requires noted { AreNoted (numbers_of state.now.connections) marks.old.places marks.old.remainders }
     requires unmarked { MayBeMarked state.now piece.part piece.of programs.view.now first.now marks.old.places }
     requires edition { edition_of first.now.filter ≡ One }
-    requires two { IsImage Two programs.view.now programs.owned.now two.now }
+    requires edition_two { IsImage Two programs.view.now programs.owned.now edition_two.now }
     ensures marked { (all : List Entry)
         → AreMarkedSoFar state.now piece.part piece.of programs.entry.view.now programs.entry.owned.now all (first.now ∷ others.old) marks.old.places programs.entry.tally.runs
         → AreMarkedSoFar state.now piece.part piece.of programs.entry.view.now programs.entry.owned.now all [] marks.new.places result }
 {
-    let mut one = Image::empty();
-    one.fill(programs.view, programs.owned, Edition::One);
-    ask(state, piece, first, &mut programs, &one, marks);
+    let mut edition_one = Image::empty();
+    edition_one.fill(programs.view, programs.owned, Edition::One);
+    ask(state, piece, first, &mut programs, &edition_one, marks);
     while let Some(entry) = others.next() {
-        consider_over_both(state, piece, entry, &mut programs, &one, two, marks);
+        consider_over_both(
+            state,
+            piece,
+            entry,
+            &mut programs,
+            &edition_one,
+            edition_two,
+            marks,
+        );
     }
     programs.runs()
 }
@@ -236,7 +244,7 @@ fn consider_with_one<'a, M: Mailbox>(
 /// Considers an entry whose program reads an image, and all entries after it, and tells how many programs were run. The
 /// image of edition 2, which rules read, is made here: most rules need none, since nothing is left of them to test.
 #[inline(never)]
-fn consider_with_two<'a, M: Mailbox>(
+fn consider_with_edition_two<'a, M: Mailbox>(
     state: &BusState<M>,
     piece: Piece,
     first: &Entry,
@@ -252,12 +260,20 @@ fn consider_with_two<'a, M: Mailbox>(
         → AreMarkedSoFar state.now piece.part piece.of programs.entry.view.now programs.entry.owned.now all (first.now ∷ others.old) marks.old.places programs.entry.tally.runs
         → AreMarkedSoFar state.now piece.part piece.of programs.entry.view.now programs.entry.owned.now all [] marks.new.places result }
 {
-    let mut two = Image::empty();
-    two.fill(programs.view, programs.owned, Edition::Two);
+    let mut edition_two = Image::empty();
+    edition_two.fill(programs.view, programs.owned, Edition::Two);
     let mut entry = first;
     'entries: loop {
-        if consider_over_two(state, piece, entry, &mut programs, &two, marks) {
-            return consider_with_one(state, piece, entry, others, programs, &two, marks);
+        if consider_over_edition_two(state, piece, entry, &mut programs, &edition_two, marks) {
+            return consider_with_edition_one(
+                state,
+                piece,
+                entry,
+                others,
+                programs,
+                &edition_two,
+                marks,
+            );
         }
         match others.next() {
             Some(next) => entry = next,
@@ -285,7 +301,7 @@ fn consider_all<M: Mailbox>(
     let mut entry = first;
     'entries: loop {
         if consider(state, piece, entry, &mut programs, marks) {
-            return consider_with_two(state, piece, entry, others, programs, marks);
+            return consider_with_edition_two(state, piece, entry, others, programs, marks);
         }
         match others.next() {
             Some(next) => entry = next,

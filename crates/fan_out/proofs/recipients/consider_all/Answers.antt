@@ -13,19 +13,19 @@ entries-init g c = record {
   so_far = marks_begin c.args.state.now c.args.piece.part c.args.piece.of c.args.programs.view.now c.args.programs.owned.now (c.args.first.now ∷ c.args.others.now) 256 c.args.programs.tally.runs c.args.marks.now.places c.requires.none_marked c.requires.none_run;
 }
 
-pub consider_with_two-requires-clause-few : goal.consider_with_two-requires-clause-few
-consider_with_two-requires-clause-few g c =
+pub consider_with_edition_two-requires-clause-few : goal.consider_with_edition_two-requires-clause-few
+consider_with_edition_two-requires-clause-few g c =
     let needs = rw c.if-consider.true at c.consider.ensures.considered in
     omega (arith, c.requires.few, c.entries.invariant.so_far.few, needs.passed.none_run)
 
-pub consider_with_two-requires-clause-connected : goal.consider_with_two-requires-clause-connected
-consider_with_two-requires-clause-connected g c = λ e there. c.requires.connected e (c.entries.invariant.so_far.rest e there)
+pub consider_with_edition_two-requires-clause-connected : goal.consider_with_edition_two-requires-clause-connected
+consider_with_edition_two-requires-clause-connected g c = λ e there. c.requires.connected e (c.entries.invariant.so_far.rest e there)
 
 pub returns-then-consider : goal.returns-then-consider
 returns-then-consider g c =
     let before = c.entries.invariant in
     let needs = rw c.if-consider.true at c.consider.ensures.considered in
-    record { marked = rw (sym before.view, sym before.owned, sym c.consider.ensures.view, sym c.consider.ensures.owned) (c.consider_with_two.ensures.marked (c.args.first.now ∷ c.args.others.now) (rw (c.consider.ensures.view, c.consider.ensures.owned, before.view, before.owned, needs.passed.kept, needs.passed.none_run) before.so_far)) }
+    record { marked = rw (sym before.view, sym before.owned, sym c.consider.ensures.view, sym c.consider.ensures.owned) (c.consider_with_edition_two.ensures.marked (c.args.first.now ∷ c.args.others.now) (rw (c.consider.ensures.view, c.consider.ensures.owned, before.view, before.owned, needs.passed.kept, needs.passed.none_run) before.so_far)) }
 
 pub entries-preserved : goal.entries-preserved
 entries-preserved g c =

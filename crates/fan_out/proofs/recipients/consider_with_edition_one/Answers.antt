@@ -2,7 +2,7 @@ use Rattle.std.proofs.Common.{◌∙◌, inr, List, length, ap, arith}
 use Rattle.entry_table.specs.declared.entry.Entry.{Entry}
 use Rattle.fan_out.proofs.Places.{contains_later}
 use Rattle.fan_out.proofs.Marking.{marks_more, considers_few}
-use Rattle.fan_out.proofs.recipients.consider_with_one.Goals as goal
+use Rattle.fan_out.proofs.recipients.consider_with_edition_one.Goals as goal
 
 pub ask-requires-clause-image : goal.ask-requires-clause-image
 ask-requires-clause-image g c = rw c.requires.edition (record { same = c.fill.ensures })

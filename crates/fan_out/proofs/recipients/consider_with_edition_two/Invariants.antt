@@ -3,7 +3,7 @@ use Rattle.entry_table.specs.declared.entry.Entry.{Entry}
 use Rattle.program_table.specs.Connections.{numbers_of}
 use Rattle.fan_out.specs.Marks.{AreNoted}
 use Rattle.fan_out.specs.Marking.{AreMarkedSoFar}
-use Rattle.fan_out.proofs.recipients.consider_with_two.Given as goal
+use Rattle.fan_out.proofs.recipients.consider_with_edition_two.Given as goal
 
 abbrev pub invariant-entries : goal.invariant-entries
 invariant-entries g l = record {

@@ -3,7 +3,7 @@ use Rattle.entry_table.specs.declared.entry.Entry.{Entry}
 use Rattle.program_table.specs.Connections.{numbers_of}
 use Rattle.fan_out.specs.Marks.{AreNoted}
 use Rattle.fan_out.specs.Marking.{AreMarkedSoFar}
-use Rattle.fan_out.proofs.recipients.consider_with_one.Given as goal
+use Rattle.fan_out.proofs.recipients.consider_with_edition_one.Given as goal
 
 abbrev pub invariant-loop-entry : goal.invariant-loop-entry
 invariant-loop-entry g l = record {
