@@ -44,6 +44,7 @@ impl Filter {
     }
 
     /// Whether it is a rule that asks for a path namespace that the path, that of a message, isn't in.
+    #[inline(always)]
     pub fn is_elsewhere(&self, path: Option<&str>) -> bool
         ensures { IsTrue result ↔ IsFilterElsewhere self.now (option_map (λ text. text.now) path.entry) }
     {

@@ -1,11 +1,11 @@
 // Rules with their programs.
 
-ghost use Rattle.std.specs.Prelude.{◌≡◌, ◌↔◌, IsTrue, IsSomeAnd, option_map};
+ghost use Rattle.std.specs.Prelude.{◌≡◌, ◌↔◌, IsTrue, option_map};
 ghost use Rattle.message_view.specs.Message.{Message};
 ghost use Rattle.message_view.specs.Valid.{Valid};
 ghost use Rattle.match_rule.specs.Envelope.{EnvelopeFits};
 ghost use Rattle.match_rule.specs.FixedTexts.{fixed_texts};
-ghost use Rattle.match_rule.specs.PathNamespaces.{end_of, HasPathIn, IsElsewhere};
+ghost use Rattle.match_rule.specs.PathNamespaces.{end_of, IsElsewhere};
 ghost use Rattle.entry_table.specs.TextKeys.{shape_of};
 
 use crate::texts::shape_of;
@@ -29,9 +29,9 @@ struct Parts {
 
 /// A rule with the program that it was compiled to, for images of edition 2. Shares are of one value. A message that
 /// was looked up has the texts which the rule fixes, and its envelope is seen without an image, so a second program
-/// tests only what is left of the rule: of most rules nothing. Which texts the rule fixes and how its path namespace
-/// ends are asked of each entry of a list that a message is looked up in, so they are kept here, where no share has to
-/// be followed.
+/// tests only what is left of the rule: nothing, where the rule asks for such texts and for the envelope alone. Which
+/// texts the rule fixes and how its path namespace ends are asked of each entry of a list that a message is looked up
+/// in, so they are kept here, where no share has to be followed.
 #[derive(Drop)]
 pub struct RuleProgram {
     parts: Arc<Parts>,
@@ -61,11 +61,13 @@ fn end_asked(asked: Option<&str>) -> Option<NamespaceEnd>
     }
 }
 
-/// Whether a path isn't in the namespace that is asked for.
-fn is_outside(path: Option<&str>, asked: Option<&str>) -> bool
-    ensures { IsTrue result ↔ IsSomeAnd asked.entry (λ namespace. HasPathIn (option_map (λ text. text.now) path.entry) namespace.now → ⊥) }
+/// Whether a rule asks for a path namespace that the path isn't in. It is a call of its own, so that what tells this of
+/// most rules, how their namespaces end, stays small where it is inlined.
+#[inline(never)]
+fn is_outside(path: Option<&str>, rule: &Rule) -> bool
+    ensures { IsTrue result ↔ IsElsewhere rule.now (option_map (λ text. text.now) path.entry) }
 {
-    match asked {
+    match rule.path_namespace() {
         None => false,
         Some(namespace) => !has_path_in(path, namespace),
     }
@@ -144,6 +146,7 @@ impl RuleProgram {
     }
 
     /// Whether the rule asks for a path namespace that the path isn't in.
+    #[inline(always)]
     pub fn is_elsewhere(&self, path: Option<&str>) -> bool
         ensures { IsTrue result ↔ IsElsewhere self.now.rule (option_map (λ text. text.now) path.entry) }
     {
@@ -153,7 +156,7 @@ impl RuleProgram {
         if end.len > 1 && !end.may_have(path) {
             return true;
         }
-        is_outside(path, self.parts.rule.path_namespace())
+        is_outside(path, &self.parts.rule)
     }
 
     /// Whether a message's envelope is as the rule asks.

@@ -242,7 +242,7 @@ fn consider_with_edition_one<'a, M: Mailbox>(
 }
 
 /// Considers an entry whose program reads an image, and all entries after it, and tells how many programs were run. The
-/// image of edition 2, which rules read, is made here: most rules need none, since nothing is left of them to test.
+/// image of edition 2, which rules read, is made here: a rule of which nothing is left to test needs none.
 #[inline(never)]
 fn consider_with_edition_two<'a, M: Mailbox>(
     state: &BusState<M>,
@@ -303,7 +303,7 @@ fn consider_all<M: Mailbox>(
         if consider(state, piece, entry, &mut programs, marks) {
             return consider_with_edition_two(state, piece, entry, others, programs, marks);
         }
-        match others.next() {
+        match programs.skip_elsewhere(others) {
             Some(next) => entry = next,
             None => return programs.runs(),
         }

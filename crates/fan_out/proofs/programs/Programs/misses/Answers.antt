@@ -1,10 +1,8 @@
-use Rattle.std.specs.Prelude.{option_map}
-use Rattle.fan_out.proofs.Missing.{filter_missed, fits_or_missed}
+use Rattle.fan_out.proofs.Missing.{fits_or_missed}
 use Rattle.fan_out.proofs.programs.Programs.misses.Goals as goal
 
 pub returns-then-is_elsewhere : goal.returns-then-is_elsewhere
-returns-then-is_elsewhere c =
-    rw c.if-is_elsewhere.true (filter_missed c.args.self.now.view.now c.args.filter.now (option_map (λ text. text.now) c.args.self.now.path) c.not_elsewhere_where_it_holds.ensures c.args.self.now.asked (c.is_elsewhere.ensures.0 c.if-is_elsewhere.true))
+returns-then-is_elsewhere c = rw c.if-is_elsewhere.true (c.is_elsewhere.ensures c.if-is_elsewhere.true)
 
 pub returns-else-is_elsewhere : goal.returns-else-is_elsewhere
 returns-else-is_elsewhere c =
