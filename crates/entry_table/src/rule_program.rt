@@ -61,8 +61,8 @@ fn end_asked(asked: Option<&str>) -> Option<NamespaceEnd>
     }
 }
 
-/// Whether a rule asks for a path namespace that the path isn't in. It is a call of its own, so that what tells this of
-/// most rules, how their namespaces end, stays small where it is inlined.
+/// Whether a rule asks for a path namespace that the path isn't in. It is a call of its own, so that what is asked before
+/// it, how the namespace ends, stays small where it is inlined.
 #[inline(never)]
 fn is_outside(path: Option<&str>, rule: &Rule) -> bool
     ensures { IsTrue result ↔ IsElsewhere rule.now (option_map (λ text. text.now) path.entry) }
