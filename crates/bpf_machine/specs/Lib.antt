@@ -1,5 +1,6 @@
 pub mod Performs
 pub mod Rows
 pub mod Chains
-pub mod TwoSteps
+pub mod Tests
+pub mod Runs
 pub mod AtOnce

@@ -41,7 +41,8 @@ fn remove<R: Abort>(rt: &R, alloc: Global, state: &mut BusState<()>) {
     accept(rt, state, &Command::RemoveRule(2, rule));
 }
 
-/// 250 connections have four rules each, of the members `m0` to `m999` in order, and the first one an empty rule.
+/// 250 connections have four rules each, of the members `m0` to `m999` in order, and the first one an empty rule. A rule of
+/// another path namespace isn't run.
 #[test]
 fn index_runs(rt: HostRuntime) {
     let alloc = rt.alloc();
@@ -50,6 +51,7 @@ fn index_runs(rt: HostRuntime) {
         subscribe_next(&rt, alloc, &mut state, place);
     }
     subscribe(&rt, alloc, &mut state, 1, "");
+    subscribe(&rt, alloc, &mut state, 3, "path_namespace='/elsewhere'");
     expect_runs(&rt, &state, &[1, 2], 2);
     remove(&rt, alloc, &mut state);
     expect_runs(&rt, &state, &[1], 1);
