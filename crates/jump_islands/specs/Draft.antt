@@ -1,13 +1,11 @@
 -- Drafts: source programs whose jumps name labels, at any distance ahead.
-use Rattle.std.specs.Prelude.{ℕ, ◌+◌, ◌-◌, ◌<◌, Bool, true, List, [], ◌∷◌, Option, slice_get, IfSome}
+use Rattle.std.specs.Prelude.{ℕ, ◌+◌, ◌-◌, ◌<◌, List, [], ◌∷◌, Option, slice_get, IfSome}
 use Rattle.std.specs.Option.{IsSomeAnd, option_map_or, option_flatten}
-use Rattle.std.specs.List.{list_all}
 use Rattle.bpf_code.specs.declared.instruction.Ins.{Ins}
-use Rattle.bpf_code.specs.Table.{op_of}
 use Rattle.jump_islands.specs.declared.line.Line.{Line}
 use Rattle.jump_islands.specs.declared.line.Line.TheVariants.{Plain, Jumps, Goes}
 use Rattle.jump_islands.specs.declared.label.Label.{Label}
-use Rattle.jump_islands.specs.Source.{is_plain_op, branch_over, jump_over}
+use Rattle.jump_islands.specs.Source.{branch_over, jump_over}
 
 -- a draft: its lines, and the place to which each of its labels is bound, if it is
 pub record DraftTree : Type 0 where
@@ -50,12 +48,3 @@ LabelsAhead draft place (Goes to) = IsAhead draft place to
 -- each used label is bound ahead of its uses
 abbrev pub IsClosed : DraftTree → Type 0
 IsClosed draft = (place : ℕ) → IfSome (slice_get draft.lines place) (LabelsAhead draft place)
-
--- an instruction of a line is no jump
-abbrev pub is_plain_line : Line → Bool
-is_plain_line (Plain ins) = is_plain_op (op_of ins.code)
-is_plain_line _ = true
-
--- the lines' instructions are no jumps
-abbrev pub are_plain : List Line → Bool
-are_plain lines = list_all is_plain_line lines

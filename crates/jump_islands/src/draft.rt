@@ -1,6 +1,7 @@
 ghost use Rattle.std.specs.Prelude.{◌≡◌, ◌<◌, ◌++◌, ◌∷◌, [], ◌↔◌, None, Some, length, slice_set, IfOk, OnErr, OnOk, IsTrue, IfErr, true};
-ghost use Rattle.jump_islands.specs.Draft.{DraftTree, IsClosed, IsAhead, LabelsAhead, is_plain_line, are_plain, place_of, distance, ins_of, instructions_of};
+ghost use Rattle.jump_islands.specs.Draft.{DraftTree, IsClosed, IsAhead, LabelsAhead, place_of, distance, ins_of, instructions_of};
 ghost use Rattle.jump_islands.specs.Source.{is_plain_op};
+ghost use Rattle.jump_islands.specs.SourceItems.{is_plain_line, are_plain};
 ghost use Rattle.bpf_code.specs.Table.{op_of};
 
 use crate::error::LowerError;

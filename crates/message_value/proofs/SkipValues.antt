@@ -13,8 +13,8 @@ use Rattle.message_value.specs.Order.{number_of}
 use Rattle.message_value.specs.Value.{Value, Values, number, text, elements, entries, members, of_type, no_values, one_value, values_of, entries_of}
 use Rattle.message_value.specs.Spelling.{number_len, width_of, entry_alignment}
 use Rattle.message_value.specs.Fits.{is_text_code, max_array_len}
-use Rattle.message_value.specs.Reading.{At, ◌>>=◌, item_at, aligned_at, word_at, inside, within_limit, extent_at, each_at, text_value_at, count_at, number_value_at, signature_at, Reader, members_at, entry_at, variant_at, array_at, dict_at, struct_at, bare_at, value_by, value_at}
-use Rattle.message_value.specs.Steps.{IsRead, IsGone, Reaches}
+use Rattle.message_value.specs.Reading.{At, ◌>>=◌, item_at, aligned_at, word_at, inside, within_limit, extent_at, each_at, text_value_at, count_at, number_value_at, signature_at, Reader, members_at, entry_at, variant_at, array_at, dict_at, struct_at, bare_at, value_by, value_at, IsRead}
+use Rattle.message_value.specs.Steps.{IsGone, Reaches}
 use Rattle.message_value.specs.Forms.{basic_at}
 use Rattle.message_value.specs.TextTypes.{text_code}
 use Rattle.message_value.proofs.OkSteps.{bind_ok, ok_is, not_refused}

@@ -1,6 +1,6 @@
 -- Reading values from left to right, with the first fault that is met (own; which bytes are values is in
 -- Spelling.antt and Fits.antt).
-use Rattle.std.specs.Prelude.{ℕ, zero, suc, ◌+◌, not, List, [], ◌∷◌, length, take, drop, slice_index, Option, Some, None, Result, Ok, Err, nat_lt, ◌==◌, ◌&&◌, if◌then◌else◌}
+use Rattle.std.specs.Prelude.{◌≡◌, ℕ, zero, suc, ◌+◌, not, List, [], ◌∷◌, length, take, drop, slice_index, Option, Some, None, Result, Ok, Err, nat_lt, ◌==◌, ◌&&◌, if◌then◌else◌}
 use Rattle.std.specs.List.{list_all}
 use Rattle.signature.specs.DataType.{DataType, DataTypes, basic, variant, array, dict, struct, no_types, one_more}
 use Rattle.signature.specs.Alignment.{alignment_of}
@@ -196,3 +196,7 @@ value_by deeper order type at = aligned_at (alignment_of type) at >>= λ start. 
 abbrev pub value_at : ℕ → Order → DataType → At → Result (Value × At) MsgError
 value_at zero order type at = value_by (Err faults.Depth) order type at
 value_at (suc levels) order type at = value_by (Ok (value_at levels order)) order type at
+
+-- reading gives something
+abbrev pub IsRead : {Y : Type 0} → Result (Y × At) MsgError → Type 0
+IsRead read = (found : _) × (read ≡ Ok found)

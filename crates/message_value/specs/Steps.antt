@@ -21,11 +21,7 @@ abbrev pub Divides : {X : Type 0} → Bool → Result X MsgError → Type 0
 Divides multiple (Ok x) = multiple ≡ true
 Divides multiple (Err fault) = (multiple ≡ false) × (fault ≡ faults.ArrayLength)
 
--- reading gives something
-abbrev pub IsRead : {Y : Type 0} → Result (Y × At) MsgError → Type 0
-IsRead read = (found : _) × (read ≡ Ok found)
-
--- the same where only the place changes
+-- reading gives a place
 abbrev pub IsGone : Result At MsgError → Type 0
 IsGone read = (tail : At) × (read ≡ Ok tail)
 

@@ -3,8 +3,8 @@
 ghost use Rattle.std.specs.Prelude.{◌≡◌, ◌<◌, Ok};
 ghost use Rattle.signature.specs.BasicType.{byte_of};
 ghost use Rattle.signature.specs.DataType.{DataType, DataTypes, TypeText, AllFit, slices};
-ghost use Rattle.message_value.specs.Reading.{signature_at, extent_at, value_at, members_at, variant_at};
-ghost use Rattle.message_value.specs.Steps.{IsRead, Reaches};
+ghost use Rattle.message_value.specs.Reading.{signature_at, extent_at, value_at, members_at, variant_at, IsRead};
+ghost use Rattle.message_value.specs.Steps.{Reaches};
 ghost use Rattle.message_value.specs.Forms.{basic_at};
 
 use crate::basic_form::BasicForm;

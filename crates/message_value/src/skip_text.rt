@@ -2,8 +2,7 @@
 
 ghost use Rattle.std.specs.Prelude.{◌≡◌, ◌<◌, ◌^◌, length, Ok};
 ghost use Rattle.message_value.specs.Value.{text};
-ghost use Rattle.message_value.specs.Reading.{text_at, long_text_at, short_text_at, text_value_at};
-ghost use Rattle.message_value.specs.Steps.{IsRead};
+ghost use Rattle.message_value.specs.Reading.{text_at, long_text_at, short_text_at, text_value_at, IsRead};
 ghost use Rattle.message_value.specs.TextTypes.{text_code};
 
 use crate::cursor::Cursor;

@@ -14,6 +14,7 @@ use Rattle.message_view.specs.Message.{Field, field_with, text_in, or_empty, sig
 use Rattle.message_view.specs.Spelling.{field_value_place, field_bytes}
 use Rattle.message_view.specs.Valid.{IsAllowed, IsField, AreFields}
 use Rattle.message_view.specs.Reading.{or_no_types, types_in}
+use Rattle.message_view.proofs.FieldsHeld.{fields_held}
 
 -- a value of type `g` is a signature
 abbrev IsSignature : Option Value → Type 0
@@ -34,14 +35,6 @@ signature_field order place field is code =
     let allowed : IsAllowed (Some Signature) field = subst (λ (o : Option FieldCode). IsAllowed o field) named is.allowed in
     signature_value order (field_value_place place field) field.value (subst (λ (t : DataType). ValueFits order 63 (field_value_place place field) t field.value) allowed.0 is.shaped)
 
-signature_held : (order : Order) (place : ℕ) (fields : List Field) → AreFields order place fields → IsSignature (field_with 8 fields)
-signature_held order place [] are = tt
-signature_held order place (field ∷ fields) are = go (eqb field.code 8) refl (signature_held order (place + length (field_bytes order place field)) fields are.2)
-  where
-    go : (b : Bool) → eqb field.code 8 ≡ b → IsSignature (field_with 8 fields) → IsSignature (cond b (Some field.value) (field_with 8 fields))
-    go true e held = signature_field order place field are.0 (eqb-true field.code 8 e)
-    go false e held = held
-
 some_types : (bytes : List ℕ) (o : Option DataTypes) → types_of bytes ≡ o → is_some o ≡ true → SigText (or_no_types o) bytes
 some_types bytes (Some types) is e = trees_spelled types bytes is
 some_types bytes None is e = absurd cc
@@ -57,7 +50,7 @@ held_types None held = some_types [] (types_of []) refl refl
 
 -- what the fields of a message say of the types of its body
 pub types_spelled : (order : Order) (place : ℕ) (fields : List Field) → AreFields order place fields → SigText (types_in fields) (signature_in fields)
-types_spelled order place fields are = held_types (field_with 8 fields) (signature_held order place fields are)
+types_spelled order place fields are = held_types (field_with 8 fields) (fields_held IsSignature order 8 tt (signature_field order) place fields are)
 
 -- ---- as the code reads them
 

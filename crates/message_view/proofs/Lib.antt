@@ -4,6 +4,7 @@ pub mod FieldArrays
 pub mod FixedPart
 pub mod FixedFound
 pub mod PartPlaces
+pub mod FieldsHeld
 pub mod BodyTypes
 pub mod OneMessage
 pub mod FrontMessage

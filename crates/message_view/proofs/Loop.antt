@@ -7,8 +7,8 @@ use Rattle.message_value.specs.declared.error.MsgError.{MsgError}
 use Rattle.message_view.specs.declared.fields.Fields.{Fields}
 use Rattle.message_view.specs.Message.{Field}
 use Rattle.message_view.specs.Slots.{no_slots, no_extents, slots_of, AreExtents}
-use Rattle.message_value.specs.Reading.{At, ◌>>=◌}
-use Rattle.message_value.specs.Steps.{Gives, IsRead}
+use Rattle.message_value.specs.Reading.{At, ◌>>=◌, IsRead}
+use Rattle.message_value.specs.Steps.{Gives}
 use Rattle.message_value.specs.Bytes.{AreBytes}
 use Rattle.message_view.specs.Reading.{field_at, fields_from}
 use Rattle.message_view.specs.FieldAnswers.{slots_shown, lying, IsFront}

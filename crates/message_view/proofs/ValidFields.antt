@@ -12,8 +12,8 @@ use Rattle.message_value.specs.Order.{number_of, word_of}
 use Rattle.message_value.specs.Value.{Value, number}
 use Rattle.message_value.specs.Spelling.{padding, width_of}
 use Rattle.message_value.specs.Fits.{is_text_code}
-use Rattle.message_value.specs.Reading.{◌>>=◌, At, item_at, aligned_at, byte_at, word_at, signature_at, text_value_at, count_at, number_value_at, value_at}
-use Rattle.message_value.specs.Steps.{IsRead, IsGone, Reaches}
+use Rattle.message_value.specs.Reading.{◌>>=◌, At, item_at, aligned_at, byte_at, word_at, signature_at, text_value_at, count_at, number_value_at, value_at, IsRead}
+use Rattle.message_value.specs.Steps.{IsGone, Reaches}
 use Rattle.message_value.specs.TextTypes.{text_code}
 use Rattle.message_value.proofs.OkSteps.{bind_ok, ok_is}
 use Rattle.message_value.proofs.ReadItems.{at, Takes, item_again}

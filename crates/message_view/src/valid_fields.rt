@@ -2,8 +2,8 @@
 
 ghost use Rattle.std.specs.Prelude.{◌≡◌, ℕ, ◌+◌, ◌<◌, ◌≤◌, List, [], length, Some, None, Ok};
 ghost use Rattle.signature.specs.DataType.{basic};
-ghost use Rattle.message_value.specs.Reading.{At, inside, aligned_at, byte_at, word_at, signature_at, text_value_at, value_at};
-ghost use Rattle.message_value.specs.Steps.{IsRead, IsGone, Reaches};
+ghost use Rattle.message_value.specs.Reading.{At, inside, aligned_at, byte_at, word_at, signature_at, text_value_at, value_at, IsRead};
+ghost use Rattle.message_value.specs.Steps.{IsGone, Reaches};
 ghost use Rattle.message_value.specs.TextTypes.{text_code};
 ghost use Rattle.message_view.specs.Header.{type_code};
 ghost use Rattle.message_view.specs.Message.{Field};

@@ -1,5 +1,5 @@
 -- The loads of an image show its message.
-use Rattle.std.proofs.Common.{◌≡◌, ℕ, zero, suc, ◌+◌, ◌*◌, ◌/◌, ◌^◌, ◌<◌, ◌≤◌, List, [], ◌∷◌, ◌++◌, length, get_or, take, min, Option, Some, None, IfSome, refl, ap, subst, ◌∙◌, append_assoc, arith}
+use Rattle.std.proofs.Common.{◌≡◌, ℕ, zero, suc, ◌+◌, ◌*◌, ◌/◌, ◌^◌, ◌<◌, ◌≤◌, List, [], ◌∷◌, ◌++◌, length, get_or, take, min, Option, Some, None, unwrap_or, IfSome, refl, ap, subst, ◌∙◌, append_assoc, arith}
 use Rattle.std.specs.Prelude.{slice_get}
 use Rattle.std.proofs.lemmas.List.{length-append, length-take-le, get_or-take, get_or_append_left}
 use Rattle.bpf_code.specs.Loads.{load_word}
@@ -11,19 +11,20 @@ use Rattle.message_view.specs.declared.extent.Extent.{Extent}
 use Rattle.message_view.specs.declared.extent.TextField.{TextField}
 use Rattle.message_view.specs.declared.extent.TextField.TheVariants.{Path, Interface, Member, ErrorName, Destination, Sender}
 use Rattle.message_view.specs.Header.{kind_byte}
-use Rattle.message_view.specs.Message.{Message}
+use Rattle.message_view.specs.Message.{Message, reply_serial_of}
 use Rattle.message_view.specs.Places.{extent_of, text_of}
 use Rattle.message_view.specs.Spelling.{header_bytes, body_place, body_bytes, arguments_of, message_bytes}
 use Rattle.message_view.specs.Valid.{Valid}
 use Rattle.message_view.proofs.PartPlaces.{length-laid}
 use Rattle.message_view.proofs.TextStands.{Stands, stands_after, stands_moved, stands_within}
+use Rattle.message_view.proofs.FieldsHeld.{reply_serial_below}
 use Rattle.message_view.proofs.FieldTexts.{Said, texts_said}
 use Rattle.message_view.proofs.ArgumentPlaces.{TextStands, HavePlaces, message_places}
 use Rattle.summary.specs.declared.edition.Edition.{Edition}
 use Rattle.summary.specs.declared.edition.Edition.TheVariants.{One, Two}
 use Rattle.summary.specs.Layout.{text_place, summary_len}
 use Rattle.summary.specs.ImageBytes.{extent_words, text_words, argument_words, arguments_words, owned_words, serial_words, head_words, texts_words, summary_words, summary_bytes, image_bytes}
-use Rattle.summary.specs.Shown.{Lies, Tells, ShowsText, ShowsArgument, slots_of, ShowsHead, ShowsSerial, Shows}
+use Rattle.summary.specs.Shown.{Lies, Tells, ShowsText, ShowsArgument, slots_of, ShowsHead, ShowsSerials, Shows}
 use Rattle.summary.proofs.SummaryWords.{Follow, length-words_bytes, all_follow, next_follow, one_follows}
 
 -- ---- a summary and a message
@@ -173,7 +174,7 @@ length-summary_bytes edition m slots all =
     let last = owned_words edition slots ++ serial_words edition m in
     omega (arith, length-words_bytes (summary_words edition m slots), length-append (head_words edition m) (texts ++ (arguments ++ last)), length-append texts (arguments ++ last), length-append arguments last, length-texts_words edition m, length-arguments_words edition 64 (arguments_of m), last_words edition m slots all)
 
--- ---- the head and the serial
+-- ---- the head and the serials
 
 order_small : (order : Order) → order_byte order < 2 ^ 32
 order_small Little = omega arith
@@ -195,10 +196,14 @@ head_shown image edition bytes words m valid is follow =
       count = one_follows image 0 5 (min (length (arguments_of m)) 64) 20 all more follow (omega arith) refl (omega arith) refl;
     }
 
-serial_shown : (image : List ℕ) (edition : Edition) (slots more : List ℕ) (m : Message) → length slots ≡ 32 → m.serial < 2 ^ 32 → Follow image 840 (owned_words edition slots ++ serial_words edition m) more → ShowsSerial edition image m
-serial_shown image One slots more m all small follow = tt
-serial_shown image Two slots more m all small follow =
-    one_follows image 968 0 m.serial 968 (serial_words Two m) more (next_follow image 840 32 968 slots (serial_words Two m) more all refl follow) (omega arith) refl small refl
+serials_shown : (image : List ℕ) (edition : Edition) (slots more : List ℕ) (m : Message) → length slots ≡ 32 → m.serial < 2 ^ 32 → unwrap_or (reply_serial_of m) 0 < 2 ^ 32
+    → Follow image 840 (owned_words edition slots ++ serial_words edition m) more → ShowsSerials edition image m
+serials_shown image One slots more m all small answered_small follow = tt
+serials_shown image Two slots more m all small answered_small follow =
+    let words : List ℕ = serial_words Two m in
+    let here : Follow image 968 words more = next_follow image 840 32 968 slots words more all refl follow in
+    (one_follows image 968 0 m.serial 968 words more here (omega arith) refl small refl,
+    one_follows image 968 1 (unwrap_or (reply_serial_of m) 0) 972 words more here (omega arith) refl answered_small refl)
 
 -- ---- images
 
@@ -245,7 +250,7 @@ words_show edition image bytes m slots valid all small is follow =
       sender = text_shown image edition more rest more 64 (extent_of Sender m) (text_of Sender m) is destination.1 (texts_said Sender bytes m valid);
       argument = λ k below. argument_shown image edition more last more 64 arguments k 72 (72 + 12 * k) is below refl f72 (message_places bytes m valid);
       owned = λ slot below. slot_shown image edition slots (serial_words edition m) more slot all (small (slot / 32)) below f840;
-      serial = serial_shown image edition slots more m all valid.serial_fits f840;
+      serials = serials_shown image edition slots more m all valid.serial_fits (reply_serial_below bytes m valid) f840;
     }
 
 -- The image of a valid message shows it.

@@ -1,16 +1,16 @@
 -- What the loads of an image say of its message (own).
-use Rattle.std.specs.Prelude.{◌≡◌, ℕ, ◌+◌, ◌/◌, ◌^◌, ◌<◌, List, ◌++◌, length, min, Option, Some, None, IfSome, slice_get, slice_index}
+use Rattle.std.specs.Prelude.{◌≡◌, ℕ, ◌+◌, ◌/◌, ◌^◌, ◌<◌, List, ◌++◌, length, min, Option, Some, None, IfSome, slice_get, slice_index, unwrap_or}
 use Rattle.message_value.specs.Arguments.{Argument}
 use Rattle.message_value.specs.Order.{order_byte}
 use Rattle.message_value.specs.Bytes.{AreBytes}
 use Rattle.message_view.specs.declared.extent.TextField.TheVariants.{Path, Interface, Member, ErrorName, Destination, Sender}
 use Rattle.message_view.specs.Header.{kind_byte}
-use Rattle.message_view.specs.Message.{Message, path_of, interface_of, member_of, error_name_of, destination_of, sender_of}
+use Rattle.message_view.specs.Message.{Message, path_of, interface_of, member_of, error_name_of, reply_serial_of, destination_of, sender_of}
 use Rattle.message_view.specs.Spelling.{header_bytes, body_place, body_bytes, arguments_of}
 use Rattle.bpf_code.specs.Loads.{load_word}
 use Rattle.summary.specs.declared.edition.Edition.{Edition}
 use Rattle.summary.specs.declared.edition.Edition.TheVariants.{One, Two}
-use Rattle.summary.specs.Layout.{order_place, kind_place, flags_place, body_words_place, count_place, text_place, argument_place, ownership_place, serial_place, summary_len}
+use Rattle.summary.specs.Layout.{order_place, kind_place, flags_place, body_words_place, count_place, text_place, argument_place, ownership_place, serial_place, reply_serial_place, summary_len}
 use Rattle.summary.specs.ImageBytes.{max_arguments}
 
 -- the text lies at a place of the image
@@ -50,10 +50,11 @@ pub record ShowsHead (edition : Edition) (image : List ℕ) (m : Message) : Type
   pub body_len : load_word image (body_words_place + 4) ≡ Some (length (body_bytes m))
   pub count : load_word image count_place ≡ Some (min (length (arguments_of m)) max_arguments)
 
--- the serial, of which edition one tells nothing
-abbrev pub ShowsSerial : Edition → List ℕ → Message → Type 0
-ShowsSerial One image m = Unit {0}
-ShowsSerial Two image m = load_word image serial_place ≡ Some m.serial
+-- the serial and the serial that is answered, 0 where there is none; edition one tells neither
+abbrev pub ShowsSerials : Edition → List ℕ → Message → Type 0
+ShowsSerials One image m = Unit {0}
+ShowsSerials Two image m =
+    (load_word image serial_place ≡ Some m.serial) × (load_word image reply_serial_place ≡ Some (unwrap_or (reply_serial_of m) 0))
 
 -- The image shows the message, whose sender owns the names of the slots.
 pub record Shows (edition : Edition) (image : List ℕ) (m : Message) (slots : List ℕ) : Type 0 where
@@ -67,4 +68,4 @@ pub record Shows (edition : Edition) (image : List ℕ) (m : Message) (slots : L
   pub sender : ShowsText image (text_place Sender) (sender_of m)
   pub argument : (n : ℕ) → n < max_arguments → ShowsArgument image (argument_place n) (slice_get (arguments_of m) n)
   pub owned : (slot : ℕ) → slot < slots_of edition → load_word image (ownership_place slot) ≡ Some (slice_index slots (slot / 32))
-  pub serial : ShowsSerial edition image m
+  pub serials : ShowsSerials edition image m

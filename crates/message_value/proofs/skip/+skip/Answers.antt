@@ -1,8 +1,8 @@
 use Rattle.std.proofs.Common.{◌-◌, ℕ, sym, subst, ◌∙◌, arith}
 use Rattle.signature.specs.BasicType.{byte_of}
 use Rattle.signature.specs.DataType.{variant, array, dict, struct, one_more}
-use Rattle.message_value.specs.Reading.{value_at, variant_at, array_at, dict_at, struct_at, extent_at}
-use Rattle.message_value.specs.Steps.{IsRead, Reaches}
+use Rattle.message_value.specs.Reading.{value_at, variant_at, array_at, dict_at, struct_at, extent_at, IsRead}
+use Rattle.message_value.specs.Steps.{Reaches}
 use Rattle.message_value.specs.Forms.{basic_at}
 use Rattle.message_value.proofs.ValueSteps.{aligned_one}
 use Rattle.message_value.proofs.SkipValues.{kind_gone, opened, basic_same, read_same, Reaches-same, array_extent, array_end, dict_extent, dict_end, struct_read, struct_end, variant_signature, variant_value, variant_end, next_ahead, all_ahead, ahead_end}

@@ -1,7 +1,6 @@
 use Rattle.std.proofs.Common.{◌≡◌, ◌∙◌, sym, ap, subst}
 use Rattle.signature.specs.DataType.{basic}
-use Rattle.message_value.specs.Reading.{At, value_at}
-use Rattle.message_value.specs.Steps.{IsRead}
+use Rattle.message_value.specs.Reading.{At, value_at, IsRead}
 use Rattle.message_view.specs.Header.{type_code}
 use Rattle.message_view.specs.FieldAnswers.{type_code_of}
 use Rattle.message_view.proofs.ValidFields.{content_typed, content_valid, row_read}
