@@ -201,9 +201,10 @@ serials_shown : (image : List ℕ) (edition : Edition) (slots more : List ℕ) (
 serials_shown image One slots more m all small answered_small follow = tt
 serials_shown image Two slots more m all small answered_small follow =
     let words : List ℕ = serial_words Two m in
-    let here : Follow image 968 words more = next_follow image 840 32 968 slots words more all refl follow in
-    (one_follows image 968 0 m.serial 968 words more here (omega arith) refl small refl,
-    one_follows image 968 1 (unwrap_or (reply_serial_of m) 0) 972 words more here (omega arith) refl answered_small refl)
+    let here : Follow image 968 words more = next_follow image 840 32 968 slots words more all refl follow in (
+      one_follows image 968 0 m.serial 968 words more here (omega arith) refl small refl,
+      one_follows image 968 1 (unwrap_or (reply_serial_of m) 0) 972 words more here (omega arith) refl answered_small refl,
+    )
 
 -- ---- images
 
