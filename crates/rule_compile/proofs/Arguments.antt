@@ -10,6 +10,7 @@ use Rattle.match_key.specs.declared.relation.Relation.{Relation}
 use Rattle.match_key.specs.declared.relation.Relation.TheVariants as relations
 use Rattle.match_rule.specs.Arguments.{text_in}
 use Rattle.match_rule.specs.Holds.{is_compared, compared_text}
+use Rattle.summary.specs.declared.edition.Edition.TheVariants.{Two}
 use Rattle.summary.specs.Shown.{Tells, ShowsArgument}
 use Rattle.summary.specs.Layout.{argument_place}
 use Rattle.rule_compile.specs.Code.{want, settle}
@@ -80,14 +81,14 @@ not_compared : (relation : Relation) → is_compared relation 0 ≡ true → ⊥
 not_compared relation e = elim (compared_is_text relation 0 e) [ inl is ↦ omega arith | inr is ↦ omega arith ]
 
 -- an argument is there and has a text that the relation compares, of which something holds
-pub turn_argument : (image : List ℕ) (n : ℕ) (relation : Relation) (o : Option Argument) (Q : List ℕ → Type 0) (f g : List Ins → List Ins) → ShowsArgument image (argument_place n) o → ((a : Argument) → o ≡ Some a → IsText a.code → (t : List ℕ) × (a.text ≡ Some t)) → Extends f → Extends g → ((t : List ℕ) → Tells image (argument_place n + 4) t → InTurn image (Q t) f g) → InTurn image (IsSomeAnd (compared_text relation (text_in o)) Q) (λ rest. type_code relation n (f rest)) g
+pub turn_argument : (image : List ℕ) (n : ℕ) (relation : Relation) (o : Option Argument) (Q : List ℕ → Type 0) (f g : List Ins → List Ins) → ShowsArgument Two image (argument_place n) o → ((a : Argument) → o ≡ Some a → IsText a.code → (t : List ℕ) × (a.text ≡ Some t)) → Extends f → Extends g → ((t : List ℕ) → Tells image (argument_place n + 4) t → InTurn image (Q t) f g) → InTurn image (IsSomeAnd (compared_text relation (text_in o)) Q) (λ rest. type_code relation n (f rest)) g
 turn_argument image n relation None Q f g shows has extends_f extends_g tail =
-    turn_same image _ _ (λ rest. type_code relation n (f rest)) g (λ both. both.1, λ none. absurd none) (turn_after image (is_compared relation 0 ≡ true) ⊥ (type_code relation n) f g (tests_type relation image n 0 shows) extends_f extends_g (λ c. absurd (not_compared relation c)))
+    turn_same image _ _ (λ rest. type_code relation n (f rest)) g (λ both. both.1, λ none. absurd none) (turn_after image (is_compared relation 0 ≡ true) ⊥ (type_code relation n) f g (tests_type relation image n 0 shows.0) extends_f extends_g (λ c. absurd (not_compared relation c)))
 turn_argument image n relation (Some a) Q f g shows has extends_f extends_g tail =
     turn_same image _ _ (λ rest. type_code relation n (f rest)) g (compared_argument relation a Q)
-    (turn_after image (is_compared relation a.code ≡ true) (IsSomeAnd a.text Q) (type_code relation n) f g (tests_type relation image n a.code shows.0) extends_f extends_g (λ c.
+    (turn_after image (is_compared relation a.code ≡ true) (IsSomeAnd a.text Q) (type_code relation n) f g (tests_type relation image n a.code shows.code_word) extends_f extends_g (λ c.
     let t = has a refl (compared_is_text relation a.code c) in
     turn_same image (Q t.0) (IsSomeAnd a.text Q) f g (
       λ q. subst (λ (o : Option (List ℕ)). IsSomeAnd o Q) (sym t.1) q,
       λ q. subst (λ (o : Option (List ℕ)). IsSomeAnd o Q) t.1 q,
-    ) (tail t.0 (subst (λ (o : Option (List ℕ)). IfSome o (Tells image (argument_place n + 4))) t.1 shows.1))))
+    ) (tail t.0 (subst (λ (o : Option (List ℕ)). IfSome o (Tells image (argument_place n + 4))) t.1 shows.text))))

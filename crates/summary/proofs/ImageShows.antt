@@ -98,19 +98,29 @@ argument_told image edition message words more start at code place len (Some tex
     text_told image edition message text (code ∷ (summary_len edition + place) ∷ len ∷ words) more start 1 at place len is follow (omega arith) (omega arith) refl refl stands.0 stands.1
 
 argument_shown : (image : List ℕ) (edition : Edition) (message words more : List ℕ) (count : ℕ) (arguments : List Argument) (n start at : ℕ) → IsImage image edition message → n < count → start + 12 * n ≡ at
-    → Follow image start (arguments_words edition count arguments ++ words) more → HavePlaces message 0 arguments → ShowsArgument image at (slice_get arguments n)
+    → Follow image start (arguments_words edition count arguments ++ words) more → HavePlaces message 0 arguments → ShowsArgument edition image at (slice_get arguments n)
 argument_shown image edition message words more zero arguments n start at is below there follow have = absurd (omega arith)
 argument_shown image edition message words more (suc count) [] zero start at is below there follow have =
-    one_follows image start 0 0 at (0 ∷ 0 ∷ 0 ∷ (arguments_words edition count [] ++ words)) more follow (omega arith) refl (omega arith) (omega arith)
+    let all : List ℕ = 0 ∷ 0 ∷ 0 ∷ (arguments_words edition count [] ++ words) in (
+      one_follows image start 0 0 at all more follow (omega arith) refl (omega arith) (omega arith),
+      one_follows image start 1 0 (at + 4) all more follow (omega arith) refl (omega arith) (omega arith),
+      one_follows image start 2 0 (at + 8) all more follow (omega arith) refl (omega arith) (omega arith),
+    )
 argument_shown image edition message words more (suc count) [] (suc n) start at is below there follow have =
     argument_shown image edition message words more count [] n (start + 12) at is (omega arith) (omega arith)
     (next_follow image start 3 (start + 12) (0 ∷ 0 ∷ 0 ∷ []) (arguments_words edition count [] ++ words) more refl refl follow) tt
 argument_shown image edition message words more (suc count) (a ∷ others) zero start at is below there follow have =
     let rest : List ℕ = arguments_words edition count others ++ words in
-    let small : a.code < 2 ^ 32 = omega (arith, have.0.code) in (
-      one_follows image start 0 a.code at (argument_words edition a ++ rest) more follow (omega arith) refl small (omega arith),
-      argument_told image edition message rest more start (at + 4) a.code a.place a.len a.text is follow (omega arith) have.0.stands,
-    )
+    let all : List ℕ = argument_words edition a ++ rest in
+    let code_small : a.code < 2 ^ 32 = omega (arith, have.0.code) in
+    let place_small : summary_len edition + a.place < 2 ^ 32 = omega (arith, have.0.within, is.fits, size_below edition) in
+    let len_small : a.len < 2 ^ 32 = omega (arith, have.0.within, is.fits) in
+    record {
+      code_word = one_follows image start 0 a.code at all more follow (omega arith) refl code_small (omega arith);
+      place_word = one_follows image start 1 (summary_len edition + a.place) (at + 4) all more follow (omega arith) refl place_small (omega arith);
+      len_word = one_follows image start 2 a.len (at + 8) all more follow (omega arith) refl len_small (omega arith);
+      text = argument_told image edition message rest more start (at + 4) a.code a.place a.len a.text is follow (omega arith) have.0.stands;
+    }
 argument_shown image edition message words more (suc count) (a ∷ others) (suc n) start at is below there follow have =
     argument_shown image edition message words more count others n (start + 12) at is (omega arith) (omega arith)
     (next_follow image start 3 (start + 12) (argument_words edition a) (arguments_words edition count others ++ words) more refl refl follow) have.1

@@ -33,9 +33,17 @@ ShowsText image at None = (load_word image at ≡ Some 0) × (load_word image (a
 ShowsText image at (Some text) = Tells image at text
 
 -- three words from a place on tell the type, the place and the length of an argument
-abbrev pub ShowsArgument : List ℕ → ℕ → Option Argument → Type 0
-ShowsArgument image at None = load_word image at ≡ Some 0
-ShowsArgument image at (Some a) = (load_word image at ≡ Some a.code) × IfSome a.text (Tells image (at + 4))
+pub record TellsArgument (edition : Edition) (image : List ℕ) (at : ℕ) (a : Argument) : Type 0 where
+  pub code_word : load_word image at ≡ Some a.code
+  pub place_word : load_word image (at + 4) ≡ Some (summary_len edition + a.place)
+  pub len_word : load_word image (at + 8) ≡ Some a.len
+  pub text : IfSome a.text (Tells image (at + 4))
+
+-- of an argument that isn't there all are 0
+abbrev pub ShowsArgument : Edition → List ℕ → ℕ → Option Argument → Type 0
+ShowsArgument edition image at None =
+    (load_word image at ≡ Some 0) × (load_word image (at + 4) ≡ Some 0) × (load_word image (at + 8) ≡ Some 0)
+ShowsArgument edition image at (Some a) = TellsArgument edition image at a
 
 -- how many slots a summary tells of
 abbrev pub slots_of : Edition → ℕ
@@ -66,6 +74,6 @@ pub record Shows (edition : Edition) (image : List ℕ) (m : Message) (slots : L
   pub error_name : ShowsText image (text_place ErrorName) (error_name_of m)
   pub destination : ShowsText image (text_place Destination) (destination_of m)
   pub sender : ShowsText image (text_place Sender) (sender_of m)
-  pub argument : (n : ℕ) → n < max_arguments → ShowsArgument image (argument_place n) (slice_get (arguments_of m) n)
+  pub argument : (n : ℕ) → n < max_arguments → ShowsArgument edition image (argument_place n) (slice_get (arguments_of m) n)
   pub owned : (slot : ℕ) → slot < slots_of edition → load_word image (ownership_place slot) ≡ Some (slice_index slots (slot / 32))
   pub serials : ShowsSerials edition image m
