@@ -1,4 +1,4 @@
--- Drafts: source programs whose jumps name labels, at any distance ahead.
+-- Drafts: source programs whose jumps name labels, at any distance ahead (own).
 use Rattle.std.specs.Prelude.{ℕ, ◌+◌, ◌-◌, ◌<◌, List, [], ◌∷◌, Option, slice_get, IfSome}
 use Rattle.std.specs.Option.{IsSomeAnd, option_map_or, option_flatten}
 use Rattle.bpf_code.specs.declared.instruction.Ins.{Ins}

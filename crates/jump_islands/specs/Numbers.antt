@@ -1,4 +1,4 @@
--- The numbers and the names of the errors.
+-- The numbers and the names of the errors (own).
 use Rattle.std.specs.Prelude.{ℕ, List, codes}
 use Rattle.jump_islands.specs.declared.error.LowerError.{LowerError}
 use Rattle.jump_islands.specs.declared.error.LowerError.TheVariants.{TooMany, NoMemory}

@@ -1,4 +1,4 @@
--- How long a lowered program would be if no two jumps shared an island.
+-- How long a lowered program would be if no two jumps shared an island (own).
 use Rattle.std.specs.Prelude.{ℕ, ◌+◌, Bool, ◌&&◌, ◌||◌, List, [], ◌∷◌, take, Option, Some, nat_le, nat_lt, sum_by, if◌then◌else◌}
 use Rattle.bpf_code.specs.declared.instruction.Ins.{Ins}
 use Rattle.bpf_code.specs.declared.operation.Op.{Op}

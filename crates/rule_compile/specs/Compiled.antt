@@ -1,4 +1,4 @@
--- What a compiled rule is.
+-- What a compiled rule is (own).
 use Rattle.std.specs.Prelude.{◌≡◌, ◌↔◌, ℕ, ◌<◌, Bool, List, Option, IfSome, is_some, unwrap_or}
 use Rattle.bpf_code.specs.declared.instruction.Ins.{Ins}
 use Rattle.bpf_code.specs.Steps.{Ends}

@@ -1,4 +1,4 @@
--- What is promised of programs and rules over messages, in one place.
+-- What is promised of programs and rules over messages, in one place (own).
 use Rattle.std.specs.Prelude.{◌≡◌, ◌↔◌, ℕ, ◌<◌, ◌≤◌, Bool, List, length, Option}
 use Rattle.bpf_code.specs.declared.instruction.Ins.{Ins}
 use Rattle.bpf_code.specs.Program.{WellFormed}
