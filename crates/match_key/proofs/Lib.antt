@@ -1,4 +1,4 @@
 pub mod Rows
-pub mod KeyNumbers
+pub mod KeyEquality
 pub mod ArgNames
 pub mod SameSets

@@ -1,5 +1,5 @@
 -- The keys of rules (D-Bus Specification, "Match Rules").
-use Rattle.std.specs.Prelude.{ℕ, ◌+◌, ◌-◌, ◌*◌, Bool, false, ◌&&◌, ◌||◌, List, [], ◌∷◌, drop, length, Option, Some, None, Result, Ok, Err, codes, nat_le, ◌==◌, if◌then◌else◌}
+use Rattle.std.specs.Prelude.{ℕ, ◌+◌, ◌-◌, ◌*◌, Bool, true, false, ◌&&◌, ◌||◌, List, [], ◌∷◌, drop, length, Option, Some, None, Result, Ok, Err, codes, nat_le, ◌==◌, if◌then◌else◌}
 use Rattle.signature.specs.Name.{is_digit}
 use Rattle.match_key.specs.declared.error.RuleError.{RuleError}
 use Rattle.match_key.specs.declared.error.RuleError.TheVariants.{UnknownKey, ArgNumber}
@@ -89,31 +89,35 @@ key_named word =
 
 -- ---- keys beside one another
 
--- a number for each field, each source, each relation and each key
-abbrev pub field_number : Field → ℕ
-field_number Interface = 0
-field_number Member = 1
-field_number Path = 2
-field_number Destination = 3
+-- the same field
+abbrev pub field_eq : Field → Field → Bool
+field_eq Interface Interface = true
+field_eq Member Member = true
+field_eq Path Path = true
+field_eq Destination Destination = true
+field_eq _ _ = false
 
-abbrev pub source_number : Source → ℕ
-source_number (Header field) = field_number field
-source_number (Arg n) = 4 + n
+-- the same source
+abbrev pub source_eq : Source → Source → Bool
+source_eq (Header field) (Header other) = field_eq field other
+source_eq (Arg n) (Arg k) = n == k
+source_eq _ _ = false
 
-abbrev pub relation_number : Relation → ℕ
-relation_number Equal = 0
-relation_number PathNamespace = 1
-relation_number NameNamespace = 2
-relation_number NestedPath = 3
+-- the same relation
+abbrev pub relation_eq : Relation → Relation → Bool
+relation_eq Equal Equal = true
+relation_eq PathNamespace PathNamespace = true
+relation_eq NameNamespace NameNamespace = true
+relation_eq NestedPath NestedPath = true
+relation_eq _ _ = false
 
-abbrev pub key_number : Key → ℕ
-key_number Kind = 0
-key_number Sender = 1
-key_number Eavesdrop = 2
-key_number (Compares source relation) = 3 + 4 * source_number source + relation_number relation
-
+-- the same key
 abbrev pub key_eq : Key → Key → Bool
-key_eq a b = key_number a == key_number b
+key_eq Kind Kind = true
+key_eq Sender Sender = true
+key_eq Eavesdrop Eavesdrop = true
+key_eq (Compares source relation) (Compares from to) = relation_eq relation to && source_eq source from
+key_eq _ _ = false
 
 -- `argN` and `argNpath` share one, so that a rule has one of them for each N
 abbrev pub once_relation : Relation → Relation

@@ -2,7 +2,7 @@
 
 ghost use Rattle.std.specs.Prelude.{◌≡◌};
 ghost use Rattle.match_key.specs.Rows.{row_of};
-ghost use Rattle.match_key.specs.Key.{key_words, key_named, key_number, once_key, is_twice, path_key, path_namespace_key, is_path_twice};
+ghost use Rattle.match_key.specs.Key.{key_words, key_named, once_key, is_twice, path_key, path_namespace_key, is_path_twice};
 
 use crate::arg_key::{after_arg, arg_key};
 use crate::error::RuleError;
@@ -10,7 +10,7 @@ use crate::relation::Relation;
 use crate::source::{Field, Source};
 
 /// What a part of a rule's text is about (D-Bus Specification, "Match Rules").
-#[derive(Clone, Copy, Debug)]
+#[derive(Clone, Copy, Debug, PartialEq, Eq)]
 pub enum Key {
     Kind,
     Sender,
@@ -71,20 +71,6 @@ impl Key {
         }
     }
 
-    /// A number that no other key has, so that equality is one comparison.
-    fn number(self) -> u32
-        ensures { result ≡ key_number self }
-    {
-        match self {
-            Key::Kind => 0,
-            Key::Sender => 1,
-            Key::Eavesdrop => 2,
-            Key::Compares(source, relation) => {
-                3 + 4 * u32::from(source.number()) + u32::from(relation.number())
-            }
-        }
-    }
-
     /// The key that stands for all those of which a rule may have only one.
     fn once(self) -> Key
         ensures { result ≡ once_key self }
@@ -109,26 +95,4 @@ impl Key {
         self == Key::path() && other == Key::path_namespace()
             || self == Key::path_namespace() && other == Key::path()
     }
-}
-
-impl PartialEq for Key {
-    ghost use Rattle.std.proofs.Common.{rules};
-    ghost use Rattle.std.specs.Cmp.Rules.{comparing};
-    ghost use Rattle.std.specs.Prelude.{◌==◌};
-    ghost use Rattle.std.specs.Ordering.{on};
-
-    ghost eq = { on key_number ◌==◌ };
-
-    ghost laws = { Prim.search (comparing, rules) };
-
-    fn eq(&self, other: &Key) -> bool {
-        self.number() == other.number()
-    }
-}
-
-impl Eq for Key {
-    ghost use Rattle.std.proofs.Common.{rules};
-    ghost use Rattle.std.specs.Cmp.Rules.{comparing};
-
-    ghost laws = { Prim.search (comparing, rules) };
 }

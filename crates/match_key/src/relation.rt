@@ -1,10 +1,10 @@
 // How conditions compare.
 
 ghost use Rattle.std.specs.Prelude.{◌≡◌};
-ghost use Rattle.match_key.specs.Key.{relation_number, once_relation};
+ghost use Rattle.match_key.specs.Key.{once_relation};
 
 /// How a text stands to the value of a condition (D-Bus Specification, "Match Rules").
-#[derive(Clone, Copy, Debug)]
+#[derive(Clone, Copy, Debug, PartialEq, Eq)]
 pub enum Relation {
     /// The text is the value.
     Equal,
@@ -17,18 +17,6 @@ pub enum Relation {
 }
 
 impl Relation {
-    /// A number that no other relation has.
-    pub(crate) fn number(self) -> u8
-        ensures { result ≡ relation_number self }
-    {
-        match self {
-            Relation::Equal => 0,
-            Relation::PathNamespace => 1,
-            Relation::NameNamespace => 2,
-            Relation::NestedPath => 3,
-        }
-    }
-
     /// The relation that stands for all those of which a rule may have only one: `argN` and `argNpath` share one.
     pub(crate) fn once(self) -> Relation
         ensures { result ≡ once_relation self }

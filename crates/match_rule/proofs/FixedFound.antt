@@ -15,7 +15,7 @@ use Rattle.match_rule.specs.declared.condition.Condition.TheVariants.{Compares}
 use Rattle.match_rule.specs.Arguments.{text_in}
 use Rattle.match_key.specs.Key.{key_eq}
 use Rattle.match_rule.specs.Condition.{key_of, value_of}
-use Rattle.match_key.proofs.KeyNumbers.{same_key}
+use Rattle.match_key.proofs.KeyEquality.{same_key}
 use Rattle.match_rule.specs.RuleTree.{RuleTree, or_else}
 use Rattle.match_rule.specs.Holds.{Holds, ConditionHolds, Relates, compared_text, text_at}
 use Rattle.match_rule.specs.FixedTexts.{fixed_texts, texts_of, AreFound, value_in, value_asked, arg0_of, string_in, first_text}

@@ -12,7 +12,7 @@ use Rattle.match_key.specs.declared.kind_name.KindName.TheVariants.{Signal}
 use Rattle.match_rule.specs.declared.condition.Condition.{Condition}
 use Rattle.match_rule.specs.declared.condition.Condition.TheVariants.{Kind, Sender, Compares}
 use Rattle.match_key.specs.Kinds.{kind_named}
-use Rattle.match_key.proofs.KeyNumbers.{keys_decide}
+use Rattle.match_key.proofs.KeyEquality.{keys_decide}
 use Rattle.match_key.proofs.SameSets.{in_decides}
 use Rattle.match_rule.specs.Condition.{key_of, value_of, condition_eq}
 use Rattle.match_rule.specs.RuleTree.{RuleTree, rule_eq, AreSame}
