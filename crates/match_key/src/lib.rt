@@ -1,5 +1,5 @@
 //! The keys of D-Bus match rules: what a part of a rule's text asks about, the words that name it, and why a text is no
-//! rule. The layer above uses that `Key::named` is the table of words, and that no rule may have two keys that
+//! rule. The layer above uses that `Key::of_word` is the table of words, and that no rule may have two keys that
 //! `Key::is_twice` or `Key::is_path_twice` tells.
 #![tactic(auto)]
 
