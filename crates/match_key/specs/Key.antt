@@ -1,16 +1,15 @@
 -- The keys of rules (D-Bus Specification, "Match Rules").
-use Rattle.std.specs.Prelude.{ℕ, ◌+◌, ◌-◌, ◌*◌, Bool, true, false, ◌&&◌, ◌||◌, List, [], ◌∷◌, drop, length, Option, Some, None, Result, Ok, Err, codes, nat_le, ◌==◌, if◌then◌else◌}
+use Rattle.std.specs.Prelude.{ℕ, ◌+◌, ◌-◌, ◌*◌, Bool, false, ◌&&◌, ◌||◌, List, [], ◌∷◌, drop, length, Option, Some, None, Result, Ok, Err, codes, nat_le, ◌==◌, if◌then◌else◌}
 use Rattle.signature.specs.Name.{is_digit}
 use Rattle.match_key.specs.declared.error.RuleError.{RuleError}
 use Rattle.match_key.specs.declared.error.RuleError.TheVariants.{UnknownKey, ArgNumber}
-use Rattle.match_key.specs.declared.source.Field.{Field}
 use Rattle.match_key.specs.declared.source.Field.TheVariants.{Interface, Member, Path, Destination}
-use Rattle.match_key.specs.declared.source.Source.{Source}
 use Rattle.match_key.specs.declared.source.Source.TheVariants.{Header, Arg}
 use Rattle.match_key.specs.declared.relation.Relation.{Relation}
 use Rattle.match_key.specs.declared.relation.Relation.TheVariants.{Equal, PathNamespace, NameNamespace, NestedPath}
 use Rattle.match_key.specs.declared.key.Key.{Key}
 use Rattle.match_key.specs.declared.key.Key.TheVariants.{Kind, Sender, Eavesdrop, Compares}
+use Rattle.match_key.specs.contracts.key.KeyPartialEq.TheImpl as derived
 use Rattle.match_key.specs.Rows.{row_of}
 
 -- ---- the words of keys
@@ -89,35 +88,9 @@ key_named word =
 
 -- ---- keys beside one another
 
--- the same field
-abbrev pub field_eq : Field → Field → Bool
-field_eq Interface Interface = true
-field_eq Member Member = true
-field_eq Path Path = true
-field_eq Destination Destination = true
-field_eq _ _ = false
-
--- the same source
-abbrev pub source_eq : Source → Source → Bool
-source_eq (Header field) (Header other) = field_eq field other
-source_eq (Arg n) (Arg k) = n == k
-source_eq _ _ = false
-
--- the same relation
-abbrev pub relation_eq : Relation → Relation → Bool
-relation_eq Equal Equal = true
-relation_eq PathNamespace PathNamespace = true
-relation_eq NameNamespace NameNamespace = true
-relation_eq NestedPath NestedPath = true
-relation_eq _ _ = false
-
--- the same key
+-- the same key, as the derived `==` tells
 abbrev pub key_eq : Key → Key → Bool
-key_eq Kind Kind = true
-key_eq Sender Sender = true
-key_eq Eavesdrop Eavesdrop = true
-key_eq (Compares source relation) (Compares from to) = relation_eq relation to && source_eq source from
-key_eq _ _ = false
+key_eq a b = (derived.ghosts).eq a b
 
 -- `argN` and `argNpath` share one, so that a rule has one of them for each N
 abbrev pub once_relation : Relation → Relation
