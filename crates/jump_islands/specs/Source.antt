@@ -1,4 +1,4 @@
--- Source programs: lists of instructions whose jumps go over any number of others (own). They run by the steps of programs.
+-- Source programs, whose jumps go over any number of instructions (own). They run by the steps of programs.
 use Rattle.std.specs.Prelude.{◌<◌, ◌-◌, ℕ, Bool, true, false, List, length, Option, Some, IsTrue}
 use Rattle.bpf_code.specs.declared.instruction.Ins.{Ins}
 use Rattle.bpf_code.specs.declared.operation.Op.{Op}

@@ -1,4 +1,4 @@
--- The program of what is left of a rule, where a message has the texts that the rule fixes and its envelope fits (own).
+-- The program of what is left of a rule, where a message has the texts that it fixes and its envelope fits (own).
 use Rattle.std.specs.Prelude.{◌↔◌, ℕ, ◌<◌, Bool, List, Option}
 use Rattle.bpf_code.specs.declared.instruction.Ins.{Ins}
 use Rattle.bpf_code.specs.Steps.{Ends}
