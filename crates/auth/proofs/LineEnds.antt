@@ -1,13 +1,9 @@
 -- Where lines end in bytes that come in cuts.
 use Rattle.std.proofs.Common.{◌≡◌, ℕ, ◌+◌, ◌-◌, ◌≤◌, Bool, true, false, cond, suc, List, [], ◌∷◌, ◌++◌, drop, length, refl, ap, ◌∙◌, arith, get_or, length-append}
 use Rattle.std.specs.Prelude.{◌==◌, ◌&&◌}
-use Rattle.std.proofs.lemmas.Bool.{eqb-true}
+use Rattle.std.proofs.lemmas.Bool.{eqb-true, and_parts}
 use Rattle.auth.specs.Lines.{cr, lf, Pieces, with_byte, pieces_of}
 use Rattle.auth.specs.LineStates.{whole_piece, ends_in_cr, ended_piece}
-
-both : (a b : Bool) → (a && b) ≡ true → (a ≡ true) × (b ≡ true)
-both true b e = (refl, e)
-both false b e = absurd cc
 
 neither : (a : Bool) → (a && false) ≡ false
 neither true = refl
@@ -37,7 +33,7 @@ byte_continued byte (b ∷ piece) [] bytes = go (b == lf && byte == cr) refl
     go : (t : Bool) → (b == lf && byte == cr) ≡ t
         → with_byte byte (pieces_of (b ∷ piece ++ bytes)) ≡ continue_line (byte_before t byte (b ∷ piece) []).first (byte_before t byte (b ∷ piece) []).later bytes
     go true is =
-        let e = both (b == lf) (byte == cr) is in
+        let e = and_parts (b == lf) (byte == cr) is in
         rw (eqb-true b lf e.0, eqb-true byte cr e.1) (crlf_ends (pieces_of (piece ++ bytes)))
     go false is = refl
 byte_continued byte piece (next ∷ later) bytes = go (get_or piece 0 0 == lf && byte == cr)

@@ -3,7 +3,7 @@ use Rattle.std.proofs.Common.{◌≡◌, ℕ, suc, ◌+◌, Bool, true, false, �
 use Rattle.std.specs.Prelude.{◌==◌, nat_lt, slice_index}
 use Rattle.std.specs.Char.{digit_value}
 use Rattle.std.specs.List.{prefix_len, list_all}
-use Rattle.std.proofs.lemmas.Bool.{eqb-true}
+use Rattle.std.proofs.lemmas.Bool.{eqb-true, false_from_ne_true, and_parts}
 use Rattle.std.proofs.lemmas.Bool.Decides.{nat_tests}
 use Rattle.std.proofs.lemmas.Option.{option_and_then_some, cond_some}
 use Rattle.bpf_text.specs.Lexis.{is_digit, is_name_byte, unblanked, run_of, number_in, number_of, word_at, number_at, sign_at, is_over}
@@ -12,10 +12,6 @@ pub none_unless : {T : Type 0} (o : Option T) → ((x : T) → o ≡ Some x → 
 none_unless None h = refl
 none_unless (Some x) h = absurd (h x refl)
 
-pub not_true : (b : Bool) → (b ≡ true → ⊥) → b ≡ false
-not_true true h = absurd (h refl)
-not_true false h = refl
-
 pub or_left : (a b : Bool) → (a || b) ≡ false → a ≡ false
 or_left true b h = h
 or_left false b h = refl
@@ -23,14 +19,6 @@ or_left false b h = refl
 pub or_right : (a b : Bool) → (a || b) ≡ false → b ≡ false
 or_right true b h = absurd (cc)
 or_right false b h = h
-
-pub and_left : (a b : Bool) → (a && b) ≡ true → a ≡ true
-and_left true b h = refl
-and_left false b h = h
-
-pub and_right : (a b : Bool) → (a && b) ≡ true → b ≡ true
-and_right true b h = h
-and_right false b h = absurd (cc)
 
 cond_none : {A : Type 0} (b : Bool) (x y : A) → cond b None (Some x) ≡ Some y → (b ≡ false)
 cond_none true x y h = absurd (cc)
@@ -46,20 +34,20 @@ pub sign_first : (c : ℕ) (bytes rest : List ℕ) → sign_at c bytes ≡ Some 
 unfolding sign_at
 sign_first c bytes rest h =
     let test = (cond_some (not (length (unblanked bytes) == 0) && first bytes == c) (drop 1 (unblanked bytes)) rest h).0 in
-    eqb-true _ _ (and_right (not (length (unblanked bytes) == 0)) (first bytes == c) test)
+    eqb-true _ _ (and_parts (not (length (unblanked bytes) == 0)) (first bytes == c) test).1
 
 pub sign_some : (c : ℕ) (bytes rest : List ℕ) → sign_at c bytes ≡ Some rest → length (unblanked bytes) == 0 ≡ false
 unfolding sign_at
 sign_some c bytes rest h =
     let test = (cond_some (not (length (unblanked bytes) == 0) && first bytes == c) (drop 1 (unblanked bytes)) rest h).0 in
-    negated (length (unblanked bytes) == 0) (and_left (not (length (unblanked bytes) == 0)) (first bytes == c) test)
+    negated (length (unblanked bytes) == 0) (and_parts (not (length (unblanked bytes) == 0)) (first bytes == c) test).0
   where
     negated : (b : Bool) → not b ≡ true → b ≡ false
     negated true h = absurd (cc)
     negated false h = refl
 
 pub some_length : (b : ℕ) (u : List ℕ) → length (b ∷ u) == 0 ≡ false
-some_length b u = not_true (length (b ∷ u) == 0) (λ e. let none : length (b ∷ u) ≡ 0 = eqb-true (length (b ∷ u)) 0 e in omega arith)
+some_length b u = false_from_ne_true (length (b ∷ u) == 0) (λ e. let none : length (b ∷ u) ≡ 0 = eqb-true (length (b ∷ u)) 0 e in omega arith)
 
 -- ---- a word
 
@@ -91,12 +79,12 @@ small_digit : (b : ℕ) → nat_lt (digit_value b) 10 ≡ true → is_digit b �
 small_digit b h = grind (arith, nat_tests)
 
 zero_digit : (b : ℕ) (test : Bool) → (b == 48 && test) ≡ true → is_digit b ≡ true
-zero_digit b test h = let e : b ≡ 48 = eqb-true b 48 (and_left (b == 48) test h) in rw e
+zero_digit b test h = let e : b ≡ 48 = eqb-true b 48 (and_parts (b == 48) test h).0 in rw e
 
 all_first : (p : ℕ → Bool) (run : List ℕ) (test : Bool) → ((not (length run == 0) && list_all p run) && test) ≡ true → p (slice_index run 0) ≡ true
 all_first p [] test h = absurd (cc)
 all_first p (b ∷ run) test h =
-    and_left (p b) (list_all p run) (and_right (not (length (b ∷ run) == 0)) (list_all p (b ∷ run)) (and_left (not (length (b ∷ run) == 0) && list_all p (b ∷ run)) test h))
+    (and_parts (p b) (list_all p run) (and_parts (not (length (b ∷ run) == 0)) (list_all p (b ∷ run)) (and_parts (not (length (b ∷ run) == 0) && list_all p (b ∷ run)) test h).0).1).0
 
 in_first : (run : List ℕ) (n : ℕ) → number_in 10 run ≡ Some n → is_digit (slice_index run 0) ≡ true
 unfolding number_in
@@ -133,7 +121,7 @@ number_some bytes x h = (number_front (unblanked bytes) (number_test bytes x h))
 
 over_by : (b t a : Bool) → cond b true (t && a) ≡ true → (b ≡ true) ⊎ (t ≡ true)
 over_by true t a h = inl refl
-over_by false t a h = inr (and_left t a h)
+over_by false t a h = inr (and_parts t a h).0
 
 pub over_first : (bytes : List ℕ) → is_over bytes ≡ true → (length (unblanked bytes) == 0 ≡ true) ⊎ (first bytes ≡ 59)
 unfolding is_over
@@ -163,19 +151,19 @@ over_no_sign d bytes apart h = none_unless (sign_at d bytes) (λ r is. elim (ove
 ])
 
 pub sign_not_over : (d : ℕ) (bytes rest : List ℕ) → (d ≡ 59 → ⊥) → sign_at d bytes ≡ Some rest → is_over bytes ≡ false
-sign_not_over d bytes rest apart h = not_true (is_over bytes) (λ over. both_none (sign_at d bytes) rest (over_no_sign d bytes apart over) h)
+sign_not_over d bytes rest apart h = false_from_ne_true (is_over bytes) (λ over. both_none (sign_at d bytes) rest (over_no_sign d bytes apart over) h)
   where
     both_none : (o : Option (List ℕ)) (r : List ℕ) → o ≡ None → o ≡ Some r → ⊥
     both_none o r p q = cc
 
 pub word_not_over : (bytes : List ℕ) (x : List ℕ × List ℕ) → word_at bytes ≡ Some x → is_over bytes ≡ false
-word_not_over bytes x h = not_true (is_over bytes) (λ over. elim (over_first bytes over) [
+word_not_over bytes x h = false_from_ne_true (is_over bytes) (λ over. elim (over_first bytes over) [
   | inl none ↦ both_ways (length (unblanked bytes) == 0) none (word_some bytes x h)
   | inr here ↦ both_ways (is_name_byte (first bytes)) (word_first bytes x h) (ap is_name_byte here)
 ])
 
 pub number_not_over : (bytes : List ℕ) (x : ℕ × List ℕ) → number_at bytes ≡ Some x → is_over bytes ≡ false
-number_not_over bytes x h = not_true (is_over bytes) (λ over. elim (over_first bytes over) [
+number_not_over bytes x h = false_from_ne_true (is_over bytes) (λ over. elim (over_first bytes over) [
   | inl none ↦ both_ways (length (unblanked bytes) == 0) none (number_some bytes x h)
   | inr here ↦ both_ways (is_digit (first bytes)) (number_first bytes x h) (ap is_digit here)
 ])

@@ -3,7 +3,7 @@ use Rattle.std.proofs.Common.{◌≡◌, ℕ, Bool, true, false, cond, List, [],
 use Rattle.std.specs.Prelude.{◌==◌, option_and_then, codes}
 use Rattle.std.specs.Str.{bytes_eq}
 use Rattle.std.proofs.lemmas.Bool.{eqb-true}
-use Rattle.std.proofs.lemmas.Option.{option_and_then_some, cond_some}
+use Rattle.std.proofs.lemmas.Option.{option_and_then_some, cond_some, same_Some}
 use Rattle.std.proofs.lemmas.Slice.Eq.{bytes_eq-Decides}
 use Rattle.bpf_text.specs.Lexis.{word_at, number_at, sign_at, is_over}
 use Rattle.bpf_text.specs.Operands.{Operands, Absent, Number, Length, Place, Indexed, Scratch, Header, Name, NumberTo, NameTo, Targets, One, Both}
@@ -20,25 +20,22 @@ Stands bytes x = Front (tokens_of x.0) bytes x.1
 abbrev StandTargets : List ℕ → Targets × List ℕ → Type 0
 StandTargets bytes x = Front (targets_tokens x.0) bytes x.1
 
-same_some : {T : Type 0} (x y : T) → Some x ≡ Some y → x ≡ y
-same_some x y h = cc
-
 is_word : (w : List ℕ) (text : List ℕ) → bytes_eq w text ≡ true → w ≡ text
 is_word w text h = (bytes_eq-Decides w text).0 h
 
 last_sound : (bytes name rest : List ℕ) (s : Option (List ℕ)) (x : Targets × List ℕ) → word_at bytes ≡ Some (name, rest) → sign_at 44 rest ≡ s → last_target name rest s ≡ Some x → StandTargets bytes x
-last_sound bytes name rest None x w s h = subst (StandTargets bytes) (same_some (One name, rest) x h) (rest, w, refl)
+last_sound bytes name rest None x w s h = subst (StandTargets bytes) (same_Some (One name, rest) x h) (rest, w, refl)
 last_sound bytes name rest (Some after) x w s h = option_and_then_some _ (word_at after) x h (λ (v : List ℕ × List ℕ) is e.
-    subst (StandTargets bytes) (same_some (Both name v.0, v.1) x e) (rest, w, (after, s, (v.1, is, refl))))
+    subst (StandTargets bytes) (same_Some (Both name v.0, v.1) x e) (rest, w, (after, s, (v.1, is, refl))))
 
 targets_sound : (bytes : List ℕ) (x : Targets × List ℕ) → targets_at bytes ≡ Some x → StandTargets bytes x
 unfolding targets_at
 targets_sound bytes x h = option_and_then_some _ (word_at bytes) x h (λ (w : List ℕ × List ℕ) is e. last_sound bytes w.0 w.1 (sign_at 44 w.1) x is refl e)
 
 number_sound : (bytes inside : List ℕ) (k : ℕ) (rest : List ℕ) (s : Option (List ℕ)) (x : Operands × List ℕ) → sign_at 35 bytes ≡ Some inside → number_at inside ≡ Some (k, rest) → sign_at 44 rest ≡ s → number_to k rest s ≡ Some x → Stands bytes x
-number_sound bytes inside k rest None x sharp n s h = subst (Stands bytes) (same_some (Number k, rest) x h) (inside, sharp, (rest, n, refl))
+number_sound bytes inside k rest None x sharp n s h = subst (Stands bytes) (same_Some (Number k, rest) x h) (inside, sharp, (rest, n, refl))
 number_sound bytes inside k rest (Some after) x sharp n s h = option_and_then_some _ (targets_at after) x h (λ (t : Targets × List ℕ) is e.
-    subst (Stands bytes) (same_some (NumberTo k t.0, t.1) x e) (inside, sharp, (rest, n, (after, s, targets_sound after t is))))
+    subst (Stands bytes) (same_Some (NumberTo k t.0, t.1) x e) (inside, sharp, (rest, n, (after, s, targets_sound after t is))))
 
 length_sound : (bytes inside : List ℕ) (x : Operands × List ℕ) → sign_at 35 bytes ≡ Some inside → length_at inside ≡ Some x → Stands bytes x
 length_sound bytes inside x sharp h = option_and_then_some _ (word_at inside) x h (λ (w : List ℕ × List ℕ) is e.
@@ -70,7 +67,7 @@ indexed_sound bytes inside x open_bracket h =
 place_by_sound : (bytes inside : List ℕ) (n : Option (ℕ × List ℕ)) (x : Operands × List ℕ) → sign_at 91 bytes ≡ Some inside → number_at inside ≡ n → place_by inside n ≡ Some x → Stands bytes x
 place_by_sound bytes inside None x open_bracket n h = indexed_sound bytes inside x open_bracket h
 place_by_sound bytes inside (Some k) x open_bracket n h = option_and_then_some _ (sign_at 93 k.1) x h (λ (rest : List ℕ) is e.
-    subst (Stands bytes) (same_some (Place k.0, rest) x e) (inside, open_bracket, (k.1, n, (rest, is, refl))))
+    subst (Stands bytes) (same_Some (Place k.0, rest) x e) (inside, open_bracket, (k.1, n, (rest, is, refl))))
 
 place_sound : (bytes inside : List ℕ) (x : Operands × List ℕ) → sign_at 91 bytes ≡ Some inside → place_at inside ≡ Some x → Stands bytes x
 unfolding place_at
@@ -83,7 +80,7 @@ bracketed_sound bytes x h =
     option_and_then_some _ (number_at inside) x e1 (λ (k : ℕ × List ℕ) is_k e2.
     option_and_then_some _ (sign_at 93 k.1) x e2 (λ (rest : List ℕ) is_rest e3.
     let P : ℕ × List ℕ → Type 0 = λ y. Front (Sign 91 ∷ Value y.0 ∷ Sign 93 ∷ []) bytes y.1 in
-    subst P (same_some (k.0, rest) x e3) (inside, is_inside, (k.1, is_k, (rest, is_rest, refl))))))
+    subst P (same_Some (k.0, rest) x e3) (inside, is_inside, (k.1, is_k, (rest, is_rest, refl))))))
 
 front_more : (more : List Token) (tokens : List Token) (bytes tail rest : List ℕ) → Front tokens bytes tail → Front more tail rest → Front (tokens ++ more) bytes rest
 front_more more [] bytes tail rest h later = rw h later
@@ -107,14 +104,14 @@ header_sound bytes after x four h =
     subst (Stands bytes) both.1 (after, four, (star, is_star, (inside, is_inside, middle)))))))))
 
 name_sound : (bytes name rest : List ℕ) (s : Option (List ℕ)) (x : Operands × List ℕ) → word_at bytes ≡ Some (name, rest) → sign_at 44 rest ≡ s → name_to name rest s ≡ Some x → Stands bytes x
-name_sound bytes name rest None x w s h = subst (Stands bytes) (same_some (Name name, rest) x h) (rest, w, refl)
+name_sound bytes name rest None x w s h = subst (Stands bytes) (same_Some (Name name, rest) x h) (rest, w, refl)
 name_sound bytes name rest (Some after) x w s h = option_and_then_some _ (targets_at after) x h (λ (t : Targets × List ℕ) is e.
-    subst (Stands bytes) (same_some (NameTo name t.0, t.1) x e) (rest, w, (after, s, targets_sound after t is)))
+    subst (Stands bytes) (same_Some (NameTo name t.0, t.1) x e) (rest, w, (after, s, targets_sound after t is)))
 
 scratch_sound : (bytes name rest : List ℕ) (m : Bool) (k : Option (ℕ × List ℕ)) (x : Operands × List ℕ) → word_at bytes ≡ Some (name, rest) → bytes_eq name (codes "M") ≡ m → bracketed_at rest ≡ k → scratch_or_name name rest m k ≡ Some x → Stands bytes x
 scratch_sound bytes name rest true (Some k) x w m is h =
     let at : word_at bytes ≡ Some (codes "M", rest) = w ∙ ap (λ (n : List ℕ). Some (n, rest)) (is_word name (codes "M") m) in
-    subst (Stands bytes) (same_some (Scratch k.0, k.1) x h) (rest, at, bracketed_sound rest k is)
+    subst (Stands bytes) (same_Some (Scratch k.0, k.1) x h) (rest, at, bracketed_sound rest k is)
 scratch_sound bytes name rest true None x w m is h = name_sound bytes name rest (sign_at 44 rest) x w refl h
 scratch_sound bytes name rest false k x w m is h = name_sound bytes name rest (sign_at 44 rest) x w refl h
 
@@ -149,7 +146,7 @@ at_sound bytes x h = sharp_sound bytes (sign_at 35 bytes) x refl h
 of_sound : (bytes : List ℕ) (b : Bool) (o : Operands) → is_over bytes ≡ b → cond b (Some Absent) (option_and_then (λ (x : Operands × List ℕ). cond (is_over x.1) (Some x.0) None) (operands_at bytes)) ≡ Some o → AreTokens (tokens_of o) bytes
 of_sound bytes true o over h =
     let P : Operands → Type 0 = λ p. AreTokens (tokens_of p) bytes in
-    subst P (same_some Absent o h) (record { rest = bytes; front = refl; over = over })
+    subst P (same_Some Absent o h) (record { rest = bytes; front = refl; over = over })
 of_sound bytes false o over h = option_and_then_some _ (operands_at bytes) o h (λ (x : Operands × List ℕ) is e.
     let both = cond_some (is_over x.1) x.0 o e in
     let P : Operands → Type 0 = λ p. AreTokens (tokens_of p) bytes in

@@ -5,6 +5,7 @@ use Rattle.std.specs.Option.{option_map}
 use Rattle.bpf_text.specs.declared.row.LabelIns.{LabelIns as LentRow}
 use Rattle.bpf_text.specs.Views.{row_view}
 use Rattle.std.proofs.lemmas.List.{map-append, append-nil}
+use Rattle.std.proofs.lemmas.Option.{same_Some}
 use Rattle.bpf_text.specs.Source.{Label, labels_at, has_name, repeats, count_row, IsLine, Line}
 use Rattle.bpf_text.specs.Sketches.{Noted, Sketch}
 use Rattle.bpf_text.specs.LineReading.{Begins, label_at, TakesLabels, with_line, statement_of}
@@ -33,11 +34,8 @@ repeats_more old place (first ∷ names) name =
 none_some : {T : Type 0} (o : Option T) (x : T) → o ≡ None → o ≡ Some x → ⊥
 none_some o x a b = cc
 
-some_same : {T : Type 0} (x y : T) → Some x ≡ Some y → x ≡ y
-some_same x y e = cc
-
 same_after : (o : Option (List ℕ × List ℕ)) (a b : List ℕ) (x y : List ℕ) → o ≡ Some (a, x) → o ≡ Some (b, y) → x ≡ y
-same_after o a b x y p q = ap (λ (r : List ℕ × List ℕ). r.1) (some_same (a, x) (b, y) (sym p ∙ q))
+same_after o a b x y p q = ap (λ (r : List ℕ × List ℕ). r.1) (same_Some (a, x) (b, y) (sym p ∙ q))
 
 -- the labels that bytes begin with, up to where no more follows, are determined
 pub begins_one : (bytes rest other : List ℕ) (names others : List (List ℕ)) → Begins bytes names rest → label_at rest ≡ None → Begins bytes others other → label_at other ≡ None → rest ≡ other

@@ -1,10 +1,11 @@
 -- The lines of a text, read one after another.
-use Rattle.std.proofs.Common.{◌≡◌, ℕ, ◌+◌, ◌<◌, ◌≤◌, Bool, true, false, List, [], ◌∷◌, ◌++◌, length, take, drop, refl, sym, ap, ◌∙◌, arith, append_assoc, length-append}
+use Rattle.std.proofs.Common.{◌≡◌, ℕ, ◌+◌, ◌<◌, ◌≤◌, true, false, List, [], ◌∷◌, ◌++◌, length, take, drop, refl, sym, ap, ◌∙◌, arith, append_assoc, length-append}
 use Rattle.std.specs.Prelude.{◌==◌}
 use Rattle.std.specs.List.{position_or_len}
 use Rattle.std.proofs.lemmas.List.{append-nil, get_or_default}
 use Rattle.std.proofs.lemmas.List.Splits.{slice_split_none, slice_split_first}
 use Rattle.std.proofs.lemmas.List.Sums.{position_or_len_is}
+use Rattle.std.proofs.lemmas.Bool.{false_from_ne_true}
 use Rattle.memchr.specs.Find.{is_byte, Nowhere, NoneBefore, Passes}
 use Rattle.bpf_text.specs.Source.{IsLine, Line, AreLines, lines_of, Label, labels_at, labels_from, count_row, count_of, repeats, IsBadLine}
 use Rattle.bpf_text.specs.Sketches.{Noted, noted_from, Sketch, sketch_of}
@@ -12,19 +13,15 @@ use Rattle.bpf_text.specs.LineReading.{with_line}
 
 -- ---- one line
 
-not_true : (b : Bool) → (b ≡ true → ⊥) → b ≡ false
-not_true true h = absurd (h refl)
-not_true false h = refl
-
 pub line_ends : (bytes : List ℕ) (end_ : ℕ) → NoneBefore (Passes (is_byte 10) bytes) 0 (length bytes) end_ × Passes (is_byte 10) bytes end_ → lines_of bytes ≡ take end_ bytes ∷ lines_of (drop (end_ + 1) bytes)
 line_ends bytes end_ (found, here) =
     let inside : end_ < length bytes = found.high in
-    let same : position_or_len (λ b. b == 10) bytes ≡ end_ = position_or_len_is (λ b. b == 10) bytes end_ 0 (omega arith) (λ k low. not_true _ (found.before k (omega arith) low)) (λ _. here) in
+    let same : position_or_len (λ b. b == 10) bytes ≡ end_ = position_or_len_is (λ b. b == 10) bytes end_ 0 (omega arith) (λ k low. false_from_ne_true _ (found.before k (omega arith) low)) (λ _. here) in
     let below : position_or_len (λ b. b == 10) bytes < length bytes = rw same inside in
     slice_split_first (λ b. b == 10) bytes 0 below ∙ rw same
 
 pub line_last : (bytes : List ℕ) → Nowhere (Passes (is_byte 10) bytes) 0 (length bytes) → lines_of bytes ≡ bytes ∷ []
-line_last bytes none = slice_split_none (λ b. b == 10) bytes (λ k d inside. not_true _ (λ here. none k (omega arith) inside (rw (get_or_default bytes k d 0 inside) at here)))
+line_last bytes none = slice_split_none (λ b. b == 10) bytes (λ k d inside. false_from_ne_true _ (λ here. none k (omega arith) inside (rw (get_or_default bytes k d 0 inside) at here)))
 
 -- ---- what lines come to
 

@@ -6,7 +6,7 @@ use Rattle.bpf_code.specs.declared.instruction.Ins.{Ins}
 use Rattle.bpf_text.specs.Printing.{is_target}
 use Rattle.bpf_text.specs.Source.{Line, Label, count_of, labels_at, labels_from, has_name, repeats, defined}
 use Rattle.bpf_text.specs.Sketches.{Noted, noted_from}
-use Rattle.bpf_text.proofs.Fronts.{not_true}
+use Rattle.std.proofs.lemmas.Bool.{false_from_ne_true}
 use Rattle.bpf_text.proofs.PrintedTokens.{label_name, one_more}
 use Rattle.bpf_text.proofs.PrintedLines.{labels_for}
 use Rattle.bpf_text.proofs.PrintedTexts.{printed_lines}
@@ -21,7 +21,7 @@ name_same place = (bytes_eq-Decides (label_name place) (label_name place)).1 ref
 
 pub names_apart : (a b : ℕ) → a < 2 ^ 64 → b < 2 ^ 64 → (a ≡ b → ⊥) → bytes_eq (label_name a) (label_name b) ≡ false
 names_apart a b low high apart =
-    not_true (bytes_eq (label_name a) (label_name b)) (λ e. apart (decimal_injective a b low high (same_decimal a b ((bytes_eq-Decides (label_name a) (label_name b)).0 e))))
+    false_from_ne_true (bytes_eq (label_name a) (label_name b)) (λ e. apart (decimal_injective a b low high (same_decimal a b ((bytes_eq-Decides (label_name a) (label_name b)).0 e))))
 
 -- ---- none is defined twice
 

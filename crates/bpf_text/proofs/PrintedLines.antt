@@ -7,6 +7,7 @@ use Rattle.std.specs.Str.Parse.{AllDigits}
 use Rattle.std.proofs.lemmas.Bool.Decides.{nat_tests}
 use Rattle.std.proofs.lemmas.Fmt.{decimal_is_IsNumeral}
 use Rattle.std.proofs.lemmas.List.Folds.{list_all-append}
+use Rattle.std.proofs.lemmas.Bool.{and_parts}
 use Rattle.bpf_code.specs.declared.instruction.Ins.{Ins}
 use Rattle.bpf_code.specs.declared.operation.Op.{Op}
 use Rattle.bpf_code.specs.declared.operation.Op.TheVariants.{LoadConstant, LoadImage, LoadIndexed, LoadScratch, LoadLength, IndexConstant, IndexScratch, IndexLength, IndexHeader, StoreA, StoreX, Compute, Negate, Jump, Branch, ReturnConstant, ReturnA, IndexFromA, LoadFromX}
@@ -21,7 +22,6 @@ use Rattle.bpf_text.specs.Lexis.{unblanked, is_over}
 use Rattle.bpf_text.specs.Grammar.{Word, Sign, Front}
 use Rattle.bpf_text.specs.Printing.{load_word, arithmetic_word, test_word, word_of, operand_text, targets_text, label_text, line_text}
 use Rattle.bpf_text.specs.Source.{Line, IsLine, lines_of}
-use Rattle.bpf_text.proofs.Fronts.{and_left, and_right}
 use Rattle.bpf_text.proofs.PrintedTokens.{sign_here, label_name, name_printed}
 use Rattle.bpf_text.proofs.PrintedOperands.{row_for, IsNear, after_word}
 use Rattle.bpf_text.proofs.PrintedRows.{instruction_printed, spells_after_blank}
@@ -196,8 +196,8 @@ no_lf_is b h = negated (b == 10) h
 split_at : (bytes later : List ℕ) → HasNoLf bytes → lines_of (bytes ++ 10 ∷ later) ≡ bytes ∷ lines_of later
 split_at [] later none = refl
 split_at (b ∷ bytes) later none =
-    let here : b == 10 ≡ false = no_lf_is b (and_left (no_lf b) (list_all no_lf bytes) none) in
-    let more : lines_of (bytes ++ 10 ∷ later) ≡ bytes ∷ lines_of later = split_at bytes later (and_right (no_lf b) (list_all no_lf bytes) none) in
+    let here : b == 10 ≡ false = no_lf_is b (and_parts (no_lf b) (list_all no_lf bytes) none).0 in
+    let more : lines_of (bytes ++ 10 ∷ later) ≡ bytes ∷ lines_of later = split_at bytes later (and_parts (no_lf b) (list_all no_lf bytes) none).1 in
     rw (here, more)
 
 pub lines_printed : (place : ℕ) (target : Bool) (op : Op) (ins : Ins) (later : List ℕ) → place < 2 ^ 64 → ins.k < 2 ^ 32 → IsNear place op ins → lines_of (line_text place target op ins ++ later) ≡ body_text place target op ins ∷ lines_of later

@@ -1,5 +1,5 @@
 -- A printed text names the program that it was printed from, with 0 in each field that isn't used.
-use Rattle.std.proofs.Common.{◌≡◌, ℕ, ◌+◌, ◌-◌, ◌<◌, ◌^◌, Bool, true, false, ◌||◌, List, [], ◌∷◌, length, map, Some, Result, Ok, Err, refl, sym, ap, ◌∙◌, subst, arith, lt-ltb, All, ◌↔◌, IfOk, OnOk, String, string_bytes}
+use Rattle.std.proofs.Common.{◌≡◌, ℕ, ◌+◌, ◌-◌, ◌<◌, ◌^◌, true, List, [], ◌∷◌, length, map, Some, Result, Ok, Err, refl, sym, ap, ◌∙◌, subst, arith, lt-ltb, All, ◌↔◌, IfOk, OnOk, String, string_bytes}
 use Rattle.std.specs.Prelude.{◌==◌, nat_lt}
 use Rattle.std.specs.List.{AllByRecursion}
 use Rattle.bpf_code.specs.declared.instruction.Ins.{Ins}
@@ -14,6 +14,7 @@ use Rattle.bpf_text.specs.Source.{Label, labels_from, count_of, defined, distanc
 use Rattle.bpf_text.specs.Sketches.{noted_from, noted_program}
 use Rattle.bpf_text.specs.Used.{used_of, with_unused_zero_in, with_unused_zero, IsInRange}
 use Rattle.std.proofs.lemmas.List.Elements.{All-head, All-tail}
+use Rattle.std.proofs.lemmas.Bool.{or_left, or_right}
 use Rattle.bpf_text.proofs.OneSource.{one_program}
 use Rattle.bpf_text.proofs.CodesBack.{code_back}
 use Rattle.bpf_text.proofs.PrintedTokens.{same_number, label_name}
@@ -37,13 +38,6 @@ distance_is labels count place d inside is =
     let before : nat_lt place (place + 1 + d) ≡ true = lt-ltb place (place + 1 + d) (omega arith) in
     let below : nat_lt (place + 1 + d) count ≡ true = lt-ltb (place + 1 + d) count inside in
     rw (is, before, below) (ap (λ (n : ℕ). Some n) (ahead place d))
-
-or_here : (a b : Bool) → a ≡ true → (a || b) ≡ true
-or_here a b h = rw h
-
-or_there : (a b : Bool) → b ≡ true → (a || b) ≡ true
-or_there true b h = refl
-or_there false b h = h
 
 stays : (op : Op) (ins : Ins) (k : ℕ) → code_of op ≡ ins.code → ◌≡◌ {A = Result Ins CodeError} (Ok (record { code = code_of op; jt = 0; jf = 0; k = k })) (Ok (record { code = ins.code; jt = 0; jf = 0; k = k }))
 stays op ins k code = ap (λ (c : ℕ). Ok (record { code = c; jt = 0; jf = 0; k = k })) code
@@ -78,12 +72,12 @@ resolved labels count place line Jump ins code fits inside defines =
     rw (is, near) (ap (λ (c : ℕ). Ok (record { code = c; jt = 0; jf = 0; k = ins.k })) code)
 resolved labels count place line (Branch test Constant) ins code fits inside defines =
     parts labels count place line ins.k (Branch test Constant) ins code fits inside
-    (defines (place + 1 + ins.jt) inside.0 (or_here (place + 1 + ins.jt == place + 1 + ins.jt) (place + 1 + ins.jt == place + 1 + ins.jf) (same_number (place + 1 + ins.jt))))
-    (defines (place + 1 + ins.jf) inside.1 (or_there (place + 1 + ins.jf == place + 1 + ins.jt) (place + 1 + ins.jf == place + 1 + ins.jf) (same_number (place + 1 + ins.jf))))
+    (defines (place + 1 + ins.jt) inside.0 (or_left (place + 1 + ins.jt == place + 1 + ins.jt) (place + 1 + ins.jt == place + 1 + ins.jf) (same_number (place + 1 + ins.jt))))
+    (defines (place + 1 + ins.jf) inside.1 (or_right (place + 1 + ins.jf == place + 1 + ins.jt) (place + 1 + ins.jf == place + 1 + ins.jf) (same_number (place + 1 + ins.jf))))
 resolved labels count place line (Branch test Index) ins code fits inside defines =
     parts labels count place line 0 (Branch test Index) ins code fits inside
-    (defines (place + 1 + ins.jt) inside.0 (or_here (place + 1 + ins.jt == place + 1 + ins.jt) (place + 1 + ins.jt == place + 1 + ins.jf) (same_number (place + 1 + ins.jt))))
-    (defines (place + 1 + ins.jf) inside.1 (or_there (place + 1 + ins.jf == place + 1 + ins.jt) (place + 1 + ins.jf == place + 1 + ins.jf) (same_number (place + 1 + ins.jf))))
+    (defines (place + 1 + ins.jt) inside.0 (or_left (place + 1 + ins.jt == place + 1 + ins.jt) (place + 1 + ins.jt == place + 1 + ins.jf) (same_number (place + 1 + ins.jt))))
+    (defines (place + 1 + ins.jf) inside.1 (or_right (place + 1 + ins.jf == place + 1 + ins.jt) (place + 1 + ins.jf == place + 1 + ins.jf) (same_number (place + 1 + ins.jf))))
 resolved labels count place line ReturnConstant ins code fits inside defines = stays ReturnConstant ins ins.k code
 resolved labels count place line ReturnA ins code fits inside defines = stays ReturnA ins 0 code
 resolved labels count place line IndexFromA ins code fits inside defines = stays IndexFromA ins 0 code
@@ -97,11 +91,11 @@ Knows labels count place rest = (to : ℕ) → to < count → is_target to place
 
 knows_here : (labels : List Label) (count place : ℕ) (ins : Ins) (rest : List Ins) (op : Op) → op_of ins.code ≡ Some op → Knows labels count place (ins ∷ rest) → Defines labels count place op ins
 knows_here labels count place ins rest op is knows to low jumps =
-    knows to low (or_here (jumps_by to place ins (op_of ins.code)) (is_target to (place + 1) rest) (ap (jumps_by to place ins) is ∙ jumps))
+    knows to low (or_left (jumps_by to place ins (op_of ins.code)) (is_target to (place + 1) rest) (ap (jumps_by to place ins) is ∙ jumps))
 
 knows_later : (labels : List Label) (count place : ℕ) (ins : Ins) (rest : List Ins) → Knows labels count place (ins ∷ rest) → Knows labels count (place + 1) rest
 knows_later labels count place ins rest knows to low target =
-    knows to low (or_there (jumps_by to place ins (op_of ins.code)) (is_target to (place + 1) rest) target)
+    knows to low (or_right (jumps_by to place ins (op_of ins.code)) (is_target to (place + 1) rest) target)
 
 row_here : (labels : List Label) (count place line : ℕ) (ins : Ins) (op : Op) (rest : List Ins) (later : Result (List Ins) CodeError) → op_of ins.code ≡ Some op → IsInRange ins → IsJumpFine count place op ins → Defines labels count place op ins → later ≡ Ok rest → with_ins (resolve labels count place line (row_for place (known_op ins) ins)) later ≡ Ok (with_unused_zero_in ins ∷ rest)
 row_here labels count place line ins op rest later is fits inside defines h =

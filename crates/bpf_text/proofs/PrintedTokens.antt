@@ -4,12 +4,12 @@ use Rattle.std.specs.Prelude.{◌==◌, nat_lt, slice_index, decimal, codes}
 use Rattle.std.specs.Char.{digit_value}
 use Rattle.std.specs.List.{prefix_len, list_all}
 use Rattle.std.specs.Str.Parse.{AllDigits, IsNumeral, digits_value}
-use Rattle.std.proofs.lemmas.Bool.{and_right as and_no}
+use Rattle.std.proofs.lemmas.Bool.{and_right as and_no, and_parts}
 use Rattle.std.proofs.lemmas.Bool.Decides.{nat_tests}
 use Rattle.std.proofs.lemmas.Fmt.{decimal_is_IsNumeral}
 use Rattle.bpf_text.specs.Lexis.{is_blank, is_digit, is_name_byte, unblanked, run_of, after_run, number_in, number_of, word_at, number_at, sign_at}
 use Rattle.bpf_text.specs.Grammar.{Token, Word, Value, Sign, IsToken}
-use Rattle.bpf_text.proofs.Fronts.{and_left, and_right, some_length}
+use Rattle.bpf_text.proofs.Fronts.{some_length}
 
 -- no byte of a word or a number stands first
 abbrev pub Stops : List ℕ → Type 0
@@ -26,8 +26,8 @@ run_len : (run rest : List ℕ) → IsRun run → Stops rest → prefix_len is_n
 run_len [] [] all stops = refl
 run_len [] (b ∷ rest) all stops = rw stops
 run_len (b ∷ run) rest all stops =
-    let here : is_name_byte b ≡ true = and_left (is_name_byte b) (list_all is_name_byte run) all in
-    let later : prefix_len is_name_byte (run ++ rest) ≡ length run = run_len run rest (and_right (is_name_byte b) (list_all is_name_byte run) all) stops in
+    let here : is_name_byte b ≡ true = (and_parts (is_name_byte b) (list_all is_name_byte run) all).0 in
+    let later : prefix_len is_name_byte (run ++ rest) ≡ length run = run_len run rest (and_parts (is_name_byte b) (list_all is_name_byte run) all).1 stops in
     rw (here, later) (one_more (length run))
 
 taken : (run rest : List ℕ) → take (length run) (run ++ rest) ≡ run

@@ -1,7 +1,7 @@
 -- The reading of a line answers what the line spells.
 use Rattle.std.proofs.Common.{◌≡◌, ℕ, Bool, true, false, ◌||◌, cond, List, [], ◌∷◌, Option, Some, None, refl, ap, subst, arith}
 use Rattle.std.specs.Option.{option_map}
-use Rattle.std.proofs.lemmas.Option.{option_and_then_some, cond_some}
+use Rattle.std.proofs.lemmas.Option.{option_and_then_some, cond_some, same_Some}
 use Rattle.bpf_text.specs.declared.mnemonic.Mnemonic.{Mnemonic}
 use Rattle.bpf_text.specs.Lexis.{word_at, number_at, sign_at, is_over, begins_blank}
 use Rattle.bpf_text.specs.Mnemonics.{mnemonic_of}
@@ -14,9 +14,6 @@ use Rattle.bpf_text.specs.Source.{HasLabels, Spells, IsStatement}
 use Rattle.bpf_text.proofs.Fronts.{none_unless, sign_no_sign, sign_not_over, word_not_over, word_no_sign, number_no_sign}
 use Rattle.bpf_text.proofs.Grammars.{operands_sound, operands_complete}
 
-same_some : {T : Type 0} (x y : T) → Some x ≡ Some y → x ≡ y
-same_some x y h = cc
-
 -- ---- labels
 
 label_sound : (bytes label tail : List ℕ) → label_at bytes ≡ Some (label, tail) → Front (Word label ∷ Sign 58 ∷ []) bytes tail
@@ -25,7 +22,7 @@ label_sound bytes label tail h =
     option_and_then_some _ (word_at bytes) (label, tail) h (λ (w : List ℕ × List ℕ) is e1.
     option_and_then_some _ (sign_at 58 w.1) (label, tail) e1 (λ (rest : List ℕ) colon e2.
     let P : List ℕ × List ℕ → Type 0 = λ y. Front (Word y.0 ∷ Sign 58 ∷ []) bytes y.1 in
-    subst P (same_some (w.0, rest) (label, tail) e2) (w.1, is, (rest, colon, refl))))
+    subst P (same_Some (w.0, rest) (label, tail) e2) (w.1, is, (rest, colon, refl))))
 
 label_complete : (bytes label tail : List ℕ) → Front (Word label ∷ Sign 58 ∷ []) bytes tail → label_at bytes ≡ Some (label, tail)
 unfolding label_at
@@ -62,7 +59,7 @@ row_complete bytes row s =
 
 mapped : (row : Option LabelIns) (x : Option LabelIns) → option_map Some row ≡ Some x → row ≡ x
 mapped None x h = absurd (cc)
-mapped (Some r) x h = same_some (Some r) x h
+mapped (Some r) x h = same_Some (Some r) x h
 
 by_sound : (bytes : List ℕ) (w : Option (List ℕ × List ℕ)) (row : Option LabelIns) → word_at bytes ≡ w → statement_by bytes w ≡ Some row → IsStatement bytes row
 by_sound bytes None row w h =
@@ -77,7 +74,7 @@ by_sound bytes (Some word) (Some row) w h = row_sound bytes word.0 word.1 row w 
   where
     inner : (r : Option LabelIns) → ◌≡◌ {A = Option (Option LabelIns)} (option_map Some r) (Some (Some row)) → r ≡ Some row
     inner None e = absurd (cc)
-    inner (Some x) e = same_some (Some x) (Some row) e
+    inner (Some x) e = same_Some (Some x) (Some row) e
 
 pub statement_sound : (bytes : List ℕ) (row : Option LabelIns) → statement_of bytes ≡ Some row → IsStatement bytes row
 unfolding statement_of

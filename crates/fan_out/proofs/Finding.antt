@@ -1,8 +1,9 @@
 -- What is found among the entries that a message is offered to are the recipients.
-use Rattle.std.proofs.Common.{◌≡◌, inl, inr, ℕ, ◌≤◌, Bool, true, false, ◌&&◌, List, [], ◌∷◌, length, Option, sym, ap, subst, ◌∙◌, arith}
+use Rattle.std.proofs.Common.{◌≡◌, inl, inr, ℕ, ◌≤◌, Bool, true, false, List, [], ◌∷◌, length, Option, sym, ap, subst, ◌∙◌, arith}
 use Rattle.std.specs.Prelude.{Contains, replicate, slice_get}
 use Rattle.std.specs.List.{list_all}
 use Rattle.std.proofs.lemmas.List.Sums.{length-filter, count_by-le-length}
+use Rattle.std.proofs.lemmas.Bool.{and_parts}
 use Rattle.message_view.specs.Message.{Message}
 use Rattle.message_view.specs.Valid.{Valid}
 use Rattle.entry_table.specs.declared.entry.Entry.{Entry}
@@ -19,19 +20,11 @@ use Rattle.fan_out.proofs.Places.{contains_cases, contains_none, none_marked, ma
 use Rattle.fan_out.proofs.Deciding.{EndInOneWay, filter_decided}
 use Rattle.fan_out.proofs.Offering.{FoundWhereItHolds, among_offered, offered_few}
 
-first_true : (a b : Bool) → (a && b) ≡ true → a ≡ true
-first_true true b e = cc
-first_true false b e = cc
-
-second_true : (a b : Bool) → (a && b) ≡ true → b ≡ true
-second_true true b e = e
-second_true false b e = cc
-
 all_at : {X : Type 0} (p : X → Bool) (x : X) (xs : List X) → list_all p xs ≡ true → Contains xs x → p x ≡ true
 all_at p x [] e there = absurd (contains_none x there)
 all_at p x (y ∷ xs) e there = elim (contains_cases y x xs there) [
-  | inl same ↦ subst (λ (z : _). p z ≡ true) same (first_true (p y) (list_all p xs) e)
-  | inr later ↦ all_at p x xs (second_true (p y) (list_all p xs) e) later
+  | inl same ↦ subst (λ (z : _). p z ≡ true) same (and_parts (p y) (list_all p xs) e).0
+  | inr later ↦ all_at p x xs (and_parts (p y) (list_all p xs) e).1 later
 ]
 
 in_whole : (n : ℕ) → IsInPiece 1 1 n

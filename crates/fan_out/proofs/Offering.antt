@@ -1,8 +1,8 @@
 -- The entries that a message is offered to are those that can match, and no more than the candidates.
-use Rattle.std.proofs.Common.{◌≡◌, ◌≢◌, inl, inr, ◌↔◌, ℕ, ◌<◌, ◌≤◌, Bool, true, false, cond, ◌&&◌, List, [], ◌∷◌, length, get_or, map, filter, Option, Some, None, refl, ap, subst, ◌∙◌, arith}
+use Rattle.std.proofs.Common.{◌≡◌, ◌≢◌, inl, inr, ◌↔◌, ℕ, ◌<◌, ◌≤◌, Bool, true, false, cond, List, [], ◌∷◌, length, get_or, map, filter, Option, Some, None, refl, ap, subst, ◌∙◌, arith}
 use Rattle.std.specs.Prelude.{IfSome, Contains, AllPairs, nat_eq}
 use Rattle.std.specs.Cmp.{IsEquivalence}
-use Rattle.std.proofs.lemmas.Bool.{eqb-true, eq-eqb, ne_eqb}
+use Rattle.std.proofs.lemmas.Bool.{eqb-true, eq-eqb, ne_eqb, and_from}
 use Rattle.std.proofs.lemmas.Bool.Decides.{nat_tests}
 use Rattle.std.proofs.lemmas.List.{length-map, get_or-map}
 use Rattle.std.proofs.lemmas.Map.Keys.{IsDistinct-from_apart}
@@ -43,12 +43,8 @@ text_found : (asked found : Option (List ℕ)) → IfSome asked (λ text. found 
 text_found None found h = refl
 text_found (Some text) found h = rw h ((bytes_eq-Decides text text).1 refl)
 
-and_true : (a b : Bool) → a ≡ true → b ≡ true → (a && b) ≡ true
-and_true true b p q = q
-and_true false b p q = cc
-
 offered_candidate : (m : Message) (filter : Filter) → AreFound (texts_fixed filter) (texts_of m) → is_candidate m filter ≡ true
-offered_candidate m (Rule compiled) found = and_true _ _ (text_found _ _ found.member) (text_found _ _ found.interface)
+offered_candidate m (Rule compiled) found = and_from _ _ (text_found _ _ found.member) (text_found _ _ found.interface)
 offered_candidate m (Attached attached) found = refl
 
 kept_in : {X : Type 0} (keep : X → Bool) (x : X) (xs : List X) → Contains xs x → keep x ≡ true → Contains (filter keep xs) x

@@ -2,6 +2,7 @@
 use Rattle.std.proofs.Common.{◌≡◌, ◌⊎◌, inl, inr, ℕ, zero, suc, arith, ◌+◌, ◌<◌, ◌==◌, ◌||◌, Bool, true, List, [], ◌∷◌, ◌++◌, length, take, get_or, Option, Some, None, refl, sym, ap, ◌∙◌, eqb-true, eq-eqb}
 use Rattle.std.specs.Prelude.{is_some, option_map, MatchOption}
 use Rattle.std.proofs.lemmas.List.{take_more, map-append}
+use Rattle.std.proofs.lemmas.Bool.{or_cases, or_right}
 use Rattle.outbox.specs.Seated.{OutboxId}
 use Rattle.program_table.specs.declared.connection.Connection.{Connection}
 use Rattle.program_table.specs.Connections.{numbers_of, connection_of, is_connected, mailbox_of}
@@ -12,7 +13,7 @@ use Rattle.routing.proofs.Puts.{in_snoc}
 use Rattle.unique_name.specs.UniqueNames.{unique_name}
 use Rattle.lookups.specs.Searching.{NoneIsNamed, Adds}
 use Rattle.lookups.specs.Newcomers.{AreNewcomers}
-use Rattle.lookups.proofs.Newcomers.{or_cases, or_right, is_in-connected, no_newcomers, adds_more}
+use Rattle.lookups.proofs.Newcomers.{is_in-connected, no_newcomers, adds_more}
 
 module _ {M : Type 0} where
   -- one more connection hasn't this unique name

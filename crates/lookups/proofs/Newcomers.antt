@@ -1,5 +1,5 @@
 -- From what stands in the published state to those at whose outboxes a sender has no seat yet.
-use Rattle.std.proofs.Common.{◌≡◌, ◌⊎◌, inl, inr, ℕ, zero, suc, ◌+◌, ◌<◌, ◌==◌, ◌&&◌, ◌||◌, Bool, true, false, true≢false, cond, List, [], ◌∷◌, ◌++◌, length, map, take, get_or, Option, Some, None, refl, sym, ap, subst, ◌∙◌, arith, eqb-true}
+use Rattle.std.proofs.Common.{◌≡◌, ◌⊎◌, inl, inr, ℕ, zero, suc, ◌+◌, ◌<◌, ◌==◌, ◌||◌, Bool, true, false, true≢false, cond, List, [], ◌∷◌, ◌++◌, length, map, take, get_or, Option, Some, None, refl, sym, ap, subst, ◌∙◌, arith, eqb-true}
 use Rattle.std.specs.Prelude.{Contains, is_some, option_map}
 use Rattle.std.proofs.lemmas.List.{take_more, map-append}
 use Rattle.outbox.specs.Seated.{OutboxId}
@@ -9,6 +9,7 @@ use Rattle.program_table.specs.Connections.{numbers_of, connection_of, is_connec
 use Rattle.program_table.specs.IsState.{IsState}
 use Rattle.program_table.specs.State.{State}
 use Rattle.std.specs.List.{list_all}
+use Rattle.std.proofs.lemmas.Bool.{or_cases, or_left, or_right, and_parts}
 use Rattle.routing.specs.SenderView.{RecipientView, StopView}
 use Rattle.routing.specs.Stops.{is_in, number_of, HasStop, Lists}
 use Rattle.routing.proofs.Puts.{in_snoc}
@@ -28,34 +29,14 @@ contains_cases x y xs (suc k, less, e) = inr (k, omega arith, e)
 contains_none : {X : Type 0} (y : X) → Contains [] y → ⊥
 contains_none y (k, less, e) = omega arith
 
-and_left : (a b : Bool) → (a && b) ≡ true → a ≡ true
-and_left true b e = refl
-and_left false b e = e
-
-and_right : (a b : Bool) → (a && b) ≡ true → b ≡ true
-and_right true b e = e
-and_right false b e = absurd (true≢false (sym e))
-
 all_at : {X : Type 0} (p : X → Bool) (x : X) (xs : List X) → list_all p xs ≡ true → Contains xs x → p x ≡ true
 all_at p x [] e there = absurd (contains_none x there)
 all_at p x (y ∷ xs) e there = pick (contains_cases y x xs there)
-    (λ (same : y ≡ x). ap p (sym same) ∙ and_left (p y) (list_all p xs) e) (λ (later : Contains xs x). all_at p x xs (and_right (p y) (list_all p xs) e) later)
+    (λ (same : y ≡ x). ap p (sym same) ∙ (and_parts (p y) (list_all p xs) e).0) (λ (later : Contains xs x). all_at p x xs (and_parts (p y) (list_all p xs) e).1 later)
   where
     pick : {P : Type 0} → (y ≡ x) ⊎ Contains xs x → (y ≡ x → P) → (Contains xs x → P) → P
     pick (inl k) f g = f k
     pick (inr k) f g = g k
-
-pub or_cases : (a b : Bool) → (a || b) ≡ true → (a ≡ true) ⊎ (b ≡ true)
-or_cases true b e = inl refl
-or_cases false b e = inr e
-
-or_left : (a b : Bool) → a ≡ true → (a || b) ≡ true
-or_left true b e = refl
-or_left false b e = absurd (true≢false (sym e))
-
-pub or_right : (a b : Bool) → b ≡ true → (a || b) ≡ true
-or_right true b e = refl
-or_right false b e = e
 
 pub is_in-contains : (n : ℕ) (xs : List ℕ) → is_in n xs ≡ true → Contains xs n
 is_in-contains n [] e = absurd (true≢false (sym e))

@@ -1,7 +1,7 @@
 -- Keys that test as equal are one.
-use Rattle.std.proofs.Common.{◌≡◌, Bool, true, ◌&&◌, refl, ap, subst}
+use Rattle.std.proofs.Common.{◌≡◌, true, refl, ap, subst}
 use Rattle.std.specs.Bool.{Decides}
-use Rattle.std.proofs.lemmas.Bool.{eqb-true}
+use Rattle.std.proofs.lemmas.Bool.{eqb-true, and_parts}
 use Rattle.match_key.specs.declared.source.Field.{Field}
 use Rattle.match_key.specs.declared.source.Field.TheVariants.{Interface, Member, Path, Destination}
 use Rattle.match_key.specs.declared.source.Source.{Source}
@@ -35,16 +35,12 @@ same_relation NameNamespace NameNamespace e = refl
 same_relation NestedPath NestedPath e = refl
 same_relation _ _ e = absurd cc
 
-both : (p q : Bool) → (p && q) ≡ true → (p ≡ true) × (q ≡ true)
-both true true e = (refl, refl)
-both _ _ e = absurd cc
-
 pub same_key : (a b : Key) → key_eq a b ≡ true → a ≡ b
 same_key keys.Kind keys.Kind e = refl
 same_key keys.Sender keys.Sender e = refl
 same_key keys.Eavesdrop keys.Eavesdrop e = refl
 same_key (keys.Compares s r) (keys.Compares t q) e =
-    let same = both ((sources.ghosts).eq s t) ((relations.ghosts).eq r q) e in
+    let same = and_parts ((sources.ghosts).eq s t) ((relations.ghosts).eq r q) e in
     let sources = same_source s t same.0 in
     let relations = same_relation r q same.1 in
     cc

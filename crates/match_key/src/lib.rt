@@ -7,11 +7,13 @@ mod arg_key;
 mod error;
 mod key;
 mod kind_name;
+mod laws;
 mod relation;
 mod source;
 
 pub use error::RuleError;
 pub use key::Key;
 pub use kind_name::KindName;
+pub use laws::equality_of_keys;
 pub use relation::Relation;
 pub use source::{Field, Source};

@@ -3,7 +3,7 @@ use Rattle.std.proofs.Common.{◌≡◌, ℕ, ◌+◌, ◌<◌, ◌≤◌, ◌^�
 use Rattle.std.specs.Prelude.{◌&&◌, not, is_some}
 use Rattle.std.specs.List.{list_all}
 use Rattle.std.specs.Str.{bytes_eq}
-use Rattle.std.proofs.lemmas.Bool.{and_parts, ltb-true, lt-ltb}
+use Rattle.std.proofs.lemmas.Bool.{and_parts, ltb-true, lt-ltb, not_from_false, and_from}
 use Rattle.signature.specs.DataType.{DataTypes, basic}
 use Rattle.signature.specs.Trees.{types_of}
 use Rattle.signature.proofs.TreesOfTexts.{trees_spelled}
@@ -34,13 +34,6 @@ signature_short bytes e = go (types_of bytes) refl e
 not_true : (b : Bool) → not b ≡ true → b ≡ false
 not_true true e = cc
 not_true false e = refl
-
-not_false : (b : Bool) → b ≡ false → not b ≡ true
-not_false true e = cc
-not_false false e = refl
-
-both_true : (a b : Bool) → a ≡ true → b ≡ true → (a && b) ≡ true
-both_true a b p q = rw (p, q) refl
 
 one_path : IsOneType (basic 111)
 one_path = (record { spelled = refl; fits = refl }, omega arith)
@@ -82,10 +75,10 @@ field_is place (Signature t) holds e =
 
 field_was : (place : ℕ) (f : HeaderField) → IsField Little place (field_of f) → is_allowed f ≡ true
 field_was place (Path t) is =
-    both_true (is_path t.now && not (bytes_eq t.now local_path)) (ltb (length t.now) (2 ^ 32))
-    (both_true (is_path t.now) (not (bytes_eq t.now local_path)) is.shaped.0 (not_false (bytes_eq t.now local_path) is.allowed.1.1))
+    and_from (is_path t.now && not (bytes_eq t.now local_path)) (ltb (length t.now) (2 ^ 32))
+    (and_from (is_path t.now) (not (bytes_eq t.now local_path)) is.shaped.0 (not_from_false (bytes_eq t.now local_path) is.allowed.1.1))
     (lt-ltb (length t.now) (2 ^ 32) is.shaped.1)
-field_was place (Interface t) is = both_true (is_interface t.now) (not (bytes_eq t.now local_interface)) is.allowed.1.0 (not_false (bytes_eq t.now local_interface) is.allowed.1.1)
+field_was place (Interface t) is = and_from (is_interface t.now) (not (bytes_eq t.now local_interface)) is.allowed.1.0 (not_from_false (bytes_eq t.now local_interface) is.allowed.1.1)
 field_was place (Member t) is = is.allowed.1.0
 field_was place (ErrorName t) is = is.allowed.1.0
 field_was place (ReplySerial n) is = is.allowed.1
@@ -111,4 +104,4 @@ pub fields_were : (place : ℕ) (xs : List (Option HeaderField)) → AreFields L
 fields_were place [] are = refl
 fields_were place (None ∷ more) are = fields_were place more are
 fields_were place (Some f ∷ more) are =
-    both_true (is_allowed f) (list_all may_be more) (field_was place f are.0) (fields_were (place + length (field_bytes Little place (field_of f))) more are.2)
+    and_from (is_allowed f) (list_all may_be more) (field_was place f are.0) (fields_were (place + length (field_bytes Little place (field_of f))) more are.2)

@@ -1,8 +1,8 @@
 -- The text of a signature is ASCII, and so it is UTF-8.
-use Rattle.std.proofs.Common.{◌≡◌, ℕ, suc, ◌+◌, ◌<◌, true, List, [], ◌∷◌, ◌++◌, Some, refl, sym, subst, arith}
+use Rattle.std.proofs.Common.{◌≡◌, ℕ, ◌+◌, ◌<◌, true, List, [], ◌∷◌, ◌++◌, Some, refl, sym, subst, arith}
 use Rattle.std.specs.Prelude.{is_some, IsTrue}
 use Rattle.std.specs.Str.{IsAscii, IsUtf8}
-use Rattle.std.proofs.lemmas.Str.{IsUtf8-from_ascii}
+use Rattle.std.proofs.lemmas.Str.{IsUtf8-from_ascii, IsAscii-append}
 use Rattle.std.proofs.lemmas.Str.Ascii.{IsAscii-nil, IsAscii-cons}
 use Rattle.std.proofs.lemmas.Bool.Decides.{nat_tests}
 use Rattle.signature.specs.Code.{is_basic}
@@ -12,10 +12,6 @@ use Rattle.signature.proofs.TreesOfTexts.{trees_spelled, types_of-SigText}
 
 basic_low : (code : ℕ) → IsTrue (is_basic code) → code < 128
 basic_low code is = grind (arith, nat_tests)
-
-ascii_append : (a b : List ℕ) → IsAscii a → IsAscii b → IsAscii (a ++ b)
-ascii_append [] b low more = more
-ascii_append (c ∷ a) b low more = IsAscii-cons c (a ++ b) (low 0) (ascii_append a b (λ i. low (suc i)) more)
 
 ascii_one : (c : ℕ) → c < 128 → IsAscii (c ∷ [])
 ascii_one c low = IsAscii-cons c [] low IsAscii-nil
@@ -29,15 +25,15 @@ mutual
       IsAscii-cons 97 (123 ∷ k ∷ (spelling v ++ 125 ∷ [])) (omega arith)
       (IsAscii-cons 123 (k ∷ (spelling v ++ 125 ∷ [])) (omega arith)
       (IsAscii-cons k (spelling v ++ 125 ∷ []) (basic_low k fits.1)
-      (ascii_append (spelling v) (125 ∷ []) (type_ascii v (a + 1) s fits.2) (ascii_one 125 (omega arith)))))
+      (IsAscii-append (spelling v) (125 ∷ []) (type_ascii v (a + 1) s fits.2) (ascii_one 125 (omega arith)))))
   type_ascii (struct t ts) a s fits =
       IsAscii-cons 40 (spelling t ++ (spellings ts ++ 41 ∷ [])) (omega arith)
-      (ascii_append (spelling t) (spellings ts ++ 41 ∷ []) (type_ascii t a (s + 1) fits.1)
-      (ascii_append (spellings ts) (41 ∷ []) (types_ascii ts a (s + 1) fits.2) (ascii_one 41 (omega arith))))
+      (IsAscii-append (spelling t) (spellings ts ++ 41 ∷ []) (type_ascii t a (s + 1) fits.1)
+      (IsAscii-append (spellings ts) (41 ∷ []) (types_ascii ts a (s + 1) fits.2) (ascii_one 41 (omega arith))))
 
   types_ascii : (ts : DataTypes) (a s : ℕ) → AllFit a s ts → IsAscii (spellings ts)
   types_ascii no_types a s fits = IsAscii-nil
-  types_ascii (one_more t ts) a s fits = ascii_append (spelling t) (spellings ts) (type_ascii t a s fits.0) (types_ascii ts a s fits.1)
+  types_ascii (one_more t ts) a s fits = IsAscii-append (spelling t) (spellings ts) (type_ascii t a s fits.0) (types_ascii ts a s fits.1)
 
 -- a signature is UTF-8
 pub signature_utf8 : (types : DataTypes) (bytes : List ℕ) → types_of bytes ≡ Some types → IsUtf8 bytes

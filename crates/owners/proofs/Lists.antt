@@ -1,27 +1,13 @@
 -- Lists through a map, where two tests agree, and what a filter keeps.
-use Rattle.std.specs.Prelude.{◌≡◌, ◌<◌, ◌≤◌, ◌+◌, ℕ, zero, suc, Bool, true, false, not, cond, List, [], ◌∷◌, ◌++◌, Option, Some, None, map, filter, find, length, option_map, take, drop, set, get_or, slice_get, ◌&&◌, ◌||◌}
+use Rattle.std.specs.Prelude.{◌≡◌, ◌<◌, ◌≤◌, ◌+◌, ℕ, zero, suc, Bool, true, false, not, cond, List, [], ◌∷◌, ◌++◌, Option, Some, None, map, filter, find, length, option_map, take, drop, set, get_or, slice_get, ◌||◌}
 use Rattle.std.specs.List.{list_any, list_all, position_from}
 use Rattle.std.proofs.Common.{refl, sym, ap, subst, ◌∙◌, arith}
-use Rattle.std.proofs.lemmas.Bool.{false≢true}
+use Rattle.std.proofs.lemmas.Bool.{false≢true, and_parts, and_from, or_left, or_right}
 
 -- P of each element
 abbrev pub Each : {X : Type 0} → (X → Type 0) → List X → Type 0
 Each P [] = Unit {0}
 Each P (x ∷ xs) = P x × Each P xs
-
-pub and_parts : (a b : Bool) → (a && b) ≡ true → (a ≡ true) × (b ≡ true)
-and_parts true b h = (refl, h)
-and_parts false b h = absurd (false≢true h)
-
-pub and_join : (a b : Bool) → a ≡ true → b ≡ true → (a && b) ≡ true
-and_join a b p q = cc
-
-pub or_left : (a b : Bool) → a ≡ true → (a || b) ≡ true
-or_left a b p = rw p refl
-
-pub or_right : (a b : Bool) → b ≡ true → (a || b) ≡ true
-or_right true b p = refl
-or_right false b p = p
 
 pub Each-from_all : {X : Type 0} (test : X → Bool) (P : X → Type 0) → ((x : X) → test x ≡ true → P x) → (xs : List X) → list_all test xs ≡ true → Each P xs
 Each-from_all test P h [] e = tt
@@ -31,7 +17,7 @@ Each-from_all test P h (x ∷ xs) e =
 
 pub all-from_Each : {X : Type 0} (test : X → Bool) (xs : List X) → Each (λ x. test x ≡ true) xs → list_all test xs ≡ true
 all-from_Each test [] e = refl
-all-from_Each test (x ∷ xs) e = and_join (test x) (list_all test xs) e.0 (all-from_Each test xs e.1)
+all-from_Each test (x ∷ xs) e = and_from (test x) (list_all test xs) e.0 (all-from_Each test xs e.1)
 
 pub Each-weaker : {X : Type 0} (P Q : X → Type 0) → ((x : X) → P x → Q x) → (xs : List X) → Each P xs → Each Q xs
 Each-weaker P Q h [] e = tt
@@ -60,10 +46,6 @@ Each-always P h (x ∷ xs) = (h x, Each-always P h xs)
 pub Each-both : {X : Type 0} (P Q : X → Type 0) (xs : List X) → Each P xs → Each Q xs → Each (λ x. P x × Q x) xs
 Each-both P Q [] e f = tt
 Each-both P Q (x ∷ xs) e f = ((e.0, f.0), Each-both P Q xs e.1 f.1)
-
-pub and_false : (a b : Bool) → b ≡ false → (a && b) ≡ false
-and_false true b e = e
-and_false false b e = refl
 
 -- an element that passes is there
 pub Each-any : {X : Type 0} (p : X → Bool) (xs : List X) → Each (λ x. (q : X → Bool) → q x ≡ true → list_any q xs ≡ true) xs

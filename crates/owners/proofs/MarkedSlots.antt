@@ -3,12 +3,11 @@ use Rattle.std.specs.Prelude.{◌≡◌, ◌<◌, ◌+◌, ℕ, Bool, true, fals
 use Rattle.std.specs.List.{list_any}
 use Rattle.std.specs.Option.{option_eq}
 use Rattle.std.proofs.Common.{refl, sym, ap, ◌∙◌, add-one, drop-cons}
-use Rattle.std.proofs.lemmas.Bool.{eqb-true, eq-eqb, false≢true}
+use Rattle.std.proofs.lemmas.Bool.{eqb-true, eq-eqb, false≢true, and_parts}
 use Rattle.std.proofs.lemmas.Bool.Decides.{same_from_decides, Decides-eqb, Decides-ltb}
 use Rattle.owners.specs.declared.claim.SlotClaim.{SlotClaim}
 use Rattle.owners.specs.Registry.{max_names}
 use Rattle.owners.specs.Kept.{is_on_slot, slot_owner, are_slots}
-use Rattle.owners.proofs.Lists.{and_parts}
 
 -- the claim at a place, and those after it
 pub rest_at : (claims : List SlotClaim) (i : ℕ) (d : SlotClaim) → i < length claims → drop i claims ≡ get_or claims i d ∷ drop (i + 1) claims

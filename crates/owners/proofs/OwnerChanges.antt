@@ -2,13 +2,13 @@
 use Rattle.std.specs.Prelude.{◌≡◌, ℕ, Bool, true, false, not, List, [], ◌∷◌, Option, Some, None, find, option_map, nat_eq, ◌==◌, if◌then◌else◌}
 use Rattle.std.specs.Str.{bytes_eq}
 use Rattle.std.proofs.Common.{refl, ap, ◌∙◌}
-use Rattle.std.proofs.lemmas.Bool.{eq-eqb}
+use Rattle.std.proofs.lemmas.Bool.{eq-eqb, and_right}
 use Rattle.owners.specs.declared.answer.Change.{Change}
 use Rattle.owners.specs.declared.answer.NameReply.TheVariants.{PrimaryOwner, InQueue, Exists, AlreadyOwner}
 use Rattle.owners.specs.Queues.{Claim, is_on, is_claim, owner_of, has_flag, may_replace, do_not_queue, has_claim, with_flags, with_last, without, after_replacement, after_requesting, requested_by, request_reply, first_claim}
 use Rattle.owners.specs.Registry.{change_of, change_between}
 use Rattle.owners.specs.Kept.{change_for}
-use Rattle.owners.proofs.Lists.{Each-always, and_false, find-map, find-filter, find-append_none, find-append_some}
+use Rattle.owners.proofs.Lists.{Each-always, find-map, find-filter, find-append_none, find-append_some}
 use Rattle.owners.proofs.Placed.{name_same}
 
 abbrev new_claim : List ℕ → ℕ → ℕ → Claim
@@ -50,7 +50,7 @@ owner_flagged name connection flags claims owner e =
 
 pub owner_stays : (name : List ℕ) (connection : ℕ) (claims : List Claim) (owner : Claim) → find (is_on name) claims ≡ Some owner → (owner.connection == connection) ≡ false → owner_of name (without name connection claims) ≡ Some owner.connection
 owner_stays name connection claims owner e q =
-    ap (option_map connection_of) (find-filter (is_on name) (λ c. not (is_claim name connection c)) claims owner (ap not (and_false (is_on name owner) (owner.connection == connection) q)) e)
+    ap (option_map connection_of) (find-filter (is_on name) (λ c. not (is_claim name connection c)) claims owner (ap not (and_right (is_on name owner) (owner.connection == connection) q)) e)
 
 no_change : (name : List ℕ) (n : ℕ) → change_of name (Some n) (Some n) ≡ None
 no_change name n = by (nat_eq n n) (eq-eqb n n refl)

@@ -3,7 +3,7 @@ use Rattle.std.specs.Prelude.{◌≡◌, ◌≤◌, ◌+◌, ℕ, suc, Bool, tru
 use Rattle.std.specs.List.{list_any}
 use Rattle.std.proofs.Common.{refl, sym, ap, ◌∙◌, arith, length-append}
 use Rattle.std.proofs.lemmas.List.{map-append}
-use Rattle.std.proofs.lemmas.Bool.{eq-eqb, leb-true, le-leb}
+use Rattle.std.proofs.lemmas.Bool.{eq-eqb, leb-true, le-leb, or_right}
 use Rattle.std.proofs.lemmas.Bool.Decides.{same_from_decides, Decides-ltb}
 use Rattle.owners.specs.declared.holding.Holding.{Holding}
 use Rattle.owners.specs.declared.claim.SlotClaim.{SlotClaim}
@@ -12,7 +12,7 @@ use Rattle.owners.specs.declared.step.Step.TheVariants as steps
 use Rattle.owners.specs.Queues.{Claim, is_on, is_claim, has_flag, may_replace, do_not_queue, with_flags, with_last, without, after_requesting, requested_by}
 use Rattle.owners.specs.Registry.{max_claims}
 use Rattle.owners.specs.Kept.{named_claim, name_at, is_on_slot, is_slot_claim, slot_without, slot_with_flags, without_owner, step_of, step_done, is_over}
-use Rattle.owners.proofs.Lists.{Each, Each-weaker, Each-filter, or_right, filter-map, find-map, any-map, map-map_same, length-filter-le, length-without, without_none, length-map}
+use Rattle.owners.proofs.Lists.{Each, Each-weaker, Each-filter, filter-map, find-map, any-map, map-map_same, length-filter-le, length-without, without_none, length-map}
 use Rattle.owners.proofs.Placed.{Tells, HeldAt, on_agrees, claim_agrees}
 
 -- ---- each change, before and after the names are shown

@@ -2,14 +2,14 @@
 use Rattle.std.specs.Prelude.{◌≡◌, ◌≤◌, ℕ, Bool, true, false, List, Option, Some, None, map, length, option_map, slice_get, is_some, ◌==◌, if◌then◌else◌}
 use Rattle.std.specs.List.{list_any}
 use Rattle.std.proofs.Common.{refl, sym, ap, ◌∙◌, arith}
-use Rattle.std.proofs.lemmas.Bool.{eq-eqb}
+use Rattle.std.proofs.lemmas.Bool.{eq-eqb, and_right}
 use Rattle.std.proofs.lemmas.Option.{slice_get-map}
 use Rattle.owners.specs.declared.holding.Holding.{Holding}
 use Rattle.owners.specs.declared.claim.SlotClaim.{SlotClaim}
 use Rattle.owners.specs.Queues.{Claim, is_on}
 use Rattle.owners.specs.Registry.{Registry, IsRegistry, is_held_by, is_unused, kept_slot, settle_slots, slot_of, max_claims}
 use Rattle.owners.specs.Kept.{name_at, named_claim, registry, is_name, is_on_slot, kept_at, IsPlaced, IsKept}
-use Rattle.owners.proofs.Lists.{Each, Each-weaker, Each-both, Each-any, Each-map, all-from_Each, and_false, any-map, map-same, finds, length-map, same_elements}
+use Rattle.owners.proofs.Lists.{Each, Each-weaker, Each-both, Each-any, Each-map, all-from_Each, any-map, map-same, finds, length-map, same_elements}
 use Rattle.owners.proofs.Placed.{tells_own, HeldAt, each_held, holds_name, name_same, slot_holds, on_agrees}
 
 -- the slots after those without a claim or a rule were let go
@@ -40,7 +40,7 @@ let_go_kept placed claims slots after p held g =
 
 claimed_stays : (c : Bool) (h : Holding) (o : Option (Option Holding)) → c ≡ true → o ≡ Some (Some h) → kept_at c o ≡ o
 claimed_stays c h o t e =
-    rw (t, e) (ap (λ (b : Bool). Some (if b then None else Some h)) (and_false (h.rules == 0) false refl))
+    rw (t, e) (ap (λ (b : Bool). Some (if b then None else Some h)) (and_right (h.rules == 0) false refl))
 
 stays : (claims : List SlotClaim) (slots after : List (Option Holding)) → AreLetGo claims slots after → (k : ℕ) → is_name (slice_get slots k) ≡ true → list_any (is_on_slot k) claims ≡ true → slice_get after k ≡ slice_get slots k
 stays claims slots after g k e c =

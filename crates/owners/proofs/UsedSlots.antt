@@ -2,7 +2,7 @@
 use Rattle.std.specs.Prelude.{◌≡◌, ◌<◌, ℕ, Bool, true, false, not, List, [], ◌∷◌, ◌++◌, Option, Some, None, find, length, slice_get, ◌&&◌, ◌==◌, ◌⊎◌, if◌then◌else◌}
 use Rattle.std.specs.List.{list_any}
 use Rattle.std.proofs.Common.{refl, sym, ap, ◌∙◌, inl, inr}
-use Rattle.std.proofs.lemmas.Bool.{false≢true, eqb-true, eq-eqb}
+use Rattle.std.proofs.lemmas.Bool.{false≢true, eqb-true, eq-eqb, and_right, or_left, or_right}
 use Rattle.owners.specs.declared.holding.Holding.{Holding}
 use Rattle.owners.specs.declared.claim.SlotClaim.{SlotClaim}
 use Rattle.owners.specs.declared.step.Step.{Step}
@@ -10,7 +10,7 @@ use Rattle.owners.specs.declared.step.Step.TheVariants as steps
 use Rattle.owners.specs.Queues.{has_flag, do_not_queue}
 use Rattle.owners.specs.Registry.{is_unused}
 use Rattle.owners.specs.Kept.{is_on_slot, is_slot_claim, slot_without, slot_with_flags, without_owner, step_of, step_done, AreUsed}
-use Rattle.owners.proofs.Lists.{Each-always, and_false, or_left, or_right, any-map, find-filter, any-from_find, any-filter, any-append, any-append_last}
+use Rattle.owners.proofs.Lists.{Each-always, any-map, find-filter, any-from_find, any-filter, any-append, any-append_last}
 use Rattle.owners.proofs.Placed.{held_slots, read_held}
 use Rattle.owners.proofs.Requested.{step_for}
 
@@ -61,7 +61,7 @@ by_tests claim claims owner e leaving false true leaves waits q =
     or_left (claim.slot == claim.slot) (list_any (is_on_slot claim.slot) (slot_without claim.slot claim.connection (without_owner leaving claim.slot claims))) (eq-eqb claim.slot claim.slot refl)
 by_tests claim claims owner e leaving false false true waits q =
     any-from_find (is_on_slot claim.slot) (slot_without claim.slot claim.connection claims) owner
-    (find-filter (is_on_slot claim.slot) (λ (c : SlotClaim). not (is_slot_claim claim.slot claim.connection c)) claims owner (ap not (and_false (owner.slot == claim.slot) (owner.connection == claim.connection) q)) e)
+    (find-filter (is_on_slot claim.slot) (λ (c : SlotClaim). not (is_slot_claim claim.slot claim.connection c)) claims owner (ap not (and_right (owner.slot == claim.slot) (owner.connection == claim.connection) q)) e)
 by_tests claim claims owner e leaving false false false true q =
     any_flagged claim.slot claim.slot claim.connection claim.flags claims ∙ any-from_find (is_on_slot claim.slot) claims owner e
 by_tests claim claims owner e leaving false false false false q = put_claimed claim claims
@@ -78,7 +78,7 @@ step_claims claim claims =
 -- ---- the slots are used
 
 pub used_claimed : (c : Bool) (h : Holding) → c ≡ true → is_unused c (Some h) ≡ false
-used_claimed c h e = and_false (h.rules == 0) (not c) (ap not e)
+used_claimed c h e = and_right (h.rules == 0) (not c) (ap not e)
 
 used_less : (a c d : Bool) → (c ≡ true → d ≡ true) → (a && not c) ≡ false → (a && not d) ≡ false
 used_less true true d k h = ap not (k refl)

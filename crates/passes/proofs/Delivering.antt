@@ -1,6 +1,7 @@
 -- Unicast messages.
 use Rattle.std.proofs.Common.{◌≡◌, ◌⊎◌, inl, inr, ℕ, ◌==◌, true, false, true≢false, List, [], ◌∷◌, Option, Some, None, refl, sym, ap, subst, ◌∙◌, eqb-true}
-use Rattle.std.specs.Prelude.{Result, Ok, Err, IfOk, IfErr, MatchResult, MatchOption}
+use Rattle.std.specs.Prelude.{Result, Ok, Err, IfOk, IfErr, MatchResult}
+use Rattle.std.proofs.lemmas.Bool.{or_cases}
 use mathlib.Core.List.{IsPrefix}
 use Rattle.outbox.specs.Seated.{OutboxId}
 use Rattle.program_table.specs.declared.command.Command.{Command}
@@ -11,7 +12,7 @@ use Rattle.routing.specs.SenderView.{RecipientView, StopView, SenderView}
 use Rattle.routing.specs.Stops.{is_in, shut_at, AllFit}
 use Rattle.lookups.specs.NameOwners.{IsOwner}
 use Rattle.lookups.specs.Addressees.{AreListed, IsAddressee}
-use Rattle.lookups.proofs.Newcomers.{or_cases, is_in-connected}
+use Rattle.lookups.proofs.Newcomers.{is_in-connected}
 use Rattle.passes.specs.declared.error.BusError.{BusError}
 use Rattle.passes.specs.declared.error.BusError.TheVariants as errors
 use Rattle.passes.specs.declared.unicasts.Sent.{Sent}
@@ -21,13 +22,6 @@ use Rattle.passes.specs.Routes.{HasNotRouted}
 use Rattle.passes.specs.Sending.{AreReachable, KeepsThose, UnroutedThose, stays, IsDelivered}
 use Rattle.passes.specs.Unicasts.{Unicasts, IsUnsent}
 use Rattle.passes.proofs.Sending.{Turn, turned, saw, has_not_routed, has_seen}
-
--- the case of a search that is told by its result
-pub some_found : {A : Type 0} (o : Option A) (a : A) (N : Type 0) (P : A → Type 0) → o ≡ Some a → MatchOption o N P → P a
-some_found o a N P e h = let Q : Option _ → Type 0 = λ x. MatchOption x N P in subst Q e h
-
-pub none_found : {A : Type 0} (o : Option A) (N : Type 0) (P : A → Type 0) → o ≡ None → MatchOption o N P → N
-none_found o N P e h = let Q : Option _ → Type 0 = λ x. MatchOption x N P in subst Q e h
 
 module _ {M : Type 0} where
   -- what became of the message, where an owner was found

@@ -1,8 +1,9 @@
 -- Counts of commands stay below the count of all.
-use Rattle.std.proofs.Common.{◌≡◌, ℕ, ◌+◌, ◌≤◌, Bool, true, false, cond, not, ◌&&◌, List, [], ◌∷◌, refl, arith}
+use Rattle.std.proofs.Common.{◌≡◌, ℕ, ◌+◌, ◌≤◌, Bool, true, false, cond, not, List, [], ◌∷◌, refl, arith}
 use Rattle.std.specs.Prelude.{nat_le}
 use Rattle.std.specs.List.{list_all}
 use Rattle.std.proofs.lemmas.Bool.Decides.{nat_tests}
+use Rattle.std.proofs.lemmas.Bool.{and_parts, and_from}
 use Rattle.program_table.specs.declared.connection.Connection.{Connection}
 use Rattle.program_table.specs.Connections.{has_number, commands_of, with_command, without_connection}
 use Rattle.program_table.specs.ConnectionList.{ConnectionList, with_connection}
@@ -15,14 +16,6 @@ le_test m n e = grind (arith, nat_tests)
 test_le : (m n : ℕ) → m ≤ n → nat_le m n ≡ true
 test_le m n e = grind (arith, nat_tests)
 
-both_true : (a b : Bool) → (a && b) ≡ true → (a ≡ true) × (b ≡ true)
-both_true true b e = (refl, e)
-both_true false b e = cc
-
-and_true : (a b : Bool) → a ≡ true → b ≡ true → (a && b) ≡ true
-and_true true b p q = q
-and_true false b p q = cc
-
 one_if : (b : Bool) (m n : ℕ) → m ≤ n → m + cond b 1 0 ≤ n + 1
 one_if true m n h = omega arith
 one_if false m n h = omega arith
@@ -34,7 +27,7 @@ module _ {M : Type 0} where
   pub commands_below : (number n : ℕ) (cs : List (Connection M)) → AreBelow n cs → commands_of number cs ≤ n
   commands_below number n [] h = omega arith
   commands_below number n (c ∷ cs) h =
-      let parts = both_true (nat_le c.commands n) _ h in
+      let parts = and_parts (nat_le c.commands n) _ h in
       go (has_number number c) refl (le_test c.commands n parts.0) (commands_below number n cs parts.1)
     where
       go : (b : Bool) → has_number number c ≡ b → c.commands ≤ n → commands_of number cs ≤ n → commands_of number (c ∷ cs) ≤ n
@@ -44,8 +37,8 @@ module _ {M : Type 0} where
   pub below_more : (number n : ℕ) (cs : List (Connection M)) → AreBelow n cs → AreBelow (n + 1) (with_command number cs)
   below_more number n [] h = refl
   below_more number n (c ∷ cs) h =
-      let parts = both_true (nat_le c.commands n) _ h in
-      and_true _ _ (test_le (c.commands + cond (has_number number c) 1 0) (n + 1) (one_if (has_number number c) c.commands n (le_test c.commands n parts.0))) (below_more number n cs parts.1)
+      let parts = and_parts (nat_le c.commands n) _ h in
+      and_from _ _ (test_le (c.commands + cond (has_number number c) 1 0) (n + 1) (one_if (has_number number c) c.commands n (le_test c.commands n parts.0))) (below_more number n cs parts.1)
 
   pub counts_more : (number n : ℕ) (c : ConnectionList M) → AreCounts n c → AreCounts (n + 1) (record { connections = with_command number c.connections; last = c.last })
   counts_more number n c h = record { numbered = omega (arith, h.numbered); counted = below_more number n c.connections h.counted }
@@ -53,18 +46,18 @@ module _ {M : Type 0} where
   below_next : (n : ℕ) (cs : List (Connection M)) → AreBelow n cs → AreBelow (n + 1) cs
   below_next n [] h = refl
   below_next n (c ∷ cs) h =
-      let parts = both_true (nat_le c.commands n) _ h in
+      let parts = and_parts (nat_le c.commands n) _ h in
       let le = le_test c.commands n parts.0 in
-      and_true _ _ (test_le c.commands (n + 1) (omega (arith, le))) (below_next n cs parts.1)
+      and_from _ _ (test_le c.commands (n + 1) (omega (arith, le))) (below_next n cs parts.1)
 
   below_others : (number n : ℕ) (cs : List (Connection M)) → AreBelow n cs → AreBelow n (without_connection number cs)
   below_others number n [] h = refl
   below_others number n (c ∷ cs) h =
-      let parts = both_true (nat_le c.commands n) _ h in
+      let parts = and_parts (nat_le c.commands n) _ h in
       go (not (has_number number c)) (below_others number n cs parts.1)
     where
       go : (b : Bool) → AreBelow n (without_connection number cs) → AreBelow n (cond b (c ∷ without_connection number cs) (without_connection number cs))
-      go true rest = and_true _ _ (both_true (nat_le c.commands n) _ h).0 rest
+      go true rest = and_from _ _ (and_parts (nat_le c.commands n) _ h).0 rest
       go false rest = rest
 
   -- a new connection, whose Connect is counted

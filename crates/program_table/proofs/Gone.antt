@@ -2,6 +2,7 @@
 use Rattle.std.proofs.Common.{◌≡◌, ℕ, Bool, true, false, not, cond, ◌||◌, List, [], ◌∷◌, ◌++◌, filter, length, Option, Some, None, ◌<◌, refl, sym, ap, subst, ◌∙◌, arith}
 use Rattle.std.specs.Prelude.{◌==◌, Contains, find}
 use Rattle.std.specs.List.{list_any}
+use Rattle.std.proofs.lemmas.Bool.{or_right}
 use Rattle.owners.specs.Queues.{Claim, is_on, without_all}
 use Rattle.owners.specs.Registry as registry
 use Rattle.entry_table.specs.declared.entry.Entry.{Entry}
@@ -16,16 +17,12 @@ use Rattle.program_table.proofs.Removing.{IsTaken, taken, taken_one, taken_entry
 use Rattle.program_table.proofs.Freeing.{freed_slots, freed_view, same_claims, used_twice}
 use Rattle.program_table.proofs.Sound.{registrations_sound}
 
-or_second : (a b : Bool) → b ≡ true → (a || b) ≡ true
-or_second true b e = refl
-or_second false b e = e
-
 or_more : (a b c d : Bool) → (a ≡ true → c ≡ true) → (b ≡ true → d ≡ true) → (a || b) ≡ true → (c || d) ≡ true
 or_more true b c d f g h = rw (f refl) refl
-or_more false b c d f g h = or_second c d (g h)
+or_more false b c d f g h = or_right c d (g h)
 
 any_between : (p : Entry → Bool) (front back : List Entry) (e : Entry) → list_any p (front ++ back) ≡ true → list_any p (front ++ e ∷ back) ≡ true
-any_between p [] back e h = or_second (p e) (list_any p back) h
+any_between p [] back e h = or_right (p e) (list_any p back) h
 any_between p (x ∷ front) back e h = or_more (p x) (list_any p (front ++ back)) (p x) (list_any p (front ++ e ∷ back)) (λ f. f) (any_between p front back e) h
 
 any_kept : (p q : Claim → Bool) (cs : List Claim) → list_any p (filter q cs) ≡ true → list_any p cs ≡ true
@@ -34,7 +31,7 @@ any_kept p q (c ∷ cs) h = go (any_kept p q cs) (q c) h
   where
     go : (list_any p (filter q cs) ≡ true → list_any p cs ≡ true) → (b : Bool) → list_any p (cond b (c ∷ filter q cs) (filter q cs)) ≡ true → (p c || list_any p cs) ≡ true
     go later true g = or_more (p c) (list_any p (filter q cs)) (p c) (list_any p cs) (λ f. f) later g
-    go later false g = or_second (p c) (list_any p cs) (later g)
+    go later false g = or_right (p c) (list_any p cs) (later g)
 
 -- one of them is gone
 pub one_gone : (c : ℕ) (e : Entry) (names later : registry.Registry) (all after : Entries) → AreTied names all → IsTaken e all.entries after.entries → is_of c e ≡ true → after.last ≡ all.last → later ≡ without_sender (sender_asked e.filter) names → AreSomeGone c (registrations_of names all) (registrations_of later after)

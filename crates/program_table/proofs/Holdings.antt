@@ -8,6 +8,7 @@ use Rattle.std.proofs.lemmas.Slice.Eq.{bytes_eq-Decides}
 use Rattle.std.proofs.lemmas.List.{map-set}
 use Rattle.std.proofs.lemmas.List.Sums.{sum_by-cons}
 use Rattle.std.proofs.lemmas.Bool.Decides.{nat_tests}
+use Rattle.std.proofs.lemmas.Bool.{and_parts, or_right}
 use Rattle.owners.specs.Queues.{Claim, is_on}
 use Rattle.owners.specs.Registry as registry
 use Rattle.entry_table.specs.declared.entry.Entry.{Entry}
@@ -141,10 +142,6 @@ rules_own entries name slots n e =
 rules_none : (entries : List Entry) (name : List ℕ) (slots : List (Option (List ℕ))) → slot_of name slots ≡ None → registry.rules_of name (holdings entries slots) ≡ 0
 rules_none entries name slots e = rw (slot_of-holdings entries name slots, e) refl
 
-and_parts : (a b : Bool) → (a && b) ≡ true → (a ≡ true) × (b ≡ true)
-and_parts true b e = (refl, e)
-and_parts false b e = cc
-
 -- an entry that asks for a name has its slot
 pub asked_slot : (name : List ℕ) (slots : List (Option (List ℕ))) (asked : Option (List ℕ)) (slot : Option ℕ) → is_own_slot asked slot slots ≡ true → is_name name asked ≡ true → is_some (slot_of name slots) ≡ true
 asked_slot name slots None slot fits asks = cc
@@ -213,10 +210,6 @@ name_used claims entries other y used false true is e =
 same_used : (claims : List Claim) (entries : List Entry) (other : List ℕ) → is_used claims entries other ≡ true → (x : Option (List ℕ)) → is_name other (used_slot claims entries x) ≡ is_name other x
 same_used claims entries other used None = refl
 same_used claims entries other used (Some y) = name_used claims entries other y used (is_used claims entries y) (bytes_eq y other) refl refl
-
-or_right : (a b : Bool) → b ≡ true → (a || b) ≡ true
-or_right true b e = refl
-or_right false b e = e
 
 own_used : (claims : List Claim) (entries : List Entry) (slots : List (Option (List ℕ))) (asked : Option (List ℕ)) (slot : Option ℕ) → ((name : List ℕ) → is_name name asked ≡ true → list_any (asks_for name) entries ≡ true) → is_own_slot asked slot slots ≡ true → is_own_slot asked slot (used_slots claims entries slots) ≡ true
 own_used claims entries slots None slot asks fits = refl

@@ -3,6 +3,7 @@ use Rattle.std.proofs.Common.{◌≡◌, ℕ, ◌==◌, Bool, true, false, cond,
 use Rattle.std.specs.Prelude.{Result, Err, is_ok}
 use Rattle.std.proofs.lemmas.Bool.Decides.{nat_tests}
 use Rattle.std.specs.List.{list_all}
+use Rattle.std.proofs.lemmas.Bool.{and_from, and_parts}
 use Rattle.owners.specs.Queues as queues
 use Rattle.owners.specs.Queues.{Claim, is_claim, has_flag, do_not_queue, may_replace, has_claim, without, without_all, with_flags, with_last, after_replacement, after_requesting, requested_by, first_claim}
 use Rattle.entry_table.specs.declared.entry.Entry.{Entry}
@@ -20,32 +21,20 @@ use Rattle.program_table.specs.Does.{refuse_unconnected}
 use Rattle.program_table.specs.OfConnections.{AreOfConnections}
 use Rattle.program_table.proofs.Adding.{all-push}
 
-first_true : (a b : Bool) → (a && b) ≡ true → a ≡ true
-first_true true b e = refl
-first_true false b e = cc
-
-second_true : (a b : Bool) → (a && b) ≡ true → b ≡ true
-second_true true b e = e
-second_true false b e = cc
-
-both : (a b : Bool) → a ≡ true → b ≡ true → (a && b) ≡ true
-both true b p q = q
-both false b p q = cc
-
 -- one test holds of each element where another one does
 all_imply : {X : Type 0} (p q : X → Bool) (xs : List X) → ((x : X) → p x ≡ true → q x ≡ true) → list_all p xs ≡ true → list_all q xs ≡ true
 all_imply p q [] h e = refl
 all_imply p q (x ∷ xs) h e =
-    both (q x) (list_all q xs) (h x (first_true (p x) (list_all p xs) e)) (all_imply p q xs h (second_true (p x) (list_all p xs) e))
+    and_from (q x) (list_all q xs) (h x (and_parts (p x) (list_all p xs) e).0) (all_imply p q xs h (and_parts (p x) (list_all p xs) e).1)
 
 -- the same of the elements that are kept, where it may use that they are
 all_kept_imply : {X : Type 0} (p q keep : X → Bool) (xs : List X) → ((x : X) → p x ≡ true → keep x ≡ true → q x ≡ true) → list_all p xs ≡ true → list_all q (filter keep xs) ≡ true
 all_kept_imply p q keep [] h e = refl
 all_kept_imply p q keep (x ∷ xs) h e =
-    go (keep x) refl (all_kept_imply p q keep xs h (second_true (p x) (list_all p xs) e))
+    go (keep x) refl (all_kept_imply p q keep xs h (and_parts (p x) (list_all p xs) e).1)
   where
     go : (b : Bool) → keep x ≡ b → list_all q (filter keep xs) ≡ true → list_all q (cond b (x ∷ filter keep xs) (filter keep xs)) ≡ true
-    go true is rest = both (q x) (list_all q (filter keep xs)) (h x (first_true (p x) (list_all p xs) e) is) rest
+    go true is rest = and_from (q x) (list_all q (filter keep xs)) (h x (and_parts (p x) (list_all p xs) e).0 is) rest
     go false is rest = rest
 
 all_kept : {X : Type 0} (p keep : X → Bool) (xs : List X) → list_all p xs ≡ true → list_all p (filter keep xs) ≡ true
@@ -63,15 +52,15 @@ module _ (p : ℕ → Bool) where
   all_with_flags : (name : List ℕ) (connection flags : ℕ) (claims : List Claim) → list_all holds_of claims ≡ true → list_all holds_of (with_flags name connection flags claims) ≡ true
   all_with_flags name connection flags [] e = refl
   all_with_flags name connection flags (c ∷ claims) e =
-      go (is_claim name connection c) (all_with_flags name connection flags claims (second_true (holds_of c) (list_all holds_of claims) e))
+      go (is_claim name connection c) (all_with_flags name connection flags claims (and_parts (holds_of c) (list_all holds_of claims) e).1)
     where
       go : (b : Bool) → list_all holds_of (with_flags name connection flags claims) ≡ true → (holds_of (cond b (record c { flags = flags }) c) && list_all holds_of (with_flags name connection flags claims)) ≡ true
-      go true rest = both (holds_of c) _ (first_true (holds_of c) (list_all holds_of claims) e) rest
-      go false rest = both (holds_of c) _ (first_true (holds_of c) (list_all holds_of claims) e) rest
+      go true rest = and_from (holds_of c) _ (and_parts (holds_of c) (list_all holds_of claims) e).0 rest
+      go false rest = and_from (holds_of c) _ (and_parts (holds_of c) (list_all holds_of claims) e).0 rest
 
   all_replaced : (owner : Claim) (name : List ℕ) (connection flags : ℕ) (claims : List Claim) → list_all holds_of claims ≡ true → p connection ≡ true → list_all holds_of (after_replacement owner name connection flags claims) ≡ true
   all_replaced owner name connection flags claims e is =
-      both (p connection) _ is (
+      and_from (p connection) _ is (
       all_kept holds_of (λ c. not (is_claim name connection c)) (cond (has_flag owner.flags do_not_queue) (without name owner.connection claims) claims)
       (all_either holds_of (has_flag owner.flags do_not_queue) (without name owner.connection claims) claims (all_kept holds_of (λ c. not (is_claim name owner.connection c)) claims e) e))
 

@@ -3,6 +3,7 @@ use Rattle.std.proofs.Common.{◌≡◌, ℕ, ◌+◌, ◌<◌, ◌≤◌, ◌==
 use Rattle.std.specs.Prelude.{Result, Err, is_ok, is_some, find, nat_le, if◌then◌else◌}
 use Rattle.std.specs.List.{list_all}
 use Rattle.std.proofs.lemmas.Bool.Decides.{nat_tests}
+use Rattle.std.proofs.lemmas.Bool.{and_parts, and_from}
 use Rattle.program_table.specs.declared.connection.Connection.{Connection}
 use Rattle.program_table.specs.declared.command.Command.{Command}
 use Rattle.program_table.specs.declared.command.Command.TheVariants.{Connect, AddRule, RemoveRule, Attach, Detach, Request, Release, DropOne, Close}
@@ -18,14 +19,6 @@ use Rattle.program_table.specs.History.{after, are_accepted, IsHistory, is_comma
 
 abbrev one_if : Bool → ℕ
 one_if b = cond b 1 0
-
-both_true : (a b : Bool) → (a && b) ≡ true → (a ≡ true) × (b ≡ true)
-both_true true b e = (refl, e)
-both_true false b e = cc
-
-and_true : (a b : Bool) → a ≡ true → b ≡ true → (a && b) ≡ true
-and_true true b p q = q
-and_true false b p q = cc
 
 same_tests : (n c d : ℕ) → (n == c) ≡ true → (n == d) ≡ (c == d)
 same_tests n c d e = grind (arith, nat_tests)
@@ -98,8 +91,8 @@ module _ {M : Type 0} where
   given_still : (last d : ℕ) (cs : List (Connection M)) → AreGiven last cs → AreGiven last (with_command d cs)
   given_still last d [] g = refl
   given_still last d (x ∷ cs) g =
-      let p = both_true (nat_le x.number last) _ g in
-      and_true _ _ p.0 (given_still last d cs p.1)
+      let p = and_parts (nat_le x.number last) _ g in
+      and_from _ _ p.0 (given_still last d cs p.1)
 
   -- the new connection's Connect is its first command
   counted_first : (c last : ℕ) (m : M) (cs : List (Connection M)) → AreGiven last cs → commands_of c (cs ++ new_connection last m ∷ []) ≡ commands_of c cs + one_if (c == (last + 1))
@@ -109,7 +102,7 @@ module _ {M : Type 0} where
       go true e = rw (flipped (last + 1) c ∙ e) (rw e refl)
       go false e = rw (flipped (last + 1) c ∙ e) (rw e refl)
   counted_first c last m (x ∷ cs) g =
-      let p = both_true (nat_le x.number last) _ g in
+      let p = and_parts (nat_le x.number last) _ g in
       go (has_number c x) refl p.0 (counted_first c last m cs p.1)
     where
       go : (b : Bool) → has_number c x ≡ b → nat_le x.number last ≡ true → commands_of c (cs ++ new_connection last m ∷ []) ≡ commands_of c cs + one_if (c == (last + 1)) →
@@ -120,8 +113,8 @@ module _ {M : Type 0} where
   given_first : (last : ℕ) (m : M) (cs : List (Connection M)) → AreGiven last cs → AreGiven (last + 1) (cs ++ new_connection last m ∷ [])
   given_first last m [] g = rw (next_le last) refl
   given_first last m (x ∷ cs) g =
-      let p = both_true (nat_le x.number last) _ g in
-      and_true _ _ (le_next x.number last p.0) (given_first last m cs p.1)
+      let p = and_parts (nat_le x.number last) _ g in
+      and_from _ _ (le_next x.number last p.0) (given_first last m cs p.1)
 
   still_gone : (c last : ℕ) (m : M) (cs : List (Connection M)) → c ≤ last → is_connected c cs ≡ false → is_connected c (cs ++ new_connection last m ∷ []) ≡ false
   still_gone c last m [] le e = rw (not_next_below c last le) refl
@@ -148,11 +141,11 @@ module _ {M : Type 0} where
   given_others : (last d : ℕ) (cs : List (Connection M)) → AreGiven last cs → AreGiven last (without_connection d cs)
   given_others last d [] g = refl
   given_others last d (x ∷ cs) g =
-      let p = both_true (nat_le x.number last) _ g in
+      let p = and_parts (nat_le x.number last) _ g in
       go (not (has_number d x)) p.0 (given_others last d cs p.1)
     where
       go : (b : Bool) → nat_le x.number last ≡ true → AreGiven last (without_connection d cs) → AreGiven last (cond b (x ∷ without_connection d cs) (without_connection d cs))
-      go true le later = and_true _ _ le later
+      go true le later = and_from _ _ le later
       go false le later = later
 
   gone_others : (c d : ℕ) (cs : List (Connection M)) → is_connected c cs ≡ false → is_connected c (without_connection d cs) ≡ false
@@ -179,7 +172,7 @@ module _ {M : Type 0} where
   there_below : (c last : ℕ) (cs : List (Connection M)) → AreGiven last cs → is_connected c cs ≡ true → c ≤ last
   there_below c last [] g e = absurd (cc)
   there_below c last (x ∷ cs) g e =
-      let p = both_true (nat_le x.number last) _ g in
+      let p = and_parts (nat_le x.number last) _ g in
       go (has_number c x) refl p.0 e (there_below c last cs p.1)
     where
       go : (b : Bool) → has_number c x ≡ b → nat_le x.number last ≡ true → is_connected c (x ∷ cs) ≡ true → (is_connected c cs ≡ true → c ≤ last) → c ≤ last
@@ -276,7 +269,7 @@ module _ {M : Type 0} where
       → is_connected c s.connections ≡ false → c ≤ s.last_connection → is_connected c (fold next_of s xs).connections ≡ false
   gone_ever c s [] g ok gone le = gone
   gone_ever c s (x ∷ xs) g ok gone le =
-      let p = both_true (is_accepted s x) (are_accepted (next_of s x) xs) ok in
+      let p = and_parts (is_accepted s x) (are_accepted (next_of s x) xs) ok in
       let stepped = step_next c s g x p.0 in
       let now = stepped.stays gone le in
       gone_ever c (next_of s x) xs stepped.below_last p.1 now.0 now.1
@@ -286,7 +279,7 @@ module _ {M : Type 0} where
       → commands_of c (fold next_of s xs).connections ≡ commands_of c s.connections + length (own_from s c xs)
   own_counted c s [] g ok there = omega arith
   own_counted c s (x ∷ xs) g ok there =
-      let p = both_true (is_accepted s x) (are_accepted (next_of s x) xs) ok in
+      let p = and_parts (is_accepted s x) (are_accepted (next_of s x) xs) ok in
       let stepped = step_next c s g x p.0 in
       go p.1 stepped (closes c x) refl (own_counted c (next_of s x) xs stepped.below_last p.1 there)
     where
@@ -307,7 +300,7 @@ module _ {M : Type 0} where
   all_counted : (s : State M) (xs : List (Command M)) → AreGiven s.last_connection s.connections → are_accepted s xs ≡ true → (fold next_of s xs).commands ≡ s.commands + length xs
   all_counted s [] g ok = omega arith
   all_counted s (x ∷ xs) g ok =
-      let p = both_true (is_accepted s x) (are_accepted (next_of s x) xs) ok in
+      let p = and_parts (is_accepted s x) (are_accepted (next_of s x) xs) ok in
       let stepped = step_next 0 s g x p.0 in
       let later = all_counted (next_of s x) xs stepped.below_last p.1 in
       let first = stepped.counts in
@@ -316,7 +309,7 @@ module _ {M : Type 0} where
   last_grows : (s : State M) (xs : List (Command M)) → AreGiven s.last_connection s.connections → are_accepted s xs ≡ true → s.last_connection ≤ (fold next_of s xs).last_connection
   last_grows s [] g ok = omega arith
   last_grows s (x ∷ xs) g ok =
-      let p = both_true (is_accepted s x) (are_accepted (next_of s x) xs) ok in
+      let p = and_parts (is_accepted s x) (are_accepted (next_of s x) xs) ok in
       let stepped = step_next 0 s g x p.0 in
       let later = last_grows (next_of s x) xs stepped.below_last p.1 in
       let first = stepped.grows in
@@ -326,7 +319,7 @@ module _ {M : Type 0} where
       → (fold next_of s xs).last_connection < c → own_from s c xs ≡ []
   none_own c s [] g ok above = refl
   none_own c s (x ∷ xs) g ok above =
-      let p = both_true (is_accepted s x) (are_accepted (next_of s x) xs) ok in
+      let p = and_parts (is_accepted s x) (are_accepted (next_of s x) xs) ok in
       let stepped = step_next c s g x p.0 in
       let later = last_grows (next_of s x) xs stepped.below_last p.1 in
       go (is_command_of s c x) (λ e. let le = stepped.low e in omega (arith, le, later, above)) (none_own c (next_of s x) xs stepped.below_last p.1 above)

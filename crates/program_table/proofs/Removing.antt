@@ -1,9 +1,10 @@
 -- An entry is taken out of the entries.
-use Rattle.std.proofs.Common.{◌≡◌, ◌⊎◌, inl, inr, ℕ, zero, suc, ◌+◌, ◌<◌, Bool, true, false, not, cond, ◌&&◌, List, [], ◌∷◌, ◌++◌, length, filter, Some, None, refl, sym, ap, subst, ◌∙◌, arith}
+use Rattle.std.proofs.Common.{◌≡◌, ◌⊎◌, inl, inr, ℕ, zero, suc, ◌+◌, ◌<◌, Bool, true, false, not, cond, List, [], ◌∷◌, ◌++◌, length, filter, Some, None, refl, sym, ap, subst, ◌∙◌, arith}
 use Rattle.std.specs.Prelude.{◌==◌, All, AllPairs, Contains, find, count_by}
 use Rattle.std.specs.List.{list_all}
 use Rattle.std.proofs.lemmas.List.Sums.{sum_by-append}
 use Rattle.std.proofs.lemmas.Bool.Decides.{nat_tests}
+use Rattle.std.proofs.lemmas.Bool.{and_right, and_from, and_parts}
 use Rattle.entry_table.specs.declared.entry.Entry.{Entry}
 use Rattle.entry_table.specs.Entries.{is_entry}
 use Rattle.program_table.proofs.Adding.{count-cons}
@@ -45,24 +46,12 @@ others_above n (x ∷ xs) h =
     let apart : (x.id == n) ≡ false = grind (arith, nat_tests) in
     kept_if (x.id == n) x (others n xs) xs apart (others_above n xs (above_later n x xs h))
 
-and_false : (a b : Bool) → b ≡ false → (a && b) ≡ false
-and_false true b e = e
-and_false false b e = refl
-
-and_second : (a b : Bool) → (a && b) ≡ true → b ≡ true
-and_second true b e = e
-and_second false b e = cc
-
-and_first : (a b : Bool) → (a && b) ≡ true → a ≡ true
-and_first true b e = refl
-and_first false b e = cc
-
 none_above : (c n : ℕ) (xs : List Entry) → AreAbove n xs → filter (λ (e : Entry). not (is_entry c n e)) xs ≡ xs
 none_above c n [] h = refl
 none_above c n (x ∷ xs) h =
     let lt = above_here n x xs h in
     let apart : (x.id == n) ≡ false = grind (arith, nat_tests) in
-    kept_if (is_entry c n x) x (filter (λ (e : Entry). not (is_entry c n e)) xs) xs (and_false (x.connection == c) (x.id == n) apart) (none_above c n xs (above_later n x xs h))
+    kept_if (is_entry c n x) x (filter (λ (e : Entry). not (is_entry c n e)) xs) xs (and_right (x.connection == c) (x.id == n) apart) (none_above c n xs (above_later n x xs h))
 
 -- what is found passes, and is above what all are above
 pub found_passes : (p : Entry → Bool) (xs : List Entry) (e : Entry) → find p xs ≡ Some e → p e ≡ true
@@ -154,7 +143,7 @@ taken_entry c n (x ∷ xs) e h f = go (taken_entry c n xs e (later_rise x xs h))
     go : (find (is_entry c n) xs ≡ Some e → filter (λ (f : Entry). not (is_entry c n f)) xs ≡ others e.id xs) → (b : Bool) → is_entry c n x ≡ b → cond b (Some x) (find (is_entry c n) xs) ≡ Some e → filter (λ (f : Entry). not (is_entry c n f)) (x ∷ xs) ≡ others e.id (x ∷ xs)
     go later true is g =
         let same : x ≡ e = cc in
-        let named : (x.id == n) ≡ true = and_second (x.connection == c) (x.id == n) is in
+        let named : (x.id == n) ≡ true = (and_parts (x.connection == c) (x.id == n) is).1 in
         let number : x.id ≡ n = grind (arith, nat_tests) in
         let above : AreAbove n xs = subst (λ (k : ℕ). AreAbove k xs) number (above_first x xs h) in
         let self : (x.id == x.id) ≡ true = grind (arith, nat_tests) in
@@ -189,14 +178,11 @@ length_between [] back e = omega arith
 length_between (x ∷ front) back e = let rest = length_between front back e in omega (arith, rest)
 
 pub all_between : (p : Entry → Bool) (front back : List Entry) (e : Entry) → list_all p (front ++ e ∷ back) ≡ true → (p e ≡ true) × (list_all p (front ++ back) ≡ true)
-all_between p [] back e h = (and_first (p e) (list_all p back) h, and_second (p e) (list_all p back) h)
+all_between p [] back e h = and_parts (p e) (list_all p back) h
 all_between p (x ∷ front) back e h =
-    let rest = all_between p front back e (and_second (p x) (list_all p (front ++ e ∷ back)) h) in
-    (rest.0, and_both (p x) (list_all p (front ++ back)) (and_first (p x) (list_all p (front ++ e ∷ back)) h) rest.1)
+    let rest = all_between p front back e (and_parts (p x) (list_all p (front ++ e ∷ back)) h).1 in
+    (rest.0, and_from (p x) (list_all p (front ++ back)) (and_parts (p x) (list_all p (front ++ e ∷ back)) h).0 rest.1)
   where
-    and_both : (a b : Bool) → a ≡ true → b ≡ true → (a && b) ≡ true
-    and_both true b f g = g
-    and_both false b f g = cc
 
 -- those that fail a test that the entry passes
 pub filter_between : (p : Entry → Bool) (front back : List Entry) (e : Entry) → p e ≡ true → filter (λ (f : Entry). not (p f)) (front ++ e ∷ back) ≡ filter (λ (f : Entry). not (p f)) (front ++ back)

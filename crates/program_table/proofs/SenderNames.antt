@@ -1,17 +1,14 @@
 -- The sender that a rule asks for is a name that a connection can own.
-use Rattle.std.proofs.Common.{◌≡◌, ℕ, Bool, true, false, not, ◌&&◌, List, [], ◌∷◌, Some, refl}
+use Rattle.std.proofs.Common.{◌≡◌, ℕ, Bool, true, false, not, List, [], ◌∷◌, Some, refl}
 use Rattle.std.specs.Prelude.{Ok}
 use Rattle.std.specs.Str.{bytes_eq}
+use Rattle.std.proofs.lemmas.Bool.{and_parts}
 use Rattle.signature.specs.Name.{is_bus_name, bus_name}
 use Rattle.match_rule.specs.declared.condition.Condition.{Condition}
 use Rattle.match_rule.specs.declared.condition.Condition.TheVariants.{Kind, Sender, Compares}
 use Rattle.match_rule.specs.RuleTree.{RuleTree, sender_name_of, first_owned_name, is_owned_name}
 use Rattle.match_rule.specs.Parts.{have_sender_names}
 use Rattle.owners.specs.WellKnown.{name_in, is_unique}
-
-both_true : (a b : Bool) → (a && b) ≡ true → (a ≡ true) × (b ≡ true)
-both_true true b e = (refl, e)
-both_true false b e = cc
 
 pub record IsOwnable (name : List ℕ) : Type 0 where
   pub bus : is_bus_name name ≡ true
@@ -26,7 +23,7 @@ owned_at false sender name cs is bus later e = later (rw is at e)
 owned_in : (cs : List Condition) (name : List ℕ) → have_sender_names cs ≡ true → first_owned_name cs ≡ Some name → IsOwnable name
 owned_in [] name h e = cc
 owned_in (Sender sender ∷ cs) name h e =
-    let parts = both_true (is_bus_name sender) (have_sender_names cs) h in
+    let parts = and_parts (is_bus_name sender) (have_sender_names cs) h in
     owned_at (is_owned_name sender) sender name cs refl parts.0 (owned_in cs name parts.1) e
 owned_in (Kind kind ∷ cs) name h e = owned_in cs name h e
 owned_in (Compares source relation value ∷ cs) name h e = owned_in cs name h e
@@ -37,12 +34,12 @@ not_true false e = refl
 
 not_unique : (name : List ℕ) → is_owned_name name ≡ true → is_unique name ≡ false
 not_unique [] h = refl
-not_unique (b ∷ rest) h = not_true _ (both_true _ _ h).0
+not_unique (b ∷ rest) h = not_true _ (and_parts _ _ h).0
 
 -- it is read as itself
 pub is_read : (rule : RuleTree) (name : List ℕ) → have_sender_names rule.conditions ≡ true → sender_name_of rule ≡ Some name → name_in name ≡ Ok name
 is_read rule name h e =
     let is = owned_in rule.conditions name h e in
     let plain = not_unique name is.owned in
-    let other : bytes_eq name bus_name ≡ false = not_true _ (both_true _ _ is.owned).1 in
+    let other : bytes_eq name bus_name ≡ false = not_true _ (and_parts _ _ is.owned).1 in
     rw (other, is.bus, plain) refl

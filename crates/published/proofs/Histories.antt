@@ -1,7 +1,8 @@
 -- Histories, one command longer.
-use Rattle.std.proofs.Common.{◌≡◌, ℕ, ◌+◌, ◌^◌, ◌<◌, Bool, true, false, ◌&&◌, List, [], ◌∷◌, ◌++◌, length, fold, refl, ap, ◌∙◌, arith}
+use Rattle.std.proofs.Common.{◌≡◌, ℕ, ◌+◌, ◌^◌, ◌<◌, Bool, true, false, List, [], ◌∷◌, ◌++◌, length, fold, refl, ap, ◌∙◌, arith}
 use Rattle.std.specs.Prelude.{Result, Err, is_ok, nat_le, if◌then◌else◌}
 use Rattle.std.proofs.lemmas.Bool.Decides.{nat_tests}
+use Rattle.std.proofs.lemmas.Bool.{and_parts, and_from}
 use Rattle.program_table.specs.declared.command.Command.{Command}
 use Rattle.program_table.specs.declared.command.Command.TheVariants.{Connect, AddRule, RemoveRule, Attach, Detach, Request, Release, DropOne, Close}
 use Rattle.program_table.specs.declared.command.Reply.{Reply}
@@ -10,14 +11,6 @@ use Rattle.program_table.specs.declared.refusal.Refusal.TheVariants.{Closed}
 use Rattle.program_table.specs.State.{State, opening}
 use Rattle.program_table.specs.Does.{max_commands, row, effect, is_accepted, next_of}
 use Rattle.program_table.specs.History.{after, are_accepted, IsHistory}
-
-pub both_true : (a b : Bool) → (a && b) ≡ true → (a ≡ true) × (b ≡ true)
-both_true true b e = (refl, e)
-both_true false b e = cc
-
-pub and_true : (a b : Bool) → a ≡ true → b ≡ true → (a && b) ≡ true
-and_true true b p q = q
-and_true false b p q = cc
 
 not_full : (b : Bool) (r : Result Reply Refusal) → is_ok (if b then Err Closed else r) ≡ true → b ≡ false
 not_full true r e = cc
@@ -40,10 +33,10 @@ module _ {M : Type 0} where
   after-push l c = fold-append opening l (c ∷ [])
 
   accepted-push : (s : State M) (l : List (Command M)) (c : Command M) → are_accepted s l ≡ true → is_accepted (fold next_of s l) c ≡ true → are_accepted s (l ++ c ∷ []) ≡ true
-  accepted-push s [] c h a = and_true (is_accepted s c) true a refl
+  accepted-push s [] c h a = and_from (is_accepted s c) true a refl
   accepted-push s (x ∷ xs) c h a =
-      let p = both_true (is_accepted s x) (are_accepted (next_of s x) xs) h in
-      and_true (is_accepted s x) (are_accepted (next_of s x) (xs ++ c ∷ [])) p.0 (accepted-push (next_of s x) xs c p.1 a)
+      let p = and_parts (is_accepted s x) (are_accepted (next_of s x) xs) h in
+      and_from (is_accepted s x) (are_accepted (next_of s x) (xs ++ c ∷ [])) p.0 (accepted-push (next_of s x) xs c p.1 a)
 
   -- a history goes on with a command that is accepted after it
   pub history-push : (l : List (Command M)) (c : Command M) → IsHistory l → is_accepted (after l) c ≡ true → IsHistory (l ++ c ∷ [])
@@ -63,7 +56,7 @@ module _ {M : Type 0} where
   counted : (s : State M) (l : List (Command M)) → are_accepted s l ≡ true → (fold next_of s l).commands ≡ s.commands + length l
   counted s [] h = omega arith
   counted s (x ∷ xs) h =
-      let p = both_true (is_accepted s x) (are_accepted (next_of s x) xs) h in
+      let p = and_parts (is_accepted s x) (are_accepted (next_of s x) xs) h in
       let rest = counted (next_of s x) xs p.1 in
       let here : (next_of s x).commands ≡ s.commands + 1 = ap (λ (t : State M). t.commands) (next-accepted s x p.0) ∙ effect-commands s x in
       omega (arith, rest, here)

@@ -1,8 +1,8 @@
 -- What is left of a rule, and where it holds.
 use Rattle.std.proofs.Common.{◌≡◌, inr, ℕ, ◌≤◌, Bool, true, false, not, ◌&&◌, cond, List, [], ◌∷◌, filter, Option, Some, None, refl, ap, sym, subst, ◌∙◌, arith, All, IfSome}
-use Rattle.std.specs.Prelude.{◌↔◌, ◌==◌, MatchBool, IsSomeAnd, sum_by, slice_get, if◌then◌else◌, Result, Ok, Err, IfOk}
+use Rattle.std.specs.Prelude.{◌↔◌, ◌==◌, MatchBool, IsSomeAnd, sum_by, slice_get, if◌then◌else◌}
 use Rattle.std.specs.List.{list_any}
-use Rattle.std.proofs.lemmas.Bool.{false≢true, true≢false, eqb-true, and_parts, not-false}
+use Rattle.std.proofs.lemmas.Bool.{false≢true, true≢false, eqb-true, and_parts, not-false, and_from}
 use Rattle.std.proofs.lemmas.List.Elements.{All-nil, All-cons, All-head, All-tail, All-filter}
 use Rattle.std.proofs.lemmas.List.Sums.{sum_by-cons}
 use Rattle.std.proofs.lemmas.Slice.Eq.{bytes_eq-Decides}
@@ -76,16 +76,12 @@ one_kept p (c ∷ cs) one = go (p c) (one_kept p cs (one_of (is_sender c) (list_
     go true more = still_one (is_sender c) (list_any is_sender cs) (list_any is_sender (filter p cs)) (has_one_sender cs) (none_kept is_sender p cs) one (has_one_sender (filter p cs)) more
     go false more = more
 
-and_true : (a b : Bool) → a ≡ true → b ≡ true → (a && b) ≡ true
-and_true true b p q = q
-and_true false b p q = absurd (false≢true p)
-
 numbers_kept : (p : Condition → Bool) (cs : List Condition) → have_small_numbers cs ≡ true → have_small_numbers (filter p cs) ≡ true
 numbers_kept p [] small = refl
 numbers_kept p (c ∷ cs) small = go (p c) (numbers_kept p cs (and_parts (has_small_number c) (have_small_numbers cs) small).1)
   where
     go : (b : Bool) → have_small_numbers (filter p cs) ≡ true → have_small_numbers (cond b (c ∷ filter p cs) (filter p cs)) ≡ true
-    go true more = and_true (has_small_number c) (have_small_numbers (filter p cs)) (and_parts (has_small_number c) (have_small_numbers cs) small).0 more
+    go true more = and_from (has_small_number c) (have_small_numbers (filter p cs)) (and_parts (has_small_number c) (have_small_numbers cs) small).0 more
     go false more = more
 
 weight_kept : (p : Condition → Bool) (cs : List Condition) → sum_by condition_weight (filter p cs) ≤ sum_by condition_weight cs
@@ -203,8 +199,3 @@ rest_compiled rule slot tested program same untested compiled = record {
       let rest = rest_holds rule m owned found fits tested same untested in
       ((λ less. rest.0 (tells.0 less)), (λ holds. tells.1 (rest.1 holds)));
 }
-
--- an Ok has a fact that follows from the one that it has
-pub ok_map : {A E : Type 0} (r : Result A E) (P Q : A → Type 0) → ((x : A) → P x → Q x) → IfOk r P → IfOk r Q
-ok_map (Ok x) P Q each h = each x h
-ok_map (Err e) P Q each h = tt

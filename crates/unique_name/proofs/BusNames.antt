@@ -3,7 +3,7 @@ use Rattle.std.proofs.Common.{◌≡◌, ℕ, ◌+◌, ◌<◌, ◌≤◌, ◌^�
 use Rattle.std.proofs.lemmas.Bool.{ne_eqb}
 use Rattle.std.specs.Prelude.{codes, decimal, nat_eq}
 use Rattle.std.specs.List.{list_all, slice_split}
-use Rattle.std.proofs.lemmas.Fmt.{decimal_by_steps, length-decimal-le}
+use Rattle.std.proofs.lemmas.Fmt.{decimal_by_steps, length-decimal-le, decimal_nonempty}
 use Rattle.signature.specs.Name.{is_digit, is_letter, may_begin, may_follow, is_element, unique_form, is_bus_name}
 
 -- a text of digits
@@ -17,13 +17,6 @@ and_one_more (e ∷ ds) d h low high = (h.0, h.1, and_one_more ds d h.2 low high
 
 are_digits : (n : ℕ) → n < 2 ^ 64 → AreDigits (decimal n)
 are_digits = decimal_by_steps (λ m ds. AreDigits ds) (λ m l. (omega arith, omega arith, tt)) (λ m ds l h. and_one_more ds (48 + m % 10) h (omega arith) (omega arith))
-
-is_some : (n : ℕ) → n < 2 ^ 64 → 0 < length (decimal n)
-is_some = decimal_by_steps (λ m ds. 0 < length ds) (λ m l. omega arith) (λ m ds l h. by m ds)
-  where
-    by : (m : ℕ) (ds : List ℕ) → 0 < length (ds ++ (48 + m % 10) ∷ [])
-    by m [] = omega arith
-    by m (d ∷ ds) = omega arith
 
 is_digit-true : (d : ℕ) → 48 ≤ d → d ≤ 57 → is_digit d ≡ true
 is_digit-true d low high = rw (le-leb 48 d low, le-leb d 57 high) refl
@@ -58,4 +51,4 @@ unique_name-is_bus_name n small =
     let ds : List ℕ = decimal n in
     let h : AreDigits ds = are_digits n small in
     let short : length ds ≤ 20 = length-decimal-le 20 n (omega arith) (omega arith) small in
-    rw (le-leb (length (codes ":1." ++ ds)) 255 (omega arith), one_part ds h, element ds h (is_some n small)) refl
+    rw (le-leb (length (codes ":1." ++ ds)) 255 (omega arith), one_part ds h, element ds h (decimal_nonempty n small)) refl
