@@ -21,6 +21,18 @@ fn word_of(bytes: &[u8], at: usize) -> u32
     u32::from_be_bytes([bytes[at], bytes[at + 1], bytes[at + 2], bytes[at + 3]])
 }
 
+/// The four bytes from a place on, where all lie in the front slice.
+#[inline(always)]
+pub fn word_in_front(front: &[u8], at: u64) -> Option<u32>
+    ensures { result ≡ load_word front.now at }
+{
+    if at.saturating_add(4) <= front.len() as u64 {
+        Some(word_of(front, at as usize))
+    } else {
+        None
+    }
+}
+
 /// The byte at a place of both.
 #[inline(always)]
 fn single(front: &[u8], back: &[u8], at: u64) -> Option<u8>
@@ -73,41 +85,41 @@ pub fn byte(front: &[u8], back: &[u8], at: u64) -> Option<u32>
     }
 }
 
-/// The two bytes from a place on. A place before the seam wraps round to one past every slice's end.
+/// The two bytes from a place on.
 #[inline(always)]
 pub fn half(front: &[u8], back: &[u8], at: u64) -> Option<u32>
     ensures { result ≡ load_half (front.now ++ back.now) at }
 {
     let seam = front.len() as u64;
-    if at < seam.saturating_sub(1) {
+    if at.saturating_add(2) <= seam {
         return Some(half_of(front, at as usize));
     }
-    let place = at.wrapping_sub(seam);
-    if place < (back.len() as u64).saturating_sub(1) {
-        return Some(half_of(back, place as usize));
-    }
     if at < seam {
-        half_across(front, back, at)
+        return half_across(front, back, at);
+    }
+    let place = at - seam;
+    if place < (back.len() as u64).saturating_sub(1) {
+        Some(half_of(back, place as usize))
     } else {
         None
     }
 }
 
-/// The four bytes from a place on. A place before the seam wraps round to one past every slice's end.
+/// The four bytes from a place on.
 #[inline(always)]
 pub fn word(front: &[u8], back: &[u8], at: u64) -> Option<u32>
     ensures { result ≡ load_word (front.now ++ back.now) at }
 {
+    if let Some(word) = word_in_front(front, at) {
+        return Some(word);
+    }
     let seam = front.len() as u64;
-    if at < seam.saturating_sub(3) {
-        return Some(word_of(front, at as usize));
-    }
-    let place = at.wrapping_sub(seam);
-    if place < (back.len() as u64).saturating_sub(3) {
-        return Some(word_of(back, place as usize));
-    }
     if at < seam {
-        word_across(front, back, at)
+        return word_across(front, back, at);
+    }
+    let place = at - seam;
+    if place < (back.len() as u64).saturating_sub(3) {
+        Some(word_of(back, place as usize))
     } else {
         None
     }

@@ -1,4 +1,4 @@
-ghost use Rattle.std.specs.Prelude.{◌≡◌, ◌≤◌, ◌+◌, ◌^◌, ◌++◌, length};
+ghost use Rattle.std.specs.Prelude.{◌≡◌, ◌≤◌, ◌+◌, ◌^◌, ◌++◌, Some, IfSome, length};
 ghost use Rattle.bpf_code.specs.Loads.{load_byte, load_half, load_word};
 
 use crate::joined;
@@ -53,5 +53,14 @@ impl<'a> Pieces<'a> {
         ensures { result ≡ load_word self.now at }
     {
         joined::word(self.summary, self.message, at)
+    }
+
+    /// The four bytes from a place on, where the summary has all of them. It is quicker than `word`, which tells of every
+    /// place: `None` says nothing here.
+    #[inline(always)]
+    pub fn summary_word(&self, at: u64) -> Option<u32>
+        ensures { IfSome result (λ word. load_word self.now at ≡ Some word) }
+    {
+        joined::word_in_front(self.summary, at)
     }
 }

@@ -85,5 +85,6 @@ fn s1_image(rt: HostRuntime) -> Result<(), Fail> {
     assert_eq!(rt; pieces.half(904), Some(27652));
     assert_eq!(rt; pieces.word(960), Some(1_660_944_384));
     assert_eq!(rt; pieces.word(965), None);
+    assert_eq!(rt; pieces.summary_word(36), Some(3));
     Ok(())
 }
