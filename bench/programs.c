@@ -5,11 +5,20 @@
 #include <pcap/pcap.h>
 #include <string.h>
 
-uint64_t bench_programs_run(const uint8_t *program, size_t program_len, const uint8_t *message, size_t message_len, uint32_t edition, uint32_t turns);
+/* what is measured stands in the program once for each place */
+#define PLACES 4
+#define PLACED(place) \
+    uint64_t bench_programs_run_##place(const uint8_t *program, size_t program_len, const uint8_t *message, size_t message_len, uint32_t edition, uint32_t turns); \
+    uint64_t bench_rules_hold_##place(const uint8_t *text, size_t text_len, const uint8_t *message, size_t message_len, uint32_t turns); \
+    u_int bpf_filter_##place(const struct bpf_insn *program, const u_char *packet, u_int wire_len, u_int buffer_len);
+PLACED(0)
+PLACED(16)
+PLACED(32)
+PLACED(48)
+
 uint32_t bench_programs_steps(const uint8_t *program, size_t program_len, const uint8_t *message, size_t message_len, uint32_t edition);
 uint64_t bench_programs_image(const uint8_t *message, size_t message_len, uint32_t edition, uint32_t turns);
 size_t bench_programs_summary(const uint8_t *message, size_t message_len, uint32_t edition, uint8_t *room, size_t room_len);
-uint64_t bench_rules_hold(const uint8_t *text, size_t text_len, const uint8_t *message, size_t message_len, uint32_t turns);
 size_t bench_rules_compile(const uint8_t *text, size_t text_len, uint8_t *room, size_t room_len);
 
 #define MAX_INSTRUCTIONS 4096
@@ -53,37 +62,74 @@ static void add(uint16_t code, uint8_t jt, uint8_t jf, uint32_t k) {
     program[program_len++] = instruction;
 }
 
-static uint64_t run_here(const void *on, uint32_t turns) {
-    (void)on;
-    return bench_programs_run((const uint8_t *)program, program_len * sizeof program[0], message, message_len, edition, turns);
-}
+#define AT(place) \
+    static uint64_t run_at_##place(const void *on, uint32_t turns) { \
+        (void)on; \
+        return bench_programs_run_##place((const uint8_t *)program, program_len * sizeof program[0], message, message_len, edition, turns); \
+    } \
+    static uint64_t hold_at_##place(const void *on, uint32_t turns) { \
+        const char *rule = on; \
+        return bench_rules_hold_##place((const uint8_t *)rule, strlen(rule), message, message_len, turns); \
+    } \
+    static uint64_t filter_at_##place(const void *on, uint32_t turns) { \
+        (void)on; \
+        uint64_t sum = 0; \
+        for (uint32_t turn = 0; turn < turns; turn++) \
+            sum += bpf_filter_##place(program, image, (u_int)image_len, (u_int)image_len); \
+        return sum; \
+    }
+AT(0)
+AT(16)
+AT(32)
+AT(48)
 
-static uint64_t run_libpcap(const void *on, uint32_t turns) {
-    (void)on;
-    uint64_t sum = 0;
-    for (uint32_t turn = 0; turn < turns; turn++)
-        sum += bpf_filter(program, image, (u_int)image_len, (u_int)image_len);
-    return sum;
-}
-
-static uint64_t hold(const void *on, uint32_t turns) {
-    const char *rule = on;
-    return bench_rules_hold((const uint8_t *)rule, strlen(rule), message, message_len, turns);
-}
+typedef uint64_t (*runs[PLACES])(const void *on, uint32_t turns);
+static const runs run_here = {run_at_0, run_at_16, run_at_32, run_at_48};
+static const runs run_libpcap = {filter_at_0, filter_at_16, filter_at_32, filter_at_48};
+static const runs hold = {hold_at_0, hold_at_16, hold_at_32, hold_at_48};
 
 static uint64_t make_images(const void *on, uint32_t turns) {
     (void)on;
     return bench_programs_image(message, message_len, edition, turns);
 }
 
+/* nanoseconds of a turn at the place where it takes the least time, and where it takes the most */
+struct range {
+    double least, most;
+};
+
+static struct range range_of(const struct work *works) {
+    struct range range = {works[0].nanoseconds, works[0].nanoseconds};
+    for (size_t i = 1; i < PLACES; i++) {
+        range.least = works[i].nanoseconds < range.least ? works[i].nanoseconds : range.least;
+        range.most = works[i].nanoseconds > range.most ? works[i].nanoseconds : range.most;
+    }
+    return range;
+}
+
+/* both at all places, in the same rounds */
+static void measure_both(const runs ours, const runs other, const void *on, struct range *here, struct range *there) {
+    struct work works[2 * PLACES] = {0};
+    for (size_t i = 0; i < PLACES; i++) {
+        works[i] = (struct work){.run = ours[i], .on = on};
+        works[PLACES + i] = (struct work){.run = other[i], .on = on};
+    }
+    measure(works, 2 * PLACES);
+    *here = range_of(works);
+    *there = range_of(works + PLACES);
+}
+
+static uint32_t steps(void) {
+    return bench_programs_steps((const uint8_t *)program, program_len * sizeof program[0], message, message_len, edition);
+}
+
 static void compare(const char *name) {
-    if (run_here(NULL, 1) != run_libpcap(NULL, 1))
+    if (run_here[0](NULL, 1) != run_libpcap[0](NULL, 1))
         fail("the machines disagree");
-    struct work works[] = {{.run = run_here}, {.run = run_libpcap}};
-    measure(works, 2);
-    double here = works[0].nanoseconds, libpcap = works[1].nanoseconds;
-    uint32_t steps = bench_programs_steps((const uint8_t *)program, program_len * sizeof program[0], message, message_len, edition);
-    printf("%-28s %12zu %8u %10.0f %10.0f %8.2f\n", name, program_len, steps, here, libpcap, libpcap / here);
+    struct range here, libpcap;
+    measure_both(run_here, run_libpcap, NULL, &here, &libpcap);
+    printf("%-10s %12zu %6u %8.0f to %-8.0f %8.0f to %-8.0f %8.2f\n", name, program_len, steps(), here.least, here.most, libpcap.least, libpcap.most,
+        libpcap.least / here.least);
     program_len = 0;
 }
 
@@ -139,20 +185,20 @@ static const char *const rules[] = {
 };
 
 static void compare_rules(void) {
-    printf("\n%-54s %12s %8s %8s %10s %10s\n", "rule", "instructions", "match", "steps", "run ns", "plain ns");
+    printf("\n%-54s %12s %5s %5s %16s %16s\n", "rule", "instructions", "match", "steps", "run ns", "plain ns");
     for (size_t i = 0; i < sizeof rules / sizeof rules[0]; i++) {
         const char *rule = rules[i];
         program_len = bench_rules_compile((const uint8_t *)rule, strlen(rule), (uint8_t *)program, sizeof program) / sizeof program[0];
         if (program_len == 0)
             fail("no program");
-        uint64_t holds = hold(rule, 1);
-        if (holds != run_here(NULL, 1) || holds != run_libpcap(NULL, 1))
+        uint64_t holds = hold[0](rule, 1);
+        if (holds != run_here[0](NULL, 1) || holds != run_libpcap[0](NULL, 1))
             fail("the rule's program disagrees with the plain test");
         const char *member = strstr(rule, "member=");
-        uint32_t steps = bench_programs_steps((const uint8_t *)program, program_len * sizeof program[0], message, message_len, edition);
-        struct work works[] = {{.run = run_here}, {.run = hold, .on = rule}};
-        measure(works, 2);
-        printf("%2zu %-51.51s %12zu %8s %8u %10.1f %10.1f\n", i + 1, member ? member : rule, program_len, holds ? "yes" : "no", steps, works[0].nanoseconds, works[1].nanoseconds);
+        struct range run, plain;
+        measure_both(run_here, hold, rule, &run, &plain);
+        printf("%2zu %-51.51s %12zu %5s %5u %6.1f to %-6.1f %6.1f to %-6.1f\n", i + 1, member ? member : rule, program_len, holds ? "yes" : "no", steps(),
+            run.least, run.most, plain.least, plain.most);
     }
 }
 
@@ -161,7 +207,7 @@ int main(int count, char **paths) {
         fail("programs MESSAGE ..");
     read_message(paths[1]);
     make_image(1);
-    printf("%-28s %12s %8s %10s %10s %8s\n", "nanoseconds a run", "instructions", "steps", "dbusfan", "libpcap", "ratio");
+    printf("%-10s %12s %6s %20s %20s %8s\n", "ns a run", "instructions", "steps", "dbusfan", "libpcap", "ratio");
     straight();
     compare("straight");
     branchy();

@@ -1,3 +1,4 @@
+pub mod Memory
 pub mod Performs
 pub mod Rows
 pub mod Chains
