@@ -58,7 +58,10 @@ fn push_source(words: &mut String, source: Source) -> Result<(), AllocError> {
         Source::Header(Field::Member) => words.push_str("member"),
         Source::Header(Field::Path) => words.push_str("path"),
         Source::Header(Field::Destination) => words.push_str("destination"),
-        Source::Arg(number) => write!(words, "arg{number}"),
+        Source::Arg(n) => {
+            let n = n.number();
+            write!(words, "arg{n}")
+        }
     }
 }
 

@@ -1,4 +1,5 @@
 pub mod Rows
+pub mod ArgNumbers
 pub mod KeyEquality
 pub mod ArgNames
 pub mod SameSets

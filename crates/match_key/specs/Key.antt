@@ -2,7 +2,8 @@
 use Rattle.std.specs.Prelude.{ℕ, ◌+◌, ◌-◌, ◌*◌, Bool, false, ◌&&◌, ◌||◌, List, [], ◌∷◌, drop, length, Option, Some, None, Result, Ok, Err, codes, nat_le, ◌==◌, if◌then◌else◌}
 use Rattle.signature.specs.Name.{is_digit}
 use Rattle.match_key.specs.declared.error.RuleError.{RuleError}
-use Rattle.match_key.specs.declared.error.RuleError.TheVariants.{UnknownKey, ArgNumber}
+use Rattle.match_key.specs.declared.error.RuleError.TheVariants as errors
+use Rattle.match_key.specs.declared.arg_number.ArgNumber.{ArgNumber}
 use Rattle.match_key.specs.declared.source.Field.TheVariants.{Interface, Member, Path, Destination}
 use Rattle.match_key.specs.declared.source.Source.TheVariants.{Header, Arg}
 use Rattle.match_key.specs.declared.relation.Relation.{Relation}
@@ -10,6 +11,7 @@ use Rattle.match_key.specs.declared.relation.Relation.TheVariants.{Equal, PathNa
 use Rattle.match_key.specs.declared.key.Key.{Key}
 use Rattle.match_key.specs.declared.key.Key.TheVariants.{Kind, Sender, Eavesdrop, Compares}
 use Rattle.match_key.specs.contracts.key.KeyPartialEq.TheImpl as derived
+use Rattle.match_key.specs.ArgNumber.{max_arg, number_of_arg, arg_of_number}
 use Rattle.match_key.specs.Rows.{row_of}
 
 -- ---- the words of keys
@@ -26,10 +28,6 @@ key_words =
     ∷ (codes "destination", Compares (Header Destination) Equal)
     ∷ (codes "eavesdrop", Eavesdrop)
     ∷ []
-
--- the greatest number of an argument that a rule may ask for
-abbrev pub max_arg : ℕ
-max_arg = 63
 
 -- what may follow the number of an argument: the relation, and the greatest number that it may have
 abbrev pub arg_suffixes : List (List ℕ × (Relation × ℕ))
@@ -49,28 +47,28 @@ abbrev pub after_digits : List ℕ → List ℕ
 after_digits [] = []
 after_digits (b ∷ bs) = if is_digit b then after_digits bs else b ∷ bs
 
-abbrev pub up_to_max : ℕ → Option ℕ
-up_to_max n = if nat_le n max_arg then Some n else None
+abbrev pub up_to_max : ℕ → Option ArgNumber
+up_to_max n = if nat_le n max_arg then Some (arg_of_number n) else None
 
 -- the number of an argument: one digit, or two of which the first isn't 0
-abbrev pub arg_number : List ℕ → Option ℕ
+abbrev pub arg_number : List ℕ → Option ArgNumber
 arg_number (d ∷ []) = up_to_max (d - 48)
 arg_number (d ∷ e ∷ []) = if d == 48 then None else up_to_max (10 * (d - 48) + (e - 48))
 arg_number _ = None
 
 -- the key of an argument's number: the relation of a row, where the number isn't above the row's greatest
-abbrev pub numbered_key : Relation × ℕ → Option ℕ → Result Key RuleError
-numbered_key row None = Err ArgNumber
-numbered_key row (Some n) = if nat_le n row.1 then Ok (Compares (Arg n) row.0) else Err ArgNumber
+abbrev pub numbered_key : Relation × ℕ → Option ArgNumber → Result Key RuleError
+numbered_key row None = Err errors.ArgNumber
+numbered_key row (Some n) = if nat_le (number_of_arg n) row.1 then Ok (Compares (Arg n) row.0) else Err errors.ArgNumber
 
-abbrev pub suffixed_key : Option (Relation × ℕ) → Option ℕ → Result Key RuleError
-suffixed_key None number = Err UnknownKey
+abbrev pub suffixed_key : Option (Relation × ℕ) → Option ArgNumber → Result Key RuleError
+suffixed_key None number = Err errors.UnknownKey
 suffixed_key (Some row) number = numbered_key row number
 
 -- the key of digits and what follows them
 abbrev pub arg_key : List ℕ → List ℕ → Result Key RuleError
 arg_key digits suffix =
-    if length digits == 0 then Err UnknownKey else suffixed_key (row_of arg_suffixes suffix) (arg_number digits)
+    if length digits == 0 then Err errors.UnknownKey else suffixed_key (row_of arg_suffixes suffix) (arg_number digits)
 
 -- whether the word begins with `arg`
 abbrev pub is_of_arg : List ℕ → Bool
@@ -84,7 +82,7 @@ or_key None other = other
 -- the key of a word, or why it is none
 abbrev pub key_named : List ℕ → Result Key RuleError
 key_named word =
-    or_key (row_of key_words word) (if is_of_arg word then arg_key (digits_of (drop 3 word)) (after_digits (drop 3 word)) else Err UnknownKey)
+    or_key (row_of key_words word) (if is_of_arg word then arg_key (digits_of (drop 3 word)) (after_digits (drop 3 word)) else Err errors.UnknownKey)
 
 -- ---- keys beside one another
 

@@ -1,4 +1,5 @@
 pub mod Rows
+pub mod ArgNumber
 pub mod Errors
 pub mod Key
 pub mod Kinds

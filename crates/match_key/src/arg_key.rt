@@ -4,15 +4,13 @@ ghost use Rattle.std.specs.Prelude.{◌≡◌, true, drop, None, Some, option_ma
 ghost use Rattle.std.specs.List.{list_all};
 ghost use Rattle.signature.specs.Name.{is_digit};
 ghost use Rattle.match_key.specs.Rows.{row_of};
-ghost use Rattle.match_key.specs.Key.{arg_suffixes, digits_of, after_digits, up_to_max, arg_number, numbered_key, arg_key, is_of_arg};
+ghost use Rattle.match_key.specs.Key.{arg_suffixes, digits_of, after_digits, arg_number, numbered_key, arg_key, is_of_arg};
 
+use crate::arg_number::{ArgNumber, MAX_ARG};
 use crate::error::RuleError;
 use crate::key::Key;
 use crate::relation::Relation;
 use crate::source::Source;
-
-/// The greatest number of an argument that a rule may ask for.
-const MAX_ARG: u8 = 63;
 
 /// What follows `arg`, where a word begins so.
 pub(crate) fn after_arg(word: &[u8]) -> Option<&[u8]>
@@ -43,22 +41,15 @@ fn split_digits(bytes: &[u8]) -> (&[u8], &[u8])
     (bytes, &[])
 }
 
-/// The number, if a rule may ask for that argument.
-fn up_to_max(n: u8) -> Option<u8>
-    ensures { result ≡ up_to_max n }
-{
-    if n <= MAX_ARG { Some(n) } else { None }
-}
-
 /// The number of an argument: one digit, or two of which the first isn't 0.
-fn arg_number(digits: &[u8]) -> Option<u8>
+fn arg_number(digits: &[u8]) -> Option<ArgNumber>
     requires { list_all is_digit digits.now ≡ true }
     ensures { result ≡ arg_number digits.now }
 {
     match digits {
-        [d] => up_to_max(*d - b'0'),
+        [d] => ArgNumber::new(*d - b'0'),
         [b'0', _] => None,
-        [d, e] => up_to_max(10 * (*d - b'0') + (*e - b'0')),
+        [d, e] => ArgNumber::new(10 * (*d - b'0') + (*e - b'0')),
         _ => None,
     }
 }
@@ -79,11 +70,15 @@ fn relation_of_suffix(suffix: &[u8]) -> Option<(Relation, u8)>
 }
 
 /// The key of an argument's number, where the number isn't above the suffix's greatest.
-fn numbered_key(relation: Relation, greatest: u8, number: Option<u8>) -> Result<Key, RuleError>
+fn numbered_key(
+    relation: Relation,
+    greatest: u8,
+    number: Option<ArgNumber>,
+) -> Result<Key, RuleError>
     ensures { result ≡ numbered_key (relation, greatest) number }
 {
     match number {
-        Some(n) if n <= greatest => Ok(Key::Compares(Source::Arg(n), relation)),
+        Some(n) if n.number() <= greatest => Ok(Key::Compares(Source::Arg(n), relation)),
         _ => Err(RuleError::ArgNumber),
     }
 }

@@ -4,6 +4,7 @@
 #![tactic(auto)]
 
 mod arg_key;
+mod arg_number;
 mod error;
 mod key;
 mod kind_name;
@@ -11,6 +12,7 @@ mod laws;
 mod relation;
 mod source;
 
+pub use arg_number::ArgNumber;
 pub use error::RuleError;
 pub use key::Key;
 pub use kind_name::KindName;

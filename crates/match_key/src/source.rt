@@ -1,5 +1,7 @@
 // What conditions compare.
 
+use crate::arg_number::ArgNumber;
+
 /// A header field whose text a rule may ask for (D-Bus Specification, "Match Rules").
 #[derive(Clone, Copy, Debug, PartialEq, Eq)]
 pub enum Field {
@@ -9,9 +11,9 @@ pub enum Field {
     Destination,
 }
 
-/// Where the text stands that a condition compares: in a header field, or among the arguments, at a number from 0.
+/// Where the text stands that a condition compares: in a header field, or among the arguments.
 #[derive(Clone, Copy, Debug, PartialEq, Eq)]
 pub enum Source {
     Header(Field),
-    Arg(u8),
+    Arg(ArgNumber),
 }

@@ -6,6 +6,7 @@ use Rattle.message_view.specs.Message.{Message, member_of, interface_of, path_of
 use Rattle.message_view.specs.Spelling.{arguments_of}
 use Rattle.match_key.specs.declared.source.Field.TheVariants.{Interface, Member, Path}
 use Rattle.match_key.specs.declared.source.Source.{Source}
+use Rattle.match_key.specs.ArgNumber.{first_arg}
 use Rattle.match_key.specs.declared.source.Source.TheVariants.{Header, Arg}
 use Rattle.match_key.specs.declared.relation.Relation.{Relation}
 use Rattle.match_key.specs.declared.relation.Relation.TheVariants.{Equal}
@@ -71,5 +72,5 @@ AreFound-Holds rule m owned h = record {
   member = if_each _ _ (λ value. member_of m ≡ Some value) (is_some (member_of m)) (asked_found (Header Member) Equal rule m owned h);
   interface = if_each _ _ (λ value. interface_of m ≡ Some value) (is_some (interface_of m)) (asked_found (Header Interface) Equal rule m owned h);
   path = if_each _ _ (λ value. path_of m ≡ Some value) (is_some (path_of m)) (asked_found (Header Path) Equal rule m owned h);
-  arg0 = if_each _ _ (λ value. arg0_of m ≡ Some value) (λ value found. same_string (text_in (slice_get (arguments_of m) 0)) ∙ is_some (text_at (Arg 0) Equal m) value found) (asked_found (Arg 0) Equal rule m owned h);
+  arg0 = if_each _ _ (λ value. arg0_of m ≡ Some value) (λ value found. same_string (text_in (slice_get (arguments_of m) 0)) ∙ is_some (text_at (Arg first_arg) Equal m) value found) (asked_found (Arg first_arg) Equal rule m owned h);
 }

@@ -1,6 +1,6 @@
--- The words of keys have no blank, no `=` and no comma, and the numbers of arguments are small.
+-- The words of keys have no blank, no `=` and no comma.
 use Rattle.std.proofs.Common.{◌≡◌, ℕ, Bool, true, false, cond, List, [], ◌∷◌, ◌++◌, drop, length, refl, ap, ◌∙◌, arith}
-use Rattle.std.specs.Prelude.{Ok, Err, Option, Some, None, nat_le, not, ◌==◌, ◌&&◌}
+use Rattle.std.specs.Prelude.{Ok, Err, Option, Some, None, not, ◌==◌, ◌&&◌}
 use Rattle.std.specs.List.{list_all}
 use Rattle.std.specs.Cmp.Derive.{both_true}
 use Rattle.std.proofs.lemmas.Bool.{and_parts}
@@ -8,15 +8,13 @@ use Rattle.std.proofs.lemmas.Bool.Decides.{nat_tests}
 use Rattle.std.proofs.lemmas.List.Folds.{list_all-append}
 use Rattle.match_key.specs.declared.error.RuleError.TheVariants.{UnknownKey}
 use Rattle.match_key.specs.declared.key.Key.{Key}
-use Rattle.match_key.specs.declared.key.Key.TheVariants as keys
 use Rattle.match_key.specs.declared.relation.Relation.{Relation}
 use Rattle.match_key.specs.Rows.{row_of}
-use Rattle.match_key.specs.Key.{key_words, arg_suffixes, key_named, digits_of, after_digits, arg_number, numbered_key, suffixed_key, or_key, arg_key, is_of_arg, max_arg}
+use Rattle.match_key.specs.Key.{key_words, arg_suffixes, key_named, digits_of, after_digits, arg_number, suffixed_key, or_key, arg_key, is_of_arg}
 use Rattle.match_rule.specs.Grammar.{is_blank, comma, equals}
 use Rattle.match_rule.specs.Reading.{after_blanks, word_at}
 use Rattle.match_key.proofs.Rows.{row_found}
 use Rattle.match_key.proofs.ArgNames.{of_arg}
-use Rattle.match_rule.specs.Parts.{is_small_source}
 use Rattle.match_rule.proofs.PartReads.{guard_ok}
 
 -- a byte that may stand in the word of a key
@@ -60,51 +58,29 @@ digits_plain : (bytes : List ℕ) → list_all is_plain (digits_of bytes) ≡ tr
 digits_plain [] = refl
 digits_plain (b ∷ bs) = grind (arith, nat_tests, digits_plain bs)
 
--- a key of an argument has a number that a rule may ask for
-abbrev pub is_small_key : Key → Bool
-is_small_key (keys.Compares source relation) = is_small_source source
-is_small_key _ = true
-
-number_small : (digits : List ℕ) (k : ℕ) → arg_number digits ≡ Some k → nat_le k max_arg ≡ true
-number_small (d ∷ []) k e = grind (arith, nat_tests)
-number_small (d ∷ f ∷ []) k e = grind (arith, nat_tests)
-number_small _ k e = absurd cc
-
-numbered_small : (row : Relation × ℕ) (number : Option ℕ) (key : Key) → ((k : ℕ) → number ≡ Some k → nat_le k max_arg ≡ true) → numbered_key row number ≡ Ok key → is_small_key key ≡ true
-numbered_small row None key small e = absurd cc
-numbered_small row (Some n) key small e = let named = small n refl in grind (arith, nat_tests)
-
--- what stands after the digits of a key, and its number
-suffix_plain : (digits suffix : List ℕ) (key : Key) → arg_key digits suffix ≡ Ok key → (list_all is_plain suffix ≡ true) × (is_small_key key ≡ true)
+-- what stands after the digits of a key
+suffix_plain : (digits suffix : List ℕ) (key : Key) → arg_key digits suffix ≡ Ok key → list_all is_plain suffix ≡ true
 suffix_plain digits suffix key e = go (row_of arg_suffixes suffix) refl (guard_ok (length digits == 0) UnknownKey _ key e).1
   where
-    go : (row : Option (Relation × ℕ)) → row_of arg_suffixes suffix ≡ row → suffixed_key row (arg_number digits) ≡ Ok key → (list_all is_plain suffix ≡ true) × (is_small_key key ≡ true)
+    go : (row : Option (Relation × ℕ)) → row_of arg_suffixes suffix ≡ row → suffixed_key row (arg_number digits) ≡ Ok key → list_all is_plain suffix ≡ true
     go None is e = absurd cc
-    go (Some row) is e = (
-      row_found (λ (r : List ℕ × (Relation × ℕ)). list_all is_plain r.0) arg_suffixes suffix row refl is,
-      numbered_small row (arg_number digits) key (number_small digits) e,
-    )
+    go (Some row) is e = row_found (λ (r : List ℕ × (Relation × ℕ)). list_all is_plain r.0) arg_suffixes suffix row refl is
 
--- a key's word is plain, and its number small
-abbrev IsPlainKey : List ℕ → Key → Type 0
-IsPlainKey word key = (is_plain_word word ≡ true) × (is_small_key key ≡ true)
-
-arg_plain : (word rest : List ℕ) (key : Key) → word ≡ 97 ∷ 114 ∷ 103 ∷ rest → arg_key (digits_of rest) (after_digits rest) ≡ Ok key → IsPlainKey word key
+arg_plain : (word rest : List ℕ) (key : Key) → word ≡ 97 ∷ 114 ∷ 103 ∷ rest → arg_key (digits_of rest) (after_digits rest) ≡ Ok key → is_plain_word word ≡ true
 arg_plain word rest key is e =
-    let suffix = suffix_plain (digits_of rest) (after_digits rest) key e in
     let plain : list_all is_plain rest ≡ true =
     ap (list_all is_plain) (split_digits rest) ∙ list_all-append is_plain (digits_of rest) (after_digits rest)
-    ∙ both_true (digits_plain rest) suffix.0 in
-    (rw is plain, suffix.1)
+    ∙ both_true (digits_plain rest) (suffix_plain (digits_of rest) (after_digits rest) key e) in
+    rw is plain
 
-pub known_plain : (word : List ℕ) (key : Key) → key_named word ≡ Ok key → IsPlainKey word key
+-- a key's word is plain
+pub known_plain : (word : List ℕ) (key : Key) → key_named word ≡ Ok key → is_plain_word word ≡ true
 known_plain word key e = go (row_of key_words word) refl (is_of_arg word) refl e
   where
     go : (found : Option Key) → row_of key_words word ≡ found → (begins : Bool) → is_of_arg word ≡ begins
-        → or_key found (cond begins (arg_key (digits_of (drop 3 word)) (after_digits (drop 3 word))) (Err UnknownKey)) ≡ Ok key → IsPlainKey word key
+        → or_key found (cond begins (arg_key (digits_of (drop 3 word)) (after_digits (drop 3 word))) (Err UnknownKey)) ≡ Ok key → is_plain_word word ≡ true
     go (Some named) is begins arg e =
         let same : named ≡ key = cc in
-        and_parts (is_plain_word word) (is_small_key key)
-        (row_found (λ (r : List ℕ × Key). is_plain_word r.0 && is_small_key r.1) key_words word key refl (is ∙ ap (λ k. Some k) same))
+        row_found (λ (r : List ℕ × Key). is_plain_word r.0) key_words word key refl (is ∙ ap (λ k. Some k) same)
     go None is true arg e = arg_plain word (drop 3 word) key (of_arg word arg) e
     go None is false arg e = absurd cc

@@ -7,7 +7,7 @@ use Rattle.std.specs.Str.{bytes_eq, is_utf8}
 use Rattle.std.proofs.lemmas.Slice.Eq.{bytes_eq-Decides}
 use Rattle.signature.specs.Name.{is_bus_name}
 use Rattle.match_key.specs.declared.error.RuleError.{RuleError}
-use Rattle.match_key.specs.declared.error.RuleError.TheVariants.{UnknownKey, BadValue}
+use Rattle.match_key.specs.declared.error.RuleError.TheVariants.{UnknownKey, KeyTwice, BadValue, PathTwice}
 use Rattle.match_key.specs.declared.key.Key.{Key}
 use Rattle.match_key.specs.declared.key.Key.TheVariants as keys
 use Rattle.match_rule.specs.declared.condition.Condition.{Condition}
@@ -69,7 +69,11 @@ key_reads bytes found e =
     (w.0.0, word ∙ ap (λ (x : List ℕ). Some (w.0.0, x)) same.1, n.1 ∙ ap (λ k. Ok k) same.0)
 
 own_ok : (front : List Term) (key own : Key) → own_key front key ≡ Ok own → (has_key key front ≡ false) × (has_path key front ≡ false) × (key ≡ own)
-own_ok front key own e = (grind arith, grind arith, grind arith)
+own_ok front key own e = go (has_key key front) (has_path key front) e
+  where
+    go : (twice beside : Bool) → cond twice (Err KeyTwice) (cond beside (Err PathTwice) (Ok key)) ≡ Ok own → (twice ≡ false) × (beside ≡ false) × (key ≡ own)
+    go false false e = (refl, refl, cc)
+    go _ _ e = absurd cc
 
 pub reads_from : (front : List Term) (bytes : List ℕ) (term : Term) (rest : List ℕ) → part_at front bytes ≡ Ok (term, rest) → Reads front bytes term rest
 unfolding part_at

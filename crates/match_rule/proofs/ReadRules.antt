@@ -9,16 +9,15 @@ use Rattle.message_value.specs.Bytes.{AreBytes}
 use Rattle.signature.specs.Name.{is_bus_name}
 use Rattle.match_key.specs.declared.key.Key.TheVariants as keys
 use Rattle.match_rule.specs.declared.condition.Condition.{Condition}
-use Rattle.match_rule.specs.declared.condition.Condition.TheVariants.{Sender, Compares}
+use Rattle.match_rule.specs.declared.condition.Condition.TheVariants.{Sender}
 use Rattle.match_rule.specs.declared.term.Term.{Term}
 use Rattle.match_rule.specs.declared.term.Term.TheVariants.{Asks, Eavesdrop}
 use Rattle.match_rule.specs.Condition.{key_of, value_of, conditions_in}
 use Rattle.match_rule.specs.RuleTree.{RuleTree, weight_of}
 use Rattle.match_rule.specs.Grammar.{Part, IsPart, AreParts, pieces_value, rule_with}
 use Rattle.match_rule.specs.Reading.{terms_at}
-use Rattle.match_rule.specs.Parts.{has_one_sender, has_small_number, have_small_numbers, has_sender_name, have_sender_names}
+use Rattle.match_rule.specs.Parts.{has_one_sender, has_sender_name, have_sender_names}
 use Rattle.match_rule.specs.Gathering.{tree_at}
-use Rattle.match_rule.proofs.KeyWords.{known_plain}
 use Rattle.match_rule.proofs.PartReads.{bind_ok, asks_ok, said_text, term_is}
 use Rattle.match_rule.proofs.Turns.{read_weight}
 use Rattle.match_rule.proofs.Spelled.{rule_at-tree}
@@ -27,10 +26,6 @@ use Rattle.match_rule.proofs.OneSender.{own_keys_one_sender}
 use Rattle.match_rule.proofs.ValueBytes.{text_bytes}
 
 -- ---- what parts say of their conditions
-
-small_number : (part : Part) (c : Condition) → IsPart part (Asks c) → has_small_number c ≡ true
-small_number part (Compares source relation value) is = (known_plain part.word (keys.Compares source relation) is.known).1
-small_number part _ is = refl
 
 sender_name : (part : Part) (c : Condition) → IsPart part (Asks c) → has_sender_name c ≡ true
 sender_name part (Sender name) is =
@@ -61,7 +56,7 @@ each_passes test each parts terms said = list_all-from_AllPass test (conditions_
 -- ---- what holds of the rule
 
 pub legal : (text : List ℕ) (rule : RuleTree) → length text ≤ 1024 → tree_at text ≡ Ok rule
-    → (weight_of rule ≤ 41992) × (has_one_sender rule.conditions ≡ true) × (have_small_numbers rule.conditions ≡ true)
+    → (weight_of rule ≤ 41992) × (has_one_sender rule.conditions ≡ true)
     × All (λ c. AreBytes (value_of c)) rule.conditions × (have_sender_names rule.conditions ≡ true)
 legal text rule short e =
     let f = bind_ok (terms_at text) _ rule e in
@@ -69,7 +64,6 @@ legal text rule short e =
     let is = rule_found text rule (rule_at-tree text short ∙ e) in (
       subst (λ (r : RuleTree). weight_of r ≤ 41992) same (read_weight text f.0 short f.1),
       ap (λ (r : RuleTree). has_one_sender r.conditions) is.says ∙ own_keys_one_sender [] is.terms is.once,
-      ap (λ (r : RuleTree). have_small_numbers r.conditions) is.says ∙ each_passes has_small_number small_number is.parts is.terms is.said,
       subst (λ (r : RuleTree). All (λ c. AreBytes (value_of c)) r.conditions) (sym is.says)
           (each_said (λ c. AreBytes (value_of c)) value_bytes is.parts is.terms is.said),
       ap (λ (r : RuleTree). have_sender_names r.conditions) is.says ∙ each_passes has_sender_name sender_name is.parts is.terms is.said,

@@ -95,7 +95,7 @@ after_part_blanks : (part : Part) (term : Term) (rest : List ℕ) → IsPart par
 after_part_blanks part term rest is =
     ap after_blanks (part_regroup part.blanks part.word (pieces_bytes part.pieces) rest)
     ∙ blanks_read part.blanks (part.word ++ equals ∷ (pieces_bytes part.pieces ++ rest)) is.blank
-    ∙ word_no_blank part.word (equals ∷ (pieces_bytes part.pieces ++ rest)) (known_plain part.word (term_key term) is.known).0
+    ∙ word_no_blank part.word (equals ∷ (pieces_bytes part.pieces ++ rest)) (known_plain part.word (term_key term) is.known)
 
 part_read : (front : List Term) (part : Part) (term : Term) (tail : Option (List ℕ)) → IsPart part term → has_key (term_key term) front ≡ false → has_path (term_key term) front ≡ false → part_at front (part.word ++ equals ∷ (pieces_bytes part.pieces ++ tail_bytes tail)) ≡ Ok (term, tail_rest tail)
 part_read front part term tail is new apart =
@@ -105,7 +105,7 @@ part_read front part term tail is new apart =
       spelling = spelling;
       key = term_key term;
       value = pieces_value part.pieces;
-      has_word = word_read part.word spelling (known_plain part.word (term_key term) is.known).0;
+      has_word = word_read part.word spelling (known_plain part.word (term_key term) is.known);
       known = is.known;
       new = new;
       apart = apart;

@@ -8,6 +8,7 @@ use Rattle.match_key.specs.declared.source.Source.TheVariants.{Header, Arg}
 use Rattle.match_key.specs.declared.relation.Relation.TheVariants.{Equal}
 use Rattle.match_key.specs.declared.key.Key.{Key}
 use Rattle.match_key.specs.declared.key.Key.TheVariants as keys
+use Rattle.match_key.specs.ArgNumber.{first_arg}
 use Rattle.match_key.specs.Key.{key_eq}
 use Rattle.match_rule.specs.Condition.{key_of, value_of}
 use Rattle.match_rule.specs.Arguments.{text_in}
@@ -47,7 +48,7 @@ abbrev pub path_asked : RuleTree → Option (List ℕ)
 path_asked rule = value_asked (keys.Compares (Header Path) Equal) rule
 
 abbrev pub arg0_asked : RuleTree → Option (List ℕ)
-arg0_asked rule = value_asked (keys.Compares (Arg 0) Equal) rule
+arg0_asked rule = value_asked (keys.Compares (Arg first_arg) Equal) rule
 
 -- the texts that a rule fixes
 abbrev pub fixed_texts : RuleTree → FixedTexts

@@ -7,6 +7,7 @@ use Rattle.match_rule.specs.declared.condition.Condition.TheVariants.{Kind, Send
 use Rattle.match_key.specs.declared.source.Field.{Field}
 use Rattle.match_key.specs.declared.source.Field.TheVariants.{Interface, Member, Path, Destination}
 use Rattle.match_key.specs.declared.source.Source.{Source}
+use Rattle.match_key.specs.ArgNumber.{number_of_arg}
 use Rattle.match_key.specs.declared.source.Source.TheVariants.{Header, Arg}
 use Rattle.match_key.specs.declared.relation.Relation.{Relation}
 use Rattle.match_key.specs.declared.relation.Relation.TheVariants.{Equal, PathNamespace, NameNamespace, NestedPath}
@@ -62,7 +63,7 @@ compared_text relation (Some found) = if is_compared relation found.0 then Some 
 -- the text that a message has at a source, if it has one that the relation compares
 abbrev pub text_at : Source → Relation → Message → Option (List ℕ)
 text_at (Header field) relation m = field_of field m
-text_at (Arg n) relation m = compared_text relation (text_in (slice_get (arguments_of m) n))
+text_at (Arg n) relation m = compared_text relation (text_in (slice_get (arguments_of m) (number_of_arg n)))
 
 -- what a condition says of a message, whose sender is the primary owner of the owned names
 abbrev pub ConditionHolds : Condition → Message → (List ℕ → Bool) → Type 0

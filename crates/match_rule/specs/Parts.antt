@@ -1,12 +1,9 @@
 -- What is true of the conditions of each rule that was read (own).
-use Rattle.std.specs.Prelude.{Bool, true, false, not, ◌&&◌, List, [], ◌∷◌, nat_le}
+use Rattle.std.specs.Prelude.{Bool, true, false, not, ◌&&◌, List, [], ◌∷◌}
 use Rattle.std.specs.List.{list_all, list_any}
 use Rattle.signature.specs.Name.{is_bus_name}
 use Rattle.match_rule.specs.declared.condition.Condition.{Condition}
-use Rattle.match_rule.specs.declared.condition.Condition.TheVariants.{Sender, Compares}
-use Rattle.match_key.specs.declared.source.Source.{Source}
-use Rattle.match_key.specs.declared.source.Source.TheVariants.{Header, Arg}
-use Rattle.match_key.specs.Key.{max_arg}
+use Rattle.match_rule.specs.declared.condition.Condition.TheVariants.{Sender}
 
 abbrev pub is_sender : Condition → Bool
 is_sender (Sender name) = true
@@ -16,18 +13,6 @@ is_sender _ = false
 abbrev pub has_one_sender : List Condition → Bool
 has_one_sender [] = true
 has_one_sender (c ∷ cs) = not (is_sender c && list_any is_sender cs) && has_one_sender cs
-
--- an argument that a condition is about has a number that a rule may ask for
-abbrev pub is_small_source : Source → Bool
-is_small_source (Header field) = true
-is_small_source (Arg n) = nat_le n max_arg
-
-abbrev pub has_small_number : Condition → Bool
-has_small_number (Compares source relation value) = is_small_source source
-has_small_number _ = true
-
-abbrev pub have_small_numbers : List Condition → Bool
-have_small_numbers conditions = list_all has_small_number conditions
 
 -- the sender that a condition asks for is a bus name
 abbrev pub has_sender_name : Condition → Bool

@@ -3,6 +3,7 @@ use Rattle.std.specs.Prelude.{ℕ, List, Some, ◌==◌, if◌then◌else◌}
 use Rattle.match_key.specs.declared.source.Field.TheVariants.{Interface, Member, Path, Destination}
 use Rattle.match_key.specs.declared.source.Source.{Source}
 use Rattle.match_key.specs.declared.source.Source.TheVariants.{Header, Arg}
+use Rattle.match_key.specs.ArgNumber.{number_of_arg}
 use Rattle.match_key.specs.declared.relation.Relation.TheVariants.{Equal}
 use Rattle.match_rule.specs.declared.condition.Condition.{Condition}
 use Rattle.match_rule.specs.declared.condition.Condition.TheVariants.{Compares}
@@ -15,7 +16,7 @@ with_text (Header Interface) text texts = record { member = texts.member; interf
 with_text (Header Path) text texts = record { member = texts.member; interface = texts.interface; path = Some text; arg0 = texts.arg0 }
 with_text (Header Destination) text texts = texts
 with_text (Arg n) text texts =
-    if n == 0 then record { member = texts.member; interface = texts.interface; path = texts.path; arg0 = Some text } else texts
+    if number_of_arg n == 0 then record { member = texts.member; interface = texts.interface; path = texts.path; arg0 = Some text } else texts
 
 -- the texts of conditions, where this one stands before them
 abbrev pub with_fixed : Condition → FixedTexts → FixedTexts

@@ -5,7 +5,7 @@ ghost use Rattle.match_rule.specs.FixedTexts.{value_in, first_text, member_asked
 
 use crate::condition::Condition;
 use crate::rule::Rule;
-use match_key::{Field, Key, Relation, Source};
+use match_key::{ArgNumber, Field, Key, Relation, Source};
 use std::marker::Model;
 
 /// A text, or none, for each of the keys `member`, `interface`, `path` and `arg0`, by which an index looks rules up.
@@ -52,7 +52,7 @@ impl<'a> FixedTexts<'a> {
             Source::Header(Field::Path) => self.path = Some(text),
             Source::Header(Field::Destination) => {}
             Source::Arg(n) => {
-                if n == 0 {
+                if n.number() == 0 {
                     self.arg0 = Some(text);
                 }
             }
@@ -137,7 +137,7 @@ impl Rule {
     {
         first_value(
             self.conditions(),
-            Key::Compares(Source::Arg(0), Relation::Equal),
+            Key::Compares(Source::Arg(ArgNumber::first()), Relation::Equal),
         )
     }
 }

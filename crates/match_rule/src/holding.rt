@@ -79,7 +79,7 @@ fn text_at<'a>(source: Source, relation: Relation, view: &View<'a>) -> Option<&'
 {
     match source {
         Source::Header(field) => field_of(field, view),
-        Source::Arg(n) => compared_text(relation, argument(view, n)),
+        Source::Arg(n) => compared_text(relation, argument(view, n.number())),
     }
 }
 

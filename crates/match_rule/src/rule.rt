@@ -24,13 +24,13 @@ impl Model for Rule {
     ghost use Rattle.message_value.specs.Bytes.{AreBytes};
     ghost use Rattle.match_rule.specs.Condition.{value_of};
     ghost use Rattle.match_rule.specs.RuleTree.{RuleTree, weight_of};
-    ghost use Rattle.match_rule.specs.Parts.{has_one_sender, have_small_numbers, have_sender_names};
+    ghost use Rattle.match_rule.specs.Parts.{has_one_sender, have_sender_names};
 
     ghost Value = { RuleTree };
 
     ghost view = { λ r. record { conditions = r.conditions.items; eavesdrops = r.eavesdrops } };
 
-    ghost invariant = { λ r. weight_of (record { conditions = r.conditions.items; eavesdrops = r.eavesdrops }) ≤ 41992 × (has_one_sender r.conditions.items ≡ true) × (have_small_numbers r.conditions.items ≡ true) × All (λ c. AreBytes (value_of c)) r.conditions.items × (have_sender_names r.conditions.items ≡ true) };
+    ghost invariant = { λ r. weight_of (record { conditions = r.conditions.items; eavesdrops = r.eavesdrops }) ≤ 41992 × (has_one_sender r.conditions.items ≡ true) × All (λ c. AreBytes (value_of c)) r.conditions.items × (have_sender_names r.conditions.items ≡ true) };
 }
 
 impl Rule {
@@ -44,7 +44,7 @@ impl Rule {
     ghost use Rattle.match_rule.specs.Grammar.{ReadsAs};
     ghost use Rattle.match_rule.specs.Reading.{Gives, rule_at};
     ghost use Rattle.match_rule.specs.Condition.{value_of};
-    ghost use Rattle.match_rule.specs.Parts.{has_one_sender, have_small_numbers, have_sender_names};
+    ghost use Rattle.match_rule.specs.Parts.{has_one_sender, have_sender_names};
 
     /// Reads a rule.
     pub fn read(alloc: Global, text: &str) -> Result<Rule, RuleError>
@@ -68,8 +68,6 @@ impl Rule {
     /// The conditions, in the order of the text.
     pub fn conditions(&self) -> &[Condition]
         ensures value { result.now ≡ self.now.conditions }
-        // The number of an argument is at most 63.
-        ensures numbers { have_small_numbers self.now.conditions ≡ true }
         // At most one condition asks for a sender.
         ensures one_sender { has_one_sender self.now.conditions ≡ true }
         // The sender that a condition asks for is a bus name.

@@ -182,7 +182,6 @@ all_between p [] back e h = and_parts (p e) (list_all p back) h
 all_between p (x ∷ front) back e h =
     let rest = all_between p front back e (and_parts (p x) (list_all p (front ++ e ∷ back)) h).1 in
     (rest.0, and_from (p x) (list_all p (front ++ back)) (and_parts (p x) (list_all p (front ++ e ∷ back)) h).0 rest.1)
-  where
 
 -- those that fail a test that the entry passes
 pub filter_between : (p : Entry → Bool) (front back : List Entry) (e : Entry) → p e ≡ true → filter (λ (f : Entry). not (p f)) (front ++ e ∷ back) ≡ filter (λ (f : Entry). not (p f)) (front ++ back)

@@ -2,7 +2,7 @@
 use Rattle.std.proofs.Common.{◌≡◌, ℕ, zero, suc, ◌+◌, ◌*◌, ◌/◌, ◌%◌, ◌^◌, ◌<◌, Bool, true, false, not, List, [], ◌∷◌, ◌++◌, length, eqb, Option, Some, None, ◌⊎◌, ◌↔◌, inl, inr, refl, sym, ap, ◌∙◌, arith, subst, slice_get, slice_index, MatchBool, if◌then◌else◌, bytes_eq}
 use Rattle.std.specs.Prelude.{IsSomeAnd}
 use Rattle.std.specs.Int.{bit_at}
-use Rattle.std.proofs.lemmas.Bool.{false≢true, eqb-true, eq-eqb, ne_eqb, leb-true}
+use Rattle.std.proofs.lemmas.Bool.{false≢true, eqb-true, eq-eqb, ne_eqb}
 use Rattle.std.proofs.lemmas.Nat.{pow_pos}
 use Rattle.std.proofs.lemmas.Nat.Bits.{and_pow, bit_at-lt}
 use Rattle.std.proofs.lemmas.Slice.Eq.{bytes_eq-Decides}
@@ -29,7 +29,8 @@ use Rattle.match_rule.specs.declared.condition.Condition.TheVariants.{Kind, Send
 use Rattle.match_key.specs.Kinds.{kind_meant}
 use Rattle.match_rule.specs.Condition.{value_of}
 use Rattle.match_rule.specs.Holds.{Begins, InPathNamespace, InNamespace, AreNested, Relates, field_of, ConditionHolds}
-use Rattle.match_rule.specs.Parts.{has_small_number}
+use Rattle.match_key.specs.ArgNumber.{number_of_arg}
+use Rattle.match_key.proofs.ArgNumbers.{number_small}
 use Rattle.match_rule.specs.RuleTree.{is_owned_name}
 use Rattle.summary.specs.declared.edition.Edition.TheVariants.{Two}
 use Rattle.summary.specs.Sets.{has_slot}
@@ -161,12 +162,13 @@ abbrev pub SlotFits : List ℕ → ℕ → (List ℕ → Bool) → Condition →
 SlotFits slots slot owned (Sender name) = is_owned_name name ≡ true → owned name ≡ has_slot slots slot
 SlotFits slots slot owned _ = Unit {0}
 
-pub turn_condition : (image bytes : List ℕ) (m : Message) (slots : List ℕ) (owned : List ℕ → Bool) (slot : ℕ) (c : Condition) → Valid bytes m → Shows Two image m slots → slot < 1024 → SlotFits slots slot owned c → has_small_number c ≡ true → AreBytes (value_of c) → InTurn image (ConditionHolds c m owned) (condition_words slot c) (condition_bytes c)
-turn_condition image bytes m slots owned slot (Kind kind) valid shows slot_small fits small are =
+pub turn_condition : (image bytes : List ℕ) (m : Message) (slots : List ℕ) (owned : List ℕ → Bool) (slot : ℕ) (c : Condition) → Valid bytes m → Shows Two image m slots → slot < 1024 → SlotFits slots slot owned c → AreBytes (value_of c) → InTurn image (ConditionHolds c m owned) (condition_words slot c) (condition_bytes c)
+turn_condition image bytes m slots owned slot (Kind kind) valid shows slot_small fits are =
     turn_first image _ (condition_words slot (Kind kind)) (tests_kind image m.kind kind shows.kind valid.kind)
-turn_condition image bytes m slots owned slot (Sender name) valid shows slot_small fits small are =
+turn_condition image bytes m slots owned slot (Sender name) valid shows slot_small fits are =
     turn_sender image slots slot name (sender_of m) (is_owned_name name) (owned name) (shows.owned slot slot_small) shows.sender are fits
-turn_condition image bytes m slots owned slot (Compares (Header field) relation value) valid shows slot_small fits small are =
+turn_condition image bytes m slots owned slot (Compares (Header field) relation value) valid shows slot_small fits are =
     turn_shown relation image (words_at (Header field)) (field_of field m) value (shows_field image slots m field shows) are
-turn_condition image bytes m slots owned slot (Compares (Arg n) relation value) valid shows slot_small fits small are =
-    turn_argument image n relation (slice_get (arguments_of m) n) (λ text. Relates relation text value) (relation_len relation (argument_place n + 4) value) (relation_bytes relation (argument_place n + 4) value) (shows.argument n (let l = leb-true n 63 small in omega arith)) (λ a is text. argument_has_text bytes m n a valid is text) (extends_len relation (argument_place n + 4) value) (extends_relation relation (argument_place n + 4) value) (λ text tells. turn_told relation image (argument_place n + 4) text value tells are)
+turn_condition image bytes m slots owned slot (Compares (Arg n) relation value) valid shows slot_small fits are =
+    let k : ℕ = number_of_arg n in
+    turn_argument image k relation (slice_get (arguments_of m) k) (λ text. Relates relation text value) (relation_len relation (argument_place k + 4) value) (relation_bytes relation (argument_place k + 4) value) (shows.argument k (let l = number_small n in omega arith)) (λ a is text. argument_has_text bytes m k a valid is text) (extends_len relation (argument_place k + 4) value) (extends_relation relation (argument_place k + 4) value) (λ text tells. turn_told relation image (argument_place k + 4) text value tells are)

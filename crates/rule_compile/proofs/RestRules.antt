@@ -2,7 +2,7 @@
 use Rattle.std.proofs.Common.{◌≡◌, inr, ℕ, ◌≤◌, Bool, true, false, not, ◌&&◌, cond, List, [], ◌∷◌, filter, Option, Some, None, refl, ap, sym, subst, ◌∙◌, arith, All, IfSome}
 use Rattle.std.specs.Prelude.{◌↔◌, ◌==◌, MatchBool, IsSomeAnd, sum_by, slice_get, if◌then◌else◌}
 use Rattle.std.specs.List.{list_any}
-use Rattle.std.proofs.lemmas.Bool.{false≢true, true≢false, eqb-true, and_parts, not-false, and_from}
+use Rattle.std.proofs.lemmas.Bool.{false≢true, true≢false, eqb-true, and_parts, not-false}
 use Rattle.std.proofs.lemmas.List.Elements.{All-nil, All-cons, All-head, All-tail, All-filter}
 use Rattle.std.proofs.lemmas.List.Sums.{sum_by-cons}
 use Rattle.std.proofs.lemmas.Slice.Eq.{bytes_eq-Decides}
@@ -10,6 +10,9 @@ use Rattle.message_view.specs.Message.{Message, path_of, interface_of, member_of
 use Rattle.message_view.specs.Spelling.{arguments_of}
 use Rattle.match_key.specs.declared.source.Field.TheVariants.{Interface, Member, Path, Destination}
 use Rattle.match_key.specs.declared.source.Source.{Source}
+use Rattle.match_key.specs.declared.arg_number.ArgNumber.{ArgNumber}
+use Rattle.match_key.specs.ArgNumber.{number_of_arg, first_arg}
+use Rattle.match_key.proofs.ArgNumbers.{first_alone}
 use Rattle.match_key.specs.declared.source.Source.TheVariants.{Header, Arg}
 use Rattle.match_key.specs.declared.relation.Relation.TheVariants as relations
 use Rattle.match_rule.specs.declared.condition.Condition.{Condition}
@@ -19,7 +22,7 @@ use Rattle.match_rule.specs.Condition.{value_of}
 use Rattle.message_value.specs.Bytes.{AreBytes}
 use Rattle.match_rule.specs.Envelope.{is_of_envelope, ConditionFits, EnvelopeFits}
 use Rattle.match_rule.specs.FixedTexts.{member_asked, interface_asked, path_asked, arg0_asked, arg0_of, fixed_texts, texts_of, AreFound}
-use Rattle.match_rule.specs.Parts.{is_sender, has_one_sender, has_small_number, have_small_numbers}
+use Rattle.match_rule.specs.Parts.{is_sender, has_one_sender}
 use Rattle.match_rule.specs.RuleTree.{RuleTree, condition_weight, weight_of, is_owned_name, owned_name_in, or_else, first_owned_name, sender_name_of}
 use Rattle.match_rule.specs.Holds.{Holds, ConditionHolds, text_at}
 use Rattle.bpf_code.specs.declared.instruction.Ins.{Ins}
@@ -76,14 +79,6 @@ one_kept p (c ∷ cs) one = go (p c) (one_kept p cs (one_of (is_sender c) (list_
     go true more = still_one (is_sender c) (list_any is_sender cs) (list_any is_sender (filter p cs)) (has_one_sender cs) (none_kept is_sender p cs) one (has_one_sender (filter p cs)) more
     go false more = more
 
-numbers_kept : (p : Condition → Bool) (cs : List Condition) → have_small_numbers cs ≡ true → have_small_numbers (filter p cs) ≡ true
-numbers_kept p [] small = refl
-numbers_kept p (c ∷ cs) small = go (p c) (numbers_kept p cs (and_parts (has_small_number c) (have_small_numbers cs) small).1)
-  where
-    go : (b : Bool) → have_small_numbers (filter p cs) ≡ true → have_small_numbers (cond b (c ∷ filter p cs) (filter p cs)) ≡ true
-    go true more = and_from (has_small_number c) (have_small_numbers (filter p cs)) (and_parts (has_small_number c) (have_small_numbers cs) small).0 more
-    go false more = more
-
 weight_kept : (p : Condition → Bool) (cs : List Condition) → sum_by condition_weight (filter p cs) ≤ sum_by condition_weight cs
 weight_kept p [] = omega arith
 weight_kept p (c ∷ cs) = go (p c) (weight_kept p cs)
@@ -109,9 +104,6 @@ same_sender tested rule = names_kept (is_tested tested) (keeps_names tested) rul
 
 pub one_sender : (tested : Tested) (rule : RuleTree) → has_one_sender rule.conditions ≡ true → has_one_sender (tested_of tested rule).conditions ≡ true
 one_sender tested rule = one_kept (is_tested tested) rule.conditions
-
-pub small_numbers : (tested : Tested) (rule : RuleTree) → have_small_numbers rule.conditions ≡ true → have_small_numbers (tested_of tested rule).conditions ≡ true
-small_numbers tested rule = numbers_kept (is_tested tested) rule.conditions
 
 pub same_bytes : (tested : Tested) (rule : RuleTree) → All (λ c. AreBytes (value_of c)) rule.conditions → All (λ c. AreBytes (value_of c)) (tested_of tested rule).conditions
 same_bytes tested rule are = All-filter (is_tested tested) (λ c. AreBytes (value_of c)) rule.conditions are
@@ -153,14 +145,14 @@ fitting_holds (Sender name) m owned of fits = go (is_owned_name name) of fits
 fitting_holds (Compares source relation value) m owned of fits = absurd (false≢true of)
 
 module _ (rule : RuleTree) (m : Message) (owned : List ℕ → Bool) (found : AreFound (fixed_texts rule) (texts_of m)) (fits : EnvelopeFits rule m) where
-  arg_fixed : (n : ℕ) (value : List ℕ) → is_fixed (fixed_source rule (Arg n)) value ≡ true → IsSomeAnd (text_at (Arg n) relations.Equal m) (λ text. text ≡ value)
-  arg_fixed n value e = go (n == 0) refl e
+  arg_fixed : (n : ArgNumber) (value : List ℕ) → is_fixed (fixed_source rule (Arg n)) value ≡ true → IsSomeAnd (text_at (Arg n) relations.Equal m) (λ text. text ≡ value)
+  arg_fixed n value e = go (number_of_arg n == 0) refl e
     where
-      go : (b : Bool) → (n == 0) ≡ b → is_fixed (if b then arg0_asked rule else None) value ≡ true → IsSomeAnd (text_at (Arg n) relations.Equal m) (λ text. text ≡ value)
+      go : (b : Bool) → (number_of_arg n == 0) ≡ b → is_fixed (if b then arg0_asked rule else None) value ≡ true → IsSomeAnd (text_at (Arg n) relations.Equal m) (λ text. text ≡ value)
       go true zeroth e =
           let is = fixed_text_is (arg0_asked rule) value (λ text. arg0_of m ≡ Some text) e found.arg0 in
-          let at_zero = there (text_at (Arg 0) relations.Equal m) value (sym (same_string (text_in (slice_get (arguments_of m) 0))) ∙ is) in
-          subst (λ (k : ℕ). IsSomeAnd (text_at (Arg k) relations.Equal m) (λ text. text ≡ value)) (sym (eqb-true n 0 zeroth)) at_zero
+          let at_zero = there (text_at (Arg first_arg) relations.Equal m) value (sym (same_string (text_in (slice_get (arguments_of m) 0))) ∙ is) in
+          subst (λ (k : ArgNumber). IsSomeAnd (text_at (Arg k) relations.Equal m) (λ text. text ≡ value)) (sym (first_alone n (eqb-true (number_of_arg n) 0 zeroth))) at_zero
       go false other e = absurd (false≢true e)
 
   -- a text that the rule fixes is found

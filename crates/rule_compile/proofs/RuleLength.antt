@@ -11,6 +11,7 @@ use Rattle.bpf_code.specs.declared.operation.Test.TheVariants.{Equal, Above, AtL
 use Rattle.bpf_code.specs.Table.{op_of}
 use Rattle.jump_islands.specs.PlainLength.{is_far, count, span, size_of, sizes_of, plain_length}
 use Rattle.match_rule.specs.Bytes.{ends_with}
+use Rattle.match_key.specs.ArgNumber.{number_of_arg}
 use Rattle.match_key.specs.declared.source.Source.TheVariants.{Header, Arg}
 use Rattle.match_key.specs.declared.relation.Relation.{Relation}
 use Rattle.match_key.specs.declared.relation.Relation.TheVariants as relations
@@ -214,8 +215,9 @@ words_within slot (Compares (Header field) relation value) rest =
     let tail = relation_len relation (words_at (Header field)) value rest in
     omega (arith, there_code_total relation (words_at (Header field)) tail, relation_len_total relation (words_at (Header field)) value rest)
 words_within slot (Compares (Arg n) relation value) rest =
-    let tail = relation_len relation (argument_place n + 4) value rest in
-    omega (arith, type_code_total relation n tail, relation_len_total relation (argument_place n + 4) value rest)
+    let k : ℕ = number_of_arg n in
+    let tail = relation_len relation (argument_place k + 4) value rest in
+    omega (arith, type_code_total relation k tail, relation_len_total relation (argument_place k + 4) value rest)
 
 bytes_within : (slot : ℕ) → IsWithin bytes_weight (part_code Bytes slot)
 bytes_within slot (Kind kind) rest = omega arith

@@ -1,6 +1,6 @@
 -- What the program of a rule does: it says whether the rule holds.
 use Rattle.std.proofs.Common.{◌≡◌, ℕ, zero, suc, ◌<◌, Bool, true, false, not, ◌&&◌, List, [], ◌∷◌, get_or, eqb, Option, Some, None, ◌⊎◌, ◌↔◌, inl, inr, refl, arith, if◌then◌else◌, All, IfSome}
-use Rattle.std.proofs.lemmas.Bool.{false≢true, true≢false, cases_eq, eqb-true, eqb-false, and_parts}
+use Rattle.std.proofs.lemmas.Bool.{false≢true, true≢false, cases_eq, eqb-true, eqb-false}
 use Rattle.std.proofs.lemmas.List.Elements.{All-nil, All-cons, All-head, All-tail}
 use Rattle.std.specs.List.{list_any}
 use Rattle.std.specs.Prelude.{unwrap_or}
@@ -18,7 +18,7 @@ use Rattle.match_rule.specs.declared.condition.Condition.{Condition}
 use Rattle.match_rule.specs.declared.condition.Condition.TheVariants.{Sender, Compares}
 use Rattle.match_rule.specs.Condition.{value_of}
 use Rattle.match_rule.specs.Holds.{ConditionHolds, Holds}
-use Rattle.match_rule.specs.Parts.{is_sender, has_one_sender, has_small_number, have_small_numbers}
+use Rattle.match_rule.specs.Parts.{is_sender, has_one_sender}
 use Rattle.match_rule.specs.RuleTree.{RuleTree, is_owned_name, or_else, first_owned_name}
 use Rattle.summary.specs.declared.edition.Edition.TheVariants.{Two}
 use Rattle.summary.specs.ImageBytes.{image_bytes}
@@ -145,12 +145,11 @@ pub slot_small : (slot : Option ℕ) → IfSome slot (λ s. s < 1024) → unwrap
 slot_small None small = omega arith
 slot_small (Some s) small = small
 
-each_tests : (image bytes : List ℕ) (m : Message) (slots : List ℕ) (owned : List ℕ → Bool) (slot : ℕ) (cs : List Condition) → Valid bytes m → Shows Two image m slots → slot < 1024 → All (SlotFits slots slot owned) cs → have_small_numbers cs ≡ true → All (λ c. AreBytes (value_of c)) cs → EachTests image (λ c. ConditionHolds c m owned) (part_code Words slot) (part_code Bytes slot) cs
-each_tests image bytes m slots owned slot [] valid shows small fits numbers are =
+each_tests : (image bytes : List ℕ) (m : Message) (slots : List ℕ) (owned : List ℕ → Bool) (slot : ℕ) (cs : List Condition) → Valid bytes m → Shows Two image m slots → slot < 1024 → All (SlotFits slots slot owned) cs → All (λ c. AreBytes (value_of c)) cs → EachTests image (λ c. ConditionHolds c m owned) (part_code Words slot) (part_code Bytes slot) cs
+each_tests image bytes m slots owned slot [] valid shows small fits are =
     All-nil (λ c. InTurn image (ConditionHolds c m owned) (part_code Words slot c) (part_code Bytes slot c))
-each_tests image bytes m slots owned slot (c ∷ cs) valid shows small fits numbers are =
-    let n = and_parts (has_small_number c) (have_small_numbers cs) numbers in
-    All-cons (λ c. InTurn image (ConditionHolds c m owned) (part_code Words slot c) (part_code Bytes slot c)) c cs (turn_condition image bytes m slots owned slot c valid shows small (All-head (SlotFits slots slot owned) c cs fits) n.0 (All-head (λ c. AreBytes (value_of c)) c cs are)) (each_tests image bytes m slots owned slot cs valid shows small (All-tail (SlotFits slots slot owned) c cs fits) n.1 (All-tail (λ c. AreBytes (value_of c)) c cs are))
+each_tests image bytes m slots owned slot (c ∷ cs) valid shows small fits are =
+    All-cons (λ c. InTurn image (ConditionHolds c m owned) (part_code Words slot c) (part_code Bytes slot c)) c cs (turn_condition image bytes m slots owned slot c valid shows small (All-head (SlotFits slots slot owned) c cs fits) (All-head (λ c. AreBytes (value_of c)) c cs are)) (each_tests image bytes m slots owned slot cs valid shows small (All-tail (SlotFits slots slot owned) c cs fits) (All-tail (λ c. AreBytes (value_of c)) c cs are))
 
 -- ---- the rule
 
@@ -158,12 +157,12 @@ guarded_verdicts : Guarded verdicts
 guarded_verdicts = (returns 1 ∷ [], refl)
 
 -- what the program of a rule tests of any image that shows the message
-tests_rule : (image bytes : List ℕ) (m : Message) (slots : List ℕ) (owned : List ℕ → Bool) (rule : RuleTree) (slot : ℕ) → Valid bytes m → Shows Two image m slots → slot < 1024 → All (SlotFits slots slot owned) rule.conditions → have_small_numbers rule.conditions ≡ true → All (λ c. AreBytes (value_of c)) rule.conditions → Tests image Any (Holds rule m owned) (λ rest. all_parts slot rule.conditions (destination_fits rule.eavesdrops rest))
-tests_rule image bytes m slots owned rule slot valid shows small fits numbers are =
+tests_rule : (image bytes : List ℕ) (m : Message) (slots : List ℕ) (owned : List ℕ → Bool) (rule : RuleTree) (slot : ℕ) → Valid bytes m → Shows Two image m slots → slot < 1024 → All (SlotFits slots slot owned) rule.conditions → All (λ c. AreBytes (value_of c)) rule.conditions → Tests image Any (Holds rule m owned) (λ rest. all_parts slot rule.conditions (destination_fits rule.eavesdrops rest))
+tests_rule image bytes m slots owned rule slot valid shows small fits are =
     tests_same image Any _ _ (λ rest. all_parts slot rule.conditions (destination_fits rule.eavesdrops rest)) (
       λ both. record { each = both.0; destination_fits = both.1 },
       λ holds. (holds.each, holds.destination_fits),
-    ) (tests_both image Any (All (λ c. ConditionHolds c m owned) rule.conditions) ((destination_of m ≡ None) ⊎ (rule.eavesdrops ≡ true)) (all_parts slot rule.conditions) (destination_fits rule.eavesdrops) (tests_conditions image slot (λ c. ConditionHolds c m owned) rule.conditions (each_tests image bytes m slots owned slot rule.conditions valid shows small fits numbers are)) (tests_offered image (destination_of m) rule.eavesdrops shows.destination))
+    ) (tests_both image Any (All (λ c. ConditionHolds c m owned) rule.conditions) ((destination_of m ≡ None) ⊎ (rule.eavesdrops ≡ true)) (all_parts slot rule.conditions) (destination_fits rule.eavesdrops) (tests_conditions image slot (λ c. ConditionHolds c m owned) rule.conditions (each_tests image bytes m slots owned slot rule.conditions valid shows small fits are)) (tests_offered image (destination_of m) rule.eavesdrops shows.destination))
 
 -- a program that tests a fact ends, with 1 where the fact holds and with 0 where it doesn't
 verdict : (image : List ℕ) (P : Type 0) (f : List Ins → List Ins) → Tests image Any P f → (v : ℕ) × (n : ℕ) × Ends (f verdicts) image v n × ((0 < v) ↔ P)
@@ -173,8 +172,8 @@ verdict image P f t = elim t.decided [
 ]
 
 -- the program of a rule ends on the image of a message, with a verdict that is nonzero exactly where the rule holds
-pub rule_runs : (bytes : List ℕ) (m : Message) (slots : List ℕ) (owned : List ℕ → Bool) (rule : RuleTree) (slot : Option ℕ) → Valid bytes m → Shows Two (image_bytes Two m slots) m slots → IsSlotOf slot rule → AgreeOn rule slot owned slots → has_one_sender rule.conditions ≡ true → have_small_numbers rule.conditions ≡ true → All (λ c. AreBytes (value_of c)) rule.conditions → (v : ℕ) × (n : ℕ) × Ends (rule_code (unwrap_or slot 0) rule) (image_bytes Two m slots) v n × ((0 < v) ↔ Holds rule m owned)
-rule_runs bytes m slots owned rule slot valid shows is agree one numbers are =
+pub rule_runs : (bytes : List ℕ) (m : Message) (slots : List ℕ) (owned : List ℕ → Bool) (rule : RuleTree) (slot : Option ℕ) → Valid bytes m → Shows Two (image_bytes Two m slots) m slots → IsSlotOf slot rule → AgreeOn rule slot owned slots → has_one_sender rule.conditions ≡ true → All (λ c. AreBytes (value_of c)) rule.conditions → (v : ℕ) × (n : ℕ) × Ends (rule_code (unwrap_or slot 0) rule) (image_bytes Two m slots) v n × ((0 < v) ↔ Holds rule m owned)
+rule_runs bytes m slots owned rule slot valid shows is agree one are =
     let image : List ℕ = image_bytes Two m slots in
     let fits = slots_fit slots (unwrap_or slot 0) owned rule.conditions one agree in
-    verdict image (Holds rule m owned) (λ rest. all_parts (unwrap_or slot 0) rule.conditions (destination_fits rule.eavesdrops rest)) (tests_rule image bytes m slots owned rule (unwrap_or slot 0) valid shows (slot_small slot is.small) fits numbers are)
+    verdict image (Holds rule m owned) (λ rest. all_parts (unwrap_or slot 0) rule.conditions (destination_fits rule.eavesdrops rest)) (tests_rule image bytes m slots owned rule (unwrap_or slot 0) valid shows (slot_small slot is.small) fits are)

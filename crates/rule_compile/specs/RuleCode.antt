@@ -7,6 +7,7 @@ use Rattle.message_view.specs.declared.extent.TextField.TheVariants as texts
 use Rattle.message_view.specs.Header.{kind_byte}
 use Rattle.match_key.specs.declared.source.Field.TheVariants.{Interface, Member, Path, Destination}
 use Rattle.match_key.specs.declared.source.Source.{Source}
+use Rattle.match_key.specs.ArgNumber.{number_of_arg}
 use Rattle.match_key.specs.declared.source.Source.TheVariants.{Header, Arg}
 use Rattle.match_key.specs.declared.relation.Relation.{Relation}
 use Rattle.match_key.specs.declared.relation.Relation.TheVariants as relations
@@ -40,7 +41,7 @@ words_at (Header Path) = text_place texts.Path
 words_at (Header Interface) = text_place texts.Interface
 words_at (Header Member) = text_place texts.Member
 words_at (Header Destination) = text_place texts.Destination
-words_at (Arg n) = argument_place n + 4
+words_at (Arg n) = argument_place (number_of_arg n) + 4
 
 -- the text has a length that a text in the relation to the value may have; in the namespace of `/` is any path
 abbrev pub relation_len : Relation → ℕ → List ℕ → List Ins → List Ins
@@ -71,7 +72,7 @@ type_code _ n rest = has_type n 115 rest
 -- the source has a text of a type that the relation compares
 abbrev pub source_code : Source → Relation → List Ins → List Ins
 source_code (Header field) relation rest = there_code relation (words_at (Header field)) rest
-source_code (Arg n) relation rest = type_code relation n rest
+source_code (Arg n) relation rest = type_code relation (number_of_arg n) rest
 
 -- ---- the two parts of a condition's piece
 

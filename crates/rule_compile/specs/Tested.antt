@@ -4,6 +4,7 @@ use Rattle.std.specs.Str.{bytes_eq}
 use Rattle.match_key.specs.declared.source.Field.{Field}
 use Rattle.match_key.specs.declared.source.Field.TheVariants.{Interface, Member, Path, Destination}
 use Rattle.match_key.specs.declared.source.Source.{Source}
+use Rattle.match_key.specs.ArgNumber.{number_of_arg}
 use Rattle.match_key.specs.declared.source.Source.TheVariants.{Header, Arg}
 use Rattle.match_key.specs.declared.relation.Relation.{Relation}
 use Rattle.match_key.specs.declared.relation.Relation.TheVariants as relations
@@ -29,7 +30,7 @@ fixed_field rule Destination = None
 
 abbrev pub fixed_source : RuleTree → Source → Option (List ℕ)
 fixed_source rule (Header field) = fixed_field rule field
-fixed_source rule (Arg n) = if n == 0 then arg0_asked rule else None
+fixed_source rule (Arg n) = if number_of_arg n == 0 then arg0_asked rule else None
 
 -- the text that a rule fixes of a source: only equality fixes one
 abbrev pub fixed_text : RuleTree → Relation → Source → Option (List ℕ)

@@ -32,7 +32,7 @@ fn words_at(source: Source) -> u16
         Source::Header(Field::Interface) => text_place(TextField::Interface),
         Source::Header(Field::Member) => text_place(TextField::Member),
         Source::Header(Field::Destination) => text_place(TextField::Destination),
-        Source::Arg(n) => argument_place(n) + 4,
+        Source::Arg(n) => argument_place(n.number()) + 4,
     }
 }
 
@@ -110,9 +110,9 @@ impl Code {
                 Relation::Equal | Relation::PathNamespace | Relation::NameNamespace => Ok(()),
             },
             Source::Arg(n) => match relation {
-                Relation::NestedPath => self.has_text_type(n),
+                Relation::NestedPath => self.has_text_type(n.number()),
                 Relation::Equal | Relation::PathNamespace | Relation::NameNamespace => {
-                    self.has_type(n, b's')
+                    self.has_type(n.number(), b's')
                 }
             },
         }

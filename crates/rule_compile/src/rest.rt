@@ -33,7 +33,7 @@ fn fixed_source(rule: &Rule, source: Source) -> Option<&str>
 {
     match source {
         Source::Header(field) => fixed_field(rule, field),
-        Source::Arg(n) => { if n == 0 { rule.arg0() } else { None } }
+        Source::Arg(n) => { if n.number() == 0 { rule.arg0() } else { None } }
     }
 }
 

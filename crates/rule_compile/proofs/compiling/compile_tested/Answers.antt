@@ -13,7 +13,7 @@ use Rattle.summary.proofs.ImageShows.{image_shows}
 use Rattle.rule_compile.proofs.RuleLength.{rule_length}
 use Rattle.rule_compile.proofs.RuleRuns.{rule_runs}
 use Rattle.rule_compile.proofs.CompiledRule.{Decides, compiled, refused}
-use Rattle.rule_compile.proofs.RestRules.{one_sender, small_numbers, same_bytes, no_heavier, same_slot}
+use Rattle.rule_compile.proofs.RestRules.{one_sender, same_bytes, no_heavier, same_slot}
 use Rattle.rule_compile.proofs.compiling.compile_tested.Goals as goal
 
 -- the code of the tested conditions of a rule of which each part is known
@@ -42,5 +42,5 @@ returns-clause-compiled c =
     let code : List Ins = rule_code (unwrap_or slot 0) left in
     let same : c.in_ok-code.code ≡ code = code_is _ (unwrap_or slot 0) tested rule _ _ _ c.in_ok-code.ensures.value c.unwrap_or-slot.ensures c.conditions.ensures.value c.eavesdrops.ensures in
     let fits : IsSlotOf slot left = same_slot tested rule slot c.requires in
-    let decides : Decides left slot code = (λ bytes m slots owned valid set agree. rule_runs bytes m slots owned left slot valid (image_shows Two bytes m slots valid set.size set.bits) fits agree (one_sender tested rule c.conditions.ensures.one_sender) (small_numbers tested rule c.conditions.ensures.numbers) (same_bytes tested rule c.conditions.ensures.bytes)) in
+    let decides : Decides left slot code = (λ bytes m slots owned valid set agree. rule_runs bytes m slots owned left slot valid (image_shows Two bytes m slots valid set.size set.bits) fits agree (one_sender tested rule c.conditions.ensures.one_sender) (same_bytes tested rule c.conditions.ensures.bytes)) in
     rw c.verified_program.ensures (compiled left slot code c.in_ok-program.program.items (rw same at c.in_ok-program.ensures.lowered) decides)
