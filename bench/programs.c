@@ -93,30 +93,32 @@ static uint64_t make_images(const void *on, uint32_t turns) {
     return bench_programs_image(message, message_len, edition, turns);
 }
 
-/* nanoseconds of a turn at the place where it takes the least time, and where it takes the most */
-struct range {
-    double least, most;
+/* nanoseconds of a turn: the mean of the places, the least and the most */
+struct times {
+    double mean, least, most;
 };
 
-static struct range range_of(const struct work *works) {
-    struct range range = {works[0].nanoseconds, works[0].nanoseconds};
-    for (size_t i = 1; i < PLACES; i++) {
-        range.least = works[i].nanoseconds < range.least ? works[i].nanoseconds : range.least;
-        range.most = works[i].nanoseconds > range.most ? works[i].nanoseconds : range.most;
+static struct times times_of(const struct work *works) {
+    struct times times = {0, works[0].nanoseconds, works[0].nanoseconds};
+    for (size_t i = 0; i < PLACES; i++) {
+        double here = works[i].nanoseconds;
+        times.mean += here / PLACES;
+        times.least = here < times.least ? here : times.least;
+        times.most = here > times.most ? here : times.most;
     }
-    return range;
+    return times;
 }
 
 /* both at all places, in the same rounds */
-static void measure_both(const runs ours, const runs other, const void *on, struct range *here, struct range *there) {
+static void measure_both(const runs ours, const runs other, const void *on, struct times *here, struct times *there) {
     struct work works[2 * PLACES] = {0};
     for (size_t i = 0; i < PLACES; i++) {
         works[i] = (struct work){.run = ours[i], .on = on};
         works[PLACES + i] = (struct work){.run = other[i], .on = on};
     }
     measure(works, 2 * PLACES);
-    *here = range_of(works);
-    *there = range_of(works + PLACES);
+    *here = times_of(works);
+    *there = times_of(works + PLACES);
 }
 
 static uint32_t steps(void) {
@@ -126,10 +128,10 @@ static uint32_t steps(void) {
 static void compare(const char *name) {
     if (run_here[0](NULL, 1) != run_libpcap[0](NULL, 1))
         fail("the machines disagree");
-    struct range here, libpcap;
+    struct times here, libpcap;
     measure_both(run_here, run_libpcap, NULL, &here, &libpcap);
-    printf("%-10s %12zu %6u %8.0f to %-8.0f %8.0f to %-8.0f %8.2f\n", name, program_len, steps(), here.least, here.most, libpcap.least, libpcap.most,
-        libpcap.least / here.least);
+    printf("%-10s %12zu %6u %6.0f (%.0f to %.0f) %6.0f (%.0f to %.0f) %6.2f\n", name, program_len, steps(), here.mean, here.least, here.most,
+        libpcap.mean, libpcap.least, libpcap.most, libpcap.mean / here.mean);
     program_len = 0;
 }
 
@@ -185,7 +187,7 @@ static const char *const rules[] = {
 };
 
 static void compare_rules(void) {
-    printf("\n%-54s %12s %5s %5s %16s %16s\n", "rule", "instructions", "match", "steps", "run ns", "plain ns");
+    printf("\n%-54s %12s %5s %5s %-20s %s\n", "rule", "instructions", "match", "steps", "run ns", "plain ns");
     for (size_t i = 0; i < sizeof rules / sizeof rules[0]; i++) {
         const char *rule = rules[i];
         program_len = bench_rules_compile((const uint8_t *)rule, strlen(rule), (uint8_t *)program, sizeof program) / sizeof program[0];
@@ -195,10 +197,10 @@ static void compare_rules(void) {
         if (holds != run_here[0](NULL, 1) || holds != run_libpcap[0](NULL, 1))
             fail("the rule's program disagrees with the plain test");
         const char *member = strstr(rule, "member=");
-        struct range run, plain;
+        struct times run, plain;
         measure_both(run_here, hold, rule, &run, &plain);
-        printf("%2zu %-51.51s %12zu %5s %5u %6.1f to %-6.1f %6.1f to %-6.1f\n", i + 1, member ? member : rule, program_len, holds ? "yes" : "no", steps(),
-            run.least, run.most, plain.least, plain.most);
+        printf("%2zu %-51.51s %12zu %5s %5u %6.1f (%.1f to %.1f) %6.1f (%.1f to %.1f)\n", i + 1, member ? member : rule, program_len, holds ? "yes" : "no",
+            steps(), run.mean, run.least, run.most, plain.mean, plain.least, plain.most);
     }
 }
 
@@ -207,7 +209,7 @@ int main(int count, char **paths) {
         fail("programs MESSAGE ..");
     read_message(paths[1]);
     make_image(1);
-    printf("%-10s %12s %6s %20s %20s %8s\n", "ns a run", "instructions", "steps", "dbusfan", "libpcap", "ratio");
+    printf("%-10s %12s %6s %-21s %-21s %s\n", "ns a run", "instructions", "steps", "dbusfan", "libpcap", "ratio");
     straight();
     compare("straight");
     branchy();
