@@ -109,6 +109,15 @@ static struct times times_of(const struct work *works) {
     return times;
 }
 
+/* as "mean (least to most)", in a buffer that the next call but one writes over */
+static const char *words_of(struct times times, int digits) {
+    static char words[2][64];
+    static int turn;
+    turn = 1 - turn;
+    snprintf(words[turn], sizeof words[turn], "%.*f (%.*f to %.*f)", digits, times.mean, digits, times.least, digits, times.most);
+    return words[turn];
+}
+
 /* both at all places, in the same rounds */
 static void measure_both(const runs ours, const runs other, const void *on, struct times *here, struct times *there) {
     struct work works[2 * PLACES] = {0};
@@ -130,8 +139,7 @@ static void compare(const char *name) {
         fail("the machines disagree");
     struct times here, libpcap;
     measure_both(run_here, run_libpcap, NULL, &here, &libpcap);
-    printf("%-10s %12zu %6u %6.0f (%.0f to %.0f) %6.0f (%.0f to %.0f) %6.2f\n", name, program_len, steps(), here.mean, here.least, here.most,
-        libpcap.mean, libpcap.least, libpcap.most, libpcap.mean / here.mean);
+    printf("%-10s %12zu %5u  %-21s %-21s %.2f\n", name, program_len, steps(), words_of(here, 0), words_of(libpcap, 0), libpcap.mean / here.mean);
     program_len = 0;
 }
 
@@ -187,7 +195,7 @@ static const char *const rules[] = {
 };
 
 static void compare_rules(void) {
-    printf("\n%-54s %12s %5s %5s %-20s %s\n", "rule", "instructions", "match", "steps", "run ns", "plain ns");
+    printf("\n%-54s %12s %5s %5s  %-20s %s\n", "rule", "instructions", "match", "steps", "run ns", "plain ns");
     for (size_t i = 0; i < sizeof rules / sizeof rules[0]; i++) {
         const char *rule = rules[i];
         program_len = bench_rules_compile((const uint8_t *)rule, strlen(rule), (uint8_t *)program, sizeof program) / sizeof program[0];
@@ -199,8 +207,8 @@ static void compare_rules(void) {
         const char *member = strstr(rule, "member=");
         struct times run, plain;
         measure_both(run_here, hold, rule, &run, &plain);
-        printf("%2zu %-51.51s %12zu %5s %5u %6.1f (%.1f to %.1f) %6.1f (%.1f to %.1f)\n", i + 1, member ? member : rule, program_len, holds ? "yes" : "no",
-            steps(), run.mean, run.least, run.most, plain.mean, plain.least, plain.most);
+        printf("%2zu %-51.51s %12zu %5s %5u  %-20s %s\n", i + 1, member ? member : rule, program_len, holds ? "yes" : "no", steps(), words_of(run, 1),
+            words_of(plain, 1));
     }
 }
 
@@ -209,7 +217,7 @@ int main(int count, char **paths) {
         fail("programs MESSAGE ..");
     read_message(paths[1]);
     make_image(1);
-    printf("%-10s %12s %6s %-21s %-21s %s\n", "ns a run", "instructions", "steps", "dbusfan", "libpcap", "ratio");
+    printf("%-10s %12s %5s  %-21s %-21s %s\n", "ns a run", "instructions", "steps", "dbusfan", "libpcap", "ratio");
     straight();
     compare("straight");
     branchy();
