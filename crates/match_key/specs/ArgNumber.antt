@@ -4,6 +4,7 @@ use Rattle.match_key.specs.declared.arg_number.Octal.{Octal}
 use Rattle.match_key.specs.declared.arg_number.Octal.TheVariants.{Zero, One, Two, Three, Four, Five, Six, Seven}
 use Rattle.match_key.specs.declared.arg_number.ArgNumber.{ArgNumber}
 
+-- the number that a digit stands for
 abbrev pub octal_value : Octal → ℕ
 octal_value Zero = 0
 octal_value One = 1
@@ -24,6 +25,7 @@ octal_of n =
 abbrev pub max_arg : ℕ
 max_arg = 63
 
+-- which argument it is, counted from 0
 abbrev pub number_of_arg : ArgNumber → ℕ
 number_of_arg n = 8 * octal_value n.eights + octal_value n.ones
 

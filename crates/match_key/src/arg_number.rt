@@ -1,5 +1,5 @@
 // Numbers of arguments.
-ghost use Rattle.std.specs.Prelude.{◌≡◌, ◌≤◌, None, Some, if◌then◌else◌, nat_le};
+ghost use Rattle.std.specs.Prelude.{◌≡◌, ◌≤◌, None, Some, IfSome, if◌then◌else◌, nat_le};
 ghost use Rattle.match_key.specs.ArgNumber.{octal_value, octal_of, number_of_arg, arg_of_number, first_arg, max_arg};
 
 /// The greatest number of an argument that a rule may ask for.
@@ -19,9 +19,8 @@ enum Octal {
 }
 
 impl Octal {
-    /// The digit of a number up to 7.
+    /// The digit of a number below 8.
     fn of(number: u8) -> Octal
-        requires { number ≤ 7 }
         ensures { result ≡ octal_of number }
     {
         match number {
@@ -36,7 +35,7 @@ impl Octal {
         }
     }
 
-    /// Its number.
+    /// The number that the digit stands for.
     fn value(self) -> u8
         ensures { result ≡ octal_value self }
     {
@@ -74,7 +73,8 @@ impl ArgNumber {
 
     /// The number, if a rule may ask for that argument.
     pub fn new(number: u8) -> Option<Self>
-        ensures { result ≡ (if nat_le number max_arg then Some (arg_of_number number) else None) }
+        ensures value { result ≡ (if nat_le number max_arg then Some (arg_of_number number) else None) }
+        ensures same { IfSome result (λ argument. number_of_arg argument ≡ number) }
     {
         if number > MAX_ARG {
             return None;
@@ -85,7 +85,7 @@ impl ArgNumber {
         })
     }
 
-    /// It as a number.
+    /// Which argument it is, counted from 0.
     pub fn number(self) -> u8
         ensures value { result ≡ number_of_arg self }
         ensures small { result ≤ max_arg }
