@@ -24,7 +24,7 @@ pub use condition::Condition;
 pub use envelope::envelope_fits_where_it_holds;
 pub use fixed::FixedTexts;
 pub use laws::{equal_as_sets, found_where_it_holds, one_reading};
-pub use match_key::{Field, Key, KindName, Relation, RuleError, Source};
+pub use match_key::{ArgNumber, Field, Key, KindName, Relation, RuleError, Source};
 pub use path_namespace::{NamespaceEnd, has_path_in, not_elsewhere_where_it_holds};
 pub use rule::Rule;
 pub use sender::is_owned_name;

@@ -1,6 +1,6 @@
 // Rules and their faults.
 
-use match_rule::{Field, Key, Relation, Rule, RuleError, Source};
+use match_rule::{ArgNumber, Field, Key, Relation, Rule, RuleError, Source};
 use std::test::Fail;
 
 #[test]
@@ -44,5 +44,16 @@ fn equal_to_itself(rt: HostRuntime) -> Result<(), Fail> {
     let rule = Rule::read(rt.alloc(), "member='c',type='signal'")?;
     let same = rule == rule;
     assert!(rt; same);
+    Ok(())
+}
+
+#[test]
+fn numbers_of_arguments(rt: HostRuntime) -> Result<(), Fail> {
+    let first = ArgNumber::first();
+    assert_eq!(rt; first.number(), 0);
+    let last = ArgNumber::new(63).map(|argument| argument.number());
+    assert_eq!(rt; last, Some(63));
+    let none = ArgNumber::new(64).is_none();
+    assert!(rt; none);
     Ok(())
 }
