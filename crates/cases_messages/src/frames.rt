@@ -1,15 +1,17 @@
 // How long a message will be, as its first bytes say.
 
+use crate::headers::validity;
 use case_files::{Fields, Judge, LineError};
 use message_view::{MsgError, View, frame_len};
 use std::alloc::{AllocError, Global};
+use std::fmt::Write;
 
-/// The length of the message, `more` where that takes more bytes, or the fault.
-fn frame(alloc: Global, bytes: &[u8]) -> Result<String, AllocError> {
+/// Adds the length of the message, `more` where that takes more bytes, or the fault.
+fn push_frame(words: &mut String, bytes: &[u8]) -> Result<(), AllocError> {
     match frame_len(bytes) {
-        Ok(Some(len)) => format!(in alloc; "{len}"),
-        Ok(None) => String::from_str(alloc, "more"),
-        Err(fault) => String::from_str(alloc, fault.name()),
+        Ok(Some(len)) => write!(words, "{len}"),
+        Ok(None) => words.push_str("more"),
+        Err(fault) => words.push_str(fault.name()),
     }
 }
 
@@ -21,10 +23,11 @@ impl Judge for Frames {
 
     fn came(&self, alloc: Global, inputs: &Fields) -> Result<String, LineError> {
         let bytes = inputs.digits(alloc, 0)?;
-        let frame = frame(alloc, bytes.as_slice())?;
-        let fault = View::read(bytes.as_slice()).err();
-        let read = fault.map_or("ok", MsgError::name);
-        Ok(format!(in alloc; "{frame} {read}")?)
+        let mut words = String::new(alloc);
+        push_frame(&mut words, bytes.as_slice())?;
+        words.push(' ')?;
+        words.push_str(validity(bytes.as_slice()))?;
+        Ok(words)
     }
 }
 
@@ -36,14 +39,24 @@ impl Judge for Fronts {
 
     fn came(&self, alloc: Global, inputs: &Fields) -> Result<String, LineError> {
         let bytes = inputs.digits(alloc, 0)?;
-        let whole = frame_len(bytes.as_slice());
-        for len in 0..bytes.len() {
-            let front = &bytes[..len];
-            let frame = if len < 16 { Ok(None) } else { whole };
-            if frame_len(front) != frame || View::read(front).err() != Some(MsgError::Short) {
-                return Ok(format!(in alloc; "another at {len} bytes")?);
-            }
+        let mut words = String::new(alloc);
+        match other_front(bytes.as_slice()) {
+            Some(len) => write!(words, "another at {len} bytes")?,
+            None => push_frame(&mut words, bytes.as_slice())?,
         }
-        Ok(frame(alloc, bytes.as_slice())?)
+        Ok(words)
     }
+}
+
+/// The length of the first bytes that say another thing than those of a message that goes on.
+fn other_front(bytes: &[u8]) -> Option<usize> {
+    let whole = frame_len(bytes);
+    for len in 0..bytes.len() {
+        let front = &bytes[..len];
+        let frame = if len < 16 { Ok(None) } else { whole };
+        if frame_len(front) != frame || View::read(front).err() != Some(MsgError::Short) {
+            return Some(len);
+        }
+    }
+    None
 }

@@ -1,14 +1,16 @@
 // Whether messages are valid.
 
 use crate::composing::{message, pad};
-use case_files::{Fields, Judge, LineError};
-use message_view::{MsgError, View};
-use std::alloc::{AllocError, Global};
+use case_files::{Fields, Judge, LineError, digits};
+use message_view::View;
+use std::alloc::Global;
 
 /// `ok`, or the message's fault.
-pub(crate) fn validity(alloc: Global, bytes: &[u8]) -> Result<String, AllocError> {
-    let fault = View::read(bytes).err();
-    String::from_str(alloc, fault.map_or("ok", MsgError::name))
+pub(crate) fn validity(bytes: &[u8]) -> &'static str {
+    match View::read(bytes) {
+        Ok(_) => "ok",
+        Err(fault) => fault.name(),
+    }
 }
 
 /// A message: `ok` or its fault.
@@ -19,7 +21,7 @@ impl Judge for Messages {
 
     fn came(&self, alloc: Global, inputs: &Fields) -> Result<String, LineError> {
         let bytes = inputs.digits(alloc, 0)?;
-        Ok(validity(alloc, bytes.as_slice())?)
+        Ok(String::from_str(alloc, validity(bytes.as_slice()))?)
     }
 }
 
@@ -32,11 +34,17 @@ impl Judge for HeaderFields {
     fn came(&self, alloc: Global, inputs: &Fields) -> Result<String, LineError> {
         let kind = inputs.text(0)?.parse::<u8>()?;
         let mut fields = Vec::new(alloc);
-        for field in inputs.text(1)?.split('|') {
-            pad(&mut fields)?;
-            fields.extend_from_slice(case_files::digits(alloc, field)?.as_slice())?;
-        }
+        push_fields(alloc, &mut fields, inputs.text(1)?)?;
         let bytes = message(alloc, kind, fields.as_slice(), &[])?;
-        Ok(validity(alloc, bytes.as_slice())?)
+        Ok(String::from_str(alloc, validity(bytes.as_slice()))?)
     }
+}
+
+/// Adds header fields, each at the next place at which one may begin.
+fn push_fields(alloc: Global, bytes: &mut Vec<u8>, fields: &str) -> Result<(), LineError> {
+    for field in fields.split('|') {
+        pad(bytes)?;
+        bytes.extend_from_slice(digits(alloc, field)?.as_slice())?;
+    }
+    Ok(())
 }

@@ -1,11 +1,10 @@
 // What the view of a message lends.
 
 use crate::composing::signal;
-use crate::headers::validity;
+use crate::pushing::{push_number, push_quoted};
 use case_files::{Fields, Judge, LineError};
 use message_view::{Arg, Extent, Kind, Order, TextField, View};
 use std::alloc::{AllocError, Global};
-use std::fmt::Write;
 
 /// A message: its order, kind, flags and serial, each text with its place and length, the serial that it
 /// answers, the place and length of its body, and its arguments.
@@ -16,74 +15,105 @@ impl Judge for Lent {
 
     fn came(&self, alloc: Global, inputs: &Fields) -> Result<String, LineError> {
         let bytes = inputs.digits(alloc, 0)?;
-        let Ok(view) = View::read(bytes.as_slice()) else {
-            return Ok(validity(alloc, bytes.as_slice())?);
-        };
-        let mut words = fixed_part(alloc, &view)?;
-        push_texts(&mut words, &view)?;
-        if let Some(serial) = view.reply_serial() {
-            write!(words, "; reply_serial {serial}")?;
-        }
-        let len = view.body().len();
-        match bytes.as_slice().strip_suffix(view.body()) {
-            Some(front) => write!(words, "; body {} {len}", front.len())?,
-            None => words.push_str("; body elsewhere")?,
-        }
-        for arg in view.args() {
-            push_argument(&mut words, arg, 0)?;
-        }
+        let mut words = String::new(alloc);
+        push_lent(&mut words, bytes.as_slice())?;
         Ok(words)
     }
 }
 
-fn fixed_part(alloc: Global, view: &View<'_>) -> Result<String, AllocError> {
-    let order = match view.order() {
-        Order::Little => "little",
-        Order::Big => "big",
+fn push_lent(words: &mut String, bytes: &[u8]) -> Result<(), LineError> {
+    let view = match View::read(bytes) {
+        Ok(view) => view,
+        Err(fault) => return Ok(words.push_str(fault.name())?),
     };
-    let kind = match view.kind() {
+    push_fixed_part(words, &view)?;
+    push_texts(words, &view)?;
+    if let Some(serial) = view.reply_serial() {
+        words.push_str("; reply_serial")?;
+        push_number(words, serial)?;
+    }
+    push_body(words, bytes, view.body())?;
+    for arg in view.args() {
+        push_argument(words, arg, 0)?;
+    }
+    Ok(())
+}
+
+fn push_fixed_part(words: &mut String, view: &View<'_>) -> Result<(), AllocError> {
+    words.push_str(match view.order() {
+        Order::Little => "little ",
+        Order::Big => "big ",
+    })?;
+    words.push_str(match view.kind() {
         Kind::MethodCall => "method_call",
         Kind::MethodReturn => "method_return",
         Kind::Error => "error",
         Kind::Signal => "signal",
         Kind::Other(_) => "other",
-    };
-    let byte = view.kind().byte();
-    let flags = view.flags();
-    let serial = view.serial();
-    format!(in alloc; "{order} {kind} {byte} {flags} {serial}")
+    })?;
+    push_number(words, u32::from(view.kind().byte()))?;
+    push_number(words, u32::from(view.flags()))?;
+    push_number(words, view.serial())
 }
 
 fn push_texts(words: &mut String, view: &View<'_>) -> Result<(), AllocError> {
     for (name, text, field) in [
-        ("path", view.path(), TextField::Path),
-        ("interface", view.interface(), TextField::Interface),
-        ("member", view.member(), TextField::Member),
-        ("error_name", view.error_name(), TextField::ErrorName),
-        ("destination", view.destination(), TextField::Destination),
-        ("sender", view.sender(), TextField::Sender),
+        ("; path", view.path(), TextField::Path),
+        ("; interface", view.interface(), TextField::Interface),
+        ("; member", view.member(), TextField::Member),
+        ("; error_name", view.error_name(), TextField::ErrorName),
+        ("; destination", view.destination(), TextField::Destination),
+        ("; sender", view.sender(), TextField::Sender),
     ] {
-        match (view.extent(field), text) {
-            (Some(Extent { place, len }), Some(text)) => {
-                write!(words, "; {name} {place} {len} '{text}'")?;
-            }
-            (None, None) => {}
-            _ => write!(words, "; {name} has no place or no text")?,
-        }
+        push_text(words, name, view.extent(field), text)?;
     }
     Ok(())
 }
 
-/// Pushes an argument: the first byte of its type, its place counted from a start, its length and its text.
-fn push_argument(words: &mut String, arg: Arg<'_>, start: usize) -> Result<(), LineError> {
-    let code = char::from(arg.code);
-    let place = usize::try_from(arg.place)?
-        .checked_sub(start)
-        .ok_or(LineError::Unreadable)?;
-    let len = arg.len;
-    write!(words, "; {code} {place} {len}")?;
+/// Adds a text with its place and length.
+fn push_text(
+    words: &mut String,
+    name: &str,
+    extent: Option<Extent>,
+    text: Option<&str>,
+) -> Result<(), AllocError> {
+    match (extent, text) {
+        (Some(Extent { place, len }), Some(text)) => {
+            words.push_str(name)?;
+            push_number(words, place)?;
+            push_number(words, len)?;
+            push_quoted(words, text)
+        }
+        (None, None) => Ok(()),
+        _ => {
+            words.push_str(name)?;
+            words.push_str(" has no place or no text")
+        }
+    }
+}
+
+/// Adds the place and the length of a message's body.
+fn push_body(words: &mut String, bytes: &[u8], body: &[u8]) -> Result<(), LineError> {
+    match bytes.strip_suffix(body) {
+        Some(front) => {
+            words.push_str("; body")?;
+            push_number(words, u32::try_from(front.len())?)?;
+            push_number(words, u32::try_from(body.len())?)?;
+        }
+        None => words.push_str("; body elsewhere")?,
+    }
+    Ok(())
+}
+
+/// Adds an argument: the first byte of its type, its place counted from a start, its length and its text.
+fn push_argument(words: &mut String, arg: Arg<'_>, start: u32) -> Result<(), LineError> {
+    let place = arg.place.checked_sub(start).ok_or(LineError::Unreadable)?;
+    words.push_str("; ")?;
+    words.push(char::from(arg.code))?;
+    push_number(words, place)?;
+    push_number(words, arg.len)?;
     if let Some(text) = arg.text {
-        write!(words, " '{text}'")?;
+        push_quoted(words, text)?;
     }
     Ok(())
 }
@@ -98,14 +128,22 @@ impl Judge for Bodies {
     fn came(&self, alloc: Global, inputs: &Fields) -> Result<String, LineError> {
         let body = inputs.digits(alloc, 1)?;
         let bytes = signal(alloc, inputs.bytes(0)?, body.as_slice())?;
-        let Ok(view) = View::read(bytes.as_slice()) else {
-            return Ok(validity(alloc, bytes.as_slice())?);
-        };
-        let start = bytes.len().saturating_sub(body.len());
-        let mut words = String::from_str(alloc, "ok")?;
-        for arg in view.args() {
-            push_argument(&mut words, arg, start)?;
-        }
+        let mut words = String::new(alloc);
+        push_arguments(&mut words, bytes.as_slice(), body.len())?;
         Ok(words)
     }
+}
+
+/// Adds the arguments of a message whose last bytes are its body, or its fault.
+fn push_arguments(words: &mut String, bytes: &[u8], body_len: usize) -> Result<(), LineError> {
+    let view = match View::read(bytes) {
+        Ok(view) => view,
+        Err(fault) => return Ok(words.push_str(fault.name())?),
+    };
+    let start = u32::try_from(bytes.len().saturating_sub(body_len))?;
+    words.push_str("ok")?;
+    for arg in view.args() {
+        push_argument(words, arg, start)?;
+    }
+    Ok(())
 }

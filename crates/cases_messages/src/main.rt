@@ -1,19 +1,32 @@
-//! Judges files of cases about names, signatures and messages, each by its table's judge. It is run where the files
-//! lie.
+//! Judges files of cases about names, signatures and messages: how they are read, built, stamped, summarised and written
+//! as lines. Each file has its table's judge. It is run where the files lie.
 #![tactic(auto)]
 
+mod asked;
+mod built;
 mod composing;
 mod frames;
 mod headers;
 mod lending;
+mod lines;
+mod loads;
 mod names;
+mod pushing;
+mod spelling;
+mod stamped;
+mod words;
 
+use built::Built;
 use case_files::Tally;
 use frames::{Frames, Fronts};
 use headers::{HeaderFields, Messages};
 use lending::{Bodies, Lent};
+use lines::Lines;
+use loads::Loads;
 use names::{Names, Signatures};
+use stamped::Stamped;
 use std::process::ExitCode;
+use words::Words;
 
 fn main(rt: HostRuntime) -> ExitCode {
     let mut tally = Tally::default();
@@ -26,5 +39,12 @@ fn main(rt: HostRuntime) -> ExitCode {
     tally.judge(&rt, "fronts.cases", &Fronts);
     tally.judge(&rt, "lent.cases", &Lent);
     tally.judge(&rt, "bodies.cases", &Bodies);
+    tally.judge(&rt, "built.cases", &Built);
+    tally.judge(&rt, "stamped.cases", &Stamped);
+    tally.judge(&rt, "words.cases", &Words);
+    tally.judge(&rt, "loads.cases", &Loads);
+    for file in ["signals.cases", "big_endian.cases", "kinds.cases"] {
+        tally.judge(&rt, file, &Lines);
+    }
     tally.end(&rt)
 }

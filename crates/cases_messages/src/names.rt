@@ -2,7 +2,7 @@
 
 use case_files::{Fields, Judge, LineError};
 use signature::{
-    SigError, Signature, check_bus_name, check_interface, check_member, check_namespace, check_path,
+    Signature, check_bus_name, check_interface, check_member, check_namespace, check_path,
 };
 use std::alloc::Global;
 
@@ -34,7 +34,10 @@ impl Judge for Signatures {
     const INPUTS: usize = 1;
 
     fn came(&self, alloc: Global, inputs: &Fields) -> Result<String, LineError> {
-        let fault = Signature::read(inputs.bytes(0)?).err();
-        Ok(String::from_str(alloc, fault.map_or("ok", SigError::name))?)
+        let word = match Signature::read(inputs.bytes(0)?) {
+            Ok(_) => "ok",
+            Err(fault) => fault.name(),
+        };
+        Ok(String::from_str(alloc, word)?)
     }
 }

@@ -16,28 +16,38 @@ impl Judge for Facts {
     const INPUTS: usize = 2;
 
     fn came(&self, alloc: Global, inputs: &Fields) -> Result<String, LineError> {
+        let asked = inputs.text(0)?;
         let rule = read(alloc, inputs.text(1)?)?;
-        match inputs.text(0)? {
-            "conditions" => Ok(conditions(alloc, &rule)?),
-            "sender" => Ok(String::from_str(alloc, rule.sender_name().unwrap_or("none"))?),
-            "weight" => Ok(format!(in alloc; "{}", rule.weight())?),
-            "program" => Ok(String::from_str(alloc, program(alloc, &rule)?)?),
-            _ => Err(LineError::Unreadable),
-        }
+        let mut words = String::new(alloc);
+        push_fact(alloc, &mut words, asked, &rule)?;
+        Ok(words)
     }
 }
 
-fn conditions(alloc: Global, rule: &Rule) -> Result<String, AllocError> {
-    let mut words = String::new(alloc);
+fn push_fact(alloc: Global, words: &mut String, asked: &str, rule: &Rule) -> Result<(), LineError> {
+    match asked {
+        "conditions" => push_conditions(words, rule)?,
+        "sender" => words.push_str(rule.sender_name().unwrap_or("none"))?,
+        "weight" => {
+            let weight = rule.weight();
+            write!(words, "{weight}")?;
+        }
+        "program" => words.push_str(program(alloc, rule)?)?,
+        _ => return Err(LineError::Unreadable),
+    }
+    Ok(())
+}
+
+fn push_conditions(words: &mut String, rule: &Rule) -> Result<(), AllocError> {
     for condition in rule.conditions() {
         if !words.is_empty() {
             words.push_str(", ")?;
         }
-        push_key(&mut words, condition.key())?;
+        push_key(words, condition.key())?;
         let value = condition.value();
         write!(words, " '{value}'")?;
     }
-    Ok(words)
+    Ok(())
 }
 
 fn push_key(words: &mut String, key: Key) -> Result<(), AllocError> {

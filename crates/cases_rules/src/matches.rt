@@ -21,23 +21,36 @@ impl Judge for Matches {
     const INPUTS: usize = 3;
 
     fn came(&self, alloc: Global, inputs: &Fields) -> Result<String, LineError> {
-        let rule = match Rule::read(alloc, inputs.text(0)?) {
-            Ok(rule) => rule,
-            Err(RuleError::NoMemory) => return Err(LineError::NoMemory),
-            Err(fault) => return Ok(String::from_str(alloc, fault.name())?),
-        };
+        let messages = inputs.text(1)?;
         let owner = inputs.text(2)?;
-        let mut said = None;
-        for message in inputs.text(1)?.split('|') {
-            let bytes = digits(alloc, message)?;
-            let verdict = verdict(alloc, &rule, bytes.as_slice(), owner)?;
-            said = match said {
-                None => Some(verdict),
-                Some(before) => Some(verdict.and(before)),
-            };
-        }
-        let words = said.map_or("no message", Verdict::words);
-        Ok(String::from_str(alloc, words)?)
+        let said = match Rule::read(alloc, inputs.text(0)?) {
+            Ok(rule) => verdict_words(alloc, &rule, messages, owner),
+            Err(RuleError::NoMemory) => Err(LineError::NoMemory),
+            Err(fault) => Ok(fault.name()),
+        };
+        Ok(String::from_str(alloc, said?)?)
+    }
+}
+
+/// What is said of a rule and messages.
+fn verdict_words(
+    alloc: Global,
+    rule: &Rule,
+    messages: &str,
+    owner: &str,
+) -> Result<&'static str, LineError> {
+    let mut said: Option<Verdict> = None;
+    for message in messages.split('|') {
+        let bytes = digits(alloc, message)?;
+        let verdict = verdict(alloc, rule, bytes.as_slice(), owner)?;
+        said = match said {
+            None => Some(verdict),
+            Some(before) => Some(verdict.and(before)),
+        };
+    }
+    match said {
+        None => Ok("no message"),
+        Some(verdict) => Ok(verdict.words()),
     }
 }
 

@@ -11,8 +11,11 @@ impl Judge for Texts {
     const INPUTS: usize = 1;
 
     fn came(&self, alloc: Global, inputs: &Fields) -> Result<String, LineError> {
-        let fault = Rule::read(alloc, inputs.text(0)?).err();
-        Ok(String::from_str(alloc, fault.map_or("ok", RuleError::name))?)
+        let word = match Rule::read(alloc, inputs.text(0)?) {
+            Ok(_) => "ok",
+            Err(fault) => fault.name(),
+        };
+        Ok(String::from_str(alloc, word)?)
     }
 }
 
@@ -25,14 +28,17 @@ impl Judge for Pairs {
     fn came(&self, alloc: Global, inputs: &Fields) -> Result<String, LineError> {
         let rule = read(alloc, inputs.text(0)?)?;
         let other = read(alloc, inputs.text(1)?)?;
-        let forth = rule == other;
-        let back = other == rule;
-        let word = match (forth, back) {
-            (true, true) => "equal",
-            (false, false) => "different",
-            _ => "equal in one order",
-        };
-        Ok(String::from_str(alloc, word)?)
+        Ok(String::from_str(alloc, compared(&rule, &other))?)
+    }
+}
+
+fn compared(rule: &Rule, other: &Rule) -> &'static str {
+    let forth = rule == other;
+    let back = other == rule;
+    match (forth, back) {
+        (true, true) => "equal",
+        (false, false) => "different",
+        _ => "equal in one order",
     }
 }
 

@@ -1,11 +1,20 @@
-// The numbers and the names of the faults.
+// The numbers and the names of faults and errors, and that each prints its name. A contract says what is written where
+// `fmt` answers `Ok`, and none can say that it does: std's formatter tells nothing of an `Err`.
 
+use message_build::{BuildError, StampError};
 use message_view::MsgError;
 use signature::SigError;
-use std::test::Fail;
+use std::alloc::Global;
+use std::fmt::Display;
+use std::process::Abort;
+
+fn expect_printed<R: Abort, D: Display + Drop>(rt: &R, alloc: Global, error: D, name: &str) {
+    let printed = error.to_string(alloc).expect(rt, "memory");
+    assert_eq!(rt; printed.as_str(), name);
+}
 
 #[test]
-fn faults_of_messages(rt: HostRuntime) -> Result<(), Fail> {
+fn faults_of_messages(rt: HostRuntime) {
     let faults = [
         (MsgError::Order, 1, "Order"),
         (MsgError::Kind, 2, "Kind"),
@@ -31,14 +40,12 @@ fn faults_of_messages(rt: HostRuntime) -> Result<(), Fail> {
     for (fault, number, name) in faults {
         assert_eq!(rt; fault.number(), number);
         assert_eq!(rt; fault.name(), name);
-        let printed = format!(in rt.alloc(); "{fault}")?;
-        assert_eq!(rt; printed.as_str(), name);
+        expect_printed(&rt, rt.alloc(), fault, name);
     }
-    Ok(())
 }
 
 #[test]
-fn faults_of_signatures(rt: HostRuntime) -> Result<(), Fail> {
+fn faults_of_signatures(rt: HostRuntime) {
     let faults = [
         (SigError::TooLong, 1, "TooLong"),
         (SigError::UnknownCode, 2, "UnknownCode"),
@@ -51,8 +58,24 @@ fn faults_of_signatures(rt: HostRuntime) -> Result<(), Fail> {
     for (fault, number, name) in faults {
         assert_eq!(rt; fault.number(), number);
         assert_eq!(rt; fault.name(), name);
-        let printed = format!(in rt.alloc(); "{fault}")?;
-        assert_eq!(rt; printed.as_str(), name);
+        expect_printed(&rt, rt.alloc(), fault, name);
     }
-    Ok(())
+}
+
+#[test]
+fn errors_of_building_and_stamping(rt: HostRuntime) {
+    for (error, name) in [
+        (BuildError::Invalid, "Invalid"),
+        (BuildError::TooLarge, "TooLarge"),
+        (BuildError::NoMemory, "NoMemory"),
+    ] {
+        expect_printed(&rt, rt.alloc(), error, name);
+    }
+    for (error, number, name) in [
+        (StampError::TooLarge, 1, "TooLarge"),
+        (StampError::NoMemory, 2, "NoMemory"),
+    ] {
+        assert_eq!(rt; error.number(), number);
+        expect_printed(&rt, rt.alloc(), error, name);
+    }
 }

@@ -1,5 +1,5 @@
-//! Each call with little memory: want of it is NoMemory, and never a part of the answer. To be run with one
-//! allocation after another refused.
+// Each call with little memory: want of it is NoMemory, and never a part of the answer. To be run with one
+// allocation after another refused.
 use bpf_code::{CodeError, Ins, decode, encode};
 use bpf_text::{assemble, print};
 

@@ -1,0 +1,85 @@
+// Each call of an image, its pieces and a summary.
+
+use crate::s1::S1;
+use message_view::View;
+use std::alloc::Global;
+use std::process::Abort;
+use summary::{Edition, Image, Slots, summarise};
+
+/// The number of bytes of a summary in each edition.
+const SUMMARY_LEN: [usize; 2] = [904, 976];
+
+/// The words of its summary in edition 1 that aren't 0, each with its place.
+const WORDS: [(usize, u32); 9] = [
+    (0, 108),
+    (4, 4),
+    (12, 968),
+    (24, 928),
+    (28, 2),
+    (32, 944),
+    (36, 3),
+    (40, 960),
+    (44, 1),
+];
+
+/// The same in edition 2, with the serial, where the sender owns the names of the slots 0 and 1,023.
+const WORDS_IN_TWO: [(usize, u32); 12] = [
+    (0, 108),
+    (4, 4),
+    (12, 1040),
+    (24, 1000),
+    (28, 2),
+    (32, 1016),
+    (36, 3),
+    (40, 1032),
+    (44, 1),
+    (840, 1),
+    (964, 0x8000_0000),
+    (968, 1),
+];
+
+/// The bytes of words at their places, the highest byte of each first.
+fn bytes_of<R: Abort>(rt: &R, alloc: Global, len: usize, words: &[(usize, u32)]) -> Vec<u8> {
+    let mut bytes = Vec::new(alloc);
+    for (place, word) in words {
+        bytes.resize(*place, 0).expect(rt, "memory");
+        bytes
+            .extend_from_slice(&word.to_be_bytes())
+            .expect(rt, "memory");
+    }
+    bytes.resize(len, 0).expect(rt, "memory");
+    bytes
+}
+
+#[test]
+fn s1_summaries(rt: HostRuntime) {
+    let view = View::read(S1).expect(&rt, "a message");
+    let mut owned = Slots::empty();
+    let summary = summarise(&view, &owned, Edition::One);
+    let bytes = bytes_of(&rt, rt.alloc(), SUMMARY_LEN[0], &WORDS);
+    assert_eq!(rt; summary.bytes(), bytes.as_slice());
+    owned.insert(0);
+    owned.insert(1023);
+    assert!(rt; owned.contains(1023));
+    assert!(rt; !owned.contains(1022));
+    let summary = summarise(&view, &owned, Edition::Two);
+    let bytes = bytes_of(&rt, rt.alloc(), SUMMARY_LEN[1], &WORDS_IN_TWO);
+    assert_eq!(rt; summary.bytes(), bytes.as_slice());
+}
+
+#[test]
+fn s1_image(rt: HostRuntime) {
+    let view = View::read(S1).expect(&rt, "a message");
+    let image = Image::new(&view, &Slots::empty(), Edition::One);
+    assert_eq!(rt; image.len(), 968);
+    assert_eq!(rt; image.byte(904), Some(108));
+    assert_eq!(rt; image.half(904), Some(27652));
+    assert_eq!(rt; image.word(902), Some(27652));
+    let pieces = image.pieces();
+    assert_eq!(rt; pieces.len(), 968);
+    assert_eq!(rt; pieces.byte(904), Some(108));
+    assert_eq!(rt; pieces.half(904), Some(27652));
+    assert_eq!(rt; pieces.word(960), Some(1_660_944_384));
+    assert_eq!(rt; pieces.word(965), None);
+    assert_eq!(rt; pieces.summary_word(36), Some(3));
+}
