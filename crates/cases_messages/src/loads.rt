@@ -49,8 +49,10 @@ fn push_load(
         "w" => (image.word(place), pieces.word(place)),
         _ => return Err(LineError::Unreadable),
     };
+    if number != again {
+        return Ok(words.push_str("pieces-differ")?);
+    }
     match number {
-        _ if number != again => words.push_str("pieces-differ")?,
         Some(number) => write!(words, "{number}")?,
         None => words.push_str("outside")?,
     }

@@ -6,6 +6,7 @@ use message_build::{StampError, stamp};
 use message_view::View;
 use std::alloc::Global;
 use std::process::Abort;
+use std::test::Fail;
 
 /// The signal with SENDER `:1.1`.
 const STAMPED: [u8; 80] = [
@@ -34,10 +35,10 @@ fn with_argument<R: Abort>(rt: &R, alloc: Global) -> Vec<u8> {
 
 // The bytes of a stamp are known to be a message: their view is had without a check of the body.
 #[test]
-fn known_message(rt: HostRuntime) {
+fn known_message(rt: HostRuntime) -> Result<(), Fail> {
     let built = with_argument(&rt, rt.alloc());
     let view = View::read(built.as_slice()).expect(&rt, "a message");
-    let stamped = stamp(rt.alloc(), &view, ":1.1").expect(&rt, "the same with a sender");
+    let stamped = stamp(rt.alloc(), &view, ":1.1")?;
     let known = View::of_message(stamped.as_slice());
     assert_eq!(rt; known.raw(), stamped.as_slice());
     assert_eq!(rt; known.member(), Some("c"));
@@ -46,4 +47,5 @@ fn known_message(rt: HostRuntime) {
     assert_eq!(rt; known.body(), b"\x02\0\0\0hi\0".as_slice());
     let read = View::read(stamped.as_slice()).expect(&rt, "a message");
     assert_eq!(rt; read.body(), known.body());
+    Ok(())
 }
