@@ -46,14 +46,21 @@ pub(crate) fn program_of(alloc: Global, rule: &Rule) -> Result<Verified, Fault>
     ensures compiled { IfOk result (λ program. IsCompiled rule.now (slot_for rule.now) program) }
     ensures refused { IfErr result (λ fault. (error : CompileError) × IsRefusal rule.now error × (fault ≡ fault_of_compile error)) }
 {
+    match compile_rule(alloc, rule) {
+        Ok(program) => Ok(program),
+        Err(error) => Err(fault_of(error)),
+    }
+}
+
+fn compile_rule(alloc: Global, rule: &Rule) -> Result<Verified, CompileError>
+    ensures compiled { IfOk result (λ program. IsCompiled rule.now (slot_for rule.now) program) }
+    ensures refused { IfErr result (IsRefusal rule.now) }
+{
     let slot = match rule.sender_name() {
         Some(_) => Some(SENDER_SLOT),
         None => None,
     };
-    match compile(alloc, rule, slot) {
-        Ok(program) => Ok(program),
-        Err(error) => Err(fault_of(error)),
-    }
+    compile(alloc, rule, slot)
 }
 
 fn fault_of(error: CompileError) -> Fault
