@@ -116,6 +116,8 @@ class Steps:
         wanted = {it.name: it for key in self.tasks for it in self.crates[key[0]].below()}
         for crate in wanted.values():
             self.tasks.setdefault((crate.name, "libraries"), self.library(crate))
+        libraries = [self.crates[name] for name, kind in self.tasks if kind == "libraries"]
+        tree.forget_above(self.crates, tree.to_build(self.rt, sorted(libraries, key=lambda it: len(it.below()))))
         order = sorted(self.tasks, key=lambda it: len(self.crates[it[0]].below()))
         tasks = {key: self.tasks[key] for key in order}
         done = tree.in_lanes(tasks, self.rt.processors(), 0.85 * self.rt.free())
