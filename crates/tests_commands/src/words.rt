@@ -1,6 +1,6 @@
 // The words of `watch`.
 
-use dbusfan_watch::{Options, Wanted};
+use watch_command::{Options, Wanted};
 use std::process::Abort;
 
 // That words ask for this rule of the bus `session`, with these options.

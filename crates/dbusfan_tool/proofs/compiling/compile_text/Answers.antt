@@ -7,7 +7,8 @@ returns-in_err-rule-clause-fault c =
 
 pub returns-in_err-program-clause-fault : goal.returns-in_err-program-clause-fault
 returns-in_err-program-clause-fault c =
-    fails _ _ _ c.from_residual-in_err-program.ensures.1 (of_refusal _ _ c.in_ok-rule.ensures.found c.in_err-program.field-0.0 c.in_err-program.ensures.refused)
+    let refusal = c.in_err-program.ensures.refused in
+    fails _ _ _ (rw refusal.2 at c.from_residual-in_err-program.ensures.1) (of_refusal _ _ c.in_ok-rule.ensures.found refusal.0 refusal.1)
 
 pub returns-in_err-text-clause-fault : goal.returns-in_err-text-clause-fault
 returns-in_err-text-clause-fault c =

@@ -9,7 +9,8 @@ returns-in_err-rule g c = of_rule_fault _ _ _ _ _ c.in_err-rule.field-0.0 c.from
 pub returns-in_err-program : goal.returns-in_err-program
 returns-in_err-program g c =
     let reads = c.in_ok-rule.ensures.found in
-    of_refusal _ _ _ _ _ reads _ c.in_err-program.field-0.0 c.from_residual-in_err-program.ensures.1 c.in_err-program.ensures.refused refl
+    let refusal = c.in_err-program.ensures.refused in
+    of_refusal _ _ _ _ _ reads _ refusal.0 (rw refusal.2 at c.from_residual-in_err-program.ensures.1) refusal.1 refl
 
 pub returns-in_err-text : goal.returns-in_err-text
 returns-in_err-text g c =
