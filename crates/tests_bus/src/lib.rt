@@ -5,8 +5,6 @@
 #[cfg(test)]
 mod closing;
 #[cfg(test)]
-mod control_calls;
-#[cfg(test)]
 mod ended;
 #[cfg(test)]
 mod filling;
@@ -24,8 +22,6 @@ mod origins;
 mod outboxes;
 #[cfg(test)]
 mod routes;
-#[cfg(test)]
-mod rules;
 #[cfg(test)]
 mod sessions;
 #[cfg(test)]

@@ -2,10 +2,11 @@
 
 ghost use Rattle.std.specs.Prelude.{◌≡◌};
 
-use crate::fixture::{connect_pass, expect_reply, name_a, new_bus, owner_reply};
+use crate::fixture::{S1, connect_pass, expect_reply, name_a, new_bus, owner_reply};
 use crate::letters::{
     attach_to_all, connect_with, expect_letters, new_letterbox, route_s1, send_s1,
 };
+use message_view::View;
 use outbox::ROOM;
 use published::{Naming, Opened};
 use router::{Bus, Letterbox, Pass, Sent};
@@ -26,15 +27,23 @@ fn route_to_itself<J: Naming, R: Wait + Abort>(rt: &R, alloc: Global, opened: Op
     let bus = new_bus::<J, R>(rt, alloc, opened);
     let letterbox = new_letterbox(rt, alloc);
     let mut pass = connect_with(rt, &bus, &letterbox);
+    expect_reach(rt, &mut pass, false);
     route_s1(rt, alloc, &bus, &mut pass, &[]);
     expect_letters(rt, alloc, &letterbox, 0);
     attach_to_all(rt, alloc, &bus, &mut pass);
+    expect_reach(rt, &mut pass, true);
     attach_to_all(rt, alloc, &bus, &mut pass);
     route_s1(rt, alloc, &bus, &mut pass, &[]);
     expect_letters(rt, alloc, &letterbox, 1);
     forget(pass);
     forget(letterbox);
     forget(bus);
+}
+
+// Whether S1 is for anybody.
+fn expect_reach<J: Naming, R: Abort>(rt: &R, pass: &mut Pass<J, Letterbox>, wanted: bool) {
+    let view = View::read(&S1).expect(rt, "a message");
+    assert_eq!(rt; pass.may_reach(&view).expect(rt, "an answer"), wanted);
 }
 
 #[test]

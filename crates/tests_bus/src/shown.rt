@@ -44,7 +44,11 @@ fn refuse<J: Naming, R: Wait + Abort>(rt: &R, publisher: &mut Publisher<J, Lette
 }
 
 // Two that are accepted are.
-fn publish_two<J: Naming, R: Wait + Abort>(rt: &R, letterbox: Letterbox, publisher: &mut Publisher<J, Letterbox, &R>) {
+fn publish_two<J: Naming, R: Wait + Abort>(
+    rt: &R,
+    letterbox: Letterbox,
+    publisher: &mut Publisher<J, Letterbox, &R>,
+) {
     let _ = publisher
         .publish(Command::Connect(letterbox))
         .expect(rt, "a reply");

@@ -27,13 +27,7 @@ const INSTRUCTIONS: [Ins; 2] = [
     },
 ];
 
-fn attach<R: Abort>(
-    rt: &R,
-    alloc: Global,
-    member: &str,
-    signature: &[u8],
-    body: &[u8],
-) -> Vec<u8> {
+fn attach<R: Abort>(rt: &R, alloc: Global, member: &str, signature: &[u8], body: &[u8]) -> Vec<u8> {
     let mut builder = Builder::new(alloc, Kind::MethodCall, 0, 1);
     builder.path("/a");
     builder.member(member);

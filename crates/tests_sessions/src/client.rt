@@ -1,7 +1,7 @@
 // A client of the bus.
 
-use std::io;
 use std::io::{Read, Write};
+use std::process::Abort;
 
 /// What a client says before its messages.
 const TALK: &[u8; 29] = b"\0AUTH EXTERNAL\r\nDATA\r\nBEGIN\r\n";
@@ -30,30 +30,33 @@ const HELLO_ANSWER: usize = 258;
 
 const MATCH_ANSWER: usize = 72;
 
-fn skip<S: Read>(stream: &mut S, count: usize) -> io::Result<()> {
+fn skip<S: Read, R: Abort>(rt: &R, stream: &mut S, count: usize) {
     let mut byte = [0u8];
     for _ in 0..count {
-        stream.read_exact(&mut byte)?;
+        stream.read_exact(&mut byte).expect(rt, "an answer");
     }
-    Ok(())
+}
+
+fn say<S: Write, R: Abort>(rt: &R, stream: &mut S, bytes: &[u8]) {
+    stream.write_all(bytes).expect(rt, "a server that reads");
 }
 
 /// Authenticates and says Hello.
-fn enter<S: Read + Write>(stream: &mut S) -> io::Result<()> {
-    stream.write_all(TALK)?;
-    skip(stream, TALK_ANSWER)?;
-    stream.write_all(HELLO)?;
-    skip(stream, HELLO_ANSWER)
+fn enter<S: Read + Write, R: Abort>(rt: &R, stream: &mut S) {
+    say(rt, stream, TALK);
+    skip(rt, stream, TALK_ANSWER);
+    say(rt, stream, HELLO);
+    skip(rt, stream, HELLO_ANSWER);
 }
 
 /// Adds a rule at the first client, sends a signal by the second, and gives what the first one reads.
-pub fn talk<S: Read + Write>(first: &mut S, second: &mut S) -> io::Result<[u8; 80]> {
-    enter(first)?;
-    first.write_all(ADD_MATCH)?;
-    skip(first, MATCH_ANSWER)?;
-    enter(second)?;
-    second.write_all(S1)?;
+pub fn talk<S: Read + Write, R: Abort>(rt: &R, first: &mut S, second: &mut S) -> [u8; 80] {
+    enter(rt, first);
+    say(rt, first, ADD_MATCH);
+    skip(rt, first, MATCH_ANSWER);
+    enter(rt, second);
+    say(rt, second, S1);
     let mut got = [0u8; 80];
-    first.read_exact(&mut got)?;
-    Ok(got)
+    first.read_exact(&mut got).expect(rt, "the signal");
+    got
 }

@@ -4,92 +4,74 @@ use crate::announced::{Announced, Announcer};
 use crate::client::{S1_STAMPED, talk};
 use dbusfan_serve::serve;
 use dbusfan_tool::Output;
-use std::io::ErrorKind;
 use std::net::{Net, TcpStream};
 use std::os::unix::net::UnixStream;
+use std::process::Abort;
 use std::sync::Wait;
-use std::test::Fail;
+use std::thread::join;
 use std::time::Duration;
-use std::{io, thread};
 
 const GUID: &str = "0123456789abcdef0123456789abcdef";
 
 /// No test waits for ever.
 const PATIENCE: u64 = 10;
 
-fn over_tcp<R: Net<Stream = TcpStream> + Wait>(
-    rt: &R,
-    announced: &Announced,
-) -> io::Result<[u8; 80]> {
-    let Some(port) = announced.port(rt) else {
-        return Err(ErrorKind::AddrNotAvailable.into());
-    };
-    let mut first = TcpStream::connect(rt, ("127.0.0.1", port))?;
-    first.set_read_timeout(Some(Duration::from_secs(PATIENCE)))?;
-    let mut second = TcpStream::connect(rt, ("127.0.0.1", port))?;
-    second.set_read_timeout(Some(Duration::from_secs(PATIENCE)))?;
-    talk(&mut first, &mut second)
+fn connect_tcp<R: Net<Stream = TcpStream> + Abort>(rt: &R, port: u16) -> TcpStream {
+    let stream = TcpStream::connect(rt, ("127.0.0.1", port)).expect(rt, "a connection");
+    stream
+        .set_read_timeout(Some(Duration::from_secs(PATIENCE)))
+        .expect(rt, "a time limit");
+    stream
 }
 
-fn over_unix<R: Net + Wait>(rt: &R, announced: &Announced, path: &str) -> io::Result<[u8; 80]> {
+fn connect_unix<R: Net + Abort>(rt: &R, path: &str) -> UnixStream {
+    let stream = UnixStream::connect(rt, path).expect(rt, "a connection");
+    stream
+        .set_read_timeout(Some(Duration::from_secs(PATIENCE)))
+        .expect(rt, "a time limit");
+    stream
+}
+
+fn over_tcp<R: Net<Stream = TcpStream> + Wait + Abort>(rt: &R, announced: &Announced) -> [u8; 80] {
+    let port = announced.port(rt).expect(rt, "a port");
+    let mut first = connect_tcp(rt, port);
+    let mut second = connect_tcp(rt, port);
+    talk(rt, &mut first, &mut second)
+}
+
+fn over_unix<R: Net + Wait + Abort>(rt: &R, announced: &Announced, path: &str) -> [u8; 80] {
     announced.wait(rt);
-    let mut first = UnixStream::connect(rt, path)?;
-    first.set_read_timeout(Some(Duration::from_secs(PATIENCE)))?;
-    let mut second = UnixStream::connect(rt, path)?;
-    second.set_read_timeout(Some(Duration::from_secs(PATIENCE)))?;
-    talk(&mut first, &mut second)
+    let mut first = connect_unix(rt, path);
+    let mut second = connect_unix(rt, path);
+    talk(rt, &mut first, &mut second)
+}
+
+/// A server of two connections, and its two clients: over TCP, unless a path is given.
+fn serve_two(rt: &HostRuntime, listen: &str, path: Option<&str>) {
+    let alloc = rt.alloc();
+    let announced = Announced::new(alloc);
+    let mut out = Output::new(Announcer { rt, to: &announced });
+    let mut err = Output::new(Vec::new(alloc));
+    let words = ["--listen", listen, "--guid", GUID, "--connections", "2"];
+    let (got, status) = join(
+        rt,
+        || match path {
+            Some(path) => over_unix(rt, &announced, path),
+            None => over_tcp(rt, &announced),
+        },
+        || serve(rt, alloc, words.as_slice(), &mut out, &mut err),
+    );
+    assert_eq!(rt; got, *S1_STAMPED);
+    assert_eq!(rt; status, 0);
 }
 
 #[test]
-fn two_clients_over_tcp(rt: HostRuntime) -> Result<(), Fail> {
-    let alloc = rt.alloc();
-    let announced = Announced::new(alloc);
-    let mut out = Output::new(Announcer {
-        rt: &rt,
-        to: &announced,
-    });
-    let mut err = Output::new(Vec::new(alloc));
-    let words = [
-        "--listen",
-        "tcp:host=127.0.0.1,port=0",
-        "--guid",
-        GUID,
-        "--connections",
-        "2",
-    ];
-    let (got, status) = thread::join(
-        &rt,
-        || over_tcp(&rt, &announced),
-        || serve(&rt, alloc, words.as_slice(), &mut out, &mut err),
-    );
-    assert_eq!(rt; got?, *S1_STAMPED);
-    assert_eq!(rt; status, 0);
-    Ok(())
+fn two_clients_over_tcp(rt: HostRuntime) {
+    serve_two(&rt, "tcp:host=127.0.0.1,port=0", None);
 }
 
 #[test]
-fn two_clients_over_unix(rt: HostRuntime) -> Result<(), Fail> {
-    let alloc = rt.alloc();
-    let announced = Announced::new(alloc);
-    let mut out = Output::new(Announcer {
-        rt: &rt,
-        to: &announced,
-    });
-    let mut err = Output::new(Vec::new(alloc));
-    let words = [
-        "--listen",
-        "unix:path=two_clients.sock",
-        "--guid",
-        GUID,
-        "--connections",
-        "2",
-    ];
-    let (got, status) = thread::join(
-        &rt,
-        || over_unix(&rt, &announced, "two_clients.sock"),
-        || serve(&rt, alloc, words.as_slice(), &mut out, &mut err),
-    );
-    assert_eq!(rt; got?, *S1_STAMPED);
-    assert_eq!(rt; status, 0);
-    Ok(())
+fn two_clients_over_unix(rt: HostRuntime) {
+    let path = "two_clients.sock";
+    serve_two(&rt, "unix:path=two_clients.sock", Some(path));
 }

@@ -2,12 +2,20 @@
 
 use dbusfan_serve::serve;
 use dbusfan_tool::Output;
-use std::test::Fail;
 
 const GUID: &str = "0123456789abcdef0123456789abcdef";
 
+// The words end at once with this status, and with this line as the error.
+fn expect_error(rt: &HostRuntime, words: &[&str], status: u8, line: &[u8]) {
+    let mut out = Output::new(Vec::new(rt.alloc()));
+    let mut err = Output::new(Vec::new(rt.alloc()));
+    assert_eq!(rt; serve(rt, rt.alloc(), words, &mut out, &mut err), status);
+    assert!(rt; out.writer.is_empty());
+    assert_eq!(rt; err.writer.as_slice(), line);
+}
+
 #[test]
-fn words_that_are_no_row(rt: HostRuntime) -> Result<(), Fail> {
+fn words_that_are_no_row(rt: HostRuntime) {
     let listen = "unix:path=never.sock";
     let rows: [&[&str]; 8] = [
         &[],
@@ -25,29 +33,17 @@ fn words_that_are_no_row(rt: HostRuntime) -> Result<(), Fail> {
         &["--listen", listen, "--guid", GUID, "--listen", listen],
     ];
     for words in rows {
-        let mut out = Output::new(Vec::new(rt.alloc()));
-        let mut err = Output::new(Vec::new(rt.alloc()));
-        let status = serve(&rt, rt.alloc(), words, &mut out, &mut err);
-        assert_eq!(rt; status, 3);
-        assert!(rt; out.writer.is_empty());
-        assert_eq!(rt; err.writer.as_slice(), b"dbusfan: usage\n".as_slice());
+        expect_error(&rt, words, 3, b"dbusfan: usage\n");
     }
-    Ok(())
 }
 
 #[test]
-fn a_place_that_cannot_be_bound(rt: HostRuntime) -> Result<(), Fail> {
+fn a_place_that_cannot_be_bound(rt: HostRuntime) {
     let words = [
         "--listen",
         "unix:path=no/such/folder/bus.sock",
         "--guid",
         GUID,
     ];
-    let mut out = Output::new(Vec::new(rt.alloc()));
-    let mut err = Output::new(Vec::new(rt.alloc()));
-    let status = serve(&rt, rt.alloc(), words.as_slice(), &mut out, &mut err);
-    assert_eq!(rt; status, 4);
-    assert!(rt; out.writer.is_empty());
-    assert_eq!(rt; err.writer.as_slice(), b"dbusfan: socket\n".as_slice());
-    Ok(())
+    expect_error(&rt, words.as_slice(), 4, b"dbusfan: socket\n");
 }
