@@ -4,12 +4,15 @@ use crate::announced::{Announced, Announcer};
 use crate::client::{S1_STAMPED, talk};
 use dbusfan_serve::serve;
 use dbusfan_tool::Output;
-use std::net::{Net, TcpStream};
+use std::alloc::Global;
+use std::fs::Files;
+use std::net::{Net, TcpListener, TcpStream};
 use std::os::unix::net::UnixStream;
 use std::process::Abort;
+use std::random::RandomSource;
 use std::sync::Wait;
-use std::thread::join;
-use std::time::Duration;
+use std::thread::{Threads, join};
+use std::time::{Clock, Duration};
 
 const GUID: &str = "0123456789abcdef0123456789abcdef";
 
@@ -47,8 +50,18 @@ fn over_unix<R: Net + Wait + Abort>(rt: &R, announced: &Announced, path: &str) -
 }
 
 /// A server of two connections, and its two clients: over TCP, unless a path is given.
-fn serve_two(rt: &HostRuntime, listen: &str, path: Option<&str>) {
-    let alloc = rt.alloc();
+fn serve_two<R>(rt: &R, alloc: Global, listen: &str, path: Option<&str>)
+where
+    R: Files
+        + Net<Listener = TcpListener, Stream = TcpStream>
+        + Threads
+        + Wait
+        + Clock
+        + RandomSource
+        + Sync
+        + Alloc
+        + Abort,
+{
     let announced = Announced::new(alloc);
     let mut out = Output::new(Announcer { rt, to: &announced });
     let mut err = Output::new(Vec::new(alloc));
@@ -67,11 +80,11 @@ fn serve_two(rt: &HostRuntime, listen: &str, path: Option<&str>) {
 
 #[test]
 fn two_clients_over_tcp(rt: HostRuntime) {
-    serve_two(&rt, "tcp:host=127.0.0.1,port=0", None);
+    serve_two(&rt, rt.alloc(), "tcp:host=127.0.0.1,port=0", None);
 }
 
 #[test]
 fn two_clients_over_unix(rt: HostRuntime) {
     let path = "two_clients.sock";
-    serve_two(&rt, "unix:path=two_clients.sock", Some(path));
+    serve_two(&rt, rt.alloc(), "unix:path=two_clients.sock", Some(path));
 }

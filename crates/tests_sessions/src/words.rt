@@ -2,14 +2,33 @@
 
 use dbusfan_serve::serve;
 use dbusfan_tool::Output;
+use std::alloc::Global;
+use std::fs::Files;
+use std::net::{Net, TcpListener, TcpStream};
+use std::process::Abort;
+use std::random::RandomSource;
+use std::sync::Wait;
+use std::thread::Threads;
+use std::time::Clock;
 
 const GUID: &str = "0123456789abcdef0123456789abcdef";
 
 // The words end at once with this status, and with this line as the error.
-fn expect_error(rt: &HostRuntime, words: &[&str], status: u8, line: &[u8]) {
-    let mut out = Output::new(Vec::new(rt.alloc()));
-    let mut err = Output::new(Vec::new(rt.alloc()));
-    assert_eq!(rt; serve(rt, rt.alloc(), words, &mut out, &mut err), status);
+fn expect_error<R>(rt: &R, alloc: Global, words: &[&str], status: u8, line: &[u8])
+where
+    R: Files
+        + Net<Listener = TcpListener, Stream = TcpStream>
+        + Threads
+        + Wait
+        + Clock
+        + RandomSource
+        + Sync
+        + Alloc
+        + Abort,
+{
+    let mut out = Output::new(Vec::new(alloc));
+    let mut err = Output::new(Vec::new(alloc));
+    assert_eq!(rt; serve(rt, alloc, words, &mut out, &mut err), status);
     assert!(rt; out.writer.is_empty());
     assert_eq!(rt; err.writer.as_slice(), line);
 }
@@ -33,7 +52,7 @@ fn words_that_are_no_row(rt: HostRuntime) {
         &["--listen", listen, "--guid", GUID, "--listen", listen],
     ];
     for words in rows {
-        expect_error(&rt, words, 3, b"dbusfan: usage\n");
+        expect_error(&rt, rt.alloc(), words, 3, b"dbusfan: usage\n");
     }
 }
 
@@ -45,5 +64,5 @@ fn a_place_that_cannot_be_bound(rt: HostRuntime) {
         "--guid",
         GUID,
     ];
-    expect_error(&rt, words.as_slice(), 4, b"dbusfan: socket\n");
+    expect_error(&rt, rt.alloc(), words.as_slice(), 4, b"dbusfan: socket\n");
 }
