@@ -13,8 +13,8 @@ GUID = "0123456789abcdef0123456789abcdef"
 
 
 def program():
-    """The built program. DBUSFAN names another one."""
-    return os.environ.get("DBUSFAN") or os.path.join(HERE, "..", "crates", "dbusfan", "out", "dbusfan")
+    """The built program of `serve`. DBUSFAN names another one."""
+    return os.environ.get("DBUSFAN") or os.path.join(HERE, "..", "crates", "dbusfan_serve", "out", "dbusfan_serve")
 
 
 class Bus:
@@ -33,7 +33,7 @@ class Bus:
             self.process, self.controller = broker.start(socket, self.log)
             return
         if kind == "dbusfan":
-            words = [program(), "serve", "--listen", wanted, "--guid", GUID]
+            words = [program(), "--listen", wanted, "--guid", GUID]
         else:
             words = ["dbus-daemon", f"--config-file={self.config(wanted)}", "--nofork", "--print-address"]
         if limit:

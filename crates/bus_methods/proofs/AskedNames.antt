@@ -5,7 +5,7 @@ use Rattle.owners.specs.WellKnown.{is_well_known, name_in}
 use Rattle.signature.specs.Name.{bus_name}
 use Rattle.owners.specs.Claimable.{is_claimable}
 use Rattle.std.specs.Str.{bytes_eq}
-use Rattle.program_table.specs.State.{State}
+use Rattle.connections.specs.State.{State}
 use Rattle.connections.specs.declared.refused.Refused.{Refused}
 use Rattle.bus_methods.specs.declared.owner.AskedName.{AskedName}
 use Rattle.bus_methods.specs.declared.owner.Owner.{Owner}

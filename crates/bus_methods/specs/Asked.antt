@@ -4,8 +4,8 @@ use Rattle.signature.specs.Name.{is_bus_name, bus_name}
 use Rattle.owners.specs.Queues.{owner_of}
 use Rattle.owners.specs.Claimable.{is_claimable}
 use Rattle.unique_name.specs.UniqueNames.{unique_name}
-use Rattle.program_table.specs.Connections.{is_connected}
-use Rattle.program_table.specs.State.{State}
+use Rattle.connections.specs.Connections.{is_connected}
+use Rattle.connections.specs.State.{State}
 use Rattle.bus_messages.specs.declared.error_name.ErrorName.TheVariants.{InvalidArgs}
 use Rattle.connections.specs.declared.refused.Refused.{Refused}
 use Rattle.connections.specs.declared.refused.Refused.TheVariants.{Error, Ended}

@@ -1,1 +1,2 @@
+pub use Rattle.connections.specs.declared.error.AnswerError
 pub mod Asked

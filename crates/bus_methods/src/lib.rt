@@ -11,3 +11,10 @@ mod owner;
 mod queries;
 
 pub use methods::perform;
+
+// Passed on from the crates below, so that the crates above need not name those in crates.txt.
+pub use connections::{
+    AnswerError, BUS_NAME, Bus, Command, Connection, Home, Identity, IndexKey, Leaving, Letterbox,
+    Mailbox, Naming, Opened, Published, Refused, Request, RouteLists, Sent, Shown, Site, Source,
+    put_refusal,
+};

@@ -4,10 +4,9 @@ ghost use Rattle.connections.specs.Answers.{NeverSlow};
 
 use bpf_code::Ins;
 use bus_messages::Body;
-use connections::{AnswerError, Connection, Home, Refused, Request, Site};
-use program_table::{Mailbox, Reply};
-use published::Naming;
-use router::BusError;
+use connections::{
+    AnswerError, BusError, Connection, Home, Mailbox, Naming, Refused, Reply, Request, Site,
+};
 use routing::Carrier;
 use std::sync::Wait;
 use summary::Edition;

@@ -8,9 +8,9 @@ use crate::queries::{
     answer_of_owned, get_name_owner, list_names, list_queued_owners, name_has_owner,
 };
 use bus_messages::{Body, Call, ErrorName, introspection};
-use connections::{AnswerError, BUS_NAME, Connection, Home, Refused, Request, Site};
-use program_table::Mailbox;
-use published::Naming;
+use connections::{
+    AnswerError, BUS_NAME, Connection, Home, Mailbox, Naming, Refused, Request, Site,
+};
 use routing::Carrier;
 use std::sync::Wait;
 

@@ -3,11 +3,10 @@
 ghost use Rattle.connections.specs.Answers.{NeverSlow};
 
 use bus_messages::{Body, ErrorName};
-use connections::{AnswerError, Connection, Home, Refused, Request, Site};
+use connections::{
+    AnswerError, BusError, Connection, Home, Mailbox, Naming, Refused, Reply, Request, Site,
+};
 use owners::{Named, WellKnown};
-use program_table::{Mailbox, Reply};
-use published::Naming;
-use router::BusError;
 use routing::Carrier;
 use std::sync::Wait;
 

@@ -1,13 +1,11 @@
 // Who owns a name that a client asks about.
 
-ghost use Rattle.program_table.specs.History.{after};
+ghost use Rattle.connections.specs.History.{after};
 ghost use Rattle.bus_methods.specs.Asked.{IsAsked, TellsOwner, IsOwnerOf};
 
 use bus_messages::{ErrorName, UniqueName};
-use connections::{BUS_NAME, Connection, Refused};
+use connections::{BUS_NAME, Connection, Mailbox, Naming, Refused};
 use owners::WellKnown;
-use program_table::Mailbox;
-use published::Naming;
 use routing::Carrier;
 use signature::check_bus_name;
 

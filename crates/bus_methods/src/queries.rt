@@ -4,10 +4,10 @@ ghost use Rattle.connections.specs.Answers.{NeverSlow};
 
 use crate::owner::{AskedName, Owner, owner_named};
 use bus_messages::{Body, ErrorName, UniqueName};
-use connections::{AnswerError, BUS_NAME, Connection, Home, Refused, Request, Site};
+use connections::{
+    AnswerError, BUS_NAME, Connection, Home, Mailbox, Naming, Refused, Request, Site,
+};
 use owners::WellKnown;
-use program_table::Mailbox;
-use published::Naming;
 use routing::Carrier;
 use std::alloc::{AllocError, Global};
 use std::sync::Wait;

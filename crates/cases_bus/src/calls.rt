@@ -3,9 +3,7 @@
 use crate::stop::Stop;
 use bpf_code::decode;
 use event_cases::{PlayError, name_of};
-use program_table::Reply;
-use published::Naming;
-use router::{Bus, Pass};
+use router::{Bus, Naming, Pass, Reply};
 use std::alloc::Global;
 use std::sync::Wait;
 use summary::Edition;

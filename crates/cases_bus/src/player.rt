@@ -3,10 +3,8 @@
 ghost use Rattle.std.specs.Prelude.{◌≡◌};
 
 use crate::connected::Connected;
-use entry_table::IndexKey;
 use event_cases::{PlayError, Player};
-use published::{Naming, Opened};
-use router::Bus;
+use router::{Bus, IndexKey, Naming, Opened};
 use std::alloc::Global;
 use std::marker::Brand;
 use std::sync::Wait;

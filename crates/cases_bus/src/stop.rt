@@ -3,8 +3,7 @@
 use bpf_verify::VerifyError;
 use event_cases::{PlayError, text_of_refusal, text_of_reply};
 use message_view::MsgError;
-use program_table::{Refusal, Reply};
-use router::BusError;
+use router::{BusError, Refusal, Reply};
 use std::alloc::{AllocError, Global};
 use world_text::TextAnswer;
 

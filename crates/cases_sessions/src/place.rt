@@ -1,7 +1,6 @@
 // What the calls of sessions work with.
 
-use published::Naming;
-use router::{Bus, Letterbox};
+use sessions::{Bus, Letterbox, Naming};
 use std::alloc::Global;
 use std::sync::Wait;
 

@@ -4,9 +4,8 @@ use crate::client::other_end;
 use crate::memory::{Input, Output};
 use crate::place::{GUID, Place};
 use case_files::LineError;
-use published::Naming;
 use session_text::{Action, Received, Serving, Wanted};
-use sessions::{SessionError, serve_one};
+use sessions::{Naming, SessionError, serve_one};
 use std::alloc::Global;
 use std::sync::Wait;
 

@@ -13,9 +13,9 @@ use Rattle.message_build.specs.StampedFields.{is_kept_code}
 use Rattle.message_build.proofs.KeptFields.{same_with}
 use Rattle.match_rule.specs.Arguments.{text_in}
 use Rattle.match_rule.specs.FixedTexts.{FixedTexts, texts_of, string_in}
-use Rattle.program_table.specs.State.{State}
-use Rattle.program_table.specs.Recipients.{AreRecipients}
-use Rattle.fan_out.specs.Reach.{TellsReach}
+use Rattle.router.specs.State.{State}
+use Rattle.router.specs.Recipients.{AreRecipients}
+use Rattle.router.specs.Reach.{TellsReach}
 
 -- the text of an argument, wherever it lies
 text_in-place : (order : Order) (p q : ℕ) (type : DataType) (value : Value) → text_in (Some (argument_of order p type value)) ≡ text_in (Some (argument_of order q type value))

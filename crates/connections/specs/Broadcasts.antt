@@ -1,10 +1,10 @@
 -- Broadcasts of a connection (own).
 use Rattle.std.specs.Prelude.{ℕ, List, Result, Ok, Err}
 use Rattle.outbox.specs.Seated.{OutboxId}
-use Rattle.passes.specs.declared.error.BusError.{BusError}
-use Rattle.passes.specs.declared.reading.Source.{Source}
-use Rattle.passes.specs.Passes.{PassState}
-use Rattle.passes.specs.Routes.{HasRouted, IsUnrouted}
+use Rattle.router.specs.BusError.{BusError}
+use Rattle.router.specs.Source.{Source}
+use Rattle.router.specs.Passes.{PassState}
+use Rattle.router.specs.Routes.{HasRouted, IsUnrouted}
 use Rattle.connections.specs.declared.error.AnswerError.{AnswerError}
 
 module _ {M : Type 0} where

@@ -3,8 +3,8 @@ use Rattle.bpf_verify.specs.declared.error.VerifyError.{VerifyError}
 use Rattle.bpf_verify.specs.declared.error.VerifyError.TheVariants as faults
 use Rattle.bus_messages.specs.declared.error_name.ErrorName.{ErrorName}
 use Rattle.bus_messages.specs.declared.error_name.ErrorName.TheVariants as names
-use Rattle.passes.specs.declared.error.BusError.{BusError}
-use Rattle.passes.specs.declared.error.BusError.TheVariants as errors
+use Rattle.router.specs.BusError.{BusError}
+use Rattle.router.specs.BusError.TheVariants as errors
 use Rattle.connections.specs.declared.refused.Refused.{Refused}
 use Rattle.connections.specs.declared.refused.Refused.TheVariants.{Error, Ended}
 

@@ -9,9 +9,7 @@ use crate::site::Site;
 use bus_messages::{BuildError, Bytes, UniqueName, name_acquired, name_lost, name_owner_changed};
 use message_view::View;
 use owners::Change;
-use program_table::Mailbox;
-use published::Naming;
-use router::{RouteLists, Source};
+use router::{Mailbox, Naming, RouteLists, Source};
 use routing::Carrier;
 use std::sync::Wait;
 

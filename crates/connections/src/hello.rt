@@ -10,8 +10,7 @@ use crate::request::Request;
 use crate::serial::Serials;
 use crate::site::Site;
 use bus_messages::{Body, ErrorName, UniqueName};
-use program_table::Mailbox;
-use published::Naming;
+use router::{Mailbox, Naming};
 use routing::Carrier;
 use std::sync::Wait;
 

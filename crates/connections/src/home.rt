@@ -5,7 +5,7 @@ ghost use Rattle.std.specs.Prelude.{◌≡◌, IfErr};
 use crate::error::AnswerError;
 use bytes::Bytes;
 use outbox::{Item, Seat};
-use program_table::Mailbox;
+use router::Mailbox;
 use routing::Carrier;
 use std::alloc::AllocError;
 use std::sync::Wait;

@@ -3,9 +3,7 @@
 use crate::connection::Connection;
 use crate::site::Site;
 use owners::MAX_CLAIMS;
-use program_table::{Mailbox, Reply};
-use published::Naming;
-use router::BusError;
+use router::{BusError, Mailbox, Naming, Reply};
 use routing::Carrier;
 use std::sync::Wait;
 

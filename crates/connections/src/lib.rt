@@ -26,3 +26,9 @@ pub use leaving::Leaving;
 pub use refused::Refused;
 pub use request::Request;
 pub use site::Site;
+
+// Passed on from the crates below, so that the crates above need not name those in crates.txt.
+pub use router::{
+    Bus, BusError, Command, IndexKey, Letterbox, Mailbox, Naming, Opened, Published, Reply,
+    RouteLists, Sent, Shown, Source,
+};

@@ -5,13 +5,12 @@ ghost use mathlib.Core.List.{IsPrefix};
 ghost use Rattle.message_view.specs.Message.{Message};
 ghost use Rattle.message_view.specs.Valid.{Valid};
 ghost use Rattle.message_build.specs.Stamped.{with_sender};
-ghost use Rattle.program_table.specs.History.{after};
-ghost use Rattle.program_table.specs.Recipients.{AreRecipients};
+ghost use Rattle.router.specs.History.{after};
+ghost use Rattle.router.specs.Recipients.{AreRecipients};
 
 use crate::connection::Connection;
 use message_view::View;
-use program_table::Mailbox;
-use published::Naming;
+use router::{Mailbox, Naming};
 use routing::Carrier;
 
 impl<J: Naming, M: Mailbox + Carrier> Connection<J, M> {

@@ -1,8 +1,6 @@
 // What a session's calls work with.
 
-use program_table::Mailbox;
-use published::Naming;
-use router::{Bus, Pass};
+use router::{Bus, Mailbox, Naming, Pass};
 use std::alloc::Global;
 use std::sync::Wait;
 

@@ -16,10 +16,10 @@ use Rattle.summary.specs.Sets.{has_slot}
 use Rattle.rule_compile.specs.declared.error.CompileError.{CompileError}
 use Rattle.rule_compile.specs.declared.error.CompileError.TheVariants as of_compile
 use Rattle.rule_compile.specs.Compiled.{AgreeOn, IsCompiled, IsRefusal}
-use Rattle.dbusfan_tool.specs.declared.error.Fault.{Fault}
-use Rattle.dbusfan_tool.specs.declared.error.Fault.TheVariants.{Memory}
-use Rattle.dbusfan_tool.specs.Errors.{fault_of_rule, fault_of_compile, fault_of_code}
-use Rattle.dbusfan_tool.specs.Compiling.{Compiles, no_rule, too_long, compiled, slot_for}
+use Rattle.command_line.specs.declared.error.Fault.{Fault}
+use Rattle.command_line.specs.declared.error.Fault.TheVariants.{Memory}
+use Rattle.command_line.specs.Errors.{fault_of_rule, fault_of_code}
+use Rattle.dbusfan_tool.specs.Compiling.{Compiles, no_rule, too_long, compiled, slot_for, fault_of_compile}
 use Rattle.dbusfan_tool.proofs.UnusedFields.{ends_as_before, accepted_as_before}
 use Rattle.dbusfan_tool.proofs.AcceptedTexts.{only_memory}
 

@@ -3,8 +3,8 @@ use Rattle.std.proofs.Common.{◌≡◌, ◌⊎◌, ◌↔◌, ℕ, ◌<◌, Boo
 use Rattle.std.specs.Result.{IsErrAnd}
 use Rattle.std.proofs.lemmas.Bool.{cases_eq, eq-eqb, ne_eqb}
 use Rattle.std.specs.Global.{Vec}
-use Rattle.dbusfan_tool.specs.declared.error.Fault.{Fault}
-use Rattle.dbusfan_tool.specs.declared.error.Fault.TheVariants.{Memory, Message as BadMessage}
+use Rattle.command_line.specs.declared.error.Fault.{Fault}
+use Rattle.command_line.specs.declared.error.Fault.TheVariants.{Memory, Message as BadMessage}
 use Rattle.message_value.specs.declared.error.MsgError.{MsgError}
 use Rattle.message_view.specs.Message.{Message}
 use Rattle.message_view.specs.Valid.{Valid}
@@ -22,15 +22,15 @@ use Rattle.summary.specs.Sets.{has_slot, IsSet}
 use Rattle.rule_compile.specs.declared.error.CompileError.{CompileError}
 use Rattle.rule_compile.specs.declared.error.CompileError.TheVariants as of_compile
 use Rattle.rule_compile.specs.Compiled.{IsCompiled, IsRefusal}
-use Rattle.dbusfan_tool.specs.Compiling.{slot_for}
+use Rattle.dbusfan_tool.specs.Compiling.{slot_for, fault_of_compile}
 use Rattle.dbusfan_tool.proofs.Compiled.{agree}
-use Rattle.dbusfan_tool.specs.declared.files.FileError.{FileError}
-use Rattle.dbusfan_tool.specs.declared.files.FileError.TheVariants as of_file
-use Rattle.dbusfan_tool.specs.declared.hex_text.HexError.{HexError}
-use Rattle.dbusfan_tool.specs.declared.hex_text.HexError.TheVariants as of_hex
-use Rattle.dbusfan_tool.specs.Errors.{fault_of_rule, fault_of_compile, fault_of_file, fault_of_hex}
-use Rattle.dbusfan_tool.specs.Files.{FileRead, ReadsFile, one_read}
-use Rattle.dbusfan_tool.specs.HexText.{bytes_of_hex}
+use Rattle.command_line.specs.declared.files.FileError.{FileError}
+use Rattle.command_line.specs.declared.files.FileError.TheVariants as of_file
+use Rattle.command_line.specs.declared.hex_text.HexError.{HexError}
+use Rattle.command_line.specs.declared.hex_text.HexError.TheVariants as of_hex
+use Rattle.command_line.specs.Errors.{fault_of_rule, fault_of_file, fault_of_hex}
+use Rattle.command_line.specs.Files.{FileRead, ReadsFile, one_read}
+use Rattle.command_line.specs.HexText.{bytes_of_hex}
 use Rattle.dbusfan_tool.specs.Tool.{Judges, no_rule, too_long, no_file, no_hex, no_message, judged}
 
 -- a verdict that isn't 0

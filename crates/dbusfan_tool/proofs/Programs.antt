@@ -6,12 +6,12 @@ use Rattle.bpf_code.specs.declared.error.CodeError.{CodeError}
 use Rattle.bpf_code.specs.declared.error.CodeError.TheVariants.{Length, Code as NoRow, Line, Label, FarJump, NoMemory}
 use Rattle.bpf_code.specs.Program.{WellFormed}
 use Rattle.bpf_text.specs.Source.{IsTextFault}
-use Rattle.dbusfan_tool.specs.declared.error.Fault.{Fault}
-use Rattle.dbusfan_tool.specs.declared.error.Fault.TheVariants.{Memory}
-use Rattle.dbusfan_tool.specs.declared.files.FileError.{FileError}
-use Rattle.dbusfan_tool.specs.declared.files.FileError.TheVariants as of_file
-use Rattle.dbusfan_tool.specs.Errors.{fault_of_code, fault_of_file}
-use Rattle.dbusfan_tool.specs.Files.{ReadsFile}
+use Rattle.command_line.specs.declared.error.Fault.{Fault}
+use Rattle.command_line.specs.declared.error.Fault.TheVariants.{Memory}
+use Rattle.command_line.specs.declared.files.FileError.{FileError}
+use Rattle.command_line.specs.declared.files.FileError.TheVariants as of_file
+use Rattle.command_line.specs.Errors.{fault_of_code, fault_of_file}
+use Rattle.command_line.specs.Files.{ReadsFile}
 use Rattle.dbusfan_tool.specs.Program.{Assembles, no_file, no_code, assembled, Checks, no_program, accepted}
 
 -- a program that is assembled from what a file gave, where what the file gave is said in another way

@@ -14,15 +14,15 @@ use Rattle.message_view.specs.Reading.{message_at}
 use Rattle.summary.specs.declared.edition.Edition.{Edition}
 use Rattle.summary.specs.ImageBytes.{image_bytes}
 use Rattle.summary.specs.Sets.{has_slot, IsSet}
-use Rattle.dbusfan_tool.specs.declared.error.Fault.{Fault}
-use Rattle.dbusfan_tool.specs.declared.error.Fault.TheVariants.{Memory, Message as BadMessage}
-use Rattle.dbusfan_tool.specs.declared.files.FileError.{FileError}
-use Rattle.dbusfan_tool.specs.declared.files.FileError.TheVariants as of_file
-use Rattle.dbusfan_tool.specs.declared.hex_text.HexError.{HexError}
-use Rattle.dbusfan_tool.specs.declared.hex_text.HexError.TheVariants as of_hex
-use Rattle.dbusfan_tool.specs.Errors.{fault_of_file, fault_of_hex}
-use Rattle.dbusfan_tool.specs.Files.{FileRead, ReadsFile, one_read, two_reads}
-use Rattle.dbusfan_tool.specs.HexText.{bytes_of_hex}
+use Rattle.command_line.specs.declared.error.Fault.{Fault}
+use Rattle.command_line.specs.declared.error.Fault.TheVariants.{Memory, Message as BadMessage}
+use Rattle.command_line.specs.declared.files.FileError.{FileError}
+use Rattle.command_line.specs.declared.files.FileError.TheVariants as of_file
+use Rattle.command_line.specs.declared.hex_text.HexError.{HexError}
+use Rattle.command_line.specs.declared.hex_text.HexError.TheVariants as of_hex
+use Rattle.command_line.specs.Errors.{fault_of_file, fault_of_hex}
+use Rattle.command_line.specs.Files.{FileRead, ReadsFile, one_read, two_reads}
+use Rattle.command_line.specs.HexText.{bytes_of_hex}
 use Rattle.dbusfan_tool.specs.Program.{Assembles, Checks, no_program as unassembled, refused as unaccepted}
 use Rattle.dbusfan_tool.specs.Running.{Runs, no_program, refused, no_file, no_hex, no_message, ran, no_slots}
 use Rattle.dbusfan_tool.proofs.Programs.{assembled_as}

@@ -2,9 +2,9 @@
 use Rattle.std.specs.Prelude.{◌≡◌, ℕ, Bool, true, false, List, [], ◌++◌, codes, decimal, Result, Ok, Err, if◌then◌else◌, ◌==◌}
 use Rattle.bpf_code.specs.declared.instruction.Ins.{Ins}
 use Rattle.bpf_machine.specs.declared.machine.Outcome.{Outcome}
-use Rattle.dbusfan_tool.specs.declared.error.Fault.{Fault}
-use Rattle.dbusfan_tool.specs.declared.error.Fault.TheVariants.{File}
-use Rattle.dbusfan_tool.specs.Errors.{line_end, fault_line, fault_status}
+use Rattle.command_line.specs.declared.error.Fault.{Fault}
+use Rattle.command_line.specs.declared.error.Fault.TheVariants.{File}
+use Rattle.command_line.specs.Errors.{line_end, fault_line, fault_status}
 use Rattle.dbusfan_tool.specs.Listing.{listing_of}
 
 -- what is written on standard output and on standard error, and the status

@@ -10,8 +10,10 @@ use Rattle.match_rule.specs.RuleTree.{RuleTree, sender_name_of, weight_of}
 use Rattle.match_rule.specs.Grammar.{ReadsAs}
 use Rattle.match_rule.specs.Reading.{rule_at}
 use Rattle.rule_compile.specs.Compiled.{IsCompiled}
-use Rattle.dbusfan_tool.specs.declared.error.Fault.{Fault}
-use Rattle.dbusfan_tool.specs.declared.error.Fault.TheVariants.{Rule}
+use Rattle.rule_compile.specs.declared.error.CompileError.{CompileError}
+use Rattle.rule_compile.specs.declared.error.CompileError.TheVariants as of_compile
+use Rattle.command_line.specs.declared.error.Fault.{Fault}
+use Rattle.command_line.specs.declared.error.Fault.TheVariants.{Rule, Memory}
 
 -- the slot of a rule's well-known sender, if it asks for one
 abbrev pub slot_for : RuleTree → Option ℕ
@@ -23,3 +25,8 @@ pub data Compiles (rule : List ℕ) : Result (List ℕ) Fault → Type 0 where
   no_rule : {fault : RuleError} → rule_at rule ≡ Err fault → Compiles rule (Err (Rule fault))
   too_long : {tree : RuleTree} → ReadsAs rule tree → 4096 < weight_of tree → Compiles rule (Err (Rule TooLong))
   compiled : {tree : RuleTree} {text : List ℕ} {program : List Ins} → ReadsAs rule tree → SourceText text program → WellFormed program → IsCompiled tree (slot_for tree) program → Compiles rule (Ok text)
+
+-- what it means for a command that a rule isn't compiled
+abbrev pub fault_of_compile : CompileError → Fault
+fault_of_compile of_compile.TooLong = Rule TooLong
+fault_of_compile of_compile.NoMemory = Memory

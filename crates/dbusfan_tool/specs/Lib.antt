@@ -1,10 +1,10 @@
-pub mod CommandRow
-pub mod RowReading
+pub use Rattle.command_line.specs.CommandRow
+pub use Rattle.command_line.specs.Asking
+pub use Rattle.command_line.specs.HexText
+pub use Rattle.command_line.specs.Files
+pub use Rattle.command_line.specs.Output
+pub use Rattle.command_line.specs.Errors
 pub mod Views
-pub mod HexText
-pub mod Files
-pub mod Output
-pub mod Errors
 pub mod Listing
 pub mod Program
 pub mod Running

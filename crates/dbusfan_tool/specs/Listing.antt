@@ -4,7 +4,7 @@ use Rattle.std.specs.List.{flat_map}
 use Rattle.hex.specs.Hex.{encode_lower}
 use Rattle.bpf_code.specs.declared.instruction.Ins.{Ins}
 use Rattle.bpf_code.specs.Bytes.{ins_bytes}
-use Rattle.dbusfan_tool.specs.Errors.{line_end}
+use Rattle.command_line.specs.Errors.{line_end}
 
 -- the eight bytes of an instruction's byte form as sixteen lower-case hexadecimal digits
 abbrev pub listing_line : Ins → List ℕ

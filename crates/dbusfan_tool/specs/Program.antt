@@ -7,8 +7,8 @@ use Rattle.bpf_code.specs.Program.{WellFormed}
 use Rattle.bpf_text.specs.Source.{SourceText, IsTextFault}
 use Rattle.bpf_verify.specs.declared.error.VerifyError.{VerifyError}
 use Rattle.bpf_verify.specs.FirstFault.{IsFault}
-use Rattle.dbusfan_tool.specs.declared.error.Fault.{Fault}
-use Rattle.dbusfan_tool.specs.declared.error.Fault.TheVariants.{Code, Program, File}
+use Rattle.command_line.specs.declared.error.Fault.{Fault}
+use Rattle.command_line.specs.declared.error.Fault.TheVariants.{Code, Program, File}
 
 -- What `asm` finds for what its file gave. That the file can't be read comes before its text's fault. A text is any
 -- bytes: a line with a byte that isn't ASCII isn't of the form.

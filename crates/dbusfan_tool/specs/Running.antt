@@ -12,10 +12,10 @@ use Rattle.message_view.specs.Valid.{Valid}
 use Rattle.message_view.specs.Reading.{message_at}
 use Rattle.summary.specs.declared.edition.Edition.{Edition}
 use Rattle.summary.specs.ImageBytes.{image_bytes}
-use Rattle.dbusfan_tool.specs.declared.error.Fault.{Fault}
-use Rattle.dbusfan_tool.specs.declared.error.Fault.TheVariants.{Message as BadMessage, Hex, Program, File}
-use Rattle.dbusfan_tool.specs.Files.{FileRead, one_read, two_reads}
-use Rattle.dbusfan_tool.specs.HexText.{bytes_of_hex}
+use Rattle.command_line.specs.declared.error.Fault.{Fault}
+use Rattle.command_line.specs.declared.error.Fault.TheVariants.{Message as BadMessage, Hex, Program, File}
+use Rattle.command_line.specs.Files.{FileRead, one_read, two_reads}
+use Rattle.command_line.specs.HexText.{bytes_of_hex}
 use Rattle.dbusfan_tool.specs.Program.{Assembles}
 
 -- the words of the set of no slots

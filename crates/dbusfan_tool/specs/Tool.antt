@@ -1,7 +1,7 @@
 -- What the rows of the command line come to (own).
 use Rattle.std.specs.Prelude.{◌≡◌, ◌<◌, ◌⊎◌, ◌↔◌, ℕ, Bool, List, [], Some, None, Result, Ok, Err, IsTrue}
-use Rattle.dbusfan_tool.specs.declared.error.Fault.{Fault}
-use Rattle.dbusfan_tool.specs.declared.error.Fault.TheVariants.{Rule, Message as BadMessage, Hex, File, Memory}
+use Rattle.command_line.specs.declared.error.Fault.{Fault}
+use Rattle.command_line.specs.declared.error.Fault.TheVariants.{Rule, Message as BadMessage, Hex, File, Memory}
 use Rattle.message_value.specs.declared.error.MsgError.{MsgError}
 use Rattle.message_view.specs.Message.{Message}
 use Rattle.message_view.specs.Valid.{Valid}
@@ -12,14 +12,14 @@ use Rattle.match_rule.specs.RuleTree.{RuleTree, weight_of}
 use Rattle.match_rule.specs.Grammar.{ReadsAs}
 use Rattle.match_rule.specs.Reading.{rule_at}
 use Rattle.match_rule.specs.Holds.{Holds}
-use Rattle.dbusfan_tool.specs.HexText.{bytes_of_hex}
+use Rattle.command_line.specs.HexText.{bytes_of_hex}
 use Rattle.bpf_code.specs.declared.instruction.Ins.{Ins}
 use Rattle.bpf_machine.specs.declared.machine.Outcome.{Outcome}
 use Rattle.dbusfan_tool.specs.Program.{Assembles, Checks}
 use Rattle.dbusfan_tool.specs.Running.{Runs}
 use Rattle.dbusfan_tool.specs.Compiling.{Compiles}
-use Rattle.dbusfan_tool.specs.Files.{FileRead, one_read}
-use Rattle.dbusfan_tool.specs.CommandRow.{Asked, to_match, to_asm, to_check, to_compile, to_run}
+use Rattle.command_line.specs.Files.{FileRead, one_read}
+use Rattle.command_line.specs.CommandRow.{Asked, to_match, to_asm, to_check, to_compile, to_run}
 use Rattle.dbusfan_tool.specs.Answer.{Said, said_of, said_of_match, said_of_asm, said_of_check, said_of_run, saying, failing}
 
 -- What `match` finds for a rule's text, what was read, and whether the sender owns the rule's name. The rule's fault

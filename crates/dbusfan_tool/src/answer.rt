@@ -3,11 +3,9 @@
 ghost use Rattle.std.specs.Prelude.{◌≡◌};
 ghost use Rattle.dbusfan_tool.specs.Answer.{Tells};
 ghost use Rattle.dbusfan_tool.specs.Views.{said_by};
-ghost use Rattle.dbusfan_tool.specs.Output.{Puts};
+ghost use Rattle.command_line.specs.Output.{Puts};
 
-use crate::error::Fault;
-use crate::output::Output;
-use crate::writer::Writer;
+use command_line::{Fault, Output, Writer};
 
 /// What a command has to say.
 #[derive(Drop)]

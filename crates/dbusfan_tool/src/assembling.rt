@@ -4,16 +4,15 @@ ghost use Rattle.std.specs.Prelude.{◌≡◌, ◌⊎◌, ◌++◌, ℕ, List, O
 ghost use Rattle.dbusfan_tool.specs.Listing.{listing_line, listing_of};
 ghost use Rattle.dbusfan_tool.specs.Program.{Assembles};
 ghost use Rattle.dbusfan_tool.specs.Tool.{Tool};
-ghost use Rattle.dbusfan_tool.specs.CommandRow.{to_asm};
-ghost use Rattle.dbusfan_tool.specs.Files.{MadeReads};
+ghost use Rattle.command_line.specs.CommandRow.{to_asm};
+ghost use Rattle.command_line.specs.Files.{MadeReads};
 ghost use Rattle.dbusfan_tool.specs.Answer.{failing};
 ghost use Rattle.dbusfan_tool.specs.Views.{said_by};
 
 use crate::answer::Answer;
-use crate::error::Fault;
-use crate::files::Files;
 use crate::program;
 use bpf_code::{Ins, bytes_of};
+use command_line::{Fault, Files};
 use std::alloc::{AllocError, Global};
 
 /// The byte form of the program in the file, or the first fault.

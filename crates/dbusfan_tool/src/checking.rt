@@ -3,15 +3,14 @@
 ghost use Rattle.std.specs.Prelude.{◌≡◌, ◌⊎◌, Err};
 ghost use Rattle.dbusfan_tool.specs.Program.{Checks};
 ghost use Rattle.dbusfan_tool.specs.Tool.{Tool};
-ghost use Rattle.dbusfan_tool.specs.CommandRow.{to_check};
-ghost use Rattle.dbusfan_tool.specs.Files.{MadeReads};
+ghost use Rattle.command_line.specs.CommandRow.{to_check};
+ghost use Rattle.command_line.specs.Files.{MadeReads};
 ghost use Rattle.dbusfan_tool.specs.Answer.{failing};
 ghost use Rattle.dbusfan_tool.specs.Views.{said_by};
 
 use crate::answer::Answer;
-use crate::error::Fault;
-use crate::files::Files;
 use crate::program;
+use command_line::{Fault, Files};
 use std::alloc::Global;
 
 /// How many instructions the program in the file has, if it is accepted, or the first fault.

@@ -3,16 +3,17 @@
 ghost use Rattle.std.specs.Prelude.{◌≡◌, ◌⊎◌, ℕ, List, Result, Ok, Err, IfOk, IfErr, string_bytes};
 ghost use Rattle.bpf_code.specs.Program.{WellFormed};
 ghost use Rattle.rule_compile.specs.Compiled.{IsCompiled, IsRefusal};
-ghost use Rattle.dbusfan_tool.specs.declared.error.Fault.{Fault};
-ghost use Rattle.dbusfan_tool.specs.Compiling.{Compiles, slot_for};
+ghost use Rattle.command_line.specs.declared.error.Fault.{Fault};
+ghost use Rattle.rule_compile.specs.declared.error.CompileError.{CompileError};
+ghost use Rattle.dbusfan_tool.specs.Compiling.{Compiles, slot_for, fault_of_compile};
 ghost use Rattle.dbusfan_tool.specs.Answer.{said_of, saying, failing};
 ghost use Rattle.dbusfan_tool.specs.Views.{said_by};
 
 use crate::answer::Answer;
-use crate::error::Fault;
 use bpf_text::print;
 use bpf_verify::Verified;
-use match_rule::Rule;
+use command_line::Fault;
+use match_rule::{Rule, RuleError};
 use rule_compile::{CompileError, compile};
 use std::alloc::Global;
 
@@ -40,14 +41,26 @@ fn compile_text(alloc: Global, rule: &str) -> Result<String, Fault>
     Ok(text)
 }
 
-/// The program of a rule.
-pub(crate) fn program_of(alloc: Global, rule: &Rule) -> Result<Verified, CompileError>
+/// The program of a rule, or what it means for a command that there is none.
+pub(crate) fn program_of(alloc: Global, rule: &Rule) -> Result<Verified, Fault>
     ensures compiled { IfOk result (λ program. IsCompiled rule.now (slot_for rule.now) program) }
-    ensures refused { IfErr result (IsRefusal rule.now) }
+    ensures refused { IfErr result (λ fault. (error : CompileError) × IsRefusal rule.now error × (fault ≡ fault_of_compile error)) }
 {
     let slot = match rule.sender_name() {
         Some(_) => Some(SENDER_SLOT),
         None => None,
     };
-    compile(alloc, rule, slot)
+    match compile(alloc, rule, slot) {
+        Ok(program) => Ok(program),
+        Err(error) => Err(fault_of(error)),
+    }
+}
+
+fn fault_of(error: CompileError) -> Fault
+    ensures { result ≡ fault_of_compile error }
+{
+    match error {
+        CompileError::TooLong => Fault::Rule(RuleError::TooLong),
+        CompileError::NoMemory => Fault::Memory,
+    }
 }

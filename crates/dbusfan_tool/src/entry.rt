@@ -1,21 +1,17 @@
 // The command line.
 
 ghost use Rattle.std.specs.Prelude.{◌≡◌, ◌⊎◌, []};
-ghost use Rattle.dbusfan_tool.specs.CommandRow.{Asked, IsRow, texts};
+ghost use Rattle.command_line.specs.CommandRow.{Asked, IsRow, texts};
 ghost use Rattle.dbusfan_tool.specs.Answer.{Tells, failing};
 ghost use Rattle.dbusfan_tool.specs.Views.{said_by};
 ghost use Rattle.dbusfan_tool.specs.Tool.{Tool, Says};
 ghost use Rattle.dbusfan_tool.specs.Usage.{SaysUsage};
-ghost use Rattle.dbusfan_tool.specs.Files.{MadeReads};
-ghost use Rattle.dbusfan_tool.specs.Output.{Puts};
+ghost use Rattle.command_line.specs.Files.{MadeReads};
+ghost use Rattle.command_line.specs.Output.{Puts};
 
 use crate::answer::Answer;
-use crate::command_line::CommandRow;
-use crate::error::Fault;
-use crate::files::Files;
-use crate::output::Output;
-use crate::writer::Writer;
 use crate::{assembling, checking, compiling, matching, running, usage};
+use command_line::{CommandRow, Fault, Files, Output, Writer};
 use std::alloc::Global;
 
 /// Does what the words after the program's name ask for, and answers the status that the program ends

@@ -3,17 +3,15 @@
 ghost use Rattle.std.specs.Prelude.{◌≡◌, ◌⊎◌, Err};
 ghost use Rattle.summary.specs.Sets.{has_slot, IsSet};
 ghost use Rattle.dbusfan_tool.specs.Tool.{Judges, Tool};
-ghost use Rattle.dbusfan_tool.specs.CommandRow.{to_match};
-ghost use Rattle.dbusfan_tool.specs.Files.{MadeReads};
+ghost use Rattle.command_line.specs.CommandRow.{to_match};
+ghost use Rattle.command_line.specs.Files.{MadeReads};
 ghost use Rattle.dbusfan_tool.specs.Answer.{failing};
 ghost use Rattle.dbusfan_tool.specs.Views.{said_by};
 
 use crate::answer::Answer;
 use crate::compiling::{SENDER_SLOT, program_of};
-use crate::error::Fault;
-use crate::files::Files;
-use crate::hex_text::decode;
 use bpf_machine::run;
+use command_line::{Fault, Files, decode};
 use match_rule::Rule;
 use message_view::View;
 use std::alloc::Global;

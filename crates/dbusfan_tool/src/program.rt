@@ -4,11 +4,10 @@ ghost use Rattle.std.specs.Prelude.{◌≡◌, ◌⊎◌, Ok, Err, IfOk, IfErr};
 ghost use Rattle.bpf_code.specs.Program.{WellFormed};
 ghost use Rattle.dbusfan_tool.specs.Program.{Assembles, Checks};
 
-use crate::error::Fault;
-use crate::files::Files;
 use bpf_code::Ins;
 use bpf_text::assemble_bytes;
 use bpf_verify::{Verified, verify};
+use command_line::{Fault, Files};
 use std::alloc::Global;
 
 /// The program that a file's text names, or the first fault.

@@ -3,17 +3,15 @@
 ghost use Rattle.std.specs.Prelude.{◌≡◌, ◌⊎◌, Err};
 ghost use Rattle.dbusfan_tool.specs.Running.{Runs};
 ghost use Rattle.dbusfan_tool.specs.Tool.{Tool};
-ghost use Rattle.dbusfan_tool.specs.CommandRow.{to_run};
-ghost use Rattle.dbusfan_tool.specs.Files.{MadeReads};
+ghost use Rattle.command_line.specs.CommandRow.{to_run};
+ghost use Rattle.command_line.specs.Files.{MadeReads};
 ghost use Rattle.dbusfan_tool.specs.Answer.{said_of_run, failing};
 ghost use Rattle.dbusfan_tool.specs.Views.{said_by};
 
 use crate::answer::Answer;
-use crate::error::Fault;
-use crate::files::Files;
-use crate::hex_text::decode;
 use crate::program;
 use bpf_machine::{Outcome, run};
+use command_line::{Fault, Files, decode};
 use message_view::View;
 use std::alloc::Global;
 use summary::{Edition, Image, Slots};

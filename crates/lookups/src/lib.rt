@@ -13,3 +13,11 @@ pub use addressee::{Addressee, found_addressee};
 pub use listing::{Names, found_connection, found_names, found_owner, found_queue};
 pub use mailboxes::{Audience, found_mailboxes};
 pub use recipients::{found_by_workers, found_reach, found_recipients};
+
+// Passed on from the crates below, so that the crates above need not name those in crates.txt.
+pub use entry_table::{Attachment, IndexKey, RuleProgram};
+pub use fan_out::{FanError, Gate, MAX_RECIPIENTS, MAX_WORKERS};
+pub use program_table::{BusState, Command, Mailbox, Refusal, Reply};
+pub use published::{
+    Entry, Front, Law, Naming, Opened, PublishError, Published, Publisher, Shown, Sight,
+};

@@ -4,10 +4,10 @@ use Rattle.std.specs.Prelude.{Result, Ok, Err, IfOk, IfErr, MatchResult}
 use Rattle.std.proofs.lemmas.Bool.{or_cases}
 use mathlib.Core.List.{IsPrefix}
 use Rattle.outbox.specs.Seated.{OutboxId}
-use Rattle.program_table.specs.declared.command.Command.{Command}
-use Rattle.program_table.specs.Connections.{is_connected}
-use Rattle.program_table.specs.History.{after}
-use Rattle.program_table.specs.State.{State}
+use Rattle.lookups.specs.Command.{Command}
+use Rattle.lookups.specs.Connections.{is_connected}
+use Rattle.lookups.specs.History.{after}
+use Rattle.lookups.specs.State.{State}
 use Rattle.routing.specs.SenderView.{RecipientView, StopView, SenderView}
 use Rattle.routing.specs.Stops.{is_in, shut_at, AllFit}
 use Rattle.lookups.specs.NameOwners.{IsOwner}

@@ -3,8 +3,8 @@ use Rattle.std.proofs.Common.{◌≡◌, ℕ, suc, ◌+◌, ◌<◌, ◌≤◌, 
 use Rattle.std.specs.Prelude.{Contains, slice_index}
 use Rattle.std.specs.List.Sorted.{IsStrictlyIncreasing}
 use Rattle.outbox.specs.Seated.{OutboxId}
-use Rattle.program_table.specs.Connections.{is_connected}
-use Rattle.program_table.specs.State.{State}
+use Rattle.lookups.specs.Connections.{is_connected}
+use Rattle.lookups.specs.State.{State}
 use Rattle.routing.specs.SenderView.{RecipientView, StopView}
 use Rattle.routing.specs.Stops.{RisesFrom, is_in}
 use Rattle.lookups.specs.Newcomers.{AreNewcomers}

@@ -3,9 +3,9 @@ use Rattle.std.proofs.Common.{◌≡◌, ◌⊎◌, inl, inr, ℕ, ◌+◌, ◌=
 use Rattle.std.specs.Prelude.{Result, Ok, Err, IfOk, IfErr, MatchResult}
 use mathlib.Core.List.{IsPrefix}
 use Rattle.outbox.specs.Seated.{OutboxId}
-use Rattle.program_table.specs.declared.command.Command.{Command}
-use Rattle.program_table.specs.Connections.{is_connected}
-use Rattle.program_table.specs.History.{after}
+use Rattle.lookups.specs.Command.{Command}
+use Rattle.lookups.specs.Connections.{is_connected}
+use Rattle.lookups.specs.History.{after}
 use Rattle.routing.specs.SenderView.{RecipientView, StopView, SenderView}
 use Rattle.routing.specs.Stops.{stop_at, last_count, outbox_id, knows_shut, is_in, is_put, number_of, outbox_at, HasStop, AllHave, AllFit, Lists, Keeps, Routed, Unrouted}
 use Rattle.routing.proofs.Routes.{kept_at}

@@ -3,10 +3,10 @@
 use Rattle.std.specs.Prelude.{◌≡◌, ◌⊎◌, ℕ, ◌<◌, ◌≤◌, List, Option, Result, Ok, Err}
 use mathlib.Core.List.{IsPrefix}
 use Rattle.arrayvec.specs.ArrayVec.{ArrayVec}
-use Rattle.fan_out.specs.declared.error.FanError.TheVariants as fan_errors
-use Rattle.program_table.specs.declared.command.Command.{Command}
-use Rattle.program_table.specs.State.{State}
-use Rattle.program_table.specs.History.{after}
+use Rattle.lookups.specs.FanError.TheVariants as fan_errors
+use Rattle.lookups.specs.Command.{Command}
+use Rattle.lookups.specs.State.{State}
+use Rattle.lookups.specs.History.{after}
 use Rattle.lookups.specs.Broadcasts.{AreRecipientsOf}
 use Rattle.passes.specs.declared.error.BusError.{BusError}
 use Rattle.passes.specs.declared.error.BusError.TheVariants as errors

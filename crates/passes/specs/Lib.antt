@@ -1,3 +1,10 @@
+pub use Rattle.lookups.specs.Reach
+pub use Rattle.lookups.specs.Connections
+pub use Rattle.lookups.specs.History
+pub use Rattle.lookups.specs.Recipients
+pub use Rattle.lookups.specs.State
+pub use Rattle.lookups.specs.Command
+pub use Rattle.lookups.specs.Publication
 pub use Rattle.lookups.specs.Names
 pub use Rattle.lookups.specs.NameOwners
 pub use Rattle.lookups.specs.Newcomers

@@ -4,9 +4,9 @@ use mathlib.Core.List.{IsPrefix}
 use Rattle.message_view.specs.Message.{Message}
 use Rattle.message_view.specs.Valid.{Valid}
 use Rattle.outbox.specs.Seated.{OutboxId}
-use Rattle.program_table.specs.Connections.{is_connected}
-use Rattle.program_table.specs.History.{after}
-use Rattle.program_table.specs.Recipients.{AreRecipients}
+use Rattle.lookups.specs.Connections.{is_connected}
+use Rattle.lookups.specs.History.{after}
+use Rattle.lookups.specs.Recipients.{AreRecipients}
 use Rattle.routing.specs.Stops.{RisesFrom, last_at, outbox_at, shut_at, is_in, is_put, AllFit}
 use Rattle.lookups.specs.Newcomers.{IsOutboxOf}
 use Rattle.passes.specs.declared.error.BusError.{BusError}

@@ -1,7 +1,7 @@
 -- Unicast messages of a pass (own).
 use Rattle.std.specs.Prelude.{◌≡◌, ◌⊎◌, ℕ, true, List}
 use Rattle.outbox.specs.Seated.{OutboxId}
-use Rattle.program_table.specs.History.{after}
+use Rattle.lookups.specs.History.{after}
 use Rattle.routing.specs.Stops.{shut_at}
 use Rattle.lookups.specs.NameOwners.{IsOwner}
 use Rattle.passes.specs.declared.error.BusError.{BusError}

@@ -8,10 +8,8 @@ use crate::error::BusError;
 use crate::pass::Pass;
 use crate::reading::Source;
 use arrayvec::ArrayVec;
-use fan_out::{FanError, Gate, MAX_RECIPIENTS, MAX_WORKERS};
+use lookups::{FanError, Gate, MAX_RECIPIENTS, MAX_WORKERS, Mailbox, Naming};
 use message_view::View;
-use program_table::Mailbox;
-use published::Naming;
 use std::sync::Wait;
 use std::thread::Threads;
 

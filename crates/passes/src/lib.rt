@@ -24,3 +24,9 @@ pub use pass::Pass;
 pub use reading::Source;
 pub use route_lists::RouteLists;
 pub use unicasts::Sent;
+
+// Passed on from the crates below, so that the crates above need not name those in crates.txt.
+pub use lookups::{
+    Command, Front, IndexKey, MAX_RECIPIENTS, Mailbox, Naming, Opened, Published, Refusal, Reply,
+    Shown,
+};

@@ -2,7 +2,7 @@
 
 ghost use Rattle.std.specs.Prelude.{◌≡◌};
 ghost use Rattle.owners.specs.Queues.{queue_of};
-ghost use Rattle.program_table.specs.Connections.{numbers_of};
+ghost use Rattle.lookups.specs.Connections.{numbers_of};
 ghost use Rattle.lookups.specs.Names.{AreNames};
 ghost use Rattle.passes.specs.Passes.{PassState};
 ghost use Rattle.passes.specs.Asking.{Tells};
@@ -10,10 +10,8 @@ ghost use Rattle.passes.specs.Asking.{Tells};
 use crate::error::BusError;
 use crate::pass::Pass;
 use arrayvec::ArrayVec;
-use fan_out::MAX_RECIPIENTS;
+use lookups::{MAX_RECIPIENTS, Mailbox, Naming};
 use owners::WellKnown;
-use program_table::Mailbox;
-use published::Naming;
 use std::alloc::Global;
 
 impl<J: Naming, M: Mailbox> Pass<J, M> {

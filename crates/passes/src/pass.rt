@@ -5,10 +5,10 @@ ghost use mathlib.Core.List.{IsPrefix};
 ghost use Rattle.message_view.specs.Message.{Message};
 ghost use Rattle.message_view.specs.Valid.{Valid};
 ghost use Rattle.owners.specs.Queues.{owner_of, queue_of};
-ghost use Rattle.program_table.specs.Connections.{is_connected, numbers_of};
-ghost use Rattle.program_table.specs.History.{after, own_commands};
-ghost use Rattle.program_table.specs.Recipients.{AreRecipients};
-ghost use Rattle.fan_out.specs.Reach.{TellsReach};
+ghost use Rattle.lookups.specs.Connections.{is_connected, numbers_of};
+ghost use Rattle.lookups.specs.History.{after, own_commands};
+ghost use Rattle.lookups.specs.Recipients.{AreRecipients};
+ghost use Rattle.lookups.specs.Reach.{TellsReach};
 ghost use Rattle.passes.specs.Passes.{PassState, HasTaken, new_pass};
 ghost use Rattle.passes.specs.Sending.{sending};
 ghost use Rattle.lookups.specs.NameOwners.{IsOwner};
@@ -20,15 +20,13 @@ ghost use Rattle.passes.specs.Asking.{Tells, TellsByWorkers};
 use crate::error::BusError;
 use arrayvec::ArrayVec;
 use crossbeam_utils::rule::Protocol;
-use fan_out::{FanError, Gate, MAX_RECIPIENTS, MAX_WORKERS};
 use lookups::{
-    Addressee, Audience, Names, found_addressee, found_by_workers, found_connection,
+    Addressee, Audience, Command, FanError, Front, Gate, MAX_RECIPIENTS, MAX_WORKERS, Mailbox,
+    Names, Naming, Published, Shown, Sight, found_addressee, found_by_workers, found_connection,
     found_mailboxes, found_names, found_owner, found_queue, found_reach, found_recipients,
 };
 use message_view::View;
 use owners::WellKnown;
-use program_table::{Command, Mailbox};
-use published::{Front, Naming, Published, Shown, Sight};
 use routing::{Carrier, Sender};
 use std::alloc::{AllocError, Global};
 use std::collections::LinkedList;

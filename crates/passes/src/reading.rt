@@ -5,20 +5,18 @@ ghost use mathlib.Core.List.{IsPrefix};
 ghost use Rattle.message_view.specs.Message.{Message};
 ghost use Rattle.message_view.specs.Valid.{Valid};
 ghost use Rattle.owners.specs.Queues.{owner_of};
-ghost use Rattle.program_table.specs.Connections.{is_connected};
-ghost use Rattle.program_table.specs.History.{after};
-ghost use Rattle.program_table.specs.Recipients.{AreRecipients};
-ghost use Rattle.fan_out.specs.Reach.{TellsReach};
+ghost use Rattle.lookups.specs.Connections.{is_connected};
+ghost use Rattle.lookups.specs.History.{after};
+ghost use Rattle.lookups.specs.Recipients.{AreRecipients};
+ghost use Rattle.lookups.specs.Reach.{TellsReach};
 ghost use Rattle.passes.specs.Passes.{PassState, sender_of};
 
 use crate::error::BusError;
 use crate::pass::Pass;
 use arrayvec::ArrayVec;
-use fan_out::MAX_RECIPIENTS;
+use lookups::{MAX_RECIPIENTS, Mailbox, Naming};
 use message_view::View;
 use owners::WellKnown;
-use program_table::Mailbox;
-use published::Naming;
 
 /// Whose message a pass asks for.
 #[derive(Clone, Copy, Debug, PartialEq, Eq)]

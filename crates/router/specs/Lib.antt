@@ -1,3 +1,10 @@
+pub use Rattle.passes.specs.Reach
+pub use Rattle.passes.specs.declared.error.BusError
+pub use Rattle.passes.specs.declared.reading.Source
+pub use Rattle.passes.specs.Connections
+pub use Rattle.passes.specs.History
+pub use Rattle.passes.specs.Recipients
+pub use Rattle.passes.specs.State
 pub use Rattle.passes.specs.Errors
 pub use Rattle.passes.specs.Passes
 pub use Rattle.passes.specs.Routes

@@ -2,18 +2,17 @@
 
 ghost use Rattle.std.specs.Prelude.{◌≡◌, ◌⊎◌, MatchResult, IfErr, false, true};
 ghost use mathlib.Core.List.{IsPrefix};
-ghost use Rattle.program_table.specs.declared.command.Command.TheVariants.{Detach, Request, Release, DropOne, Close};
-ghost use Rattle.published.specs.Publication.{Publication};
+ghost use Rattle.passes.specs.Command.TheVariants.{Detach, Request, Release, DropOne, Close};
+ghost use Rattle.passes.specs.Publication.{Publication};
 ghost use Rattle.passes.specs.Passes.{PassState};
 ghost use Rattle.passes.specs.Calls.{AnswersOnce, ConnectsOnce};
 ghost use Rattle.passes.specs.Readings.{AddsMatchOnce, RemovesMatchOnce, AttachesOnce};
 
 use bpf_code::Ins;
-use entry_table::IndexKey;
 use owners::WellKnown;
-use passes::{BusError, Control, KeptPasses, Pass};
-use program_table::{Mailbox, Reply};
-use published::{Front, Naming, Opened};
+use passes::{
+    BusError, Control, Front, IndexKey, KeptPasses, Mailbox, Naming, Opened, Pass, Reply,
+};
 use std::alloc::Global;
 use std::sync::{Mutex, MutexGuard, Wait};
 use summary::Edition;

@@ -1,7 +1,7 @@
 // Mailboxes that nothing writes out.
 
 use outbox::Outbox;
-use program_table::Mailbox;
+use passes::Mailbox;
 use routing::Carrier;
 use std::alloc::{AllocError, Global};
 use std::sync::Wait;

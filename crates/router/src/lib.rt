@@ -11,3 +11,6 @@ mod unicasts;
 pub use bus::Bus;
 pub use letterbox::Letterbox;
 pub use passes::{BusError, Control, Pass, RouteLists, Sent, Source};
+
+// Passed on from the crates below, so that the crates above need not name those in crates.txt.
+pub use passes::{Command, IndexKey, Mailbox, Naming, Opened, Published, Refusal, Reply, Shown};

@@ -5,9 +5,7 @@ ghost use Rattle.passes.specs.Unicasts.{Unicasts, IsUnsent};
 
 use crate::bus::Bus;
 use bytes::Bytes;
-use passes::{BusError, Pass, Sent};
-use program_table::Mailbox;
-use published::Naming;
+use passes::{BusError, Mailbox, Naming, Pass, Sent};
 use routing::Carrier;
 use std::alloc::Global;
 use std::sync::Wait;

@@ -3,7 +3,7 @@
 use crate::hub::Hub;
 use endpoints::{Link, Listener};
 use members::{Arrival, Post};
-use published::Naming;
+use sessions::Naming;
 use std::sync::{Arc, Wait};
 use std::thread;
 use std::time::{Clock, Duration};

@@ -2,9 +2,7 @@
 
 use crate::limits::{Limits, Places};
 use members::Mail;
-use published::Naming;
-use router::Bus;
-use sessions::Rest;
+use sessions::{Bus, Naming, Rest};
 use std::alloc::{AllocError, Global};
 use std::sync::{Mutex, Wait};
 

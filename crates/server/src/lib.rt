@@ -12,3 +12,6 @@ mod worker;
 pub use hub::Identity;
 pub use limits::Limits;
 pub use serving::serve;
+
+// Passed on from the crates below, so that the crates above need not name those in crates.txt.
+pub use sessions::IndexKey;

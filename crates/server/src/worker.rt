@@ -5,7 +5,7 @@ use crate::hub::Hub;
 use endpoints::Link;
 use members::{BELL, Post};
 use mio::{Events, Poll, Token};
-use published::Naming;
+use sessions::Naming;
 use slab::Slab;
 use std::alloc::{AllocError, Global};
 use std::net::Net;

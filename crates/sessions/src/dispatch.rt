@@ -5,13 +5,12 @@ ghost use Rattle.message_view.specs.Message.{Message};
 ghost use Rattle.message_view.specs.Valid.{Valid};
 
 use bus_messages::{Bytes, Call, ErrorName, UniqueName};
-use bus_methods::perform;
-use connections::{AnswerError, BUS_NAME, Connection, Home, Refused, Request, Site};
+use bus_methods::{
+    AnswerError, BUS_NAME, Connection, Home, Mailbox, Naming, Refused, Request, RouteLists, Sent,
+    Site, Source, perform,
+};
 use message_build::{StampError, stamp};
 use message_view::{Kind, View};
-use program_table::Mailbox;
-use published::Naming;
-use router::{RouteLists, Sent, Source};
 use routing::Carrier;
 use std::alloc::Global;
 use std::sync::Wait;

@@ -1,10 +1,7 @@
 // The end of a session.
 
-use connections::{Connection, Leaving, Site};
+use bus_methods::{Bus, Command, Connection, Leaving, Mailbox, Naming, Published, Shown, Site};
 use crossbeam_utils::rule::Protocol;
-use program_table::{Command, Mailbox};
-use published::{Naming, Published, Shown};
-use router::Bus;
 use routing::Carrier;
 use std::alloc::Global;
 use std::collections::LinkedList;

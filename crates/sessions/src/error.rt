@@ -3,7 +3,7 @@
 ghost use Rattle.std.specs.Prelude.{◌≡◌};
 ghost use Rattle.sessions.specs.Errors.{number_of, name_of};
 
-use connections::AnswerError;
+use bus_methods::AnswerError;
 use frames::FrameError;
 use message_view::MsgError;
 use std::error::Error;

@@ -3,10 +3,10 @@
 use crate::dispatch::is_for_bus;
 use crate::error::SessionError;
 use bus_messages::Call;
-use connections::{BUS_NAME, Connection, Home, Identity, Refused, Request, Site, put_refusal};
+use bus_methods::{
+    BUS_NAME, Connection, Home, Identity, Mailbox, Naming, Refused, Request, Site, put_refusal,
+};
 use message_view::View;
-use program_table::Mailbox;
-use published::Naming;
 use routing::Carrier;
 use std::sync::Wait;
 

@@ -16,3 +16,6 @@ pub use ending::Rest;
 pub use error::SessionError;
 pub use serving::serve_one;
 pub use session::{Session, Step};
+
+// Passed on from the crates below, so that the crates above need not name those in crates.txt.
+pub use bus_methods::{Bus, Command, IndexKey, Letterbox, Naming, Opened, Published, Shown};

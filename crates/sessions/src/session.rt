@@ -7,13 +7,13 @@ use crate::ending::{Rest, end};
 use crate::error::SessionError;
 use crate::greeting::greet;
 use crate::talk::Talk;
-use connections::{Connection, Home, Identity, Request, Site};
+use bus_methods::{
+    Bus, Command, Connection, Home, Identity, Mailbox, Naming, Published, Request, RouteLists,
+    Shown, Site,
+};
 use crossbeam_utils::rule::Protocol;
 use frames::Frames;
 use message_view::MsgError;
-use program_table::{Command, Mailbox};
-use published::{Naming, Published, Shown};
-use router::{Bus, RouteLists};
 use routing::Carrier;
 use std::alloc::Global;
 use std::collections::LinkedList;

@@ -4,9 +4,8 @@ ghost use Rattle.std.specs.Prelude.{◌≤◌, length, IfOk};
 
 use crate::error::SessionError;
 use auth::Auth;
+use bus_methods::{Home, Mailbox};
 use bytes::Bytes;
-use connections::Home;
-use program_table::Mailbox;
 use routing::Carrier;
 use std::alloc::Global;
 use std::sync::Wait;

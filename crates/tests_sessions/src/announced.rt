@@ -2,7 +2,7 @@
 
 ghost use Rattle.std.specs.Prelude.{⊤};
 
-use dbusfan_tool::Writer;
+use command_line::Writer;
 use std::alloc::Global;
 use std::io;
 use std::sync::{Condvar, Mutex, Wait};

@@ -2,8 +2,8 @@
 
 use crate::announced::{Announced, Announcer};
 use crate::client::{S1_STAMPED, talk};
-use dbusfan_serve::serve;
-use dbusfan_tool::Output;
+use command_line::Output;
+use serve_command::serve;
 use std::alloc::Global;
 use std::fs::Files;
 use std::net::{Net, TcpListener, TcpStream};

@@ -1,7 +1,7 @@
 // What the words of `serve` are answered.
 
-use dbusfan_serve::serve;
-use dbusfan_tool::Output;
+use command_line::Output;
+use serve_command::serve;
 use std::alloc::Global;
 use std::fs::Files;
 use std::net::{Net, TcpListener, TcpStream};

@@ -1,7 +1,7 @@
 use Rattle.std.proofs.Common.{ℕ, List, ap, subst, ◌∙◌}
 use Rattle.std.specs.Prelude.{option_map}
 use Rattle.lookups.specs.Broadcasts.{IsFound}
-use Rattle.program_table.specs.History.{after}
+use Rattle.lookups.specs.History.{after}
 use Rattle.passes.specs.Passes.{sender_of}
 use Rattle.passes.proofs.Finding.{reachable, rising}
 use Rattle.passes.proofs.Sending.{answered, not_found}

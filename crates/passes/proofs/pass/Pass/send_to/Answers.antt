@@ -1,5 +1,5 @@
 use Rattle.std.proofs.lemmas.Option.{MatchOption-at_some, MatchOption-at_none}
-use Rattle.program_table.specs.History.{after}
+use Rattle.lookups.specs.History.{after}
 use Rattle.passes.proofs.Delivering.{delivered, unowned, unsent, owner_reachable}
 use Rattle.passes.proofs.pass.Pass.send_to.Goals as goal
 

@@ -1,0 +1,8 @@
+pub mod CommandRow
+pub mod RowReading
+pub mod Views
+pub mod Asking
+pub mod HexText
+pub mod Files
+pub mod Output
+pub mod Errors

@@ -1,0 +1,70 @@
+// The rows of the command line.
+
+use crate::gathered::Gathered;
+use summary::Edition;
+
+/// What a command line asks for.
+#[derive(Clone, Copy)]
+pub enum CommandRow<'a> {
+    /// `match RULE FILE [--owns]`: does the rule match the message in the file?
+    Match {
+        rule: &'a str,
+        file: &'a str,
+        owns: bool,
+    },
+    /// `asm FILE`: the byte form of the program in the file.
+    Asm {
+        file: &'a str,
+    },
+    /// `check FILE`: is the program in the file accepted?
+    Check {
+        file: &'a str,
+    },
+    /// `compile RULE`: the text of the rule's program.
+    Compile {
+        rule: &'a str,
+    },
+    /// `run PROGRAM FILE [--edition 1|2]`: what does the program say of the message in the file?
+    Run {
+        program: &'a str,
+        file: &'a str,
+        edition: Edition,
+    },
+}
+
+impl<'a> CommandRow<'a> {
+    ghost use Rattle.std.specs.Prelude.{◌≡◌, IfSome, Some};
+    ghost use Rattle.std.specs.Option.{option_map};
+    ghost use Rattle.command_line.specs.CommandRow.{Asked, IsRow, texts};
+    ghost use Rattle.command_line.specs.Views.{asked_by};
+    ghost use Rattle.command_line.specs.RowReading.{asked_in};
+
+    /// The row that some words are, if they are one.
+    pub fn read(words: &[&'a str]) -> Option<CommandRow<'a>>
+        ensures found { IfSome result (λ row. IsRow (asked_by row) (texts words.now)) }
+        ensures only { (asked : Asked) → IsRow asked (texts words.now) → option_map asked_by result ≡ Some asked }
+    {
+        CommandRow::from_left(words)
+    }
+
+    fn from_left(words: &[&'a str]) -> Option<CommandRow<'a>>
+        ensures { option_map asked_by result ≡ asked_in (texts words.now) }
+    {
+        let (command, words) = words.split_first()?;
+        let gathered = Gathered::read(words)?;
+        match *command {
+            "match" => gathered.to_match(),
+            "asm" => Some(CommandRow::Asm {
+                file: gathered.only_word()?,
+            }),
+            "check" => Some(CommandRow::Check {
+                file: gathered.only_word()?,
+            }),
+            "compile" => Some(CommandRow::Compile {
+                rule: gathered.only_word()?,
+            }),
+            "run" => gathered.to_run(),
+            _ => None,
+        }
+    }
+}

@@ -1,0 +1,38 @@
+//! The program dbusfan_watch: what the system gives to the command `watch`.
+#![tactic(auto)]
+
+use command_line::{Fault, Output, Stream, System, Writer, args};
+use std::alloc::Global;
+use std::io;
+use std::io::Lock;
+use std::net::{Net, TcpListener, TcpStream};
+use std::process::ExitCode;
+use std::rt::Runtime;
+pub use watch_command::watch;
+
+fn main(rt: HostRuntime) -> ExitCode {
+    let mut err = Output::new(Stream::new(rt.stderr().lock()));
+    let status = match run(&rt, &mut err) {
+        Ok(status) => status,
+        Err(fault) => {
+            err.put_fault(fault);
+            fault.status()
+        }
+    };
+    ExitCode::from(status)
+}
+
+/// Watches a bus as the words after the program's name ask for. An `Err` says that there are none to read.
+fn run<R, E: Writer>(rt: &R, err: &mut Output<E>) -> Result<u8, Fault>
+where
+    R: Runtime<A = Global> + Net<Listener = TcpListener, Stream = TcpStream>,
+{
+    let args = args(rt)?;
+    let words: Vec<&str> = args
+        .iter()
+        .skip(1)
+        .map(|arg| arg.as_str())
+        .collect(rt.alloc())?;
+    let mut out = Output::new(Stream::new(io::writer(rt)));
+    Ok(watch(rt, words.as_slice(), &mut System::new(rt), &mut out, err))
+}

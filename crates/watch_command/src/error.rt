@@ -1,0 +1,131 @@
+// What `watch` is refused for.
+
+use bus_client::{AddressError, ClientError};
+use command_line::{Output, Writer};
+use std::alloc::{AllocError, Global};
+use value_text::TextError;
+
+/// The names of errors by which a bus says that it has no method for programs.
+const NO_METHOD: [&str; 3] = [
+    "org.freedesktop.DBus.Error.UnknownMethod",
+    "org.freedesktop.DBus.Error.UnknownInterface",
+    "org.freedesktop.DBus.Error.UnknownObject",
+];
+
+/// What the command is refused for.
+#[derive(Debug, Drop)]
+pub enum Fault {
+    /// What any command is refused for.
+    Tool(command_line::Fault),
+    /// No bus is at the address, it has gone, or it doesn't answer.
+    Socket,
+    /// The bus lets nobody in who doesn't say who it is.
+    Auth,
+    /// The bus refuses the rule or the program by this error.
+    Refused(String),
+    /// The bus knows no programs, as it says by this error.
+    NoPrograms(String),
+}
+
+impl Fault {
+    /// The status that the program ends with.
+    pub fn status(&self) -> u8 {
+        match self {
+            Fault::Tool(fault) => fault.status(),
+            Fault::Socket | Fault::Auth => 4,
+            Fault::Refused(_) | Fault::NoPrograms(_) => 2,
+        }
+    }
+
+    /// What a call for a program was refused for.
+    pub(crate) fn of_attaching(error: ClientError) -> Fault {
+        match error {
+            ClientError::Answered(name) => Fault::of_program(name),
+            other => Fault::from(other),
+        }
+    }
+
+    /// What a bus says of a program by an error of this name.
+    fn of_program(name: String) -> Fault {
+        if says_no_method(name.as_str()) {
+            Fault::NoPrograms(name)
+        } else {
+            Fault::Refused(name)
+        }
+    }
+
+    /// Writes the fault's line to standard error, and answers the status.
+    pub(crate) fn tell<E: Writer>(&self, alloc: Global, err: &mut Output<E>) -> u8 {
+        match self {
+            Fault::Tool(fault) => err.put_fault(*fault),
+            Fault::Socket => err.put(b"dbusfan: socket\n"),
+            Fault::Auth => err.put(b"dbusfan: auth\n"),
+            Fault::Refused(name) => put_named(alloc, name.as_str(), "", err),
+            Fault::NoPrograms(name) => {
+                put_named(
+                    alloc,
+                    name.as_str(),
+                    ": this bus can't attach programs",
+                    err,
+                );
+            }
+        }
+        self.status()
+    }
+}
+
+/// Whether a bus says by an error of this name that it has no method for programs.
+fn says_no_method(name: &str) -> bool {
+    NO_METHOD.iter().any(|known| *known == name)
+}
+
+/// Writes the line of an error that the bus answered.
+fn put_named<E: Writer>(alloc: Global, name: &str, more: &str, err: &mut Output<E>) {
+    match format!(in alloc; "dbusfan: error {name}{more}\n") {
+        Ok(line) => err.put(line.as_bytes()),
+        Err(_) => err.put_fault(command_line::Fault::Memory),
+    }
+}
+
+impl From<command_line::Fault> for Fault {
+    fn from(fault: command_line::Fault) -> Fault {
+        Fault::Tool(fault)
+    }
+}
+
+impl From<AllocError> for Fault {
+    fn from(_refused: AllocError) -> Fault {
+        Fault::Tool(command_line::Fault::Memory)
+    }
+}
+
+impl From<AddressError> for Fault {
+    fn from(error: AddressError) -> Fault {
+        match error {
+            AddressError::Form => Fault::Tool(command_line::Fault::Usage),
+            AddressError::Nowhere => Fault::Socket,
+            AddressError::NoMemory => Fault::Tool(command_line::Fault::Memory),
+        }
+    }
+}
+
+impl From<ClientError> for Fault {
+    fn from(error: ClientError) -> Fault {
+        match error {
+            ClientError::Socket => Fault::Socket,
+            ClientError::Auth => Fault::Auth,
+            ClientError::Message(fault) => Fault::Tool(command_line::Fault::Message(fault)),
+            ClientError::Answered(name) => Fault::Refused(name),
+            ClientError::NoMemory => Fault::Tool(command_line::Fault::Memory),
+        }
+    }
+}
+
+impl From<TextError> for Fault {
+    fn from(error: TextError) -> Fault {
+        match error {
+            TextError::Message(fault) => Fault::Tool(command_line::Fault::Message(fault)),
+            TextError::NoMemory => Fault::Tool(command_line::Fault::Memory),
+        }
+    }
+}

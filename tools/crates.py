@@ -1,0 +1,188 @@
+"""The crates of this repository, and how they are proved and built side by side.
+
+What `rt` itself knows of a crate (its words for the prover, the sum of its sources, whether it is built) comes from
+the library that `rt` is made of, so that `rt check`, `rt test` and the scripts here share what is built. `rt` walks the
+graph of crates.txt anew along each of its paths; here each crate's sum and what it stands on are computed once.
+"""
+import copy
+import importlib.machinery
+import importlib.util
+import os
+import shutil
+import sys
+import tempfile
+from concurrent.futures import FIRST_COMPLETED, ThreadPoolExecutor, wait
+from pathlib import Path
+
+sys.dont_write_bytecode = True
+TOP = Path(__file__).resolve().parent.parent
+
+
+def once(method):
+    """The method, whose answer for a crate is computed at its first call alone."""
+    answers = {}
+
+    def answer(crate):
+        if crate.folder not in answers:
+            answers[crate.folder] = method(crate)
+        return copy.copy(answers[crate.folder])
+
+    return answer
+
+
+def load_rt(keeps=True):
+    """The program `rt` as a module, None if there is no toolchain on the path. It keeps sums and graph, unless it is to
+    be measured as it is."""
+    found = shutil.which("rt")
+    if not found:
+        return None
+    loader = importlib.machinery.SourceFileLoader("rt", os.path.realpath(found))
+    made = importlib.util.module_from_spec(importlib.util.spec_from_loader("rt", loader))
+    loader.exec_module(made)
+    crate = made.rtlib.Crate
+    if keeps:
+        crate.stamp, crate.below = once(crate.stamp), once(crate.below)
+    # libraries are built with their statements alone: a sixth of the room, and quicker to load
+    crate.cuts_libraries = True
+    made.rtlib.stop = made.stop
+    made.rtlib.guarded()
+    return made
+
+
+def crates_of(rt, top=TOP):
+    """The crates that crates.txt lists, by their names."""
+    rt.Crate.allowed = rt.handles_of(str(top))
+    rt.rtlib.Crate = rt.Crate
+    return {it.name: it for it in rt.rtlib.crates_below(str(top))}
+
+
+def with_below(crates, names):
+    """These crates and all that they stand on, lowest first."""
+    found = {}
+    for name in names:
+        for it in [*crates[name].below(), crates[name]]:
+            found[it.name] = it
+    return list(found.values())
+
+
+def with_above(crates, names):
+    """These crates and all that stand on them, lowest first."""
+    found = [it for it in crates.values() if it.name in names or any(dep.name in names for dep in it.below())]
+    return sorted(found, key=lambda it: len(it.below()))
+
+
+def run_step(crate, step):
+    """Runs a step of a crate; returns whether it went well, and what it printed."""
+    crate = copy.copy(crate)
+    with tempfile.TemporaryFile("w+", errors="replace") as crate.out:
+        try:
+            os.makedirs(f"{crate.folder}/out", exist_ok=True)
+            status = step(crate)
+        except SystemExit:
+            status = 2
+        crate.out.seek(0)
+        return status == 0, crate.out.read()
+
+
+def build_library(crate, jobs):
+    """Proves a library from nothing, and builds it for the crates above."""
+    status = crate.build_rlib(["--jobs", str(jobs)], anew=True)
+    if status == 0:
+        Path(crate.folder, "out/rlib/stamp").write_text(crate.stamp(), encoding="utf-8")
+    return status
+
+
+def link_program(rt, crate, jobs):
+    """Proves a program over built libraries, and builds it as `rt run` does."""
+    kit, program = rt.KIT, f"out/{crate.name}"
+    words = ["build", *crate.words(["--jobs", str(jobs)], keeps=False), "--toolchain", f"{kit}/toolchain"]
+    status = crate.call(rt.rtlib.RATTLE, *words, "--backend", "llvm", "-o", f"{program}.o") or crate.link(f"{program}.o", program)
+    if status == 0:
+        stamp = crate.stamp() + rt.rtlib.sum_of(f"{crate.folder}/{program}")
+        Path(crate.folder, f"{program}.stamp").write_text(stamp, encoding="utf-8")
+    return status
+
+
+def is_built(rt, crate):
+    """Whether a library or a program is built from the sources as they are."""
+    if not crate.is_program:
+        return crate.is_built()
+    kept = rt.rtlib.text_of(f"{crate.folder}/out/{crate.name}.stamp")
+    return kept == crate.stamp() + rt.rtlib.sum_of(f"{crate.folder}/out/{crate.name}")
+
+
+def in_lanes(tasks, lanes, memory):
+    """Runs tasks side by side, each once those that it waits for have ended, those first that have the longest chain of
+    others behind them. A task is what it waits for, its work in lines, its memory, and a call that takes how many jobs
+    it may use and says whether it went well. Nothing begins that waits for one that didn't; returns those that did."""
+    behind = {key: work for key, (_, work, _, _) in tasks.items()}
+    for key in reversed([*tasks]):
+        for it in tasks[key][0]:
+            behind[it] = max(behind[it], tasks[it][1] + behind[key])
+    left, running, done = sorted(tasks, key=lambda it: -behind[it]), {}, set()
+    with ThreadPoolExecutor(lanes) as pool:
+        while True:
+            ready = [it for it in left if done.issuperset(tasks[it][0])]
+            for at, key in enumerate(ready):
+                idle = lanes - sum(jobs for _, jobs in running.values())
+                room = memory - sum(tasks[it][2] for it, _ in running.values())
+                if idle <= 0 or (running and tasks[key][2] > room):
+                    break
+                # the chain that takes longest gets a second processor, and whoever comes last those that are left
+                is_longest = behind[key] >= max([behind[it] for it in left] + [behind[it] for it, _ in running.values()])
+                jobs = max(1, min(4, idle // (len(ready) - at)), 2 if is_longest and idle > 1 else 1)
+                left.remove(key)
+                running[pool.submit(tasks[key][3], jobs)] = key, jobs
+            if not running:
+                return done
+            for it in wait(running, return_when=FIRST_COMPLETED).done:
+                key, _ = running.pop(it)
+                if it.result():
+                    done.add(key)
+
+
+def work_of(crate):
+    """How much work a crate's check is, in lines of code: a line of definitions or proofs is a third of one."""
+    lines = {".rt": 150, ".antt": 0}
+    for part in ("src", "specs", "proofs"):
+        for file in Path(crate.folder, part).rglob("*.*"):
+            lines[file.suffix] = lines.get(file.suffix, 0) + file.read_bytes().count(b"\n")
+    return lines[".rt"] + lines[".antt"] // 3
+
+
+def to_build(rt, wanted):
+    """Those of some crates, lowest first, that aren't built from the sources as they are, or stand on one that isn't."""
+    names = set()
+    for crate in wanted:
+        if not is_built(rt, crate) or any(it.name in names for it in crate.below()):
+            names.add(crate.name)
+    return [it for it in wanted if it.name in names]
+
+
+def forget_above(crates, rebuilt):
+    """Forgets what is built over older builds of these: statements fit only what they were built over."""
+    for crate in with_above(crates, {it.name for it in rebuilt}):
+        Path(crate.folder, "out/rlib/stamp").unlink(missing_ok=True)
+
+
+def build_tasks(rt, crates, wanted, begun, ended):
+    """The tasks that build some crates, lowest first, for `in_lanes`. `begun` is called with each crate as its check
+    begins, `ended` as it ends, with whether it is proved and what was said."""
+
+    def task(crate):
+        step = link if crate.is_program else build_library
+
+        def call(jobs):
+            begun(crate)
+            well, said = run_step(crate, lambda it: step(it, jobs))
+            ended(crate, well, said)
+            return well
+
+        return [it.name for it in crate.below() if it.name in names], work_of(crate), rt.need(crate), call
+
+    def link(crate, jobs):
+        return link_program(rt, crate, jobs)
+
+    names = {it.name for it in wanted}
+    forget_above(crates, wanted)
+    return {it.name: task(it) for it in wanted}
