@@ -90,8 +90,9 @@ fn add_rule<R: Abort>(rt: &R, claims: &mut Claims, text: &str, slot: u16) {
 }
 
 fn remove_rule<R: Abort>(rt: &R, claims: &mut Claims, text: &str) {
-    assert_eq!(rt; claims.rules_of(text), 1);
-    claims.slot_free(&name(rt, text));
+    let name = name(rt, text);
+    assert_eq!(rt; claims.rules_of(name.as_str()), 1);
+    claims.slot_free(&name);
 }
 
 /// A rule keeps the slot of a name that nobody claims any more.
@@ -112,9 +113,9 @@ fn slots_of_rules(rt: HostRuntime) {
 fn expect_order<R: Abort>(rt: &R, claims: &Claims) {
     let a = name(rt, "com.example.A");
     let b = name(rt, "com.example.B");
-    assert!(rt; claims.next_name(None).is_some_and(|least| least == a));
-    assert!(rt; claims.next_name(Some(&a)).is_some_and(|next| next == b));
-    assert!(rt; claims.next_name(Some(&b)).is_none());
+    assert_eq!(rt; claims.next_name(None), Some(a.copy()));
+    assert_eq!(rt; claims.next_name(Some(&a)), Some(b.copy()));
+    assert_eq!(rt; claims.next_name(Some(&b)), None);
 }
 
 #[test]
