@@ -58,8 +58,10 @@ fn exchange<R: Wait + Abort>(rt: &R, outbox: &Outbox, other: &Outbox) {
     let mut putting = outbox.seat();
     let mut taking = other.seat();
     assert!(rt; outbox.put(rt, &mut putting, broadcast(7, 5)).is_ok());
-    let taken = other.take(rt, &mut taking);
-    assert_eq!(rt; taken.and_then(|item| item.mark), Some((7, 5)));
+    match other.take(rt, &mut taking) {
+        Some(item) => assert_eq!(rt; item.mark, Some((7, 5))),
+        None => panic!(rt; "nothing was put"),
+    }
     assert!(rt; other.take(rt, &mut taking).is_none());
 }
 

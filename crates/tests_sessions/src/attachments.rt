@@ -1,10 +1,8 @@
 // Attachments: a program and an edition as arguments.
 
-use crate::calls::expect_refusal;
+use crate::calls::{expect_refusal, message, read_call};
 use bpf_code::Ins;
 use bus_messages::{Call, CallError};
-use message_build::Builder;
-use message_view::{Kind, View};
 use std::alloc::Global;
 use std::process::Abort;
 use summary::Edition;
@@ -27,14 +25,6 @@ const INSTRUCTIONS: [Ins; 2] = [
     },
 ];
 
-fn attach<R: Abort>(rt: &R, alloc: Global, member: &str, signature: &[u8], body: &[u8]) -> Vec<u8> {
-    let mut builder = Builder::new(alloc, Kind::MethodCall, 0, 1);
-    builder.path("/a");
-    builder.member(member);
-    builder.raw_body(signature, body).expect(rt, "a body");
-    builder.finish(alloc).expect(rt, "a message")
-}
-
 // The message is an attachment of this edition and program.
 fn expect_attachment<R: Abort>(
     rt: &R,
@@ -43,8 +33,7 @@ fn expect_attachment<R: Abort>(
     wanted: Edition,
     instructions: &[Ins],
 ) {
-    let view = View::read(bytes).expect(rt, "a message");
-    match Call::read(alloc, &view).expect(rt, "a call") {
+    match read_call(rt, alloc, bytes).expect(rt, "a call") {
         Call::Attach(edition, program) => {
             assert_eq!(rt; edition, wanted);
             assert_eq!(rt; program.as_slice(), instructions);
@@ -56,7 +45,7 @@ fn expect_attachment<R: Abort>(
 #[test]
 fn edition_one(rt: HostRuntime) {
     let alloc = rt.alloc();
-    let bytes = attach(&rt, alloc, "Attach", b"a(qyyu)", PROGRAM);
+    let bytes = message(&rt, alloc, "", "Attach", b"a(qyyu)", PROGRAM);
     expect_attachment(&rt, alloc, &bytes, Edition::One, &INSTRUCTIONS);
 }
 
@@ -80,7 +69,7 @@ fn big_endian(rt: HostRuntime) {
 }
 
 fn expect_no_edition<R: Abort>(rt: &R, alloc: Global, body: &[u8]) {
-    let bytes = attach(rt, alloc, "AttachEdition", b"ua(qyyu)", body);
+    let bytes = message(rt, alloc, "", "AttachEdition", b"ua(qyyu)", body);
     expect_refusal(rt, alloc, &bytes, CallError::BadEdition);
 }
 
@@ -94,6 +83,6 @@ fn no_edition(rt: HostRuntime) {
 #[test]
 fn empty_program(rt: HostRuntime) {
     let alloc = rt.alloc();
-    let bytes = attach(&rt, alloc, "Attach", b"a(qyyu)", b"\0\0\0\0\0\0\0\0");
+    let bytes = message(&rt, alloc, "", "Attach", b"a(qyyu)", b"\0\0\0\0\0\0\0\0");
     expect_attachment(&rt, alloc, &bytes, Edition::One, &[]);
 }

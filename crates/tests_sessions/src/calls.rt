@@ -22,7 +22,8 @@ const TEXT_AND_FIVE: &[u8] = b"\x01\0\0\0x\0\0\0\x05\0\0\0";
 
 const FIVE: &[u8] = b"\x05\0\0\0";
 
-fn message<R: Abort>(
+/// A call of a method, by no interface where none is given.
+pub(crate) fn message<R: Abort>(
     rt: &R,
     alloc: Global,
     interface: &str,
@@ -105,6 +106,16 @@ const CALLS: [(&str, &str, &[u8], &[u8], &str, u32); 19] = [
     ),
 ];
 
+/// Reads a call. Nothing is promised of it, so that a test's body carries none of the reading's clauses.
+pub(crate) fn read_call<'a, R: Abort>(
+    rt: &R,
+    alloc: Global,
+    bytes: &'a [u8],
+) -> Result<Call<'a>, CallError> {
+    let view = View::read(bytes).expect(rt, "a message");
+    Call::read(alloc, &view)
+}
+
 // The message is a call of this name, with this text and this number.
 fn expect_call<R: Abort>(
     rt: &R,
@@ -114,8 +125,7 @@ fn expect_call<R: Abort>(
     text: &str,
     number: u32,
 ) {
-    let view = View::read(bytes).expect(rt, "a message");
-    let call = Call::read(alloc, &view).expect(rt, "a call");
+    let call = read_call(rt, alloc, bytes).expect(rt, "a call");
     let (name, argument, count) = parts_of(&call);
     assert_eq!(rt; name, member);
     assert_eq!(rt; argument, text);
@@ -125,29 +135,29 @@ fn expect_call<R: Abort>(
 
 /// The message is no call that is known, for this reason.
 pub(crate) fn expect_refusal<R: Abort>(rt: &R, alloc: Global, bytes: &[u8], wanted: CallError) {
-    let view = View::read(bytes).expect(rt, "a message");
-    match Call::read(alloc, &view) {
+    match read_call(rt, alloc, bytes) {
         Ok(_) => panic!(rt; "a call was read"),
         Err(error) => assert_eq!(rt; error, wanted),
     }
 }
 
-#[test]
-fn each_call(rt: HostRuntime) {
-    let alloc = rt.alloc();
+// Each call is read, with its interface or without one.
+fn expect_each<R: Abort>(rt: &R, alloc: Global, has_interface: bool) {
     for (interface, member, signature, body, text, number) in &CALLS {
-        let bytes = message(&rt, alloc, interface, member, signature, body);
-        expect_call(&rt, alloc, &bytes, member, text, *number);
+        let named = if has_interface { *interface } else { "" };
+        let bytes = message(rt, alloc, named, *member, *signature, *body);
+        expect_call(rt, alloc, &bytes, *member, *text, *number);
     }
 }
 
 #[test]
+fn each_call(rt: HostRuntime) {
+    expect_each(&rt, rt.alloc(), true);
+}
+
+#[test]
 fn each_call_without_interface(rt: HostRuntime) {
-    let alloc = rt.alloc();
-    for (_, member, signature, body, text, number) in &CALLS {
-        let bytes = message(&rt, alloc, "", member, signature, body);
-        expect_call(&rt, alloc, &bytes, member, text, *number);
-    }
+    expect_each(&rt, rt.alloc(), false);
 }
 
 // A wrong interface, a wrong member, wrong signatures.
@@ -177,27 +187,36 @@ fn refused(rt: HostRuntime) {
     }
 }
 
-// A call of Get of a property.
-fn property<R: Abort>(rt: &R, alloc: Global, interface: &str, name: &str) -> Vec<u8> {
-    let mut builder = Builder::new(alloc, Kind::MethodCall, 0, 1);
-    builder.path("/a");
-    builder.interface(PROPERTIES);
-    builder.member("Get");
-    builder.arg_str(interface).expect(rt, "an argument");
-    builder.arg_str(name).expect(rt, "an argument");
-    builder.finish(alloc).expect(rt, "a message")
-}
+// Get's two arguments, an interface and a property, and whether there is one.
+const PROPERTY_NAMES: [(&[u8], bool); 4] = [
+    (
+        b"\x14\0\0\0org.freedesktop.DBus\0\0\0\0\x08\0\0\0Features\0",
+        true,
+    ),
+    (
+        b"\x14\0\0\0org.freedesktop.DBus\0\0\0\0\x0a\0\0\0Interfaces\0",
+        true,
+    ),
+    (
+        b"\x14\0\0\0org.freedesktop.DBus\0\0\0\0\x07\0\0\0Feature\0",
+        false,
+    ),
+    (
+        b"\x19\0\0\0org.freedesktop.DBus.Peer\0\0\0\x08\0\0\0Features\0",
+        false,
+    ),
+];
 
 #[test]
 fn properties(rt: HostRuntime) {
     let alloc = rt.alloc();
-    for (interface, name) in [(BUS, "Features"), (BUS, "Interfaces")] {
-        let bytes = property(&rt, alloc, interface, name);
-        expect_call(&rt, alloc, &bytes, "Get", "", 0);
-    }
-    for (interface, name) in [(BUS, "Feature"), (PEER, "Features")] {
-        let bytes = property(&rt, alloc, interface, name);
-        expect_refusal(&rt, alloc, &bytes, CallError::InvalidArgs);
+    for (body, is_known) in &PROPERTY_NAMES {
+        let bytes = message(&rt, alloc, PROPERTIES, "Get", b"ss", *body);
+        if *is_known {
+            expect_call(&rt, alloc, &bytes, "Get", "", 0);
+        } else {
+            expect_refusal(&rt, alloc, &bytes, CallError::InvalidArgs);
+        }
     }
 }
 

@@ -1,11 +1,10 @@
 // Entries of two connections. A failure ends the test at once, so that a test has one way out.
 
-use crate::state::{KEY, S1, compile};
+use crate::state::{KEY, S1, compile, read_message};
 use bpf_code::Ins;
 use bpf_verify::{Verified, verify};
 use entry_table::{Attachment, EntryTable, Filter};
 use match_rule::Rule;
-use message_view::View;
 use std::alloc::Global;
 use std::mem::forget;
 use std::process::Abort;
@@ -46,7 +45,7 @@ fn attach<R: Abort>(rt: &R, alloc: Global, table: &mut EntryTable) {
 
 // The entries that S1 is offered to have these ids.
 fn expect_offered<R: Abort>(rt: &R, alloc: Global, table: &EntryTable, wanted: &[u32]) {
-    let view = View::read(&S1).expect(rt, "a message");
+    let view = read_message(rt, &S1);
     let mut ids = Vec::new(alloc);
     for entry in table.entries_for(&view) {
         ids.push(entry.id).expect(rt, "memory");

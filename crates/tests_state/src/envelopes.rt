@@ -1,8 +1,6 @@
 // Rules that ask for an envelope: for a kind, a sender by its own name, or any destination.
 
-use crate::state::{S1, connect, empty, subscribe};
-use fan_out::select_counted;
-use message_view::View;
+use crate::state::{S1, connect, empty, expect_counted, read_message, subscribe};
 use program_table::BusState;
 use std::mem::forget;
 use std::process::Abort;
@@ -30,10 +28,8 @@ const RULES: [(u64, &str); 5] = [
 
 /// One connection gets the message, and no program of another one's rule is run.
 fn expect_one<R: Abort>(rt: &R, state: &BusState<()>, message: &[u8], recipient: u64) {
-    let view = View::read(message).expect(rt, "a message");
-    let counted = select_counted(state, None, &view);
-    assert_eq!(rt; counted.recipients.as_slice(), [recipient].as_slice());
-    assert_eq!(rt; counted.runs, 1);
+    let view = read_message(rt, message);
+    expect_counted(rt, state, &view, [recipient].as_slice(), 1);
 }
 
 #[test]

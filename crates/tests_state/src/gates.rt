@@ -1,8 +1,7 @@
 // Workers run at once.
 
-use crate::state::{S1, empty};
+use crate::state::{S1, empty, read_message};
 use fan_out::{Gate, select_many};
-use message_view::View;
 use program_table::BusState;
 use std::mem::forget;
 use std::process::Abort;
@@ -52,7 +51,7 @@ pub(crate) fn open_gate() -> SecondFirst {
 
 /// The first of two workers waits until the second is done.
 fn expect_both_at_once<R: Threads + Wait + Abort>(rt: &R, state: &BusState<()>) {
-    let view = View::read(&S1).expect(rt, "a message");
+    let view = read_message(rt, &S1);
     let gate = SecondFirst {
         second_done: AtomicBool::new(false),
         given_up: AtomicBool::new(false),

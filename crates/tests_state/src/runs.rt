@@ -1,9 +1,8 @@
 // How many programs are run.
 
-use crate::state::{M7, accept, connect, empty, subscribe};
-use fan_out::{may_reach, select_counted};
+use crate::state::{M7, accept, connect, empty, expect_counted, read_message, subscribe};
+use fan_out::may_reach;
 use match_rule::Rule;
-use message_view::View;
 use program_table::{BusState, Command};
 use std::alloc::Global;
 use std::mem::forget;
@@ -30,10 +29,8 @@ fn subscribe_member<R: Abort>(
 }
 
 fn expect_runs<R: Abort>(rt: &R, state: &BusState<()>, recipients: &[u64], runs: u32) {
-    let view = View::read(&M7).expect(rt, "a message");
-    let counted = select_counted(state, None, &view);
-    assert_eq!(rt; counted.recipients.as_slice(), recipients);
-    assert_eq!(rt; counted.runs, runs);
+    let view = read_message(rt, &M7);
+    expect_counted(rt, state, &view, recipients, runs);
     assert_eq!(rt; may_reach(state, &view), runs != 0);
 }
 

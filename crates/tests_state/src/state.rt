@@ -4,7 +4,9 @@
 ghost use Rattle.std.specs.Prelude.{◌<◌};
 
 use entry_table::{IndexKey, RuleProgram};
+use fan_out::select_counted;
 use match_rule::Rule;
+use message_view::View;
 use program_table::{BusState, Command, Reply};
 use std::alloc::Global;
 use std::mem::forget;
@@ -28,6 +30,24 @@ pub(crate) const M7: [u8; 64] = [
     0, 0, 0, 0, 0, 2, 1, b's', 0, 3, 0, 0, 0, b'a', b'.', b'b', 0, 0, 0, 0, 0, 3, 1, b's', 0, 2, 0,
     0, 0, b'm', b'7', 0, 0, 0, 0, 0, 0,
 ];
+
+/// A message. Nothing is promised of it, so that a test's body carries none of the reading's clauses.
+pub(crate) fn read_message<'a, R: Abort>(rt: &R, bytes: &'a [u8]) -> View<'a> {
+    View::read(bytes).expect(rt, "a message")
+}
+
+/// A broadcast of the bus goes to these connections, after this many programs were run.
+pub(crate) fn expect_counted<R: Abort>(
+    rt: &R,
+    state: &BusState<()>,
+    view: &View<'_>,
+    recipients: &[u64],
+    runs: u32,
+) {
+    let counted = select_counted(state, None, view);
+    assert_eq!(rt; counted.recipients.as_slice(), recipients);
+    assert_eq!(rt; counted.runs, runs);
+}
 
 /// A state without connections.
 pub(crate) fn empty<R: Abort>(rt: &R, alloc: Global) -> BusState<()> {

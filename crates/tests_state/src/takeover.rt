@@ -3,9 +3,9 @@
 ghost use Rattle.std.specs.Prelude.{◌<◌, ◌≤◌};
 
 use crate::gates::open_gate;
-use crate::state::{S1, accept, connect, empty, subscribe};
+use crate::state::{S1, accept, connect, empty, read_message, subscribe};
+use arrayvec::ArrayVec;
 use fan_out::{FanError, select, select_many, select_piece};
-use message_view::View;
 use owners::WellKnown;
 use program_table::{BusState, Command};
 use std::alloc::Global;
@@ -16,23 +16,33 @@ use std::thread::Threads;
 
 /// A broadcast of the sender goes to these connections.
 fn expect<R: Abort + Threads + Wait>(rt: &R, state: &BusState<()>, sender: u64, wanted: &[u64]) {
-    let view = View::read(&S1).expect(rt, "a message");
+    let view = read_message(rt, &S1);
     assert_eq!(rt; select(state, Some(sender), &view).as_slice(), wanted);
     for workers in [1, 2, 16] {
-        expect_by(rt, state, sender, &view, workers, wanted);
+        expect_by(rt, state, sender, workers, wanted);
     }
+}
+
+/// The recipients of a broadcast, found by workers. Nothing is promised of them.
+fn select_by<R: Abort + Threads + Wait>(
+    rt: &R,
+    state: &BusState<()>,
+    sender: Option<u64>,
+    workers: u32,
+) -> Result<ArrayVec<u64, 256>, FanError> {
+    let view = read_message(rt, &S1);
+    let gate = open_gate();
+    select_many(rt, state, sender, &view, workers, &gate)
 }
 
 fn expect_by<R: Abort + Threads + Wait>(
     rt: &R,
     state: &BusState<()>,
     sender: u64,
-    view: &View<'_>,
     workers: u32,
     wanted: &[u64],
 ) {
-    let gate = open_gate();
-    let found = select_many(rt, state, Some(sender), view, workers, &gate);
+    let found = select_by(rt, state, Some(sender), workers);
     assert_eq!(rt; found.expect(rt, "the recipients").as_slice(), wanted);
 }
 
@@ -61,9 +71,7 @@ fn takeover_and_close(rt: HostRuntime) {
 }
 
 fn expect_workers<R: Abort + Threads + Wait>(rt: &R, state: &BusState<()>, workers: u32) {
-    let view = View::read(&S1).expect(rt, "a message");
-    let gate = open_gate();
-    let found = select_many(rt, state, None, &view, workers, &gate);
+    let found = select_by(rt, state, None, workers);
     assert_eq!(rt; found.err(), Some(FanError::Workers));
 }
 
@@ -80,7 +88,7 @@ fn numbers_of_workers(rt: HostRuntime) {
 fn expect_piece<R: Abort>(rt: &R, state: &BusState<()>, part: u32, of: u32, wanted: &[u64])
     requires { (0 < part) × (part ≤ of) }
 {
-    let view = View::read(&S1).expect(rt, "a message");
+    let view = read_message(rt, &S1);
     assert_eq!(rt;
         select_piece(state, None, &view, part, of).as_slice(),
         wanted
