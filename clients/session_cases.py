@@ -104,8 +104,8 @@ def examples():
 
 
 def cuts():
-    """The input's end at each byte: in the talk Auth, between messages Ok, inside one Message Short; and messages in two reads. Each
-    is a client of its own."""
+    """The input's end at each byte: in the talk Auth, between messages Ok, inside one Message Short; and the talk and messages in two
+    reads. Each is a client of its own."""
     lines = []
     for end in range(len(TALK)):
         whole = TALK[:end].count(b"\n")
@@ -113,6 +113,11 @@ def cuts():
         lines += [gets(end + 1, *TALK_ANSWERS[:whole])] if whole else []
         lines += [f"{end + 1} ends Auth"]
     case("talk_that_ends_at_each_byte", *lines)
+    lines = []
+    for client, place in enumerate(range(len(TALK)), 1):
+        lines += [sends(client, TALK[:place])] if place else []
+        lines += [sends(client, TALK[place:]), gets(client, *TALK_ANSWERS), f"{client} ends Ok"]
+    case("talk_in_two_pieces", *lines)
     hello = call(1, "Hello")
     lines = []
     for end in range(len(hello)):

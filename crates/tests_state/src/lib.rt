@@ -1,9 +1,29 @@
-//! Tests of the state of the bus. Each is named after its worked example, or after the call that it shows.
+//! Tests of the state of the bus and of what stands on it: names and their slots, entries, commands, recipients, the core
+//! without threads, and lists of events as text. Each is named after its worked example, or after the call that it shows.
+//! What is dear to drop is forgotten, since what drops it would be proved here again.
 #![tactic(auto)]
 
 #[cfg(test)]
 mod answers;
 #[cfg(test)]
+mod entries;
+#[cfg(test)]
+mod envelopes;
+#[cfg(test)]
+mod gates;
+#[cfg(test)]
+mod hashes;
+#[cfg(test)]
+mod list_answers;
+#[cfg(test)]
+mod lists;
+#[cfg(test)]
 mod owners_calls;
 #[cfg(test)]
-mod queues;
+mod runs;
+#[cfg(test)]
+mod state;
+#[cfg(test)]
+mod takeover;
+#[cfg(test)]
+mod world_calls;

@@ -1,110 +1,128 @@
-// Names, and the slots that they get.
+// Names, and the slots that they get. What requests and releases are answered is in the files of cases_world and
+// cases_bus.
 
-use owners::{ClaimError, Claims, MAX_RULES, NameReply, WellKnown};
+use owners::{Claims, MAX_RULES, NameReply, WellKnown};
+use std::alloc::Global;
+use std::mem::forget;
 use std::process::Abort;
-use std::test::Fail;
 
-fn name(text: &str) -> Result<WellKnown, ClaimError> {
-    WellKnown::read(text)
+fn new_claims<R: Abort>(rt: &R, alloc: Global) -> Claims {
+    Claims::new(alloc).expect(rt, "claims")
+}
+
+fn name<R: Abort>(rt: &R, text: &str) -> WellKnown {
+    WellKnown::read(text).expect(rt, "a name")
+}
+
+// The name is the connection's from now on.
+fn own<R: Abort>(rt: &R, claims: &mut Claims, text: &str, connection: u64) {
+    let name = name(rt, text);
+    let named = claims.request(&name, connection, 0).expect(rt, "a reply");
+    assert_eq!(rt; named.answer, NameReply::PrimaryOwner);
+}
+
+// Nobody's name is the connection's if it asks for it, and the owner's claim is gone if it releases it.
+fn ask<R: Abort>(rt: &R, claims: &Claims, text: &str, connection: u64) {
+    let name = name(rt, text);
+    let named = claims
+        .request_reply(&name, connection, 0)
+        .expect(rt, "a reply");
+    assert_eq!(rt; named.answer, NameReply::PrimaryOwner);
+}
+
+fn ask_to_release<R: Abort>(rt: &R, claims: &Claims, text: &str, connection: u64) {
+    let name = name(rt, text);
+    let named = claims.release_reply(&name, connection);
+    assert_eq!(rt; named.answer, NameReply::Released);
+}
+
+fn release<R: Abort>(rt: &R, claims: &mut Claims, text: &str, connection: u64) {
+    let name = name(rt, text);
+    let named = claims.release(&name, connection);
+    assert_eq!(rt; named.answer, NameReply::Released);
+}
+
+fn expect_owner<R: Abort>(rt: &R, claims: &Claims, text: &str, wanted: Option<u64>) {
+    assert_eq!(rt; claims.owner_of(text), wanted);
+}
+
+fn expect_slot<R: Abort>(rt: &R, claims: &Claims, text: &str, wanted: Option<u16>) {
+    assert_eq!(rt; claims.slot_of(text), wanted);
+}
+
+fn expect_next_slot<R: Abort>(rt: &R, claims: &Claims, text: &str, wanted: u16) {
+    assert_eq!(rt; claims.slot_next(text), Some(wanted));
 }
 
 #[test]
-fn names_that_are_claimed(rt: HostRuntime) -> Result<(), Fail> {
-    assert_eq!(rt;
-        name("com.example.A").expect(&rt, "a name").as_str(),
-        "com.example.A"
-    );
-    assert_eq!(rt;
-        name("org.freedesktop.DBus").err(),
-        Some(ClaimError::Reserved)
-    );
-    assert_eq!(rt; name(":1.5").err(), Some(ClaimError::BadName));
-    assert_eq!(rt; name("com").err(), Some(ClaimError::BadName));
-    assert!(rt;
-        name("com.example.A").expect(&rt, "a name") < name("com.example.B").expect(&rt, "a name")
-    );
-    Ok(())
+fn questions_change_nothing(rt: HostRuntime) {
+    let mut claims = new_claims(&rt, rt.alloc());
+    ask(&rt, &claims, "com.example.A", 1);
+    expect_owner(&rt, &claims, "com.example.A", None);
+    own(&rt, &mut claims, "com.example.A", 1);
+    ask_to_release(&rt, &claims, "com.example.A", 1);
+    expect_owner(&rt, &claims, "com.example.A", Some(1));
+    forget(claims);
+}
+
+fn expect_owned<R: Abort>(rt: &R, claims: &Claims, connection: u64, slot: u16, other: u16) {
+    let owned = claims.slots_of(connection);
+    assert!(rt; owned.contains(slot));
+    assert!(rt; !owned.contains(other));
 }
 
 #[test]
-fn questions_change_nothing(rt: HostRuntime) -> Result<(), Fail> {
-    let mut claims = Claims::new(rt.alloc()).expect(&rt, "claims");
-    let a = name("com.example.A").expect(&rt, "a name");
-    assert_eq!(rt;
-        claims.request_reply(&a, 1, 0).expect(&rt, "a reply").answer,
-        NameReply::PrimaryOwner
-    );
-    assert_eq!(rt; claims.owner_of("com.example.A"), None);
-    assert_eq!(rt;
-        claims.request(&a, 1, 0).expect(&rt, "a reply").answer,
-        NameReply::PrimaryOwner
-    );
-    assert_eq!(rt; claims.release_reply(&a, 1).answer, NameReply::Released);
-    assert_eq!(rt; claims.owner_of("com.example.A"), Some(1));
-    Ok(())
+fn slots_of_owned_names(rt: HostRuntime) {
+    let mut claims = new_claims(&rt, rt.alloc());
+    own(&rt, &mut claims, "com.example.A", 1);
+    own(&rt, &mut claims, "com.example.B", 2);
+    expect_owned(&rt, &claims, 2, 1, 0);
+    expect_slot(&rt, &claims, "com.example.B", Some(1));
+    expect_next_slot(&rt, &claims, "com.example.C", 2);
+    forget(claims);
 }
 
-#[test]
-fn slots_of_owned_names(rt: HostRuntime) -> Result<(), Fail> {
-    let mut claims = Claims::new(rt.alloc()).expect(&rt, "claims");
-    let a = name("com.example.A").expect(&rt, "a name");
-    let b = name("com.example.B").expect(&rt, "a name");
-    let _ = claims.request(&a, 1, 0).expect(&rt, "a reply");
-    let _ = claims.request(&b, 2, 0).expect(&rt, "a reply");
-    let owned = claims.slots_of(2);
-    assert!(rt; owned.contains(1));
-    assert!(rt; !owned.contains(0));
-    assert_eq!(rt; claims.slot_of("com.example.B"), Some(1));
-    assert_eq!(rt; claims.slot_next("com.example.C"), Some(2));
-    Ok(())
+// A rule with the name as its sender is the first one that is added.
+fn add_rule<R: Abort>(rt: &R, claims: &mut Claims, text: &str, slot: u16) {
+    let name = name(rt, text);
+    assert!(rt; claims.rules_of(name.as_str()) < MAX_RULES);
+    assert_eq!(rt; claims.slot_for(&name).expect(rt, "a slot"), slot);
+}
+
+fn remove_rule<R: Abort>(rt: &R, claims: &mut Claims, text: &str) {
+    let name = name(rt, text);
+    assert_eq!(rt; claims.rules_of(name.as_str()), 1);
+    claims.slot_free(&name);
 }
 
 /// A rule keeps the slot of a name that nobody claims any more.
 #[test]
-fn slots_of_rules(rt: HostRuntime) -> Result<(), Fail> {
-    let mut claims = Claims::new(rt.alloc()).expect(&rt, "claims");
-    let a = name("com.example.A").expect(&rt, "a name");
-    let b = name("com.example.B").expect(&rt, "a name");
-    assert!(rt; claims.rules_of("com.example.A") < MAX_RULES);
-    assert_eq!(rt; claims.slot_for(&a).expect(&rt, "a slot"), 0);
-    let _ = claims.request(&a, 1, 0).expect(&rt, "a reply");
-    let _ = claims.release(&a, 1);
-    assert_eq!(rt; claims.slot_next("com.example.B"), Some(1));
-    assert_eq!(rt; claims.rules_of("com.example.A"), 1);
-    claims.slot_free(&a);
-    assert_eq!(rt; claims.slot_of("com.example.A"), None);
-    let _ = claims.request(&b, 1, 0).expect(&rt, "a reply");
-    assert_eq!(rt; claims.slot_of("com.example.B"), Some(0));
-    Ok(())
+fn slots_of_rules(rt: HostRuntime) {
+    let mut claims = new_claims(&rt, rt.alloc());
+    add_rule(&rt, &mut claims, "com.example.A", 0);
+    own(&rt, &mut claims, "com.example.A", 1);
+    release(&rt, &mut claims, "com.example.A", 1);
+    expect_next_slot(&rt, &claims, "com.example.B", 1);
+    remove_rule(&rt, &mut claims, "com.example.A");
+    expect_slot(&rt, &claims, "com.example.A", None);
+    own(&rt, &mut claims, "com.example.B", 1);
+    expect_slot(&rt, &claims, "com.example.B", Some(0));
+    forget(claims);
 }
 
-#[test]
-fn names_in_order(rt: HostRuntime) -> Result<(), Fail> {
-    let mut claims = Claims::new(rt.alloc()).expect(&rt, "claims");
-    let a = name("com.example.A").expect(&rt, "a name");
-    let b = name("com.example.B").expect(&rt, "a name");
-    let _ = claims.request(&b, 1, 0).expect(&rt, "a reply");
-    let _ = claims.request(&a, 2, 0).expect(&rt, "a reply");
+fn expect_order<R: Abort>(rt: &R, claims: &Claims) {
+    let a = name(rt, "com.example.A");
+    let b = name(rt, "com.example.B");
     assert_eq!(rt; claims.next_name(None), Some(a.copy()));
     assert_eq!(rt; claims.next_name(Some(&a)), Some(b.copy()));
     assert_eq!(rt; claims.next_name(Some(&b)), None);
-    Ok(())
 }
 
-/// The 513th name gets slot 512.
 #[test]
-fn slot_512(rt: HostRuntime) -> Result<(), Fail> {
-    let mut claims = Claims::new(rt.alloc()).expect(&rt, "claims");
-    for number in 0..512u32 {
-        let text = format!(in rt.alloc(); "com.example.N{number}").expect(&rt, "a text");
-        let _ = claims
-            .request(&name(text.as_str()).expect(&rt, "a name"), 1, 0)
-            .expect(&rt, "a reply");
-    }
-    let _ = claims
-        .request(&name("com.example.A").expect(&rt, "a name"), 2, 0)
-        .expect(&rt, "a reply");
-    assert_eq!(rt; claims.slot_of("com.example.A"), Some(512));
-    assert!(rt; claims.slots_of(2).contains(512));
-    Ok(())
+fn names_in_order(rt: HostRuntime) {
+    let mut claims = new_claims(&rt, rt.alloc());
+    own(&rt, &mut claims, "com.example.B", 1);
+    own(&rt, &mut claims, "com.example.A", 2);
+    expect_order(&rt, &claims);
+    forget(claims);
 }

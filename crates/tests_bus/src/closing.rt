@@ -1,0 +1,89 @@
+// A recipient that closes while a broadcast to it is on its way.
+
+ghost use Rattle.std.specs.Prelude.{◌≡◌};
+
+use crate::fixture::{S1, connect_pass, new_bus};
+use crate::letters::{attach_to_all, connect_with, expect_letters, new_letterbox, route_s1};
+use bytes::Bytes;
+use message_view::View;
+use published::{Naming, Opened};
+use router::{Bus, Letterbox, Pass, Source};
+use routing::Gate;
+use std::alloc::Global;
+use std::cell::Cell;
+use std::marker::Brand;
+use std::mem::forget;
+use std::process::Abort;
+use std::sync::Wait;
+
+/// A gate that closes a pass before the first put.
+#[derive(Drop)]
+struct Closing<'a, J: Naming, W: Wait, R: Wait + Drop> {
+    rt: &'a W,
+    bus: &'a Bus<J, Letterbox, R>,
+    pass: Cell<Option<Pass<J, Letterbox>>>,
+    closed: Cell<bool>,
+}
+
+impl<J: Naming, W: Wait, R: Wait + Drop> Gate for Closing<'_, J, W, R> {
+    fn before(&self, _piece: u32) {
+        if let Some(mut pass) = self.pass.replace(None) {
+            self.closed.set(self.bus.close(self.rt, &mut pass).is_ok());
+        }
+    }
+
+    fn after(&self, _piece: u32) {}
+}
+
+#[test]
+fn closed_between(rt: HostRuntime) {
+    route_and_close::<Brand, _>(&rt, rt.alloc(), Opened::<Letterbox>::new());
+}
+
+fn route_and_close<J: Naming, R: Wait + Abort>(rt: &R, alloc: Global, opened: Opened<Letterbox>)
+    requires { opened ≡ J.book }
+{
+    let bus = new_bus::<J, R>(rt, alloc, opened);
+    let stays = new_letterbox(rt, alloc);
+    let goes = new_letterbox(rt, alloc);
+    let mut one = connect_pass(rt, &bus, new_letterbox(rt, alloc));
+    let mut second_pass = connect_with(rt, &bus, &stays);
+    attach_to_all(rt, alloc, &bus, &mut second_pass);
+    let mut three = connect_with(rt, &bus, &goes);
+    attach_to_all(rt, alloc, &bus, &mut three);
+    close_between(rt, alloc, &bus, &mut one, three);
+    expect_letters(rt, alloc, &stays, 1);
+    expect_letters(rt, alloc, &goes, 1);
+    route_s1(rt, alloc, &bus, &mut one, &[]);
+    expect_letters(rt, alloc, &stays, 1);
+    expect_letters(rt, alloc, &goes, 0);
+    forget(one);
+    forget(second_pass);
+    forget(stays);
+    forget(goes);
+    forget(bus);
+}
+
+// Nobody refuses the broadcast: `close` doesn't touch the outbox.
+fn close_between<J: Naming, R: Wait + Abort>(
+    rt: &R,
+    alloc: Global,
+    bus: &Bus<J, Letterbox, &R>,
+    pass: &mut Pass<J, Letterbox>,
+    other: Pass<J, Letterbox>,
+) {
+    let gate = Closing {
+        rt,
+        bus,
+        pass: Cell::new(Some(other)),
+        closed: Cell::new(false),
+    };
+    let view = View::read(&S1).expect(rt, "a message");
+    let bytes = Bytes::from_static(&S1);
+    let refused = bus
+        .route_gated(rt, alloc, pass, Source::Own, &view, &bytes, &gate)
+        .expect(rt, "a count");
+    assert!(rt; refused.is_empty());
+    assert!(rt; gate.closed.get());
+    forget(gate);
+}

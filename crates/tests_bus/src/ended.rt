@@ -1,0 +1,53 @@
+// A bus that has ended.
+
+ghost use Rattle.std.specs.Prelude.{◌≡◌};
+
+use crate::fixture::{S1, connect_pass, expect_recipients, name_a, new_bus};
+use crate::letters::new_letterbox;
+use message_view::View;
+use published::{Naming, Opened};
+use router::{BusError, Letterbox, Pass, Source};
+use std::alloc::Global;
+use std::marker::Brand;
+use std::mem::forget;
+use std::process::Abort;
+use std::sync::Wait;
+
+#[test]
+fn bus_is_gone(rt: HostRuntime) {
+    look_after_the_end::<Brand, _>(&rt, rt.alloc(), Opened::<Letterbox>::new());
+}
+
+fn look_after_the_end<J: Naming, R: Wait + Abort>(rt: &R, alloc: Global, opened: Opened<Letterbox>)
+    requires { opened ≡ J.book }
+{
+    let mut pass = survivor::<J, R>(rt, alloc, opened);
+    expect_end(rt, alloc, &mut pass);
+    forget(pass);
+}
+
+// A pass whose bus has ended after it was read.
+fn survivor<J: Naming, R: Wait + Abort>(
+    rt: &R,
+    alloc: Global,
+    opened: Opened<Letterbox>,
+) -> Pass<J, Letterbox>
+    requires { opened ≡ J.book }
+{
+    let bus = new_bus::<J, R>(rt, alloc, opened);
+    let mut pass = connect_pass(rt, &bus, new_letterbox(rt, alloc));
+    expect_recipients(rt, &mut pass, &[]);
+    pass
+}
+
+// Each look at the published state is Closed.
+fn expect_end<J: Naming, R: Abort>(rt: &R, alloc: Global, pass: &mut Pass<J, Letterbox>) {
+    let view = View::read(&S1).expect(rt, "a message");
+    let found = pass.recipients(Source::Bus, &view);
+    assert_eq!(rt; found.err(), Some(BusError::Closed));
+    let name = name_a(rt);
+    assert_eq!(rt; pass.owner_of(&name), Err(BusError::Closed));
+    let queued = pass.queued_owners(alloc, &name);
+    assert_eq!(rt; queued.err(), Some(BusError::Closed));
+    assert_eq!(rt; pass.names(alloc).err(), Some(BusError::Closed));
+}

@@ -1,0 +1,94 @@
+//! What the tests of the bus begin with, and what they ask of each answer. A failure ends the test at once, so that a
+//! test has one way out. Each bus has letterboxes, also where no test looks into them: the whole bus would be proved
+//! again for a second type of mailbox.
+
+ghost use Rattle.std.specs.Prelude.{◌≡◌};
+
+use entry_table::IndexKey;
+use message_view::View;
+use owners::{Change, NameReply, Named, WellKnown};
+use program_table::Reply;
+use published::{Naming, Opened};
+use router::{Bus, BusError, Letterbox, Pass, Source};
+use std::alloc::Global;
+use std::process::Abort;
+use std::sync::Wait;
+
+pub(crate) const KEY: IndexKey = IndexKey {
+    first: 1,
+    second: 2,
+};
+
+/// A signal of the path `/a`, the interface `a.b` and the member `c`.
+pub(crate) const S1: [u8; 64] = [
+    0x6c, 4, 0, 1, 0, 0, 0, 0, 1, 0, 0, 0, 0x2a, 0, 0, 0, 1, 1, b'o', 0, 2, 0, 0, 0, b'/', b'a', 0,
+    0, 0, 0, 0, 0, 2, 1, b's', 0, 3, 0, 0, 0, b'a', b'.', b'b', 0, 0, 0, 0, 0, 3, 1, b's', 0, 1, 0,
+    0, 0, b'c', 0, 0, 0, 0, 0, 0, 0,
+];
+
+/// A rule that holds of S1.
+pub(crate) const MEMBER_C: &str = "member='c'";
+
+/// A bus to which nobody is connected.
+pub(crate) fn new_bus<J: Naming, R: Wait + Abort>(
+    rt: &R,
+    alloc: Global,
+    opened: Opened<Letterbox>,
+) -> Bus<J, Letterbox, &R>
+    requires { opened ≡ J.book }
+{
+    Bus::new(rt, alloc, KEY, opened).expect(rt, "a bus")
+}
+
+/// A pass with the next connection.
+pub(crate) fn connect_pass<J: Naming, R: Wait + Abort>(
+    rt: &R,
+    bus: &Bus<J, Letterbox, &R>,
+    letterbox: Letterbox,
+) -> Pass<J, Letterbox> {
+    let mut pass = bus.pass(rt).expect(rt, "a pass");
+    let _ = bus
+        .connect(rt, &mut pass, letterbox)
+        .expect(rt, "a connection");
+    pass
+}
+
+/// The name that the tests ask for.
+pub(crate) fn name_a<R: Abort>(rt: &R) -> WellKnown {
+    WellKnown::read("com.example.A").expect(rt, "a name")
+}
+
+/// What a request is answered by which a connection becomes the primary owner.
+pub(crate) fn owner_reply(name: &WellKnown, old: Option<u64>, new: u64) -> Reply {
+    Reply::Name(Named {
+        answer: NameReply::PrimaryOwner,
+        change: Some(Change {
+            name: name.copy(),
+            old,
+            new: Some(new),
+        }),
+    })
+}
+
+/// The call is accepted with this reply.
+pub(crate) fn expect_reply<R: Abort>(rt: &R, answer: Result<Reply, BusError>, wanted: Reply) {
+    assert_eq!(rt; answer, Ok(wanted));
+}
+
+/// The call is refused with this error.
+pub(crate) fn expect_error<R: Abort>(rt: &R, answer: Result<Reply, BusError>, wanted: BusError) {
+    assert_eq!(rt; answer, Err(wanted));
+}
+
+/// The recipients of S1 as a broadcast of the pass.
+pub(crate) fn expect_recipients<J: Naming, R: Abort>(
+    rt: &R,
+    pass: &mut Pass<J, Letterbox>,
+    wanted: &[u64],
+) {
+    let view = View::read(&S1).expect(rt, "a message");
+    let found = pass
+        .recipients(Source::Own, &view)
+        .expect(rt, "the recipients");
+    assert_eq!(rt; found.as_slice(), wanted);
+}

@@ -1,0 +1,93 @@
+//! Passes whose messages stand in outboxes, and what is put there.
+
+use crate::fixture::{S1, connect_pass};
+use crate::outboxes::take_all;
+use bpf_code::Ins;
+use bytes::Bytes;
+use message_view::View;
+use program_table::Mailbox;
+use published::Naming;
+use router::{Bus, Letterbox, Pass, Sent, Source};
+use routing::Carrier;
+use std::alloc::Global;
+use std::mem::forget;
+use std::process::Abort;
+use std::sync::Wait;
+use summary::Edition;
+
+pub(crate) fn new_letterbox<R: Abort>(rt: &R, alloc: Global) -> Letterbox {
+    Letterbox::new(alloc).expect(rt, "a letterbox")
+}
+
+/// A pass with the next connection, whose messages go to the letterbox.
+pub(crate) fn connect_with<J: Naming, R: Wait + Abort>(
+    rt: &R,
+    bus: &Bus<J, Letterbox, &R>,
+    letterbox: &Letterbox,
+) -> Pass<J, Letterbox> {
+    let mailbox = letterbox.share().expect(rt, "a share");
+    connect_pass(rt, bus, mailbox)
+}
+
+/// Attaches the program `ret #1`, which matches each broadcast.
+pub(crate) fn attach_to_all<J: Naming, R: Wait + Abort>(
+    rt: &R,
+    alloc: Global,
+    bus: &Bus<J, Letterbox, &R>,
+    pass: &mut Pass<J, Letterbox>,
+) {
+    let mut program = Vec::new(alloc);
+    let ins = Ins {
+        code: 6,
+        jt: 0,
+        jf: 0,
+        k: 1,
+    };
+    program.push(ins).expect(rt, "memory");
+    let attached = bus.attach(rt, alloc, pass, Edition::Two, program);
+    assert!(rt; attached.is_ok());
+}
+
+/// Routes S1 as the pass's own broadcast, which exactly these recipients refuse.
+pub(crate) fn route_s1<J: Naming, R: Wait + Abort>(
+    rt: &R,
+    alloc: Global,
+    bus: &Bus<J, Letterbox, &R>,
+    pass: &mut Pass<J, Letterbox>,
+    refusing: &[u64],
+) {
+    let view = View::read(&S1).expect(rt, "a message");
+    let bytes = Bytes::from_static(&S1);
+    let refused = bus
+        .route(rt, alloc, pass, Source::Own, &view, &bytes)
+        .expect(rt, "a count");
+    assert_eq!(rt; refused.as_slice(), refusing);
+}
+
+/// Sends S1 to a name.
+pub(crate) fn send_s1<J: Naming, R: Wait + Abort>(
+    rt: &R,
+    alloc: Global,
+    bus: &Bus<J, Letterbox, &R>,
+    pass: &mut Pass<J, Letterbox>,
+    to: &str,
+    wanted: Sent,
+) {
+    let bytes = Bytes::from_static(&S1);
+    let sent = bus
+        .unicast(rt, alloc, pass, to, &bytes)
+        .expect(rt, "an answer");
+    assert_eq!(rt; sent, wanted);
+}
+
+/// Exactly this number of messages stands in the letterbox. They are taken.
+pub(crate) fn expect_letters<R: Wait + Abort>(
+    rt: &R,
+    alloc: Global,
+    letterbox: &Letterbox,
+    count: usize,
+) {
+    let items = take_all(rt, alloc, letterbox.outbox());
+    assert_eq!(rt; items.len(), count);
+    forget(items);
+}

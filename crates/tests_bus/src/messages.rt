@@ -1,0 +1,125 @@
+// Messages that are put into outboxes.
+
+ghost use Rattle.std.specs.Prelude.{◌≡◌};
+
+use crate::fixture::{S1, connect_pass, expect_reply, name_a, new_bus, owner_reply};
+use crate::letters::{
+    attach_to_all, connect_with, expect_letters, new_letterbox, route_s1, send_s1,
+};
+use message_view::View;
+use outbox::ROOM;
+use published::{Naming, Opened};
+use router::{Bus, Letterbox, Pass, Sent};
+use std::alloc::Global;
+use std::marker::Brand;
+use std::mem::forget;
+use std::process::Abort;
+use std::sync::Wait;
+
+#[test]
+fn own_recipient_once(rt: HostRuntime) {
+    route_to_itself::<Brand, _>(&rt, rt.alloc(), Opened::<Letterbox>::new());
+}
+
+fn route_to_itself<J: Naming, R: Wait + Abort>(rt: &R, alloc: Global, opened: Opened<Letterbox>)
+    requires { opened ≡ J.book }
+{
+    let bus = new_bus::<J, R>(rt, alloc, opened);
+    let letterbox = new_letterbox(rt, alloc);
+    let mut pass = connect_with(rt, &bus, &letterbox);
+    expect_reach(rt, &mut pass, false);
+    route_s1(rt, alloc, &bus, &mut pass, &[]);
+    expect_letters(rt, alloc, &letterbox, 0);
+    attach_to_all(rt, alloc, &bus, &mut pass);
+    expect_reach(rt, &mut pass, true);
+    attach_to_all(rt, alloc, &bus, &mut pass);
+    route_s1(rt, alloc, &bus, &mut pass, &[]);
+    expect_letters(rt, alloc, &letterbox, 1);
+    forget(pass);
+    forget(letterbox);
+    forget(bus);
+}
+
+// Whether S1 is for anybody.
+fn expect_reach<J: Naming, R: Abort>(rt: &R, pass: &mut Pass<J, Letterbox>, wanted: bool) {
+    let view = View::read(&S1).expect(rt, "a message");
+    assert_eq!(rt; pass.may_reach(&view).expect(rt, "an answer"), wanted);
+}
+
+#[test]
+fn unicast_by_names(rt: HostRuntime) {
+    own_and_send::<Brand, _>(&rt, rt.alloc(), Opened::<Letterbox>::new());
+}
+
+fn own_and_send<J: Naming, R: Wait + Abort>(rt: &R, alloc: Global, opened: Opened<Letterbox>)
+    requires { opened ≡ J.book }
+{
+    let bus = new_bus::<J, R>(rt, alloc, opened);
+    let letterbox = new_letterbox(rt, alloc);
+    let mut one = connect_pass(rt, &bus, new_letterbox(rt, alloc));
+    let mut second_pass = connect_with(rt, &bus, &letterbox);
+    send_s1(rt, alloc, &bus, &mut one, "com.example.A", Sent::NoOwner);
+    let name = name_a(rt);
+    let requested = bus.request_name(rt, &mut second_pass, &name, 0);
+    expect_reply(rt, requested, owner_reply(&name, None, 2));
+    send_to_each_name(rt, alloc, &bus, &mut one);
+    expect_letters(rt, alloc, &letterbox, 2);
+    forget(one);
+    forget(second_pass);
+    forget(letterbox);
+    forget(bus);
+}
+
+// Two names are the second connection's, and others nobody's.
+fn send_to_each_name<J: Naming, R: Wait + Abort>(
+    rt: &R,
+    alloc: Global,
+    bus: &Bus<J, Letterbox, &R>,
+    pass: &mut Pass<J, Letterbox>,
+) {
+    send_s1(rt, alloc, bus, pass, "com.example.A", Sent::Put);
+    send_s1(rt, alloc, bus, pass, ":1.2", Sent::Put);
+    send_s1(rt, alloc, bus, pass, ":1.02", Sent::NoOwner);
+    send_s1(rt, alloc, bus, pass, ":1.3", Sent::NoOwner);
+    send_s1(rt, alloc, bus, pass, ":1.+2", Sent::NoOwner);
+    send_s1(rt, alloc, bus, pass, "com.example.B", Sent::NoOwner);
+}
+
+#[test]
+fn full_outbox(rt: HostRuntime) {
+    send_one_too_many::<Brand, _>(&rt, rt.alloc(), Opened::<Letterbox>::new());
+}
+
+fn send_one_too_many<J: Naming, R: Wait + Abort>(rt: &R, alloc: Global, opened: Opened<Letterbox>)
+    requires { opened ≡ J.book }
+{
+    let bus = new_bus::<J, R>(rt, alloc, opened);
+    let full = new_letterbox(rt, alloc);
+    let other = new_letterbox(rt, alloc);
+    let mut one = connect_with(rt, &bus, &full);
+    let mut second_pass = connect_with(rt, &bus, &other);
+    attach_to_all(rt, alloc, &bus, &mut one);
+    attach_to_all(rt, alloc, &bus, &mut second_pass);
+    fill_first(rt, alloc, &bus, &mut second_pass);
+    route_s1(rt, alloc, &bus, &mut second_pass, &[1]);
+    expect_letters(rt, alloc, &full, ROOM);
+    expect_letters(rt, alloc, &other, 1);
+    forget(one);
+    forget(second_pass);
+    forget(full);
+    forget(other);
+    forget(bus);
+}
+
+// Sends the first connection as many messages as its outbox holds, and one more.
+fn fill_first<J: Naming, R: Wait + Abort>(
+    rt: &R,
+    alloc: Global,
+    bus: &Bus<J, Letterbox, &R>,
+    pass: &mut Pass<J, Letterbox>,
+) {
+    for _ in 0..ROOM {
+        send_s1(rt, alloc, bus, pass, ":1.1", Sent::Put);
+    }
+    send_s1(rt, alloc, bus, pass, ":1.1", Sent::Full);
+}

@@ -1,0 +1,63 @@
+// Sessions one after the other, and one connection too many.
+
+ghost use Rattle.std.specs.Prelude.{◌≡◌};
+
+use crate::fixture::{connect_pass, expect_error, expect_reply, new_bus};
+use crate::letters::new_letterbox;
+use program_table::Reply;
+use published::{Naming, Opened};
+use router::{Bus, BusError, Letterbox};
+use std::alloc::Global;
+use std::marker::Brand;
+use std::mem::forget;
+use std::process::Abort;
+use std::sync::Wait;
+
+#[test]
+fn thousand_sessions(rt: HostRuntime) {
+    open_and_close::<Brand, _>(&rt, rt.alloc(), Opened::<Letterbox>::new());
+}
+
+fn open_and_close<J: Naming, R: Wait + Abort>(rt: &R, alloc: Global, opened: Opened<Letterbox>)
+    requires { opened ≡ J.book }
+{
+    let bus = new_bus::<J, R>(rt, alloc, opened);
+    for number in 1..=1000 {
+        hold_session(rt, alloc, &bus, number);
+    }
+    forget(bus);
+}
+
+// A session that connects, closes and gives its pass back.
+fn hold_session<J: Naming, R: Wait + Abort>(
+    rt: &R,
+    alloc: Global,
+    bus: &Bus<J, Letterbox, &R>,
+    number: u64,
+) {
+    let mut pass = bus.pass(rt).expect(rt, "a pass");
+    let connected = bus.connect(rt, &mut pass, new_letterbox(rt, alloc));
+    expect_reply(rt, connected, Reply::Connected(number));
+    expect_reply(rt, bus.close(rt, &mut pass), Reply::Done);
+    assert!(rt; pass.is_closed());
+    bus.take_back(rt, pass);
+}
+
+#[test]
+fn connection_257(rt: HostRuntime) {
+    connect_all::<Brand, _>(&rt, rt.alloc(), Opened::<Letterbox>::new());
+}
+
+fn connect_all<J: Naming, R: Wait + Abort>(rt: &R, alloc: Global, opened: Opened<Letterbox>)
+    requires { opened ≡ J.book }
+{
+    let bus = new_bus::<J, R>(rt, alloc, opened);
+    for _ in 0..256 {
+        forget(connect_pass(rt, &bus, new_letterbox(rt, alloc)));
+    }
+    let mut pass = bus.pass(rt).expect(rt, "a pass");
+    let last = bus.connect(rt, &mut pass, new_letterbox(rt, alloc));
+    expect_error(rt, last, BusError::ConnectionsFull);
+    forget(pass);
+    forget(bus);
+}

@@ -1,0 +1,83 @@
+// A thousand rules of which few are about a message.
+
+ghost use Rattle.std.specs.Prelude.{◌≡◌};
+
+use crate::fixture::{connect_pass, expect_reply, new_bus};
+use crate::letters::new_letterbox;
+use message_view::View;
+use program_table::Reply;
+use published::{Naming, Opened};
+use router::{Bus, Letterbox, Pass, Source};
+use std::alloc::Global;
+use std::marker::Brand;
+use std::mem::forget;
+use std::process::Abort;
+use std::sync::Wait;
+
+/// A signal of the path `/a`, the interface `a.b` and the member `m7`.
+const M7: [u8; 64] = [
+    0x6c, 4, 0, 1, 0, 0, 0, 0, 1, 0, 0, 0, 0x2b, 0, 0, 0, 1, 1, b'o', 0, 2, 0, 0, 0, b'/', b'a', 0,
+    0, 0, 0, 0, 0, 2, 1, b's', 0, 3, 0, 0, 0, b'a', b'.', b'b', 0, 0, 0, 0, 0, 3, 1, b's', 0, 2, 0,
+    0, 0, b'm', b'7', 0, 0, 0, 0, 0, 0,
+];
+
+#[test]
+fn index_runs(rt: HostRuntime) {
+    subscribe_all::<Brand, _>(&rt, rt.alloc(), Opened::<Letterbox>::new());
+}
+
+// 250 connections with four rules each, of the members `m0` to `m999` in order, and an empty rule of the first one.
+fn subscribe_all<J: Naming, R: Wait + Abort>(rt: &R, alloc: Global, opened: Opened<Letterbox>)
+    requires { opened ≡ J.book }
+{
+    let bus = new_bus::<J, R>(rt, alloc, opened);
+    let mut one = subscriber(rt, alloc, &bus, 0);
+    let mut second_pass = subscriber(rt, alloc, &bus, 1);
+    for place in 2..250 {
+        forget(subscriber(rt, alloc, &bus, place));
+    }
+    let empty = bus.add_match(rt, alloc, &mut one, "");
+    expect_reply(rt, empty, Reply::Entry(1001));
+    expect_found(rt, &mut one, &[1, 2]);
+    let removed = bus.remove_match(rt, alloc, &mut second_pass, "member='m7'");
+    expect_reply(rt, removed, Reply::Done);
+    expect_found(rt, &mut one, &[1]);
+    forget(one);
+    forget(second_pass);
+    forget(bus);
+}
+
+// A pass whose connection has the four rules from four times its place on.
+fn subscriber<J: Naming, R: Wait + Abort>(
+    rt: &R,
+    alloc: Global,
+    bus: &Bus<J, Letterbox, &R>,
+    place: u16,
+) -> Pass<J, Letterbox> {
+    let mut pass = connect_pass(rt, bus, new_letterbox(rt, alloc));
+    for number in 0..4 {
+        subscribe(rt, alloc, bus, &mut pass, 4 * u32::from(place) + number);
+    }
+    pass
+}
+
+fn subscribe<J: Naming, R: Wait + Abort>(
+    rt: &R,
+    alloc: Global,
+    bus: &Bus<J, Letterbox, &R>,
+    pass: &mut Pass<J, Letterbox>,
+    member: u32,
+) {
+    let text = format!(in alloc; "member='m{member}'").expect(rt, "a text");
+    let added = bus.add_match(rt, alloc, pass, text.as_str());
+    assert!(rt; added.is_ok());
+}
+
+// The recipients of the bus's own broadcast with the member `m7`.
+fn expect_found<J: Naming, R: Abort>(rt: &R, pass: &mut Pass<J, Letterbox>, wanted: &[u64]) {
+    let view = View::read(&M7).expect(rt, "a message");
+    let found = pass
+        .recipients(Source::Bus, &view)
+        .expect(rt, "the recipients");
+    assert_eq!(rt; found.as_slice(), wanted);
+}

@@ -1,4 +1,0 @@
-use Rattle.tests_router.proofs.closing.closed_between.Given as goal
-
-abbrev pub ghosts-route_and_close : goal.ghosts-route_and_close
-ghosts-route_and_close g a = record { book = a.opened }

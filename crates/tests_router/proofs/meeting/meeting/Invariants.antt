@@ -1,4 +1,0 @@
-use Rattle.tests_router.proofs.meeting.meeting.Given as goal
-
-abbrev pub ghosts-meet : goal.ghosts-meet
-ghosts-meet g a = record { book = a.opened }

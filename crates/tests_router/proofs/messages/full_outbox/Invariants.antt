@@ -1,4 +1,0 @@
-use Rattle.tests_router.proofs.messages.full_outbox.Given as goal
-
-abbrev pub ghosts-send_one_too_many : goal.ghosts-send_one_too_many
-ghosts-send_one_too_many g a = record { book = a.opened }

@@ -1,4 +1,0 @@
-use Rattle.tests_router.proofs.messages.own_recipient_once.Given as goal
-
-abbrev pub ghosts-route_to_itself : goal.ghosts-route_to_itself
-ghosts-route_to_itself g a = record { book = a.opened }

@@ -1,4 +1,0 @@
-use Rattle.tests_router.proofs.messages.unicast_by_names.Given as goal
-
-abbrev pub ghosts-own_and_send : goal.ghosts-own_and_send
-ghosts-own_and_send g a = record { book = a.opened }

@@ -1,4 +1,0 @@
-use Rattle.tests_router.proofs.rules.own_recipient_once.Given as goal
-
-abbrev pub ghosts-add_twice : goal.ghosts-add_twice
-ghosts-add_twice g a = record { book = a.opened }

@@ -1,4 +1,0 @@
-use Rattle.tests_router.proofs.sessions.thousand_sessions.Given as goal
-
-abbrev pub ghosts-open_and_close : goal.ghosts-open_and_close
-ghosts-open_and_close g a = record { book = a.opened }

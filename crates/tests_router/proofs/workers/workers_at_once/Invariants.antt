@@ -1,4 +1,0 @@
-use Rattle.tests_router.proofs.workers.workers_at_once.Given as goal
-
-abbrev pub ghosts-find_by_workers : goal.ghosts-find_by_workers
-ghosts-find_by_workers g a = record { book = a.opened }

@@ -1,0 +1,90 @@
+// What one client sends, the other gets, stamped.
+
+use crate::announced::{Announced, Announcer};
+use crate::client::{S1_STAMPED, talk};
+use command_line::Output;
+use serve_command::serve;
+use std::alloc::Global;
+use std::fs::Files;
+use std::net::{Net, TcpListener, TcpStream};
+use std::os::unix::net::UnixStream;
+use std::process::Abort;
+use std::random::RandomSource;
+use std::sync::Wait;
+use std::thread::{Threads, join};
+use std::time::{Clock, Duration};
+
+const GUID: &str = "0123456789abcdef0123456789abcdef";
+
+/// No test waits for ever.
+const PATIENCE: u64 = 10;
+
+fn connect_tcp<R: Net<Stream = TcpStream> + Abort>(rt: &R, port: u16) -> TcpStream {
+    let stream = TcpStream::connect(rt, ("127.0.0.1", port)).expect(rt, "a connection");
+    stream
+        .set_read_timeout(Some(Duration::from_secs(PATIENCE)))
+        .expect(rt, "a time limit");
+    stream
+}
+
+fn connect_unix<R: Net + Abort>(rt: &R, path: &str) -> UnixStream {
+    let stream = UnixStream::connect(rt, path).expect(rt, "a connection");
+    stream
+        .set_read_timeout(Some(Duration::from_secs(PATIENCE)))
+        .expect(rt, "a time limit");
+    stream
+}
+
+fn over_tcp<R: Net<Stream = TcpStream> + Wait + Abort>(rt: &R, announced: &Announced) -> [u8; 80] {
+    let port = announced.port(rt).expect(rt, "a port");
+    let mut first = connect_tcp(rt, port);
+    let mut second = connect_tcp(rt, port);
+    talk(rt, &mut first, &mut second)
+}
+
+fn over_unix<R: Net + Wait + Abort>(rt: &R, announced: &Announced, path: &str) -> [u8; 80] {
+    announced.wait(rt);
+    let mut first = connect_unix(rt, path);
+    let mut second = connect_unix(rt, path);
+    talk(rt, &mut first, &mut second)
+}
+
+/// A server of two connections, and its two clients: over TCP, unless a path is given.
+fn serve_two<R>(rt: &R, alloc: Global, listen: &str, path: Option<&str>)
+where
+    R: Files
+        + Net<Listener = TcpListener, Stream = TcpStream>
+        + Threads
+        + Wait
+        + Clock
+        + RandomSource
+        + Sync
+        + Alloc
+        + Abort,
+{
+    let announced = Announced::new(alloc);
+    let mut out = Output::new(Announcer { rt, to: &announced });
+    let mut err = Output::new(Vec::new(alloc));
+    let words = ["--listen", listen, "--guid", GUID, "--connections", "2"];
+    let (got, status) = join(
+        rt,
+        || match path {
+            Some(path) => over_unix(rt, &announced, path),
+            None => over_tcp(rt, &announced),
+        },
+        || serve(rt, alloc, words.as_slice(), &mut out, &mut err),
+    );
+    assert_eq!(rt; got, *S1_STAMPED);
+    assert_eq!(rt; status, 0);
+}
+
+#[test]
+fn two_clients_over_tcp(rt: HostRuntime) {
+    serve_two(&rt, rt.alloc(), "tcp:host=127.0.0.1,port=0", None);
+}
+
+#[test]
+fn two_clients_over_unix(rt: HostRuntime) {
+    let path = "two_clients.sock";
+    serve_two(&rt, rt.alloc(), "unix:path=two_clients.sock", Some(path));
+}
