@@ -1,7 +1,7 @@
 // The words of `watch`.
 
-use watch_command::{Options, Wanted};
 use std::process::Abort;
+use watch_command::{Options, Wanted};
 
 // That words ask for this rule of the bus `session`, with these options.
 fn is_rule(rt: &impl Abort, words: &[&str], rule: &str, is_hex: bool, count: Option<u64>) {
