@@ -1,6 +1,6 @@
 //! Tests of the state of the bus and of what stands on it: names and their slots, entries, commands, recipients, the core
 //! without threads, and lists of events as text. Each is named after its worked example, or after the call that it shows.
-//! What is dear to drop is forgotten, since what drops it would be proved here again.
+//! What a test holds at its end is forgotten, so that its proof has nothing to say of what is dropped.
 #![tactic(auto)]
 
 #[cfg(test)]

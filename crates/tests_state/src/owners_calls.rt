@@ -21,7 +21,7 @@ fn own<R: Abort>(rt: &R, claims: &mut Claims, text: &str, connection: u64) {
     assert_eq!(rt; named.answer, NameReply::PrimaryOwner);
 }
 
-// Nobody's name is the connection's if it asks for it, and the owner's claim is gone if it releases it.
+// The name would be the connection's if it asked for it.
 fn ask<R: Abort>(rt: &R, claims: &Claims, text: &str, connection: u64) {
     let name = name(rt, text);
     let named = claims
@@ -30,6 +30,7 @@ fn ask<R: Abort>(rt: &R, claims: &Claims, text: &str, connection: u64) {
     assert_eq!(rt; named.answer, NameReply::PrimaryOwner);
 }
 
+// The name would be released if its owner did so.
 fn ask_to_release<R: Abort>(rt: &R, claims: &Claims, text: &str, connection: u64) {
     let name = name(rt, text);
     let named = claims.release_reply(&name, connection);
