@@ -86,7 +86,9 @@ class Steps:
 
     def library(self, crate):
         def call(jobs):
-            well, said = (True, "") if crate.is_built() else tree.run_step(crate, lambda it: tree.build_library(it, jobs))
+            if crate.is_built():
+                return True
+            well, said = tree.run_step(crate, lambda it: tree.build_library(it, jobs))
             if not well:
                 print(said, flush=True)
             return self.ended(crate, "libraries", int(well))
@@ -104,7 +106,7 @@ class Steps:
         return refused if refused == wanted else 0
 
     def ended(self, crate, kind, count):
-        print(f"{crate.name}: {kind} {'green' if count else 'NOT GREEN'}", flush=True)
+        print(f"{crate.name}: {kind} {'green' if count else 'NOT GREEN'}\n", end="", flush=True)
         self.green[kind] += count
         if not count:
             self.failed.append(f"{crate.name} ({kind})")
