@@ -1,5 +1,6 @@
 //! Tests of what threads share: outboxes, senders, the published state, and the bus through its calls and its passes, each
-//! named after its worked example. What is dear to drop is forgotten, since what drops it would be proved here again.
+//! named after its worked example. What a test holds at its end is forgotten, so that its proof has nothing to say of what is
+//! dropped.
 #![tactic(auto)]
 
 #[cfg(test)]
