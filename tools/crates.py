@@ -112,14 +112,14 @@ def is_built(rt, crate):
 
 
 def in_lanes(tasks, lanes, memory):
-    """Runs tasks side by side, each once those that it waits for have ended, those first that have the longest chain of
-    others behind them. A task is what it waits for, its work in lines, its memory, and a call that takes how many jobs
+    """Runs tasks side by side, each once those that it waits for have ended, those first that begin the longest chain of
+    others. A task is what it waits for, its work in lines, its memory, and a call that takes how many jobs
     it may use and says whether it went well. Nothing begins that waits for one that didn't; returns those that did."""
-    behind = {key: work for key, (_, work, _, _) in tasks.items()}
+    chain = {key: work for key, (_, work, _, _) in tasks.items()}
     for key in reversed([*tasks]):
         for it in tasks[key][0]:
-            behind[it] = max(behind[it], tasks[it][1] + behind[key])
-    left, running, done = sorted(tasks, key=lambda it: -behind[it]), {}, set()
+            chain[it] = max(chain[it], tasks[it][1] + chain[key])
+    left, running, done = sorted(tasks, key=lambda it: -chain[it]), {}, set()
     with ThreadPoolExecutor(lanes) as pool:
         while True:
             ready = [it for it in left if done.issuperset(tasks[it][0])]
@@ -129,7 +129,7 @@ def in_lanes(tasks, lanes, memory):
                 if idle <= 0 or (running and tasks[key][2] > room):
                     break
                 # the chain that takes longest gets a second processor, and whoever comes last those that are left
-                is_longest = behind[key] >= max([behind[it] for it in left] + [behind[it] for it, _ in running.values()])
+                is_longest = chain[key] >= max([chain[it] for it in left] + [chain[it] for it, _ in running.values()])
                 jobs = max(1, min(4, idle // (len(ready) - at)), 2 if is_longest and idle > 1 else 1)
                 left.remove(key)
                 running[pool.submit(tasks[key][3], jobs)] = key, jobs

@@ -28,11 +28,11 @@ impl Judge for Pairs {
     fn came(&self, alloc: Global, inputs: &Fields) -> Result<String, LineError> {
         let rule = read(alloc, inputs.text(0)?)?;
         let other = read(alloc, inputs.text(1)?)?;
-        Ok(String::from_str(alloc, compared(&rule, &other))?)
+        Ok(String::from_str(alloc, comparison(&rule, &other))?)
     }
 }
 
-fn compared(rule: &Rule, other: &Rule) -> &'static str {
+fn comparison(rule: &Rule, other: &Rule) -> &'static str {
     let forth = rule == other;
     let back = other == rule;
     match (forth, back) {

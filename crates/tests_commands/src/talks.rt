@@ -15,7 +15,7 @@ fn bus_bytes<R: Abort>(rt: &R, alloc: Global, lines: &[u8]) -> Vec<u8> {
 }
 
 /// A client of a bus that says this, which has to let it in.
-fn opened<'a, R: Abort>(
+fn open_client<'a, R: Abort>(
     rt: &R,
     alloc: Global,
     says: &'a [u8],
@@ -39,7 +39,7 @@ fn external_and_anonymous(rt: HostRuntime) {
         (rejection, 7, anonymous),
     ] {
         let says = bus_bytes(&rt, rt.alloc(), lines);
-        let mut client = opened(&rt, rt.alloc(), &says, at_once);
+        let mut client = open_client(&rt, rt.alloc(), &says, at_once);
         assert!(rt; client.stream_mut().written.starts_with(words));
     }
 }
@@ -82,7 +82,7 @@ fn expect_next<R: Abort>(rt: &R, client: &mut Client<Script<'_>>, member: &str) 
 #[test]
 fn rule(rt: HostRuntime) {
     let says = bus_with_signals(&rt, rt.alloc(), None);
-    let mut client = opened(&rt, rt.alloc(), &says, 50);
+    let mut client = open_client(&rt, rt.alloc(), &says, 50);
     assert!(rt; client.add_match("type='signal'").is_ok());
     expect_next(&rt, &mut client, "First");
     expect_next(&rt, &mut client, "Second");
@@ -93,7 +93,7 @@ fn rule(rt: HostRuntime) {
 fn refused_rule(rt: HostRuntime) {
     let name = "org.freedesktop.DBus.Error.MatchRuleInvalid";
     let says = bus_with_signals(&rt, rt.alloc(), Some(name));
-    let mut client = opened(&rt, rt.alloc(), &says, 50);
+    let mut client = open_client(&rt, rt.alloc(), &says, 50);
     match client.add_match("x") {
         Err(ClientError::Answered(error)) => assert_eq!(rt; error.as_str(), name),
         _ => panic!(rt; "no answer, or no error"),
@@ -105,6 +105,6 @@ fn garbage(rt: HostRuntime) {
     let mut says = bus_bytes(&rt, rt.alloc(), b"OK 0123\r\n");
     says.extend_from_slice(b"hello, this is no message")
         .expect(&rt, "memory");
-    let mut client = opened(&rt, rt.alloc(), &says, 4096);
+    let mut client = open_client(&rt, rt.alloc(), &says, 4096);
     assert!(rt; matches!(client.next(), Err(ClientError::Message(_))));
 }

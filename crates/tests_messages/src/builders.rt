@@ -15,7 +15,7 @@ pub(crate) fn signal(alloc: Global) -> Builder<'static> {
 }
 
 /// The bytes of the builder's message.
-pub(crate) fn finished<R: Abort>(rt: &R, alloc: Global, builder: &Builder<'_>) -> Vec<u8> {
+pub(crate) fn finish<R: Abort>(rt: &R, alloc: Global, builder: &Builder<'_>) -> Vec<u8> {
     builder.finish(alloc).expect(rt, "a message")
 }
 
@@ -26,7 +26,7 @@ fn builder_setters(rt: HostRuntime) {
     builder.sender(":1.1");
     builder.destination(":1.2");
     builder.sender(":1.3");
-    let bytes = finished(&rt, rt.alloc(), &builder);
+    let bytes = finish(&rt, rt.alloc(), &builder);
     let view = View::read(bytes.as_slice()).expect(&rt, "a message");
     assert_eq!(rt; view.path(), Some("/b"));
     assert_eq!(rt; view.sender(), Some(":1.3"));
@@ -38,7 +38,7 @@ fn answers(rt: HostRuntime) {
     let mut builder = Builder::new(rt.alloc(), Kind::Error, 1, 9);
     builder.error_name("a.b");
     builder.reply_serial(7);
-    let bytes = finished(&rt, rt.alloc(), &builder);
+    let bytes = finish(&rt, rt.alloc(), &builder);
     let view = View::read(bytes.as_slice()).expect(&rt, "a message");
     assert_eq!(rt; view.error_name(), Some("a.b"));
     assert_eq!(rt; view.reply_serial(), Some(7));

@@ -1,6 +1,6 @@
 // Messages as long as they may be, and longer ones.
 
-use crate::builders::{finished, signal};
+use crate::builders::{finish, signal};
 use message_build::{BuildError, Builder};
 use message_view::{Kind, View};
 use std::alloc::Global;
@@ -60,7 +60,7 @@ fn with_body<R: Abort>(rt: &R, alloc: Global, signature: &[u8], body: &[u8]) -> 
 fn longest_message(rt: HostRuntime) {
     let body = two_arrays(&rt, rt.alloc(), SECOND_LEN);
     let builder = with_body(&rt, rt.alloc(), b"ayay", body.as_slice());
-    let bytes = finished(&rt, rt.alloc(), &builder);
+    let bytes = finish(&rt, rt.alloc(), &builder);
     assert_eq!(rt; bytes.len(), MAX_MESSAGE_LEN as usize);
     let view = View::read(bytes.as_slice()).expect(&rt, "a message");
     assert_eq!(rt; view.body().len(), body.len());

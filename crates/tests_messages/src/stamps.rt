@@ -1,6 +1,6 @@
 // Stamps, and want of memory for them.
 
-use crate::builders::{finished, signal};
+use crate::builders::{finish, signal};
 use crate::s1::S1;
 use message_build::{StampError, stamp};
 use message_view::View;
@@ -30,7 +30,7 @@ fn stamp_with_refusals(rt: HostRuntime) {
 fn with_argument<R: Abort>(rt: &R, alloc: Global) -> Vec<u8> {
     let mut builder = signal(alloc);
     builder.arg_str("hi").expect(rt, "memory");
-    finished(rt, alloc, &builder)
+    finish(rt, alloc, &builder)
 }
 
 // The bytes of a stamp are known to be a message: their view is had without a check of the body.
