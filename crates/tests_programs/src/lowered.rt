@@ -92,7 +92,7 @@ fn straight<R: Abort>(rt: &R, alloc: Global, count: usize) -> Draft {
 }
 
 /// The program of a draft, which has to be closed.
-fn lower<R: Abort>(rt: &R, alloc: Global, draft: &Draft) -> Result<Vec<Ins>, LowerError> {
+fn lower_draft<R: Abort>(rt: &R, alloc: Global, draft: &Draft) -> Result<Vec<Ins>, LowerError> {
     assert!(rt; draft.is_closed());
     lower(alloc, draft)
 }
@@ -112,7 +112,7 @@ fn expect_program<R: Abort>(
 
 /// How many jumps without a test a draft's program has, and how long it is.
 fn islands<R: Abort>(rt: &R, alloc: Global, draft: &Draft) -> (usize, usize) {
-    let program = lower(rt, alloc, draft).expect(rt, "a program");
+    let program = lower_draft(rt, alloc, draft).expect(rt, "a program");
     let islands = program.iter().filter(|ins| ins.code == JUMP).count();
     (islands, program.len())
 }
@@ -120,10 +120,10 @@ fn islands<R: Abort>(rt: &R, alloc: Global, draft: &Draft) -> (usize, usize) {
 #[test]
 fn far_jump(rt: HostRuntime) {
     let near = jump_over(&rt, rt.alloc(), 255);
-    let program = lower(&rt, rt.alloc(), &near);
+    let program = lower_draft(&rt, rt.alloc(), &near);
     expect_program(&rt, program, 257, &[ins(0x15, 255, 0, 0)]);
     let far = jump_over(&rt, rt.alloc(), 256);
-    let program = lower(&rt, rt.alloc(), &far);
+    let program = lower_draft(&rt, rt.alloc(), &far);
     let first = [ins(0x15, 0, 1, 0), ins(0x05, 0, 0, 256)];
     expect_program(&rt, program, 259, &first);
     assert_eq!(rt; islands(&rt, rt.alloc(), &far), (1, 259));
@@ -135,7 +135,7 @@ fn shared_island(rt: HostRuntime) {
     let (count, len) = islands(&rt, rt.alloc(), &draft);
     assert_eq!(rt; count, 1);
     assert!(rt; len <= 262);
-    let program = lower(&rt, rt.alloc(), &draft);
+    let program = lower_draft(&rt, rt.alloc(), &draft);
     expect_program(&rt, program, len, &[]);
 }
 
@@ -159,7 +159,7 @@ fn two_targets<R: Abort>(rt: &R, alloc: Global) -> Draft {
 #[test]
 fn far_beside_far(rt: HostRuntime) {
     let draft = two_targets(&rt, rt.alloc());
-    let program = lower(&rt, rt.alloc(), &draft);
+    let program = lower_draft(&rt, rt.alloc(), &draft);
     let first = [
         ins(0x2d, 1, 0, 7),
         ins(0x05, 0, 0, 256),
@@ -209,13 +209,16 @@ fn open_drafts(rt: HostRuntime) {
 
 /// That a draft's program would have too many instructions.
 fn expect_too_many<R: Abort>(rt: &R, alloc: Global, draft: &Draft) {
-    assert_eq!(rt; lower(rt, alloc, draft).err(), Some(LowerError::TooMany));
+    assert_eq!(rt;
+        lower_draft(rt, alloc, draft).err(),
+        Some(LowerError::TooMany)
+    );
 }
 
 #[test]
 fn too_many(rt: HostRuntime) {
     let most = straight(&rt, rt.alloc(), 4096);
-    let program = lower(&rt, rt.alloc(), &most);
+    let program = lower_draft(&rt, rt.alloc(), &most);
     expect_program(&rt, program, 4096, &[]);
     let more = straight(&rt, rt.alloc(), 4097);
     expect_too_many(&rt, rt.alloc(), &more);
@@ -241,7 +244,7 @@ fn lower_with_refusals(rt: HostRuntime) {
     let mut draft = Draft::new(rt.alloc());
     let put = put_far_jump(&mut draft);
     let program = match put {
-        Ok(()) => lower(&rt, rt.alloc(), &draft),
+        Ok(()) => lower_draft(&rt, rt.alloc(), &draft),
         Err(error) => Err(error),
     };
     match program {
