@@ -47,7 +47,8 @@ pub(crate) fn release_name<J: Naming, M: Mailbox + Carrier, W: Wait, R: Wait + D
     answer_named(connection, site, home, request, released)
 }
 
-// The answer, and then what changed. A change is announced even where its answer finds no room.
+// The answer, and then what changed. A change is announced even where its answer finds no room. Nobody gets one of these
+// messages before all are put.
 fn answer_named<J: Naming, M: Mailbox + Carrier, W: Wait, R: Wait + Drop>(
     connection: &mut Connection<J, M>,
     site: &Site<'_, J, M, W, R>,
@@ -59,11 +60,13 @@ fn answer_named<J: Naming, M: Mailbox + Carrier, W: Wait, R: Wait + Drop>(
 {
     match reply {
         Ok(Reply::Name(Named { answer, change })) => {
+            connection.pass.hold(site.alloc);
             let answered = connection.answer(site, home, request, Body::Number(answer.number()));
             let announced = match change {
                 Some(change) => connection.announce(site, &change),
                 None => Ok(()),
             };
+            connection.pass.release();
             answered.and(announced)
         }
         Ok(_) => Ok(()),

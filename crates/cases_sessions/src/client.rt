@@ -1,9 +1,10 @@
 // A client whose session is driven by hand.
 
 use crate::place::{GUID, Place};
-use crate::taker::Taker;
+use crate::taker::take_all;
 use case_files::LineError;
 use crossbeam_utils::rule::Protocol;
+use outbox::Taker;
 use routing::Carrier;
 use session_text::{Action, Received, Wanted};
 use sessions::{Command, Letterbox, Naming, Published, Rest, Session, SessionError, Shown, Step};
@@ -81,7 +82,7 @@ impl<J: Naming> Client<J> {
     }
 
     fn forget<R: Wait>(&mut self, place: &Place<'_, '_, J, R>) -> Result<(), LineError> {
-        self.taker.take_all(place.rt, &mut self.received)?;
+        take_all(place.rt, &mut self.taker, &mut self.received)?;
         self.received.clear();
         Ok(())
     }
@@ -91,7 +92,7 @@ impl<J: Naming> Client<J> {
         place: &Place<'_, '_, J, R>,
         wanted: &Wanted<'_>,
     ) -> Result<Option<String>, LineError> {
-        self.taker.take_all(place.rt, &mut self.received)?;
+        take_all(place.rt, &mut self.taker, &mut self.received)?;
         self.received.miss(place.alloc, wanted)
     }
 

@@ -15,7 +15,8 @@ use std::sync::Wait;
 
 impl<J: Naming, M: Mailbox + Carrier> Connection<J, M> {
     /// Announces that a well-known name has another owner: NameLost to the old one, NameOwnerChanged to all whose rules
-    /// hold of it, NameAcquired to the new one (D-Bus Specification, "Message Bus Messages").
+    /// hold of it, NameAcquired to the new one (D-Bus Specification, "Message Bus Messages"). A caller that holds what the
+    /// pass puts has them given out as one.
     ///
     /// # Errors
     ///

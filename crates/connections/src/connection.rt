@@ -70,7 +70,7 @@ impl<J: Naming, M: Mailbox + Carrier> Connection<J, M> {
         let serial = self.serials.take();
         let to = Some(self.name.as_str());
         match reply(site.alloc, serial, to, request.serial, body) {
-            Ok(bytes) => home.put(site.rt, bytes),
+            Ok(bytes) => home.put_with(site.rt, site.alloc, &mut self.pass, &bytes),
             Err(_) => self.put_error(site, home, request, serial, ErrorName::NoMemory),
         }
     }
@@ -105,16 +105,19 @@ impl<J: Naming, M: Mailbox + Carrier> Connection<J, M> {
     }
 
     fn put_error<W: Wait, R: Wait + Drop>(
-        &self,
+        &mut self,
         site: &Site<'_, J, M, W, R>,
         home: &mut Home<M>,
         request: Request,
         serial: u32,
         name: ErrorName,
-    ) -> Result<(), AnswerError> {
+    ) -> Result<(), AnswerError>
+        ensures pass { self.new.pass ≡ self.old.pass }
+        ensures name { self.new.name ≡ self.old.name }
+    {
         let to = Some(self.name.as_str());
         let bytes = error_bytes(site.alloc, serial, to, request, name)?;
-        home.put(site.rt, bytes)
+        home.put_with(site.rt, site.alloc, &mut self.pass, &bytes)
     }
 }
 

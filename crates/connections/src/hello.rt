@@ -33,11 +33,11 @@ pub fn put_refusal<J: Naming, M: Mailbox + Carrier, W: Wait, R: Wait + Drop>(
     }
     let serial = Serials::new().take();
     let bytes = error_bytes(site.alloc, serial, None, request, name)?;
-    home.put(site.rt, bytes)
+    home.put(site.rt, site.alloc, bytes)
 }
 
 impl<J: Naming, M: Mailbox + Carrier> Connection<J, M> {
-    /// Answers Hello with the client's name, and announces it.
+    /// Answers Hello with the client's name, and announces it. Nobody gets one of these messages before all are put.
     ///
     /// # Errors
     ///
@@ -52,8 +52,10 @@ impl<J: Naming, M: Mailbox + Carrier> Connection<J, M> {
         ensures { NeverSlow request.wants_answer result }
     {
         let name = UniqueName::new(self.pass.connection());
+        self.pass.hold(site.alloc);
         let answered = self.answer(site, home, request, Body::Text(name.as_str()));
         let announced = self.announce_arrival(site);
+        self.pass.release();
         answered.and(announced)
     }
 }

@@ -45,7 +45,9 @@ impl<J: Naming, M: Mailbox + Carrier> Connection<J, M> {
         let _turn = site.bus.turn(site.rt);
         match site.bus.drop_name(site.rt, &mut self.pass) {
             Ok(Reply::Changed(change)) => {
+                self.pass.hold(site.alloc);
                 let _ = self.announce(site, &change);
+                self.pass.release();
                 None
             }
             Ok(Reply::Waiting) => None,

@@ -2,6 +2,7 @@
 //! server hands a `Mail` of each connection to the bus; the threads that put messages write them too.
 #![tactic(auto)]
 
+mod long_message;
 mod mail;
 mod member;
 mod post;

@@ -54,7 +54,7 @@ impl Member {
         &self.outbox
     }
 
-    /// Writes out what stands in the outbox, as far as the socket takes it now. Where another thread is writing, that
+    /// Writes out what stands in the outbox, as far as it is released and the socket takes it now. Where another thread is writing, that
     /// one looks again. The socket of an outbox that is shut is shut down, which wakes the connection's worker.
     pub fn push_out<R: Wait>(&self, rt: &R) {
         self.is_asked.store(true, Ordering::SeqCst);

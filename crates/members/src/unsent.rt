@@ -3,7 +3,8 @@
 ghost use Rattle.std.specs.Prelude.{◌≡◌, ◌≤◌, ◌++◌, ◌==◌, true, [], length, drop, unwrap_or};
 ghost use Rattle.members.specs.Waiting.{all_of, first_of};
 
-use bytes::{Buf, Bytes};
+use crate::long_message::LongMessage;
+use outbox::Delivery;
 use std::marker::Model;
 
 /// How many bytes of short messages one write sends together.
@@ -16,7 +17,7 @@ pub(crate) struct Unsent {
     start: usize,
     end: usize,
     // The message after the batch, which had no room in it.
-    next: Option<Bytes>,
+    next: Option<LongMessage>,
 }
 
 impl Model for Unsent {
@@ -58,15 +59,16 @@ impl Unsent {
     }
 
     /// Adds a message after the others.
-    pub(crate) fn add(&mut self, message: Bytes)
-        ensures { self.old.is_open ≡ true → all_of self.new ≡ all_of self.old ++ message }
+    pub(crate) fn add(&mut self, message: Delivery)
+        ensures { self.old.is_open ≡ true → all_of self.new ≡ all_of self.old ++ message.bytes }
     {
-        if message.len() > BATCH - self.end {
-            self.next = Some(message);
+        let bytes = message.bytes();
+        if bytes.len() > BATCH - self.end {
+            self.next = Some(LongMessage::new(message));
             return;
         }
-        let end = self.end + message.len();
-        self.batch[self.end..end].copy_from_slice(message.as_slice());
+        let end = self.end + bytes.len();
+        self.batch[self.end..end].copy_from_slice(bytes.as_slice());
         self.end = end;
     }
 
@@ -87,7 +89,7 @@ impl Unsent {
         if self.start < self.end {
             self.advance_batch(count);
         } else if let Some(long) = self.next.take() {
-            self.next = rest_of(long, count);
+            self.next = long.advance(count);
         }
     }
 
@@ -113,16 +115,4 @@ impl Unsent {
         self.end = 0;
         self.next = None;
     }
-}
-
-/// The message without its first bytes, if any are left.
-fn rest_of(long: Bytes, count: usize) -> Option<Bytes>
-    ensures { unwrap_or result [] ≡ drop count long }
-{
-    if count >= long.len() {
-        return None;
-    }
-    let mut rest = long;
-    rest.advance(count);
-    Some(rest)
 }

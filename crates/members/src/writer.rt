@@ -1,10 +1,8 @@
 // The one that takes from an outbox and writes to the connection's socket.
 
-ghost use Rattle.std.specs.Prelude.{◌≡◌};
-
 use crate::unsent::Unsent;
 use endpoints::Link;
-use outbox::{Outbox, ROOM, Seat};
+use outbox::{Outbox, ROOM, Taker};
 use std::alloc::AllocError;
 use std::io::ErrorKind;
 use std::sync::{Arc, Wait};
@@ -15,35 +13,29 @@ const WRITES: u32 = 64;
 /// How a writer stands after a call.
 #[derive(Clone, Copy, PartialEq, Eq)]
 pub(crate) enum Stand {
-    /// Nothing is left to write.
+    /// Nothing is left to write, or what stands in the outbox isn't released yet: whoever does it writes it then.
     Drained,
     /// More is there, for which the socket has no room, or which is for the next call.
     Waiting,
 }
 
-/// The taker's seat at an outbox, the bytes that it took and hasn't written, and the socket. It stands beside a handle
-/// of its own on the outbox, so that both are found together under a lock. What was written to the socket is a
-/// beginning of what the seat took.
+/// The taker at an outbox, the bytes that it took and hasn't written, and the socket. What was written to the socket is a
+/// beginning of what was taken.
 #[derive(Drop)]
 pub(crate) struct Writer {
-    outbox: Outbox,
-    seat: Seat,
+    taker: Taker,
     unsent: Unsent,
     link: Arc<Link>,
     // Whether the poll tells of room for this socket.
     pub(crate) asks_for_room: bool,
     // A write has failed, and nothing is written any more.
     has_failed: bool,
-    ghost at_home: { seat.outbox ≡ outbox },
 }
 
 impl Writer {
     pub(crate) fn new(outbox: &Outbox, link: Arc<Link>) -> Result<Writer, AllocError> {
-        let outbox = outbox.share()?;
-        let seat = outbox.seat();
         Ok(Writer {
-            outbox,
-            seat,
+            taker: Taker::new(outbox)?,
             unsent: Unsent::new(),
             link,
             asks_for_room: false,
@@ -57,7 +49,7 @@ impl Writer {
 
     /// Whether the outbox was shut.
     pub(crate) fn is_shut(&mut self) -> bool {
-        self.outbox.is_shut(&mut self.seat)
+        self.taker.is_shut()
     }
 
     /// Nothing is written from now on, and the outbox is emptied all the same.
@@ -72,11 +64,11 @@ impl Writer {
             if !self.unsent.is_open() {
                 return;
             }
-            let Some(item) = self.outbox.take(rt, &mut self.seat) else {
+            let Some(delivery) = self.taker.take(rt) else {
                 return;
             };
             if !self.has_failed {
-                self.unsent.add(item.bytes);
+                self.unsent.add(delivery);
             }
         }
     }

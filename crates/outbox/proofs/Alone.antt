@@ -2,7 +2,7 @@
 use Rattle.std.proofs.Common.{ℕ, ◌≡◌, ◌==◌, Option, Some, None, IfSome, Bool, true, false, cond, List, [], ◌∷◌, ◌++◌, map, refl, ap, ◌∙◌, subst, arith, eqb-true}
 use Rattle.std.proofs.lemmas.Bool.{eqb-false}
 use Rattle.std.proofs.lemmas.List.{map-append}
-use Rattle.outbox.specs.declared.rule.Item.{Item}
+use Rattle.outbox.specs.Items.{Item}
 use Rattle.outbox.specs.declared.rule.SeatView.{SeatView}
 use Rattle.outbox.specs.Counts.{Put, Rises, last_of, count_of, counts_by, count_from, counts_from, Names, PutAlone, InOrder}
 use Rattle.outbox.specs.Views.{item_of, seat_known, Ordered, NamedAlone}

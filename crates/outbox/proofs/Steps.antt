@@ -4,7 +4,7 @@ use Rattle.std.proofs.lemmas.List.{append_assoc, append-nil, map-append}
 use mathlib.Core.Option.{some, some-injective, some-ne-none}
 use lib.ListN.{get_elem?}
 use Rattle.crossbeam_queue.specs.Fifo.{Pushes, Pops, Learns, Admits, Held}
-use Rattle.outbox.specs.declared.rule.Item.{Item}
+use Rattle.outbox.specs.Items.{Item}
 use Rattle.outbox.specs.declared.rule.SeatView.{SeatView}
 use Rattle.outbox.specs.Counts.{Put, Rises, last_of, count_of, counts_by, Names, InOrder, Among}
 use Rattle.outbox.specs.Views.{blank, item_of, seat_known, Fits, Ordered, Follows, after_put}

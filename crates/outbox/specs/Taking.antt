@@ -1,6 +1,6 @@
 -- Inner: the step of a seat that takes an item.
 use Rattle.std.specs.Prelude.{◌≡◌, ℕ, [], ◌∷◌, ◌++◌}
-use Rattle.outbox.specs.declared.rule.Item.{Item}
+use Rattle.outbox.specs.Items.{Item}
 use Rattle.outbox.specs.declared.rule.SeatView.{SeatView}
 use Rattle.outbox.specs.Counts.{InOrder}
 

@@ -1,6 +1,6 @@
 -- The rule of an outbox, over what stands in it and what each seat knows (own).
 use Rattle.std.specs.Prelude.{ℕ, ◌≡◌, ◌<◌, Option, Some, None, IfSome, List, [], ◌++◌, map, slice_index_or}
-use Rattle.outbox.specs.declared.rule.Item.{Item}
+use Rattle.outbox.specs.Items.{Item}
 use Rattle.outbox.specs.declared.rule.SeatView.{SeatView}
 use Rattle.outbox.specs.Counts.{Put, Rises, last_of, counts_by, Names, Among}
 

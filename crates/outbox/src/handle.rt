@@ -5,7 +5,8 @@ ghost use Rattle.outbox.specs.Counts.{InOrder};
 ghost use Rattle.outbox.specs.Views.{blank, Follows, after_put};
 ghost use Rattle.outbox.specs.Seated.{Seated};
 
-use crate::rule::{Item, Look, Ordering, Puts, SeatView, Shut, Shutting, Takes};
+use crate::item::Item;
+use crate::rule::{Look, Ordering, Puts, SeatView, Shut, Shutting, Takes};
 use crate::seats::Seat;
 use atomic_table::Table;
 use crossbeam_queue::RuledArrayQueue;
@@ -93,7 +94,7 @@ impl Outbox {
     }
 
     /// Takes the oldest item, if one is there. The list that the seat has taken stays in each putting seat's order.
-    pub fn take<R: Wait>(&self, rt: &R, seat: &mut Seat) -> Option<Item>
+    pub(crate) fn pop<R: Wait>(&self, rt: &R, seat: &mut Seat) -> Option<Item>
         requires { seat.old.outbox ≡ self.now }
         ensures seat { (seat.new.outbox ≡ seat.old.outbox) × (seat.new.number ≡ seat.old.number) × (seat.new.knows_shut ≡ seat.old.knows_shut) }
         ensures taken { MatchOption result

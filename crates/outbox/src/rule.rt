@@ -2,18 +2,10 @@
 
 ghost use Rattle.std.specs.Prelude.{false};
 
+use crate::item::Item;
 use atomic_table::{Play, TableRule};
-use bytes::Bytes;
 use crossbeam_queue::protocol::{Lesson, Outcome, Protocol};
 use std::collections::LinkedList;
-
-/// A message that waits. A broadcast has a mark: its origin, which is the connection that sent it, and its count among
-/// the origin's broadcasts, from 1 on. A unicast message has none.
-#[derive(Drop)]
-pub struct Item {
-    pub bytes: Bytes,
-    pub mark: Option<(u64, u64)>,
-}
 
 /// What a seat knows: the origin whose broadcasts it puts with the count of the last one, and the items that it took,
 /// each with the number of the seat that put it. Contracts alone speak of it; no value of it is made.
@@ -84,4 +76,38 @@ impl Play<(), bool> for Shut {
     ghost use Rattle.outbox.specs.Shut.{Written};
 
     ghost then = { λ s me n. Written me };
+}
+
+/// What a seat at a sender's word knows: whether it is the sender's, and how many events are released at least. Contracts
+/// alone speak of it; no value of it is made.
+pub struct ReleaseView {
+    pub is_sender: bool,
+    pub released: u64,
+}
+
+/// The rule of the word that counts the events that a sender has released.
+pub struct Releasing;
+
+impl TableRule<(), ReleaseView, ()> for Releasing {
+    ghost use Rattle.outbox.specs.Released.{Counts, sender_at};
+
+    ghost holds = { λ _. Counts };
+
+    ghost first = { λ _. sender_at 0 };
+}
+
+pub struct Finds;
+
+impl Play<(), ReleaseView> for Finds {
+    ghost use Rattle.outbox.specs.Released.{Found};
+
+    ghost then = { λ s me. Found };
+}
+
+pub struct Raises;
+
+impl Play<(), ReleaseView> for Raises {
+    ghost use Rattle.outbox.specs.Released.{Raised};
+
+    ghost then = { λ s me n. Raised n me };
 }

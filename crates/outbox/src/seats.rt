@@ -1,6 +1,7 @@
 // Seats, by which calls of an outbox are made.
 
-use crate::rule::{Item, SeatView};
+use crate::item::Item;
+use crate::rule::SeatView;
 use atomic_table::Seat as WordSeat;
 use crossbeam_queue::Pass;
 use std::marker::Model;

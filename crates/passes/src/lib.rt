@@ -8,6 +8,7 @@ mod by_workers;
 mod calls;
 mod control;
 mod error;
+mod holding;
 mod kept;
 mod listing;
 mod pass;

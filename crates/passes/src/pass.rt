@@ -295,6 +295,15 @@ impl<J: Naming, M: Mailbox + Carrier> Pass<J, M> {
         }
     }
 
+    // Releases all that its sender has put.
+    pub(crate) fn release_sent(&mut self)
+        ensures { self.new ≡ self.old }
+    {
+        if let Some(sender) = &mut self.sender {
+            sender.release();
+        }
+    }
+
     // Enters the published state, lists the recipients, and finds what the sender needs for them.
     pub(crate) fn look_for_mailboxes(
         &mut self,

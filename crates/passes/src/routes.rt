@@ -77,8 +77,9 @@ fn broadcast<M: Carrier, W: Wait, G: Gate>(
 impl<J: Naming, M: Mailbox + Carrier> Pass<J, M> {
     /// Finds the recipients of a broadcast, leaves the published state, and puts the message into their outboxes.
     /// The caller's lists are then of this broadcast: its recipients, and those whose outbox refused it, a shut one
-    /// included. `gate.before(0)` is called once the published state is left and the seats are there, before the first
-    /// put, and `gate.after(0)` after the last.
+    /// included. No outbox gives the message out before it was put at all of them. `gate.before(0)` is called once the
+    /// published state is left and the seats are there, before the first put, and `gate.after(0)` after the last, before
+    /// the message is given out.
     ///
     /// # Errors
     ///
@@ -129,7 +130,7 @@ impl<J: Naming, M: Mailbox + Carrier> Pass<J, M> {
         }
     }
 
-    /// Writes out what stands in each outbox into which the pass has put since the last call.
+    /// Writes out what stands in each outbox into which the pass has put since the last call. Nothing is held any more.
     pub fn push_out<W: Wait>(&mut self, rt: &W)
         ensures { self.new ≡ self.old }
     {

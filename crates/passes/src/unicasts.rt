@@ -26,6 +26,7 @@ pub enum Sent {
 // Puts a message to the connection that was found.
 fn deliver<M: Carrier, W: Wait>(
     rt: &W,
+    alloc: Global,
     sender: &mut Sender<M>,
     addressee: Addressee<M>,
     bytes: &Bytes,
@@ -45,7 +46,7 @@ fn deliver<M: Carrier, W: Wait>(
         Ok(()) => {}
         Err(_) => return Err(BusError::NoMemory),
     }
-    match sender.unicast(rt, number, bytes) {
+    match sender.unicast(rt, alloc, number, bytes) {
         Ok(PutOrFull::Put) => Ok(Sent::Put),
         Ok(PutOrFull::Full) => Ok(Sent::Full),
         Err(_) => Err(BusError::NoMemory),
@@ -76,7 +77,7 @@ impl<J: Naming, M: Mailbox + Carrier> Pass<J, M> {
         let _ = sender.seats();
         match self.look_for_addressee(alloc, &sender, to) {
             Ok(Some(addressee)) => {
-                let answer = deliver(rt, &mut sender, addressee, bytes);
+                let answer = deliver(rt, alloc, &mut sender, addressee, bytes);
                 let _ = sender.seats();
                 self.put_back(sender);
                 answer

@@ -1,6 +1,5 @@
 -- One recipient after the other.
 use Rattle.std.proofs.Common.{ℕ, zero, suc, ◌≡◌, ◌+◌, ◌<◌, ◌≤◌, ◌==◌, ◌&&◌, ◌||◌, not, Bool, true, false, true≢false, cond, List, [], ◌∷◌, ◌++◌, length, take, drop, get_or, refl, sym, ap, ◌∙◌, subst, arith, eqb-true, ne_eqb, take-append-drop, length-append, Option, Some, None, IsSome, IfSome, IsSomeAnd}
-use Rattle.std.specs.Option.{option_to_list}
 use Rattle.std.proofs.lemmas.List.{take_more}
 use Rattle.routing.specs.SenderView.{StopView}
 use Rattle.routing.specs.Stops.{stop_at, is_in, RisesFrom, HasStop, AllHave}
@@ -142,12 +141,6 @@ next_recipient mark k recipients d refused refused' old stops new put lt rising 
 pub noted_length : (put : Bool) (m : ℕ) (refused refused' : List ℕ) (k : ℕ) → refused' ≡ cond put refused (refused ++ m ∷ []) → length refused ≤ k → length refused' ≤ k + 1
 noted_length true m refused refused' k e l = let P : List ℕ → Type 0 = λ x. length x ≤ k + 1 in subst P (sym e) (omega (arith, l))
 noted_length false m refused refused' k e l = let P : List ℕ → Type 0 = λ x. length x ≤ k + 1 in let a = length-append refused (m ∷ []) in subst P (sym e) (omega (arith, l, a))
-
-pub popped_length : {A : Type 0} (xs rest : List A) (o : Option A) (x : A) (k n : ℕ) → xs ≡ rest ++ option_to_list o → o ≡ Some x → length xs + k ≡ n → length rest + (k + 1) ≡ n
-popped_length xs rest o x k n e some l =
-    let a = length-append rest (x ∷ []) in
-    let b = ap length e ∙ ap (λ p. length (rest ++ option_to_list p)) some in
-    omega (arith, a, b, l)
 
 -- a put at one stop, as puts to a list of one recipient
 pub put_once : (mark : Option (ℕ × ℕ)) (m : ℕ) (put : Bool) (old new : List StopView) → PutAt m mark put old new → (n : ℕ) → RoutedAt mark (m == n) ((m == n) && not put) (stop_at n old) (stop_at n new)

@@ -1,5 +1,5 @@
 -- Seats that are taken.
-use Rattle.std.proofs.Common.{append-nil, append_assoc, ℕ, ◌≡◌, ◌+◌, ◌==◌, Option, Some, None, IsSome, Bool, true, false, true≢false, cond, List, [], ◌∷◌, ◌++◌, length, map, refl, sym, ap, ◌∙◌, subst, arith, eq-eqb, eqb-true, inl, inr}
+use Rattle.std.proofs.Common.{append-nil, append_assoc, ℕ, ◌≡◌, ◌==◌, Option, Some, None, IsSome, Bool, true, false, true≢false, cond, List, [], ◌∷◌, ◌++◌, length, map, refl, sym, ap, ◌∙◌, subst, arith, eq-eqb, eqb-true, inl, inr}
 use Rattle.std.specs.Option.{option_or}
 use Rattle.std.specs.Option.{option_to_list}
 use Rattle.std.proofs.lemmas.List.Folds.{find-append}

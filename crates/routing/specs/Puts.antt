@@ -1,7 +1,7 @@
 -- Inner: what seats that are taken and puts that are made change, stop by stop.
 use Rattle.std.specs.Prelude.{ℕ, ◌≡◌, ◌≤◌, ◌+◌, ◌==◌, Bool, true, false, not, cond, Option, Some, None, List, [], ◌∷◌}
 use Rattle.outbox.specs.Views.{blank, after_put}
-use Rattle.routing.specs.SenderView.{RecipientView, StopView}
+use Rattle.routing.specs.SenderView.{RecipientView, StopView, SenderView}
 use Rattle.routing.specs.Stops.{stop_at, is_in, RisesFrom, Lists}
 
 -- a stop that was there is as it was; a new one is at a recipient's outbox, and has put nothing
@@ -44,3 +44,15 @@ pub record PutTo (mark : Option (ℕ × ℕ)) (recipients refused : List ℕ) (o
   pub each : (n : ℕ) → RoutedAt mark (is_in n recipients) (is_in n refused) (stop_at n old) (stop_at n new)
   pub rising : RisesFrom 0 refused
   pub below : end_of 0 refused ≤ end_of 0 recipients
+
+-- the next broadcast was put to each of these recipients, but to those that refused it, and nothing else changes
+pub record RoutedTo (recipients refused : List ℕ) (old new : SenderView) : Type 0 where
+  pub origin_is : new.origin ≡ old.origin
+  pub count_is : new.count ≡ old.count + 1
+  pub change : PutTo (Some (old.origin, old.count + 1)) recipients refused old.stops new.stops
+
+-- a message that isn't a broadcast was put to the recipient or refused, and nothing else changes
+pub record SentTo (recipient : ℕ) (put : Bool) (old new : SenderView) : Type 0 where
+  pub origin_is : new.origin ≡ old.origin
+  pub count_is : new.count ≡ old.count
+  pub change : PutAt recipient None put old.stops new.stops

@@ -1,16 +1,18 @@
 // Senders.
 
-ghost use Rattle.std.specs.Prelude.{◌≡◌, ◌≤◌, [], ◌↔◌, true, IfOk, OnOk, OnErr, filter, is_some, length, map};
+ghost use Rattle.std.specs.Prelude.{◌≡◌, ◌<◌, ◌≤◌, [], ◌↔◌, true, IfOk, OnOk, OnErr, None, filter, is_some, length, map};
 ghost use Rattle.routing.specs.Stops.{RisesFrom, number_of, is_in, stop_at, shut_at, HasStop, AllHave, AllFit, Keeps, Routed, Unrouted};
+ghost use Rattle.routing.specs.Puts.{RoutedTo, SentTo};
 
 use crate::carrier::Carrier;
 use crate::error::RouteError;
+use crate::events::{begin, end};
 use crate::gate::{Gate, OpenGate};
 use crate::recipient::Recipient;
-use crate::stops::{Stop, place_of, push_out_all, put_all, put_at, retain, shares_of, take_seats};
+use crate::stops::{Stop, place_of, push_out_all, put_all, put_at, put_next, retain, take_seats};
 use arrayvec::ArrayVec;
 use bytes::Bytes;
-use outbox::Item;
+use outbox::{Item, Outbox, Releases, Seat};
 use std::alloc::{AllocError, Global};
 use std::marker::Model;
 use std::sync::Wait;
@@ -23,25 +25,44 @@ pub enum Sent {
     Full,
 }
 
+// Puts a message that isn't a broadcast.
+fn put_item<R: Wait>(rt: &R, outbox: &Outbox, seat: &mut Seat, item: Item) -> Sent
+    requires place { seat.old.outbox ≡ outbox.now }
+    requires unmarked { item.mark ≡ None }
+    ensures seat { (seat.new.outbox ≡ seat.old.outbox) × (seat.new.number ≡ seat.old.number) × (seat.new.view ≡ seat.old.view) }
+    ensures full { result ≡ Sent.Full → seat.new.knows_shut ≡ true }
+    ensures shut { seat.old.knows_shut ≡ true → result ≡ Sent.Full }
+{
+    match outbox.put(rt, seat, item) {
+        Ok(()) => Sent::Put,
+        Err(_) => Sent::Full,
+    }
+}
+
 /// The sender of a pass's broadcasts: the pass's connection, which is their origin, the count of the last one, and a
 /// seat at each outbox that it needed so far. The broadcasts of the bus itself have the origin and a count of the pass
-/// that routes them too.
+/// that routes them too. A broadcast is given out by no outbox before it was put at all its recipients: it is held until it
+/// is released, which is at the end of `route`, or, after `hold`, with all that was put since.
 #[derive(Drop)]
 pub struct Sender<C> {
     origin: u64,
     count: u64,
     stops: Vec<Stop<C>>,
+    // None before the first message that is held.
+    releases: Option<Releases>,
+    is_holding: bool,
 }
 
 impl<C> Model for Sender<C> {
     ghost use Rattle.routing.specs.SenderView.{SenderView};
     ghost use Rattle.routing.specs.Stops.{AllFit};
+    ghost use Rattle.routing.specs.Settled.{IsSettled};
 
     ghost Value = { SenderView };
 
     ghost view = { λ s. record { origin = s.origin; count = s.count; stops = s.stops.items } };
 
-    ghost invariant = { λ s. AllFit s.origin s.count s.stops.items };
+    ghost invariant = { λ s. AllFit s.origin s.count s.stops.items × IsSettled s.is_holding s.releases };
 }
 
 impl<C> Sender<C> {
@@ -53,6 +74,8 @@ impl<C> Sender<C> {
             origin,
             count: 0,
             stops: Vec::new(alloc),
+            releases: None,
+            is_holding: false,
         }
     }
 }
@@ -75,7 +98,7 @@ impl<C: Carrier> Sender<C> {
     }
 
     /// Puts a broadcast into the outboxes of its recipients, whose numbers rise, and answers those whose outbox refused
-    /// it, a shut one included. The shares of the bytes are taken before the first put, so after an error nothing was
+    /// it, a shut one included. The shares of the message are taken before the first put, so after an error nothing was
     /// put and the count isn't used.
     pub fn route<R: Wait>(
         &mut self,
@@ -98,8 +121,8 @@ impl<C: Carrier> Sender<C> {
     }
 
     /// Routes a broadcast as `route` does, and lists into an empty list of the caller's. `gate.before(0)` is called once
-    /// the shares are there, before the first put, and `gate.after(0)` after the last put; neither is called where the
-    /// answer is an error.
+    /// the shares are there, before the first put, and `gate.after(0)` after the last put, before the broadcast is released;
+    /// neither is called where the answer is an error.
     pub fn route_gated<R: Wait, G: Gate>(
         &mut self,
         rt: &R,
@@ -121,19 +144,41 @@ impl<C: Carrier> Sender<C> {
         if self.count == u64::MAX {
             return Err(RouteError::Counts);
         }
-        let shares = shares_of(alloc, bytes, recipients.len())?;
-        let mark = (self.origin, self.count + 1);
+        self.put_broadcast(rt, alloc, recipients, bytes, gate, refused)?;
+        Ok(())
+    }
+
+    // Puts one broadcast more, and then releases it.
+    fn put_broadcast<R: Wait, G: Gate>(
+        &mut self,
+        rt: &R,
+        alloc: Global,
+        recipients: &[u64],
+        bytes: &Bytes,
+        gate: &G,
+        refused: &mut ArrayVec<u64, 256>,
+    ) -> Result<(), AllocError>
+        requires count { self.old.count < u64.MAX }
+        requires few { length recipients.now ≤ 256 }
+        requires rising { RisesFrom 0 recipients.now }
+        requires seats { AllHave recipients.now self.old.stops }
+        requires none { refused.old.items ≡ [] }
+        ensures ok { OnOk result (RoutedTo recipients.now refused.new.items self.old self.new) }
+        ensures err { OnErr result (self.new ≡ self.old) }
+    {
+        let mark = Some((self.origin, self.count + 1));
+        let mut shares = begin(&mut self.releases, alloc, bytes, mark, recipients.len())?;
         gate.before(0);
         put_all(
             rt,
             self.stops.as_mut_slice(),
             recipients,
-            mark,
-            shares,
+            &mut shares,
             refused,
         );
         gate.after(0);
-        self.count = mark.1;
+        end(&mut self.releases, shares, self.is_holding);
+        self.count += 1;
         Ok(())
     }
 
@@ -141,6 +186,7 @@ impl<C: Carrier> Sender<C> {
     pub fn unicast<R: Wait>(
         &mut self,
         rt: &R,
+        alloc: Global,
         recipient: u64,
         bytes: &Bytes,
     ) -> Result<Sent, AllocError>
@@ -152,19 +198,102 @@ impl<C: Carrier> Sender<C> {
         ensures full { result ≡ Ok Sent.Full → shut_at recipient self.new.stops ≡ true }
         ensures shut { shut_at recipient self.old.stops ≡ true → IfOk result (λ sent. sent ≡ Sent.Full) }
     {
-        let bytes = bytes.clone()?;
-        let stops = self.stops.as_mut_slice();
-        if put_at(rt, stops, recipient, Item { bytes, mark: None }) {
-            Ok(Sent::Put)
+        let put = if self.is_holding {
+            self.put_held(rt, alloc, recipient, bytes)
         } else {
-            Ok(Sent::Full)
+            self.put_now(rt, alloc, recipient, bytes)
+        };
+        match put {
+            Ok(true) => Ok(Sent::Put),
+            Ok(false) => Ok(Sent::Full),
+            Err(error) => Err(error),
         }
     }
 
-    /// Writes out each outbox in which something was put since it last was written out.
+    // Puts a message that is held with others.
+    fn put_held<R: Wait>(
+        &mut self,
+        rt: &R,
+        alloc: Global,
+        recipient: u64,
+        bytes: &Bytes,
+    ) -> Result<bool, AllocError>
+        requires { HasStop recipient self.old.stops }
+        ensures ok { IfOk result (λ put. SentTo recipient put self.old self.new) }
+        ensures err { OnErr result (self.new ≡ self.old) }
+    {
+        let mut shares = begin(&mut self.releases, alloc, bytes, None, 1)?;
+        let stops = self.stops.as_mut_slice();
+        let put = put_next(rt, stops, recipient, &mut shares);
+        end(&mut self.releases, shares, self.is_holding);
+        Ok(put)
+    }
+
+    // Puts a message that is given out as soon as it is put.
+    fn put_now<R: Wait>(
+        &mut self,
+        rt: &R,
+        alloc: Global,
+        recipient: u64,
+        bytes: &Bytes,
+    ) -> Result<bool, AllocError>
+        requires { HasStop recipient self.old.stops }
+        ensures ok { IfOk result (λ put. SentTo recipient put self.old self.new) }
+        ensures err { OnErr result (self.new ≡ self.old) }
+    {
+        let item = Item::new(alloc, bytes.clone()?)?;
+        let stops = self.stops.as_mut_slice();
+        Ok(put_at(rt, stops, recipient, item))
+    }
+
+    /// Puts a message that isn't a broadcast by a seat of the caller's, held with others while the sender holds what it puts.
+    pub fn put_with<R: Wait>(
+        &mut self,
+        rt: &R,
+        alloc: Global,
+        outbox: &Outbox,
+        seat: &mut Seat,
+        bytes: &Bytes,
+    ) -> Result<Sent, AllocError>
+        requires { seat.old.outbox ≡ outbox.now }
+        ensures seat { (seat.new.outbox ≡ seat.old.outbox) × (seat.new.number ≡ seat.old.number) × (seat.new.view ≡ seat.old.view) }
+        ensures full { result ≡ Ok Sent.Full → seat.new.knows_shut ≡ true }
+        ensures shut { seat.old.knows_shut ≡ true → IfOk result (λ sent. sent ≡ Sent.Full) }
+        ensures same { self.new ≡ self.old }
+    {
+        if !self.is_holding {
+            let item = Item::new(alloc, bytes.clone()?)?;
+            return Ok(put_item(rt, outbox, seat, item));
+        }
+        let mut shares = begin(&mut self.releases, alloc, bytes, None, 1)?;
+        let item = shares.next();
+        let sent = put_item(rt, outbox, seat, item);
+        end(&mut self.releases, shares, self.is_holding);
+        Ok(sent)
+    }
+
+    /// Holds what is put from now on until `release`: no outbox gives it out before.
+    pub fn hold(&mut self)
+        ensures { self.new ≡ self.old }
+    {
+        self.is_holding = true;
+    }
+
+    /// Releases all that was put, and holds nothing any more.
+    pub fn release(&mut self)
+        ensures { self.new ≡ self.old }
+    {
+        self.is_holding = false;
+        if let Some(releases) = &mut self.releases {
+            releases.release();
+        }
+    }
+
+    /// Writes out each outbox in which something was put since it last was written out. Nothing is held any more.
     pub fn push_out<R: Wait>(&mut self, rt: &R)
         ensures { self.new ≡ self.old }
     {
+        self.release();
         push_out_all(rt, self.stops.as_mut_slice());
     }
 

@@ -1,6 +1,6 @@
 // A sender's seats at the outboxes of its recipients.
 
-ghost use Rattle.std.specs.Prelude.{◌≡◌, ◌<◌, ◌≤◌, ◌++◌, ◌∷◌, [], ℕ, cond, Some, IfOk, OnOk, IfSome, IsSomeAnd, filter, length, map, position};
+ghost use Rattle.std.specs.Prelude.{◌≡◌, ◌+◌, ◌<◌, ◌≤◌, ◌++◌, ◌∷◌, [], ℕ, cond, IfOk, OnOk, IfSome, IsSomeAnd, filter, length, map, position};
 ghost use Rattle.outbox.specs.Views.{Follows, blank};
 ghost use Rattle.routing.specs.SenderView.{StopView, RecipientView};
 ghost use Rattle.routing.specs.Stops.{RisesFrom, is_for, is_in, stop_at, number_of, HasStop, AllHave};
@@ -9,9 +9,8 @@ ghost use Rattle.routing.specs.Puts.{PutThere, PutAt, PutTo, SeatsTaken};
 use crate::carrier::Carrier;
 use crate::recipient::Recipient;
 use arrayvec::ArrayVec;
-use bytes::Bytes;
-use outbox::{Item, Outbox, Seat};
-use std::alloc::{AllocError, Global};
+use outbox::{Item, Outbox, Seat, Shares};
+use std::alloc::AllocError;
 use std::marker::Model;
 use std::sync::Wait;
 
@@ -100,6 +99,22 @@ pub(crate) fn put_at<C, R: Wait>(rt: &R, stops: &mut [Stop<C>], recipient: u64, 
     }
 }
 
+/// Puts the next share at the recipient's outbox, and says whether it was put.
+pub(crate) fn put_next<C, R: Wait>(
+    rt: &R,
+    stops: &mut [Stop<C>],
+    recipient: u64,
+    shares: &mut Shares,
+) -> bool
+    requires left { 0 < shares.old.left }
+    requires follows { IsSomeAnd (stop_at recipient stops.old) (λ s. Follows s.seat.view shares.old.message.mark) }
+    ensures put { PutAt recipient shares.old.message.mark result stops.old stops.new }
+    ensures left { (shares.new.left + 1 ≡ shares.old.left) × (shares.new.message ≡ shares.old.message) }
+{
+    let item = shares.next();
+    put_at(rt, stops, recipient, item)
+}
+
 /// Takes a seat at the recipient's outbox, where the sender has none there.
 pub(crate) fn take_seat<C: Carrier>(
     stops: &mut Vec<Stop<C>>,
@@ -130,21 +145,6 @@ pub(crate) fn take_seats<C: Carrier>(
     Ok(())
 }
 
-/// Shares of the bytes, as many as `count`.
-pub(crate) fn shares_of(
-    alloc: Global,
-    bytes: &Bytes,
-    count: usize,
-) -> Result<Vec<Bytes>, AllocError>
-    ensures { IfOk result (λ v. length v.items ≡ count) }
-{
-    let mut shares = Vec::with_capacity(alloc, count)?;
-    for _ in 0..count {
-        shares.push(bytes.clone()?)?;
-    }
-    Ok(shares)
-}
-
 // Lists the recipient, where its outbox refused the put.
 fn note(refused: &mut ArrayVec<u64, 256>, recipient: u64, put: bool)
     requires { length refused.old.items < 256 }
@@ -160,22 +160,20 @@ pub(crate) fn put_all<C, R: Wait>(
     rt: &R,
     stops: &mut [Stop<C>],
     recipients: &[u64],
-    mark: (u64, u64),
-    mut shares: Vec<Bytes>,
+    shares: &mut Shares,
     refused: &mut ArrayVec<u64, 256>,
 )
     requires has { AllHave recipients.now stops.old }
     requires rising { RisesFrom 0 recipients.now }
-    requires shares { length shares.items ≡ length recipients.now }
+    requires shares { shares.old.left ≡ length recipients.now }
     requires few { length recipients.now ≤ 256 }
-    requires follows { (n : ℕ) → IfSome (stop_at n stops.old) (λ s. Follows s.seat.view (Some mark)) }
+    requires follows { (n : ℕ) → IfSome (stop_at n stops.old) (λ s. Follows s.seat.view shares.old.message.mark) }
     requires none { refused.old.items ≡ [] }
-    ensures { PutTo (Some mark) recipients.now refused.new.items stops.old stops.new }
+    ensures put { PutTo shares.old.message.mark recipients.now refused.new.items stops.old stops.new }
+    ensures none_left { shares.new.left ≡ 0 }
 {
     for recipient in recipients {
-        let bytes = shares.pop().unwrap();
-        let mark = Some(mark);
-        let put = put_at(rt, stops, *recipient, Item { bytes, mark });
+        let put = put_next(rt, stops, *recipient, shares);
         note(refused, *recipient, put);
     }
 }

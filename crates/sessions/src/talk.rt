@@ -64,7 +64,7 @@ fn put_answer<M: Mailbox + Carrier, W: Wait>(
         return Ok(());
     }
     match Bytes::copy_from_slice(alloc, answer) {
-        Ok(bytes) => Ok(home.put(rt, bytes)?),
+        Ok(bytes) => Ok(home.put(rt, alloc, bytes)?),
         Err(_) => Err(SessionError::NoMemory),
     }
 }

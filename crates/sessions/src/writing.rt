@@ -1,8 +1,6 @@
 // What a session's outbox holds, written to its client.
 
-ghost use Rattle.std.specs.Prelude.{◌≡◌};
-
-use outbox::{Outbox, ROOM, Seat};
+use outbox::{Outbox, ROOM, Taker};
 use std::alloc::AllocError;
 use std::io::Write;
 use std::sync::Wait;
@@ -11,20 +9,15 @@ use std::sync::Wait;
 /// the same.
 #[derive(Drop)]
 pub(crate) struct Writing<O: Write + Drop> {
-    outbox: Outbox,
-    seat: Seat,
+    taker: Taker,
     writer: O,
     is_broken: bool,
-    ghost at_outbox: { seat.outbox ≡ outbox },
 }
 
 impl<O: Write + Drop> Writing<O> {
     pub(crate) fn new(outbox: &Outbox, writer: O) -> Result<Writing<O>, AllocError> {
-        let outbox = outbox.share()?;
-        let seat = outbox.seat();
         Ok(Writing {
-            outbox,
-            seat,
+            taker: Taker::new(outbox)?,
             writer,
             is_broken: false,
         })
@@ -52,10 +45,10 @@ impl<O: Write + Drop> Writing<O> {
 
     // Writes one message. Answers whether there was one.
     fn write_next<W: Wait>(&mut self, rt: &W) -> bool {
-        let Some(item) = self.outbox.take(rt, &mut self.seat) else {
+        let Some(delivery) = self.taker.take(rt) else {
             return false;
         };
-        if !self.is_broken && self.writer.write_all(item.bytes.as_slice()).is_err() {
+        if !self.is_broken && self.writer.write_all(delivery.bytes().as_slice()).is_err() {
             self.is_broken = true;
         }
         true

@@ -2,44 +2,33 @@
 
 ghost use Rattle.std.specs.Prelude.{◌≡◌};
 
+use crate::outboxes::new_taker;
 use bytes::Bytes;
-use outbox::{Item, Outbox, ROOM};
+use outbox::{Item, Outbox, ROOM, Releases};
 use std::alloc::Global;
 use std::mem::forget;
 use std::process::Abort;
 use std::sync::Wait;
 
-fn unicast() -> Item
+fn unicast<R: Abort>(rt: &R, alloc: Global) -> Item
     ensures { result.mark ≡ None }
 {
-    Item {
-        bytes: Bytes::from_static(b"signal"),
-        mark: None,
-    }
-}
-
-fn broadcast(origin: u64, count: u64) -> Item
-    ensures { result.mark ≡ Some (origin, count) }
-{
-    Item {
-        bytes: Bytes::from_static(b"signal"),
-        mark: Some((origin, count)),
-    }
+    Item::new(alloc, Bytes::from_static(b"signal")).expect(rt, "memory")
 }
 
 // Whether an outbox takes as many messages as it holds, and then shuts.
-fn fills_and_shuts<R: Wait>(rt: &R, outbox: &Outbox) -> bool {
+fn fills_and_shuts<R: Wait + Abort>(rt: &R, alloc: Global, outbox: &Outbox) -> bool {
     let mut seat = outbox.seat();
     for _ in 0..ROOM {
-        if outbox.put(rt, &mut seat, unicast()).is_err() {
+        if outbox.put(rt, &mut seat, unicast(rt, alloc)).is_err() {
             return false;
         }
     }
     let was_open = !outbox.is_shut(&mut seat);
-    let is_refused = outbox.put(rt, &mut seat, unicast()).is_err();
-    let has_oldest = outbox.take(rt, &mut seat).is_some();
-    let stays_shut = outbox.put(rt, &mut seat, unicast()).is_err() && outbox.is_shut(&mut seat);
-    was_open && is_refused && has_oldest && stays_shut
+    let is_refused = outbox.put(rt, &mut seat, unicast(rt, alloc)).is_err();
+    let has_oldest = new_taker(rt, outbox).take(rt).is_some();
+    let stays_refused = outbox.put(rt, &mut seat, unicast(rt, alloc)).is_err();
+    was_open && is_refused && has_oldest && stays_refused && outbox.is_shut(&mut seat)
 }
 
 fn new_outbox<R: Abort>(rt: &R, alloc: Global) -> Outbox {
@@ -49,27 +38,36 @@ fn new_outbox<R: Abort>(rt: &R, alloc: Global) -> Outbox {
 #[test]
 fn full_outbox(rt: HostRuntime) {
     let outbox = new_outbox(&rt, rt.alloc());
-    assert!(rt; fills_and_shuts(&rt, &outbox));
+    assert!(rt; fills_and_shuts(&rt, rt.alloc(), &outbox));
     forget(outbox);
 }
 
-// What one handle puts, the other takes.
-fn exchange<R: Wait + Abort>(rt: &R, outbox: &Outbox, other: &Outbox) {
-    let mut putting = outbox.seat();
-    let mut taking = other.seat();
-    assert!(rt; outbox.put(rt, &mut putting, broadcast(7, 5)).is_ok());
-    match other.take(rt, &mut taking) {
-        Some(item) => assert_eq!(rt; item.mark, Some((7, 5))),
+// What one handle puts, the other takes: a broadcast once it is released.
+fn exchange<R: Wait + Abort>(rt: &R, alloc: Global, outbox: &Outbox, other: &Outbox) {
+    let mut seat = outbox.seat();
+    let mut taker = new_taker(rt, other);
+    let mut releases = Releases::new(alloc).expect(rt, "memory");
+    let bytes = Bytes::from_static(b"signal");
+    let mut shares = releases
+        .begin(alloc, bytes, Some((7, 5)), 1)
+        .expect(rt, "memory");
+    assert!(rt; outbox.put(rt, &mut seat, shares.next()).is_ok());
+    assert!(rt; taker.take(rt).is_none());
+    releases.end(shares);
+    assert!(rt; taker.take(rt).is_none());
+    releases.release();
+    match taker.take(rt) {
+        Some(item) => assert_eq!(rt; item.mark(), Some((7, 5))),
         None => panic!(rt; "nothing was put"),
     }
-    assert!(rt; other.take(rt, &mut taking).is_none());
+    assert!(rt; taker.take(rt).is_none());
 }
 
 #[test]
 fn broadcast_is_taken_by_another_handle(rt: HostRuntime) {
     let outbox = new_outbox(&rt, rt.alloc());
     let shared = outbox.share().expect(&rt, "a share");
-    exchange(&rt, &outbox, &shared);
+    exchange(&rt, rt.alloc(), &outbox, &shared);
     forget(outbox);
     forget(shared);
 }

@@ -1,9 +1,9 @@
 // Senders: what no contract says, that a put is made and with which bytes, and calls from several threads.
 
-use crate::outboxes::{count_in_order, take_all};
+use crate::outboxes::{count_in_order, new_taker, take_all};
 use arrayvec::ArrayVec;
 use bytes::Bytes;
-use outbox::{Item, Outbox};
+use outbox::{Delivery, Outbox, Taker};
 use routing::{Carrier, Gate, Recipient, Sender, Sent};
 use std::alloc::Global;
 use std::cell::Cell;
@@ -153,9 +153,9 @@ fn expect_message<R: Wait + Abort>(
     forget(items);
 }
 
-fn expect_item<R: Abort>(rt: &R, item: &Item, bytes: &[u8], mark: Option<(u64, u64)>) {
-    assert_eq!(rt; item.bytes.as_slice(), bytes);
-    assert_eq!(rt; item.mark, mark);
+fn expect_item<R: Abort>(rt: &R, item: &Delivery, bytes: &[u8], mark: Option<(u64, u64)>) {
+    assert_eq!(rt; item.bytes().as_slice(), bytes);
+    assert_eq!(rt; item.mark(), mark);
 }
 
 fn expect_sent<R: Wait + Abort>(
@@ -186,10 +186,10 @@ fn full_outbox(rt: HostRuntime) {
     forget(other);
 }
 
-fn reply<R: Wait + Abort>(rt: &R, sender: &mut Sender<Line>, wanted: Sent) {
+fn reply<R: Wait + Abort>(rt: &R, alloc: Global, sender: &mut Sender<Line>, wanted: Sent) {
     let bytes = Bytes::from_static(b"reply");
     assert!(rt; sender.has(3));
-    let sent = sender.unicast(rt, 3, &bytes).expect(rt, "memory");
+    let sent = sender.unicast(rt, alloc, 3, &bytes).expect(rt, "memory");
     assert_eq!(rt; sent, wanted);
 }
 
@@ -198,10 +198,10 @@ fn unicast(rt: HostRuntime) {
     let alloc = rt.alloc();
     let outbox = new_outbox(&rt, alloc);
     let mut sender = sender_to(&rt, alloc, &outbox);
-    reply(&rt, &mut sender, Sent::Put);
+    reply(&rt, alloc, &mut sender, Sent::Put);
     expect_message(&rt, alloc, &outbox, b"reply", None);
     expect_sent(&rt, alloc, &mut sender, 1024, 1024);
-    reply(&rt, &mut sender, Sent::Full);
+    reply(&rt, alloc, &mut sender, Sent::Full);
     forget(sender);
     forget(outbox);
 }
@@ -279,5 +279,103 @@ fn gate_is_called_round_the_puts(rt: HostRuntime) {
     assert_eq!(rt; calls.seen.get(), 12);
     assert_eq!(rt; take_all(&rt, alloc, &outbox).len(), 1);
     forget(sender);
+    forget(outbox);
+}
+
+// A gate that looks, after the last put, whether the outbox gives anything out. What its taker holds then is gone with it.
+struct Looks<'a, R: Wait> {
+    rt: &'a R,
+    outbox: &'a Outbox,
+    has_given: Cell<bool>,
+}
+
+impl<'a, R: Wait> Gate for Looks<'a, R> {
+    fn before(&self, _piece: u32) {}
+
+    fn after(&self, _piece: u32) {
+        if let Ok(mut taker) = Taker::new(self.outbox) {
+            self.has_given.set(taker.take(self.rt).is_some());
+        }
+    }
+}
+
+fn route_and_look<R: Wait + Abort>(
+    rt: &R,
+    alloc: Global,
+    sender: &mut Sender<Line>,
+    outbox: &Outbox,
+) {
+    let looks = Looks {
+        rt,
+        outbox,
+        has_given: Cell::new(true),
+    };
+    let bytes = Bytes::from_static(b"signal");
+    assert!(rt; sender.has(3));
+    assert!(rt; sender.has(5));
+    let mut refused = ArrayVec::new();
+    sender
+        .route_gated(rt, alloc, &[3, 5], &bytes, &looks, &mut refused)
+        .expect(rt, "a count");
+    assert!(rt; !looks.has_given.get());
+}
+
+// No outbox gives a broadcast out before it is put at all its recipients, and then each does.
+#[test]
+fn held_until_the_last_put(rt: HostRuntime) {
+    let alloc = rt.alloc();
+    let first = new_outbox(&rt, alloc);
+    let last = new_outbox(&rt, alloc);
+    let mut sender = sender_to(&rt, alloc, &first);
+    take_seat(&rt, alloc, &mut sender, 5, line_to(&rt, alloc, &last));
+    route_and_look(&rt, alloc, &mut sender, &first);
+    expect_message(&rt, alloc, &last, b"signal", Some((1, 1)));
+    forget(sender);
+    forget(first);
+    forget(last);
+}
+
+fn expect_next<R: Wait + Abort>(rt: &R, taker: &mut Taker, mark: Option<(u64, u64)>) {
+    let delivery = taker.take(rt).expect(rt, "a message");
+    assert_eq!(rt; delivery.mark(), mark);
+}
+
+// What is held is given out together, in the order in which it was put.
+#[test]
+fn released_together(rt: HostRuntime) {
+    let alloc = rt.alloc();
+    let outbox = new_outbox(&rt, alloc);
+    let mut taker = new_taker(&rt, &outbox);
+    let mut sender = sender_to(&rt, alloc, &outbox);
+    sender.hold();
+    reply(&rt, alloc, &mut sender, Sent::Put);
+    expect_sent(&rt, alloc, &mut sender, 1, 1);
+    assert!(rt; taker.take(&rt).is_none());
+    sender.release();
+    expect_next(&rt, &mut taker, None);
+    expect_next(&rt, &mut taker, Some((1, 1)));
+    forget(sender);
+    forget(taker);
+    forget(outbox);
+}
+
+// A message that another sender puts after a held one waits for it, and writing out releases what is held.
+#[test]
+fn waits_behind_a_held_message(rt: HostRuntime) {
+    let alloc = rt.alloc();
+    let outbox = new_outbox(&rt, alloc);
+    let mut taker = new_taker(&rt, &outbox);
+    let mut sender = sender_to(&rt, alloc, &outbox);
+    let mut other = sender_to(&rt, alloc, &outbox);
+    sender.hold();
+    expect_sent(&rt, alloc, &mut sender, 1, 1);
+    reply(&rt, alloc, &mut other, Sent::Put);
+    assert!(rt; taker.take(&rt).is_none());
+    sender.push_out(&rt);
+    expect_next(&rt, &mut taker, Some((1, 1)));
+    expect_next(&rt, &mut taker, None);
+    forget(sender);
+    forget(other);
+    forget(taker);
     forget(outbox);
 }

@@ -88,6 +88,6 @@ fn look_up<J: Naming, R: Abort>(
 fn expect_s1<R: Wait + Abort>(rt: &R, alloc: Global, letterbox: &Letterbox) {
     let items = take_all(rt, alloc, letterbox.outbox());
     assert_eq!(rt; items.len(), 1);
-    assert_eq!(rt; items[0].bytes.as_slice(), S1.as_slice());
+    assert_eq!(rt; items[0].bytes().as_slice(), S1.as_slice());
     forget(items);
 }

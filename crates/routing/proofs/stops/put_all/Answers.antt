@@ -1,18 +1,31 @@
-use Rattle.std.proofs.Common.{Some}
+use Rattle.std.proofs.Common.{ℕ, Option, IsSomeAnd, ap, sym, subst, rules, arith, get_or}
+use Rattle.outbox.specs.Items.{Item}
 use Rattle.outbox.specs.Views.{Follows}
 use Rattle.routing.specs.SenderView.{StopView}
-use Rattle.routing.proofs.Puts.{may_put, next_recipient, noted_length, popped_length}
+use Rattle.routing.specs.Stops.{stop_at}
+use Rattle.routing.specs.Puts.{PutAt}
+use Rattle.routing.proofs.Puts.{may_put, next_recipient, noted_length}
 use Rattle.routing.proofs.stops.put_all.Goals as goal
 
-pub put_at-put-requires : goal.put_at-put-requires
-put_at-put-requires g c =
-    may_put (Some c.args.mark) c.loop-recipient.recipient-index c.args.recipients.now _ c.loop-recipient.refused.items c.args.stops.now c.loop-recipient.stops (λ (s : StopView). Follows s.seat.view (Some c.args.mark))
-    c.loop-recipient-test.true c.requires.rising c.requires.has c.requires.follows c.loop-recipient.invariant.0
+pub put_next-put-requires-clause-left : goal.put_next-put-requires-clause-left
+put_next-put-requires-clause-left g c = omega (arith, c.loop-recipient.invariant.2, c.loop-recipient-test.true)
+
+pub put_next-put-requires-clause-follows : goal.put_next-put-requires-clause-follows
+put_next-put-requires-clause-follows g c =
+    let l = c.loop-recipient in
+    let mark = c.args.shares.now.message.mark in
+    let P : Option (ℕ × ℕ) → Type 0 = λ m. IsSomeAnd (stop_at (get_or c.args.recipients.now l.recipient-index 0) l.stops) (λ (s : StopView). Follows s.seat.view m) in
+    subst P (sym (ap (λ (i : Item). i.mark) l.invariant.3))
+    (may_put mark l.recipient-index c.args.recipients.now _ l.refused.items c.args.stops.now l.stops (λ (s : StopView). Follows s.seat.view mark)
+    c.loop-recipient-test.true c.requires.rising c.requires.has c.requires.follows l.invariant.0)
 
 pub loop-recipient-preserved : goal.loop-recipient-preserved
-loop-recipient-preserved g c = (
-  next_recipient _ _ c.args.recipients.now _ c.loop-recipient.refused.items _ _ c.loop-recipient.stops _ c.put_at-put.result c.loop-recipient-test.true c.requires.rising c.note.ensures
-      c.loop-recipient.invariant.0 c.put_at-put.ensures,
-  noted_length c.put_at-put.result _ c.loop-recipient.refused.items _ _ c.note.ensures c.loop-recipient.invariant.1,
-  popped_length c.loop-recipient.shares.items c.pop.new.self.items c.pop.result c.unwrap-bytes.result _ _ c.pop.ensures.items c.unwrap-bytes.ensures c.loop-recipient.invariant.2,
-)
+loop-recipient-preserved g c =
+    let l = c.loop-recipient in
+    let P : Option (ℕ × ℕ) → Type 0 = λ m. PutAt (get_or c.args.recipients.now l.recipient-index 0) m c.put_next-put.result l.stops c.put_next-put.new.stops in
+    let put = subst P (ap (λ (i : Item). i.mark) l.invariant.3) c.put_next-put.ensures.put in (
+      next_recipient _ _ c.args.recipients.now _ l.refused.items _ _ l.stops _ c.put_next-put.result c.loop-recipient-test.true c.requires.rising c.note.ensures l.invariant.0 put,
+      noted_length c.put_next-put.result _ l.refused.items _ _ c.note.ensures l.invariant.1,
+      omega (arith, c.put_next-put.ensures.left.0, l.invariant.2),
+      search rules,
+    )

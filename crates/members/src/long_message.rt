@@ -1,0 +1,56 @@
+// A message that is written from where it lies.
+
+ghost use Rattle.std.specs.Prelude.{◌≡◌, [], drop, unwrap_or};
+
+use outbox::Delivery;
+use std::marker::Model;
+
+/// A message of which the first bytes were written. Contracts see the bytes that are left.
+#[derive(Drop)]
+pub(crate) struct LongMessage {
+    message: Delivery,
+    written: usize,
+}
+
+impl Model for LongMessage {
+    ghost use Rattle.std.specs.Prelude.{◌≤◌, ℕ, List, drop, length};
+
+    ghost Value = { List ℕ };
+
+    ghost view = { λ l. drop l.written l.message.bytes };
+
+    ghost invariant = { λ l. l.written ≤ length l.message.bytes };
+}
+
+impl LongMessage {
+    /// A message of which nothing was written.
+    pub(crate) fn new(message: Delivery) -> LongMessage
+        ensures { result ≡ message.bytes }
+    {
+        LongMessage {
+            message,
+            written: 0,
+        }
+    }
+
+    /// The bytes that are left.
+    pub(crate) fn as_slice(&self) -> &[u8]
+        ensures { result.now ≡ self.now }
+    {
+        &self.message.bytes().as_slice()[self.written..]
+    }
+
+    /// What is left once `count` bytes more were written.
+    pub(crate) fn advance(self, count: usize) -> Option<LongMessage>
+        ensures { unwrap_or result [] ≡ drop count self }
+    {
+        if count >= self.as_slice().len() {
+            return None;
+        }
+        let LongMessage { message, written } = self;
+        Some(LongMessage {
+            message,
+            written: written + count,
+        })
+    }
+}
