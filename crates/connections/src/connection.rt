@@ -70,7 +70,7 @@ impl<J: Naming, M: Mailbox + Carrier> Connection<J, M> {
         let serial = self.serials.take();
         let to = Some(self.name.as_str());
         match reply(site.alloc, serial, to, request.serial, body) {
-            Ok(bytes) => home.put_with(site.rt, site.alloc, &mut self.pass, &bytes),
+            Ok(bytes) => self.put(site, home, bytes),
             Err(_) => self.put_error(site, home, request, serial, ErrorName::NoMemory),
         }
     }
@@ -117,7 +117,23 @@ impl<J: Naming, M: Mailbox + Carrier> Connection<J, M> {
     {
         let to = Some(self.name.as_str());
         let bytes = error_bytes(site.alloc, serial, to, request, name)?;
-        home.put_with(site.rt, site.alloc, &mut self.pass, &bytes)
+        self.put(site, home, bytes)
+    }
+
+    // Puts a message to the client, held with what its pass holds.
+    fn put<W: Wait, R: Wait + Drop>(
+        &mut self,
+        site: &Site<'_, J, M, W, R>,
+        home: &mut Home<M>,
+        bytes: Bytes,
+    ) -> Result<(), AnswerError>
+        ensures pass { self.new.pass ≡ self.old.pass }
+        ensures name { self.new.name ≡ self.old.name }
+    {
+        match self.pass.message(site.alloc, bytes) {
+            Ok(message) => home.put(site.rt, message),
+            Err(_) => Err(AnswerError::NoMemory),
+        }
     }
 }
 

@@ -10,6 +10,7 @@ use crate::request::Request;
 use crate::serial::Serials;
 use crate::site::Site;
 use bus_messages::{Body, ErrorName, UniqueName};
+use outbox::Item;
 use router::{Mailbox, Naming};
 use routing::Carrier;
 use std::sync::Wait;
@@ -33,7 +34,10 @@ pub fn put_refusal<J: Naming, M: Mailbox + Carrier, W: Wait, R: Wait + Drop>(
     }
     let serial = Serials::new().take();
     let bytes = error_bytes(site.alloc, serial, None, request, name)?;
-    home.put(site.rt, site.alloc, bytes)
+    match Item::new(site.alloc, bytes) {
+        Ok(message) => home.put(site.rt, message),
+        Err(_) => Err(AnswerError::NoMemory),
+    }
 }
 
 impl<J: Naming, M: Mailbox + Carrier> Connection<J, M> {

@@ -1,15 +1,12 @@
 // A session's own mailbox.
 
-ghost use Rattle.std.specs.Prelude.{◌≡◌, ◌≢◌};
+ghost use Rattle.std.specs.Prelude.{◌≡◌, None, IfErr};
 
 use crate::error::AnswerError;
-use bytes::Bytes;
-use crossbeam_utils::rule::Protocol;
 use outbox::{Item, Seat};
-use router::{Command, Mailbox, Naming, Pass, Published, Shown};
-use routing::{Carrier, Sent};
-use std::alloc::{AllocError, Global};
-use std::collections::LinkedList;
+use router::Mailbox;
+use routing::Carrier;
+use std::alloc::AllocError;
 use std::sync::Wait;
 
 /// A session's own mailbox, and a seat at its outbox. All that is written to the client goes through this outbox.
@@ -38,42 +35,19 @@ impl<M: Mailbox + Carrier> Home<M> {
         self.mailbox.share()
     }
 
-    /// Puts bytes that are no broadcast, of a client that isn't connected.
+    /// Puts a message that is no broadcast.
     ///
     /// # Errors
     ///
-    /// `Slow` where the outbox is full or shut; `NoMemory`.
-    pub fn put<W: Wait>(&mut self, rt: &W, alloc: Global, bytes: Bytes) -> Result<(), AnswerError> {
-        let Ok(item) = Item::new(alloc, bytes) else {
-            return Err(AnswerError::NoMemory);
-        };
-        self.is_waiting = true;
-        match self.mailbox.outbox().put(rt, &mut self.seat, item) {
-            Ok(()) => Ok(()),
-            Err(_) => Err(AnswerError::Slow),
-        }
-    }
-
-    /// Puts bytes that are no broadcast, held with what its pass holds.
-    ///
-    /// # Errors
-    ///
-    /// As those of `put`.
-    pub fn put_with<J: Naming, W: Wait>(
-        &mut self,
-        rt: &W,
-        alloc: Global,
-        pass: &mut Pass<J, M>,
-        bytes: &Bytes,
-    ) -> Result<(), AnswerError>
-        ensures { pass.new ≡ pass.old }
+    /// `Slow` where the outbox is full or shut.
+    pub fn put<W: Wait>(&mut self, rt: &W, message: Item) -> Result<(), AnswerError>
+        requires { message.mark ≡ None }
+        ensures { IfErr result (λ error. error ≡ AnswerError.Slow) }
     {
         self.is_waiting = true;
-        let outbox = self.mailbox.outbox();
-        match pass.put_with(rt, alloc, outbox, &mut self.seat, bytes) {
-            Ok(Sent::Put) => Ok(()),
-            Ok(Sent::Full) => Err(AnswerError::Slow),
-            Err(_) => Err(AnswerError::NoMemory),
+        match self.mailbox.outbox().put(rt, &mut self.seat, message) {
+            Ok(()) => Ok(()),
+            Err(_) => Err(AnswerError::Slow),
         }
     }
 

@@ -1,14 +1,13 @@
 // Messages of a pass that are given out together.
 
-ghost use Rattle.std.specs.Prelude.{◌≡◌, ◌≢◌, IfOk, true};
+ghost use Rattle.std.specs.Prelude.{◌≡◌, None, IfOk};
 
 use crate::pass::Pass;
 use bytes::Bytes;
 use lookups::{Mailbox, Naming};
-use outbox::{Outbox, Seat};
-use routing::{Carrier, Sent};
+use outbox::Item;
+use routing::Carrier;
 use std::alloc::{AllocError, Global};
-use std::sync::Wait;
 
 impl<J: Naming, M: Mailbox + Carrier> Pass<J, M> {
     /// Holds what is put from now on until `release`: no outbox gives it out before, so that nobody can answer one of
@@ -31,25 +30,17 @@ impl<J: Naming, M: Mailbox + Carrier> Pass<J, M> {
         self.release_sent();
     }
 
-    /// Puts a message that isn't a broadcast by a seat of the caller's, held with others between `hold` and `release`.
-    pub fn put_with<W: Wait>(
-        &mut self,
-        rt: &W,
-        alloc: Global,
-        outbox: &Outbox,
-        seat: &mut Seat,
-        bytes: &Bytes,
-    ) -> Result<Sent, AllocError>
-        requires connected { self.old.connection ≢ 0 }
-        requires place { seat.old.outbox ≡ outbox.now }
-        ensures seat { (seat.new.outbox ≡ seat.old.outbox) × (seat.new.number ≡ seat.old.number) × (seat.new.view ≡ seat.old.view) }
-        ensures full { result ≡ Ok Sent.Full → seat.new.knows_shut ≡ true }
-        ensures shut { seat.old.knows_shut ≡ true → IfOk result (λ sent. sent ≡ Sent.Full) }
+    /// A message that isn't a broadcast, for a put at one outbox, held with what is put between `hold` and `release`.
+    pub fn message(&mut self, alloc: Global, bytes: Bytes) -> Result<Item, AllocError>
+        ensures ok { IfOk result (λ item. (item.bytes ≡ bytes) × (item.mark ≡ None)) }
         ensures same { self.new ≡ self.old }
     {
+        if self.connection() == 0 {
+            return Item::new(alloc, bytes);
+        }
         let mut sender = self.take_sender(alloc);
-        let sent = sender.put_with(rt, alloc, outbox, seat, bytes);
+        let message = sender.message(alloc, bytes);
         self.put_back(sender);
-        sent
+        message
     }
 }

@@ -11,16 +11,15 @@ use std::alloc::{AllocError, Global};
 pub(crate) fn begin(
     releases: &mut Option<Releases>,
     alloc: Global,
-    bytes: &Bytes,
+    bytes: Bytes,
     mark: Option<(u64, u64)>,
     puts: usize,
 ) -> Result<Shares, AllocError>
     requires { (holding : Bool) × IsSettled holding releases.old }
-    ensures shares { IfOk result (λ shares. (shares.left ≡ puts) × (shares.message.mark ≡ mark) × (shares.message.bytes ≡ bytes.now)) }
+    ensures shares { IfOk result (λ shares. (shares.left ≡ puts) × (shares.message.mark ≡ mark) × (shares.message.bytes ≡ bytes)) }
     ensures putting { IfOk result (λ _. IsPutting releases.new) }
     ensures err { OnErr result (releases.new ≡ releases.old) }
 {
-    let bytes = bytes.clone()?;
     match releases {
         Some(releases) => releases.begin(alloc, bytes, mark, puts),
         None => begin_first(releases, alloc, bytes, mark, puts),

@@ -9,10 +9,10 @@ use crate::error::RouteError;
 use crate::events::{begin, end};
 use crate::gate::{Gate, OpenGate};
 use crate::recipient::Recipient;
-use crate::stops::{Stop, place_of, push_out_all, put_all, put_at, put_next, retain, take_seats};
+use crate::stops::{Stop, place_of, push_out_all, put_all, put_at, retain, take_seats};
 use arrayvec::ArrayVec;
 use bytes::Bytes;
-use outbox::{Item, Outbox, Releases, Seat};
+use outbox::{Item, Releases};
 use std::alloc::{AllocError, Global};
 use std::marker::Model;
 use std::sync::Wait;
@@ -23,20 +23,6 @@ pub enum Sent {
     Put,
     /// The recipient's outbox is full or shut.
     Full,
-}
-
-// Puts a message that isn't a broadcast.
-fn put_item<R: Wait>(rt: &R, outbox: &Outbox, seat: &mut Seat, item: Item) -> Sent
-    requires place { seat.old.outbox ≡ outbox.now }
-    requires unmarked { item.mark ≡ None }
-    ensures seat { (seat.new.outbox ≡ seat.old.outbox) × (seat.new.number ≡ seat.old.number) × (seat.new.view ≡ seat.old.view) }
-    ensures full { result ≡ Sent.Full → seat.new.knows_shut ≡ true }
-    ensures shut { seat.old.knows_shut ≡ true → result ≡ Sent.Full }
-{
-    match outbox.put(rt, seat, item) {
-        Ok(()) => Sent::Put,
-        Err(_) => Sent::Full,
-    }
 }
 
 /// The sender of a pass's broadcasts: the pass's connection, which is their origin, the count of the last one, and a
@@ -167,6 +153,7 @@ impl<C: Carrier> Sender<C> {
         ensures err { OnErr result (self.new ≡ self.old) }
     {
         let mark = Some((self.origin, self.count + 1));
+        let bytes = bytes.clone()?;
         let mut shares = begin(&mut self.releases, alloc, bytes, mark, recipients.len())?;
         gate.before(0);
         put_all(
@@ -198,78 +185,35 @@ impl<C: Carrier> Sender<C> {
         ensures full { result ≡ Ok Sent.Full → shut_at recipient self.new.stops ≡ true }
         ensures shut { shut_at recipient self.old.stops ≡ true → IfOk result (λ sent. sent ≡ Sent.Full) }
     {
-        let put = if self.is_holding {
-            self.put_held(rt, alloc, recipient, bytes)
+        let item = self.message(alloc, bytes.clone()?)?;
+        if self.put(rt, recipient, item) {
+            Ok(Sent::Put)
         } else {
-            self.put_now(rt, alloc, recipient, bytes)
-        };
-        match put {
-            Ok(true) => Ok(Sent::Put),
-            Ok(false) => Ok(Sent::Full),
-            Err(error) => Err(error),
+            Ok(Sent::Full)
         }
     }
 
-    // Puts a message that is held with others.
-    fn put_held<R: Wait>(
-        &mut self,
-        rt: &R,
-        alloc: Global,
-        recipient: u64,
-        bytes: &Bytes,
-    ) -> Result<bool, AllocError>
-        requires { HasStop recipient self.old.stops }
-        ensures ok { IfOk result (λ put. SentTo recipient put self.old self.new) }
-        ensures err { OnErr result (self.new ≡ self.old) }
+    // Puts a message that isn't a broadcast, and says whether it was put.
+    fn put<R: Wait>(&mut self, rt: &R, recipient: u64, item: Item) -> bool
+        requires has { HasStop recipient self.old.stops }
+        requires unmarked { item.mark ≡ None }
+        ensures { SentTo recipient result self.old self.new }
     {
-        let mut shares = begin(&mut self.releases, alloc, bytes, None, 1)?;
-        let stops = self.stops.as_mut_slice();
-        let put = put_next(rt, stops, recipient, &mut shares);
-        end(&mut self.releases, shares, self.is_holding);
-        Ok(put)
+        put_at(rt, self.stops.as_mut_slice(), recipient, item)
     }
 
-    // Puts a message that is given out as soon as it is put.
-    fn put_now<R: Wait>(
-        &mut self,
-        rt: &R,
-        alloc: Global,
-        recipient: u64,
-        bytes: &Bytes,
-    ) -> Result<bool, AllocError>
-        requires { HasStop recipient self.old.stops }
-        ensures ok { IfOk result (λ put. SentTo recipient put self.old self.new) }
-        ensures err { OnErr result (self.new ≡ self.old) }
-    {
-        let item = Item::new(alloc, bytes.clone()?)?;
-        let stops = self.stops.as_mut_slice();
-        Ok(put_at(rt, stops, recipient, item))
-    }
-
-    /// Puts a message that isn't a broadcast by a seat of the caller's, held with others while the sender holds what it puts.
-    pub fn put_with<R: Wait>(
-        &mut self,
-        rt: &R,
-        alloc: Global,
-        outbox: &Outbox,
-        seat: &mut Seat,
-        bytes: &Bytes,
-    ) -> Result<Sent, AllocError>
-        requires { seat.old.outbox ≡ outbox.now }
-        ensures seat { (seat.new.outbox ≡ seat.old.outbox) × (seat.new.number ≡ seat.old.number) × (seat.new.view ≡ seat.old.view) }
-        ensures full { result ≡ Ok Sent.Full → seat.new.knows_shut ≡ true }
-        ensures shut { seat.old.knows_shut ≡ true → IfOk result (λ sent. sent ≡ Sent.Full) }
+    /// A message that isn't a broadcast, for a put at one outbox. It is held with what is put while the sender holds.
+    pub fn message(&mut self, alloc: Global, bytes: Bytes) -> Result<Item, AllocError>
+        ensures ok { IfOk result (λ item. (item.bytes ≡ bytes) × (item.mark ≡ None)) }
         ensures same { self.new ≡ self.old }
     {
         if !self.is_holding {
-            let item = Item::new(alloc, bytes.clone()?)?;
-            return Ok(put_item(rt, outbox, seat, item));
+            return Item::new(alloc, bytes);
         }
         let mut shares = begin(&mut self.releases, alloc, bytes, None, 1)?;
         let item = shares.next();
-        let sent = put_item(rt, outbox, seat, item);
         end(&mut self.releases, shares, self.is_holding);
-        Ok(sent)
+        Ok(item)
     }
 
     /// Holds what is put from now on until `release`: no outbox gives it out before.

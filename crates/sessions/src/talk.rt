@@ -1,13 +1,14 @@
 // The talk before messages begin.
 
-ghost use Rattle.std.specs.Prelude.{◌≤◌, length, IfOk};
+ghost use Rattle.std.specs.Prelude.{◌≡◌, ◌≤◌, None, length, IfOk};
 
 use crate::error::SessionError;
 use auth::Auth;
 use bus_methods::{Home, Mailbox};
 use bytes::Bytes;
+use outbox::Item;
 use routing::Carrier;
-use std::alloc::Global;
+use std::alloc::{AllocError, Global};
 use std::sync::Wait;
 
 /// The server's side of a talk, and whether it is over.
@@ -63,8 +64,14 @@ fn put_answer<M: Mailbox + Carrier, W: Wait>(
     if answer.is_empty() {
         return Ok(());
     }
-    match Bytes::copy_from_slice(alloc, answer) {
-        Ok(bytes) => Ok(home.put(rt, alloc, bytes)?),
+    match message_of(alloc, answer) {
+        Ok(message) => Ok(home.put(rt, message)?),
         Err(_) => Err(SessionError::NoMemory),
     }
+}
+
+fn message_of(alloc: Global, answer: &[u8]) -> Result<Item, AllocError>
+    ensures { IfOk result (λ message. message.mark ≡ None) }
+{
+    Item::new(alloc, Bytes::copy_from_slice(alloc, answer)?)
 }
