@@ -44,7 +44,7 @@ impl LongMessage {
     pub(crate) fn advance(self, count: usize) -> Option<LongMessage>
         ensures { unwrap_or result [] ≡ drop count self }
     {
-        if count >= self.as_slice().len() {
+        if count >= self.message.bytes().len() - self.written {
             return None;
         }
         let LongMessage { message, written } = self;
