@@ -1,7 +1,7 @@
+pub use Rattle.usage.specs.Asking
 pub mod CommandRow
 pub mod RowReading
 pub mod Views
-pub mod Asking
 pub mod HexText
 pub mod Files
 pub mod Output

@@ -1,5 +1,5 @@
-//! The words that dbusfan's programs take and the streams that they speak on: the rows of the command line, help for
-//! all commands, faults with their lines and statuses, files and outputs. The commands above use `CommandRow::read`
+//! The words that dbusfan's programs take and the streams that they speak on: the rows of the command line, faults with
+//! their lines and statuses, files and outputs. The commands above use `CommandRow::read`
 //! (a row exactly where the words spell one), `Fault::line` and `Output::put_fault` (one line for each fault).
 #![tactic(auto)]
 
@@ -11,7 +11,6 @@ mod hex_text;
 mod output;
 mod streams;
 mod system;
-mod usage;
 mod writer;
 
 pub use command_row::CommandRow;

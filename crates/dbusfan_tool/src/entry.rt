@@ -10,7 +10,7 @@ ghost use Rattle.command_line.specs.Files.{MadeReads};
 ghost use Rattle.command_line.specs.Output.{Puts};
 
 use crate::answer::Answer;
-use crate::{assembling, checking, compiling, matching, running, usage};
+use crate::{assembling, checking, compiling, help, matching, running};
 use command_line::{CommandRow, Fault, Files, Output, Writer};
 use std::alloc::Global;
 
@@ -60,6 +60,6 @@ fn answer<'a, F: Files>(alloc: Global, words: &'a [&'a str], files: &mut F) -> A
                 edition,
             },
         ) => running::answer(alloc, program, file, edition, files),
-        None => usage::answer(alloc, words),
+        None => help::answer(alloc, words),
     }
 }

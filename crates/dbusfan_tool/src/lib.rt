@@ -7,10 +7,10 @@ mod assembling;
 mod checking;
 mod compiling;
 mod entry;
+mod help;
 mod matching;
 mod program;
 mod running;
-mod usage;
 
 pub use command_line::{Fault, FileError, Files, Output, Writer};
 pub use entry::tool;

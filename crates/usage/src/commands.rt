@@ -1,0 +1,162 @@
+// The commands of all programs, as help shows them.
+
+/// A command: its name, what it does, and what it takes.
+#[derive(Clone, Copy)]
+pub(crate) struct CommandHelp {
+    pub(crate) name: &'static str,
+    pub(crate) about: &'static str,
+    pub(crate) arguments: &'static [ArgumentHelp],
+}
+
+/// What a command takes. An option's name is its word without `--`.
+#[derive(Clone, Copy)]
+pub(crate) struct ArgumentHelp {
+    pub(crate) name: &'static str,
+    pub(crate) form: Form,
+    pub(crate) is_required: bool,
+    pub(crate) text: &'static str,
+}
+
+/// How an argument is given.
+#[derive(Clone, Copy)]
+pub(crate) enum Form {
+    /// A word of its own.
+    Word,
+    /// `--name`.
+    Flag,
+    /// `--name VALUE`, by the name of its value.
+    Value(&'static str),
+}
+
+pub(crate) static COMMANDS: [CommandHelp; 7] = [
+    CommandHelp {
+        name: "match",
+        about: "Says whether a rule matches a message",
+        arguments: &[RULE, MESSAGE, OWNS],
+    },
+    CommandHelp {
+        name: "asm",
+        about: "Prints the bytes of a program, one instruction a line",
+        arguments: &[PROGRAM_ALONE],
+    },
+    CommandHelp {
+        name: "check",
+        about: "Says whether a program is accepted",
+        arguments: &[PROGRAM_ALONE],
+    },
+    CommandHelp {
+        name: "compile",
+        about: "Prints the program of a rule as assembler text",
+        arguments: &[RULE],
+    },
+    CommandHelp {
+        name: "run",
+        about: "Runs a program on a message whose sender owns no name",
+        arguments: &[PROGRAM, MESSAGE, EDITION],
+    },
+    CommandHelp {
+        name: "serve",
+        about: "Serves a bus",
+        arguments: &[
+            ArgumentHelp {
+                name: "listen",
+                form: Form::Value("ADDRESS"),
+                is_required: true,
+                text: "Where to listen: unix:path=P or tcp:host=H,port=P",
+            },
+            ArgumentHelp {
+                name: "guid",
+                form: Form::Value("GUID"),
+                is_required: true,
+                text: "The bus's id, 32 hexadecimal digits",
+            },
+            ArgumentHelp {
+                name: "connections",
+                form: Form::Value("N"),
+                is_required: false,
+                text: "End after N connections have come and gone",
+            },
+        ],
+    },
+    CommandHelp {
+        name: "watch",
+        about: "Prints what goes over a bus, one message a line",
+        arguments: &[
+            ArgumentHelp {
+                name: "ADDRESS",
+                form: Form::Word,
+                is_required: true,
+                text: "session, system, or a D-Bus address as unix:path=/run/bus",
+            },
+            ArgumentHelp {
+                name: "RULE",
+                form: Form::Word,
+                is_required: false,
+                text: "A match rule; --program FILE in its place",
+            },
+            ArgumentHelp {
+                name: "program",
+                form: Form::Value("FILE"),
+                is_required: false,
+                text: "A program as assembler text, which a bus of dbusfan's attaches",
+            },
+            EDITION,
+            ArgumentHelp {
+                name: "hex",
+                form: Form::Flag,
+                is_required: false,
+                text: "Writes messages as hexadecimal digits, for match and run",
+            },
+            ArgumentHelp {
+                name: "count",
+                form: Form::Value("N"),
+                is_required: false,
+                text: "Ends after N messages",
+            },
+        ],
+    },
+];
+
+const RULE: ArgumentHelp = ArgumentHelp {
+    name: "RULE",
+    form: Form::Word,
+    is_required: true,
+    text: "A match rule, as \"type='signal',member='c'\"",
+};
+
+const MESSAGE: ArgumentHelp = ArgumentHelp {
+    name: "FILE",
+    form: Form::Word,
+    is_required: true,
+    text: "A file that has a message as hexadecimal text",
+};
+
+const OWNS: ArgumentHelp = ArgumentHelp {
+    name: "owns",
+    form: Form::Flag,
+    is_required: false,
+    text: "The sender owns the rule's well-known name",
+};
+
+const PROGRAM: ArgumentHelp = ArgumentHelp {
+    name: "PROGRAM",
+    form: Form::Word,
+    is_required: true,
+    text: PROGRAM_TEXT,
+};
+
+const PROGRAM_ALONE: ArgumentHelp = ArgumentHelp {
+    name: "FILE",
+    form: Form::Word,
+    is_required: true,
+    text: PROGRAM_TEXT,
+};
+
+const PROGRAM_TEXT: &str = "A file that has a program as assembler text";
+
+const EDITION: ArgumentHelp = ArgumentHelp {
+    name: "edition",
+    form: Form::Value("1|2"),
+    is_required: false,
+    text: "The edition of images that the program is for; 1 if it isn't given",
+};
