@@ -49,6 +49,11 @@ def load_rt(keeps=True):
     return made
 
 
+def run_gate(rt, anew):
+    """Runs `rt ci`, which newer kits tell whether to prove anew what they have kept of earlier runs."""
+    return rt.ci(anew) if rt.ci.__code__.co_argcount else rt.ci()
+
+
 def crates_of(rt, top=TOP):
     """The crates that crates.txt lists, by their names."""
     rt.Crate.allowed = rt.handles_of(str(top))
