@@ -283,6 +283,7 @@ fn gate_is_called_round_the_puts(rt: HostRuntime) {
 }
 
 // A gate that looks, after the last put, whether the outbox gives anything out. What its taker holds then is gone with it.
+#[derive(Drop)]
 struct Looks<'a, R: Wait> {
     rt: &'a R,
     outbox: &'a Outbox,
