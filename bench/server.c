@@ -1,189 +1,26 @@
 /* What a bus costs in one mode: clients on its Unix socket, and the processor time of its process. See README.md. */
 #define _GNU_SOURCE
-#include <errno.h>
+#include "client.h"
 #include <poll.h>
 #include <pthread.h>
-#include <stdint.h>
-#include <stdio.h>
-#include <stdlib.h>
-#include <string.h>
-#include <sys/epoll.h>
-#include <sys/socket.h>
-#include <sys/un.h>
 #include <time.h>
-#include <unistd.h>
 
-enum { CALL = 1, RETURN = 2, FAULT = 3, SIGNAL = 4 };
-enum { WINDOW = 32, MAX_CLIENTS = 256, ROOM = 1 << 16, MAX_TIMES = 1 << 18 };
+enum { WINDOW = 32, MAX_CLIENTS = 256, MAX_TIMES = 1 << 18 };
 
 /* The seconds that are measured at least, of the bus's processor time and of the clock alike, and those that go before them. */
 #define MEASURED 0.1
 #define WARMING 0.05
 
-struct message {
-    unsigned char bytes[2048];
-    size_t len;
-};
-
-struct client {
-    int fd;
-    uint32_t serial;
-    unsigned char unread[ROOM];
-    size_t len;
-    uint64_t signals, answers;
-};
-
 static struct client clients[MAX_CLIENTS], sender;
 static int readers;   /* the first clients: each signal is for each of these */
 static uint64_t sent; /* signals */
-static const char *path;
 static clockid_t bus_clock;
-
-static void fail(const char *what) {
-    fprintf(stderr, "server: %s: %s\n", what, strerror(errno));
-    exit(1);
-}
 
 static double seconds(clockid_t clock) {
     struct timespec t;
     if (clock_gettime(clock, &t)) fail("clock");
     return t.tv_sec + t.tv_nsec / 1e9;
 }
-
-static void pad(struct message *m, size_t to) {
-    while (m->len % to) m->bytes[m->len++] = 0;
-}
-
-static void word(struct message *m, uint32_t n) {
-    memcpy(m->bytes + m->len, &n, 4);
-    m->len += 4;
-}
-
-static void text(struct message *m, const char *s) {
-    word(m, strlen(s));
-    memcpy(m->bytes + m->len, s, strlen(s) + 1);
-    m->len += strlen(s) + 1;
-}
-
-static void field(struct message *m, int code, const char *type, const char *value) {
-    if (!value) return;
-    pad(m, 8);
-    m->bytes[m->len++] = code;
-    m->bytes[m->len++] = 1;
-    m->bytes[m->len++] = type[0];
-    m->bytes[m->len++] = 0;
-    if (type[0] == 'g') {
-        m->bytes[m->len++] = strlen(value);
-        memcpy(m->bytes + m->len, value, strlen(value) + 1);
-        m->len += strlen(value) + 1;
-    } else {
-        text(m, value);
-    }
-}
-
-/* A message with at most one argument, a text. */
-static struct message made(int kind, uint32_t serial, const char *to, const char *object, const char *interface,
-                           const char *member, const char *argument) {
-    struct message m = {.len = 0}, body = {.len = 0};
-    if (argument) text(&body, argument);
-    unsigned char start[4] = {'l', kind, kind == SIGNAL ? 1 : 0, 1};
-    memcpy(m.bytes, start, 4);
-    m.len = 4;
-    word(&m, body.len);
-    word(&m, serial);
-    word(&m, 0);
-    field(&m, 1, "o", object);
-    field(&m, 2, "s", interface);
-    field(&m, 3, "s", member);
-    field(&m, 6, "s", to);
-    field(&m, 8, "g", argument ? "s" : NULL);
-    uint32_t fields = m.len - 16;
-    memcpy(m.bytes + 12, &fields, 4);
-    pad(&m, 8);
-    memcpy(m.bytes + m.len, body.bytes, body.len);
-    m.len += body.len;
-    return m;
-}
-
-static void put(struct client *c, const void *bytes, size_t len) {
-    const char *at = bytes;
-    while (len) {
-        ssize_t n = write(c->fd, at, len);
-        if (n < 0 && errno == EINTR) continue;
-        if (n <= 0) fail("write");
-        at += n;
-        len -= n;
-    }
-}
-
-/* Counts the whole messages that were read. */
-static void count(struct client *c) {
-    size_t at = 0;
-    while (c->len - at >= 16) {
-        uint32_t body, fields;
-        memcpy(&body, c->unread + at + 4, 4);
-        memcpy(&fields, c->unread + at + 12, 4);
-        size_t whole = 16 + ((fields + 7) & ~7u) + body;
-        if (c->len - at < whole) break;
-        if (c->unread[at + 1] == SIGNAL) c->signals++;
-        else {
-            if (c->unread[at + 1] == FAULT) fprintf(stderr, "server: an error came\n");
-            c->answers++;
-        }
-        at += whole;
-    }
-    memmove(c->unread, c->unread + at, c->len - at);
-    c->len -= at;
-}
-
-static void fill(struct client *c) {
-    ssize_t n = read(c->fd, c->unread + c->len, ROOM - c->len);
-    if (n < 0 && errno == EINTR) return;
-    if (n <= 0) fail("read");
-    c->len += n;
-    count(c);
-}
-
-static void await_answer(struct client *c, uint64_t answers) {
-    while (c->answers < answers) fill(c);
-}
-
-static void call(struct client *c, const char *interface, const char *member, const char *argument) {
-    struct message m = made(CALL, ++c->serial, "org.freedesktop.DBus", "/org/freedesktop/DBus", interface, member, argument);
-    uint64_t before = c->answers;
-    put(c, m.bytes, m.len);
-    await_answer(c, before + 1);
-}
-
-static void ping(struct client *c) { call(c, "org.freedesktop.DBus.Peer", "Ping", NULL); }
-
-static void join(struct client *c) {
-    struct sockaddr_un to = {.sun_family = AF_UNIX};
-    strncpy(to.sun_path, path, sizeof to.sun_path - 1);
-    memset(c, 0, sizeof *c);
-    c->fd = socket(AF_UNIX, SOCK_STREAM, 0);
-    if (c->fd < 0 || connect(c->fd, (struct sockaddr *)&to, sizeof to)) fail("connect");
-    char line[128], hex[32] = "", user[16];
-    snprintf(user, sizeof user, "%d", getuid());
-    for (char *p = user; *p; p++) sprintf(hex + strlen(hex), "%02x", *p);
-    int len = snprintf(line + 1, sizeof line - 1, "AUTH EXTERNAL %s\r\n", hex);
-    line[0] = 0;
-    put(c, line, len + 1);
-    char answer[128];
-    size_t got = 0;
-    while (got < 2 || answer[got - 1] != '\n') {
-        ssize_t n = read(c->fd, answer + got, sizeof answer - got);
-        if (n <= 0) fail("talk");
-        got += n;
-    }
-    if (strncmp(answer, "OK ", 3)) fail("talk");
-    put(c, "BEGIN\r\n", 7);
-    call(c, "org.freedesktop.DBus", "Hello", NULL);
-    while (!c->signals) fill(c);
-    c->signals = 0;
-}
-
-static void add(struct client *c, const char *rule) { call(c, "org.freedesktop.DBus", "AddMatch", rule); }
 
 /* Waits until each reader has this many signals. */
 static void await_signals(uint64_t signals) {
