@@ -16,13 +16,13 @@ enum between { NONE, EACH, ODD };
 enum { START = -1, MATCHED = 1, MAX_KINDS = 4, NOISE = MAX_KINDS, MAX_BETWEEN = 248, MAX_RULE = 256 };
 enum { ALLOW_REPLACEMENT = 1, REPLACE_EXISTING = 2 };
 
-/* An outbox holds 1,024 messages, so no client is that far behind. */
+/* An outbox holds 1,024 messages, so no client falls so far back. */
 enum { WINDOW = 32, BURST = 8, ALL_HEARD = 64, MAX_BEHIND = 400, MAX_NOISE = 4 };
 
 /* The microseconds between two looks, those between two reads of all clients between, and those after which a read gives up. */
 enum { PAUSE = 10, SWEEP = 1000, READ_ENDS = 100000 };
 
-/* After so many seconds in which nothing was heard the rest is missing. */
+/* How many seconds without a message end a round: what is left then is missing. */
 #define PATIENCE 10
 
 #define BIT(n) (1u << (n))
