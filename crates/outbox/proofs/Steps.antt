@@ -1,15 +1,15 @@
 -- Each step of a seat keeps the rule of an outbox.
-use Rattle.std.proofs.Common.{ℕ, zero, suc, ◌≡◌, ◌≢◌, ◌<◌, ◌==◌, Option, Some, None, IfSome, MatchOption, true, false, cond, List, [], ◌∷◌, ◌++◌, map, set, refl, sym, ap, ◌∙◌, subst, arith, eq-eqb, ne_eqb}
+use Rattle.std.proofs.Common.{ℕ, zero, suc, ◌≡◌, ◌≢◌, Option, Some, None, IfSome, List, [], ◌∷◌, ◌++◌, map, set, refl, sym, ap, ◌∙◌, subst, arith}
 use Rattle.std.proofs.lemmas.List.{append_assoc, append-nil, map-append}
 use mathlib.Core.Option.{some, some-injective, some-ne-none}
 use lib.ListN.{get_elem?}
-use Rattle.crossbeam_queue.specs.Fifo.{Pushes, Pops, Learns, Admits, Held}
+use Rattle.crossbeam_queue.specs.Fifo.{Pushes, Pops, Learns, Admits}
 use Rattle.outbox.specs.Items.{Item}
 use Rattle.outbox.specs.declared.rule.SeatView.{SeatView}
-use Rattle.outbox.specs.Counts.{Put, Rises, last_of, count_of, counts_by, Names, InOrder, Among}
-use Rattle.outbox.specs.Views.{blank, item_of, seat_known, Fits, Ordered, Follows, after_put}
+use Rattle.outbox.specs.Counts.{Put, Take, of_seat, Rises, count_of, counts_of, InOrder, Among}
+use Rattle.outbox.specs.Views.{blank, after_put, after_taken, item_of, put_of, seat_known, IsRun, Fits, Merged, Follows}
 use Rattle.outbox.specs.Taking.{TakesNext}
-use Rattle.outbox.proofs.Rising.{rises_snoc, last_snoc, rises_front, counts_append, names_append, names_any, among_snoc, among_more, among_rises}
+use Rattle.outbox.proofs.Rising.{rises_snoc, of_append, of_mine, of_other, counts_append, are_of_snoc, taken_among, among_of, among_more, among_rises}
 
 -- what a seat in the list knows
 known_at : (views : List SeatView) (p : ℕ) (v : SeatView) → get_elem? views p ≡ some v → seat_known views p ≡ v
@@ -26,150 +26,121 @@ each_set Q (x ∷ xs) (suc p) v w at mine others zero = others zero (λ e. omega
 each_set Q (x ∷ xs) (suc p) v w at mine others (suc q) =
     let P : ℕ → SeatView → Type 0 = λ j u. Q (suc j) u in each_set P xs p v w at mine (λ j n. others (suc j) (λ e. n (omega (arith, e)))) q
 
-known_snoc : (views : List SeatView) (q : ℕ) → seat_known (views ++ blank ∷ []) q ≡ seat_known views q
-known_snoc [] zero = refl
-known_snoc [] (suc q) = refl
-known_snoc (x ∷ xs) zero = refl
-known_snoc (x ∷ xs) (suc q) = known_snoc xs q
+-- and after a new one came
+each_snoc : (Q : ℕ → SeatView → Type 0) (views : List SeatView) (r : SeatView) → ((q : ℕ) → Q q blank → Q q r) → ((q : ℕ) → Q q (seat_known views q)) → (q : ℕ) → Q q (seat_known (views ++ r ∷ []) q)
+each_snoc Q [] r new all zero = new zero (all zero)
+each_snoc Q [] r new all (suc q) = all (suc q)
+each_snoc Q (x ∷ xs) r new all zero = all zero
+each_snoc Q (x ∷ xs) r new all (suc q) = let P : ℕ → SeatView → Type 0 = λ j u. Q (suc j) u in each_snoc P xs r (λ j. new (suc j)) (λ j. all (suc j)) q
 
-eqb_self : (p : ℕ) → (p == p) ≡ true
-eqb_self p = eq-eqb p p refl
+-- a put follows those of its seat
+run_after : (items : List Item) (x : Item) → IsRun items → Follows items x.mark → IsRun (items ++ x ∷ [])
+run_after items x run may = pick x.mark refl may
+  where
+    pick : (mark : Option (ℕ × ℕ)) → x.mark ≡ mark → Follows items mark → IsRun (items ++ x ∷ [])
+    pick None is may =
+        let P : List ℕ → Type 0 = λ l. Rises 0 l in
+        let same : counts_of (items ++ x ∷ []) ≡ counts_of items = counts_append items (x ∷ []) ∙ ap (λ (m : Option (ℕ × ℕ)). counts_of items ++ (count_of m ++ [])) is ∙ append-nil (counts_of items) in
+        let Q : Option (ℕ × ℕ) → Type 0 = λ o. IfSome o (λ m. m.0 ≡ run.1.0) in
+        (subst P (sym same) run.0, (run.1.0, are_of_snoc run.1.0 items x run.1.1 (subst Q (sym is) tt)))
+    pick (Some m) is may =
+        let P : List ℕ → Type 0 = λ l. Rises 0 l in
+        let more : counts_of (items ++ x ∷ []) ≡ counts_of items ++ m.1 ∷ [] = counts_append items (x ∷ []) ∙ ap (λ (o : Option (ℕ × ℕ)). counts_of items ++ (count_of o ++ [])) is in
+        let Q : Option (ℕ × ℕ) → Type 0 = λ o. IfSome o (λ k. k.0 ≡ m.0) in
+        (subst P (sym more) (rises_snoc 0 (counts_of items) m.1 run.0 may.1), (m.0, are_of_snoc m.0 items x may.0 (subst Q (sym is) refl)))
 
--- a put of another seat changes nothing for this one
-fits_else : (q p : ℕ) (u : SeatView) (x : Item) (puts : List Put) → q ≢ p → Fits q u puts → Fits q u (puts ++ (p, x) ∷ [])
-fits_else q p u x puts n f =
-    let no : (p == q) ≡ false = ne_eqb p q (λ e. n (sym e)) in
-    let none : counts_by q ((p, x) ∷ []) ≡ [] = ap (λ b. cond b (count_of x.mark ++ []) []) no in
-    let same : counts_by q (puts ++ (p, x) ∷ []) ≡ counts_by q puts = counts_append q puts ((p, x) ∷ []) ∙ ap (λ l. counts_by q puts ++ l) none ∙ append-nil (counts_by q puts) in
-    record {
-      names = names_append q u.origin puts ((p, x) ∷ []) f.names ((λ e. absurd (n (sym e))), tt);
-      rises = let P : List ℕ → Type 0 = λ l. Rises 0 l in subst P (sym same) f.rises;
-      last_is = ap (last_of 0) same ∙ f.last_is;
-    }
+fits_else : (q p : ℕ) (u : SeatView) (x : Item) (gone : List Take) (line : List Put) → q ≢ p → Fits q u gone line → Fits q u gone (line ++ (p, x) ∷ [])
+fits_else q p u x gone line n f = record {
+  put = ap (of_seat q) (sym (append_assoc (map put_of gone) line ((p, x) ∷ []))) ∙ of_other q p (map put_of gone ++ line) x n ∙ f.put;
+  taken = f.taken;
+  run = f.run;
+}
 
--- a put of no broadcast changes no count
-fits_plain : (p : ℕ) (v : SeatView) (x : Item) (puts : List Put) → x.mark ≡ None → Fits p v puts → Fits p v (puts ++ (p, x) ∷ [])
-fits_plain p v x puts plain f =
-    let none : counts_by p ((p, x) ∷ []) ≡ [] = ap (λ b. cond b (count_of x.mark ++ []) []) (eqb_self p) ∙ ap (λ m. count_of m ++ []) plain in
-    let same : counts_by p (puts ++ (p, x) ∷ []) ≡ counts_by p puts = counts_append p puts ((p, x) ∷ []) ∙ ap (λ l. counts_by p puts ++ l) none ∙ append-nil (counts_by p puts) in
-    let named : IfSome x.mark (λ m. v.origin ≡ Some m.0) = let P : Option (ℕ × ℕ) → Type 0 = λ o. IfSome o (λ m. v.origin ≡ Some m.0) in subst P (sym plain) tt in
-    record {
-      names = names_append p v.origin puts ((p, x) ∷ []) f.names ((λ e. named), tt);
-      rises = let P : List ℕ → Type 0 = λ l. Rises 0 l in subst P (sym same) f.rises;
-      last_is = ap (last_of 0) same ∙ f.last_is;
-    }
+fits_put : (p : ℕ) (v : SeatView) (x : Item) (gone : List Take) (line : List Put) → Follows v.put x.mark → Fits p v gone line → Fits p (after_put v x) gone (line ++ (p, x) ∷ [])
+fits_put p v x gone line may f = record {
+  put = ap (of_seat p) (sym (append_assoc (map put_of gone) line ((p, x) ∷ []))) ∙ of_mine p (map put_of gone ++ line) x ∙ ap (λ (l : List Item). l ++ x ∷ []) f.put;
+  taken = f.taken;
+  run = run_after v.put x f.run may;
+}
 
-named_then : (p o : ℕ) (named : Option ℕ) (puts : List Put) → IfSome named (λ q. q ≡ o) → Names p named puts → Names p (Some o) puts
-named_then p o None puts f n = names_any p (Some o) puts n
-named_then p o (Some q) puts f n = let P : ℕ → Type 0 = λ y. Names p (Some y) puts in subst P f n
-
--- a put of the seat's own broadcast
-fits_marked : (p : ℕ) (v : SeatView) (x : Item) (m : ℕ × ℕ) (puts : List Put) → x.mark ≡ Some m → Follows v (Some m) → Fits p v puts → Fits p (after_put v (Some m)) (puts ++ (p, x) ∷ [])
-fits_marked p v x m puts is may f =
-    let one : counts_by p ((p, x) ∷ []) ≡ m.1 ∷ [] = ap (λ b. cond b (count_of x.mark ++ []) []) (eqb_self p) ∙ ap (λ o. count_of o ++ []) is in
-    let more : counts_by p (puts ++ (p, x) ∷ []) ≡ counts_by p puts ++ m.1 ∷ [] = counts_append p puts ((p, x) ∷ []) ∙ ap (λ l. counts_by p puts ++ l) one in
-    let named : IfSome x.mark (λ k. Some m.0 ≡ Some k.0) = let P : Option (ℕ × ℕ) → Type 0 = λ o. IfSome o (λ k. Some m.0 ≡ Some k.0) in subst P (sym is) refl in
-    let above : last_of 0 (counts_by p puts) < m.1 = let P : ℕ → Type 0 = λ n. n < m.1 in subst P (sym f.last_is) may.1 in
-    record {
-      names = names_append p (Some m.0) puts ((p, x) ∷ []) (named_then p m.0 v.origin puts may.0 f.names) ((λ e. named), tt);
-      rises = let P : List ℕ → Type 0 = λ l. Rises 0 l in subst P (sym more) (rises_snoc 0 (counts_by p puts) m.1 f.rises above);
-      last_is = ap (last_of 0) more ∙ last_snoc 0 (counts_by p puts) m.1;
-    }
-
-fits_put : (p : ℕ) (v : SeatView) (x : Item) (puts : List Put) (mark : Option (ℕ × ℕ)) → x.mark ≡ mark → Follows v mark → Fits p v puts → Fits p (after_put v mark) (puts ++ (p, x) ∷ [])
-fits_put p v x puts None is may f = fits_plain p v x puts is f
-fits_put p v x puts (Some m) is may f = fits_marked p v x m puts is may f
-
-taken_after : (v : SeatView) (mark : Option (ℕ × ℕ)) → (after_put v mark).taken ≡ v.taken
-taken_after v None = refl
-taken_after v (Some m) = refl
-
-pub puts : (n p : ℕ) (v : SeatView) (x : Item) → Follows v x.mark → Pushes Ordered n p v x (λ w. w ≡ after_put v x.mark)
+pub puts : (n p : ℕ) (v : SeatView) (x : Item) → Follows v.put x.mark → Pushes Merged n p v x (λ w. w ≡ after_put v x)
 puts n p v x may items views room h at =
-    let w : SeatView = after_put v x.mark in
-    let all : List Put = h.gone ++ h.line in
-    let Q : ℕ → SeatView → Type 0 = λ q u. Fits q u (all ++ (p, x) ∷ []) in
-    let A : ℕ → SeatView → Type 0 = λ q u. Among u.taken h.gone in
-    let mine : Fits p v all = let P : SeatView → Type 0 = λ u. Fits p u all in subst P (known_at views p v at) (h.fits p) in
-    let took : Among v.taken h.gone = let P : SeatView → Type 0 = λ u. Among u.taken h.gone in subst P (known_at views p v at) (h.among p) in
-    let took' : Among w.taken h.gone = let P : List Put → Type 0 = λ l. Among l h.gone in subst P (sym (taken_after v x.mark)) took in
-    let each = each_set Q views p v w at (fits_put p v x all x.mark refl may mine) (λ q n. fits_else q p (seat_known views q) x all n (h.fits q)) in (
+    let w : SeatView = after_put v x in
+    let line : List Put = h.line ++ (p, x) ∷ [] in
+    let Q : ℕ → SeatView → Type 0 = λ q u. Fits q u h.gone line in
+    let mine : Fits p v h.gone h.line = let P : SeatView → Type 0 = λ u. Fits p u h.gone h.line in subst P (known_at views p v at) (h.fits p) in (
       w,
       record {
         gone = h.gone;
-        line = h.line ++ (p, x) ∷ [];
-        stands = map-append item_of h.line ((p, x) ∷ []) ∙ ap (λ l. l ++ x ∷ []) h.stands;
-        fits = λ q. let P : List Put → Type 0 = λ l. Fits q (seat_known (set views p w) q) l in subst P (append_assoc h.gone h.line ((p, x) ∷ [])) (each q);
-        among = each_set A views p v w at took' (λ q n. h.among q);
+        line = line;
+        stands = map-append item_of h.line ((p, x) ∷ []) ∙ ap (λ (l : List Item). l ++ x ∷ []) h.stands;
+        fits = each_set Q views p v w at (fits_put p v x h.gone h.line may mine) (λ q n. fits_else q p (seat_known views q) x h.gone h.line n (h.fits q));
       },
       refl,
     )
 
-pub begins : Ordered [] (blank ∷ [])
-begins = record { gone = []; line = []; stands = refl; fits = λ q. begin_fits q; among = λ q. begin_among q }
+fits_nothing : (q : ℕ) → Fits q blank [] []
+fits_nothing q = record { put = refl; taken = refl; run = (tt, (0, tt)) }
+
+pub begins : Merged [] (blank ∷ [])
+begins = record { gone = []; line = []; stands = refl; fits = λ q. begin_fits q }
   where
-    begin_fits : (q : ℕ) → Fits q (seat_known (blank ∷ []) q) []
-    begin_fits zero = record { names = tt; rises = tt; last_is = refl }
-    begin_fits (suc q) = record { names = tt; rises = tt; last_is = refl }
+    begin_fits : (q : ℕ) → Fits q (seat_known (blank ∷ []) q) [] []
+    begin_fits zero = fits_nothing zero
+    begin_fits (suc q) = fits_nothing (suc q)
 
-    begin_among : (q : ℕ) → Among (seat_known (blank ∷ []) q).taken []
-    begin_among zero = tt
-    begin_among (suc q) = tt
-
-pub admits : Admits Ordered blank
+pub admits : Admits Merged blank
 admits items views h = record {
   gone = h.gone;
   line = h.line;
   stands = h.stands;
-  fits = λ q. let P : SeatView → Type 0 = λ u. Fits q u (h.gone ++ h.line) in subst P (sym (known_snoc views q)) (h.fits q);
-  among = λ q. let P : SeatView → Type 0 = λ u. Among u.taken h.gone in subst P (sym (known_snoc views q)) (h.among q);
+  fits = let Q : ℕ → SeatView → Type 0 = λ q u. Fits q u h.gone h.line in each_snoc Q views blank (λ q f. f) h.fits;
 }
 
+-- what a seat took of each other seat's items rises as that seat's counts do
+pub in_order : (p : ℕ) (taken : List Put) (gone : List Take) (line : List Put) (views : List SeatView) → of_seat p gone ≡ taken → ((q : ℕ) → Fits q (seat_known views q) gone line) → InOrder taken
+in_order p taken gone line views took fits q =
+    let inside : Among (of_seat q taken) (of_seat q (map put_of gone ++ line)) =
+    let P : List Put → Type 0 = λ l. Among (of_seat q l) (of_seat q (map put_of gone ++ line)) in
+    let R : List Item → Type 0 = λ l. Among (of_seat q (of_seat p gone)) l in
+    subst P took (subst R (sym (of_append q (map put_of gone) line)) (among_more (of_seat q (of_seat p gone)) (of_seat q (map put_of gone)) (of_seat q line) (among_of q (of_seat p gone) (map put_of gone) (taken_among p gone)))) in
+    let run : Rises 0 (counts_of (of_seat q (map put_of gone ++ line))) = let P : List Item → Type 0 = λ l. Rises 0 (counts_of l) in subst P (sym (fits q).put) (fits q).run.0 in
+    among_rises (of_seat q taken) (of_seat q (map put_of gone ++ line)) inside 0 run
+
 -- the first of what stands is taken
-takes_first : (p : ℕ) (v : SeatView) (x : Item) (items : List Item) (views : List SeatView) (gone line : List Put) → get_elem? views p ≡ some v → map item_of line ≡ x ∷ items → ((q : ℕ) → Fits q (seat_known views q) (gone ++ line)) → ((q : ℕ) → Among (seat_known views q).taken gone)
-    → (w : SeatView) × Ordered items (set views p w) × TakesNext v x w
-takes_first p v x items views gone [] at stands fits among = absurd (cc)
-takes_first p v x items views gone (y ∷ rest) at stands fits among =
+takes_first : (p : ℕ) (v : SeatView) (x : Item) (items : List Item) (views : List SeatView) (gone : List Take) (line : List Put) → get_elem? views p ≡ some v → map item_of line ≡ x ∷ items
+    → ((q : ℕ) → Fits q (seat_known views q) gone line) → (w : SeatView) × Merged items (set views p w) × TakesNext v x w
+takes_first p v x items views gone [] at stands fits = absurd (cc)
+takes_first p v x items views gone (y ∷ rest) at stands fits =
     let first : y.1 ≡ x = cc in
     let others : map item_of rest ≡ items = cc in
     let z : Put = (y.0, x) in
-    let taken : List Put = v.taken ++ z ∷ [] in
-    let w : SeatView = record { origin = v.origin; last = v.last; taken = taken } in
-    let whole : gone ++ y ∷ rest ≡ (gone ++ z ∷ []) ++ rest = ap (λ i. gone ++ (y.0, i) ∷ rest) first ∙ sym (append_assoc gone (z ∷ []) rest) in
-    let fits' : (q : ℕ) → Fits q (seat_known views q) ((gone ++ z ∷ []) ++ rest) = λ q. let P : List Put → Type 0 = λ l. Fits q (seat_known views q) l in subst P whole (fits q) in
-    let Q : ℕ → SeatView → Type 0 = λ q u. Fits q u ((gone ++ z ∷ []) ++ rest) in
-    let A : ℕ → SeatView → Type 0 = λ q u. Among u.taken (gone ++ z ∷ []) in
-    let before : Fits p v ((gone ++ z ∷ []) ++ rest) = let P : SeatView → Type 0 = λ u. Fits p u ((gone ++ z ∷ []) ++ rest) in subst P (known_at views p v at) (fits' p) in
-    let took : Among v.taken gone = let P : SeatView → Type 0 = λ u. Among u.taken gone in subst P (known_at views p v at) (among p) in
-    let mine : Fits p w ((gone ++ z ∷ []) ++ rest) = record { names = before.names; rises = before.rises; last_is = before.last_is } in
-    let took' : Among taken (gone ++ z ∷ []) = among_snoc v.taken gone z took in (
+    let w : SeatView = after_taken v z in
+    let gone' : List Take = gone ++ (p, z) ∷ [] in
+    let same : map put_of gone' ++ rest ≡ map put_of gone ++ y ∷ rest =
+    ap (λ (l : List Put). l ++ rest) (map-append put_of gone ((p, z) ∷ [])) ∙ append_assoc (map put_of gone) (z ∷ []) rest ∙ ap (λ (i : Item). map put_of gone ++ (y.0, i) ∷ rest) (sym first) in
+    let Q : ℕ → SeatView → Type 0 = λ q u. Fits q u gone' rest in
+    let before : Fits p v gone (y ∷ rest) = let P : SeatView → Type 0 = λ u. Fits p u gone (y ∷ rest) in subst P (known_at views p v at) (fits p) in
+    let mine : Fits p w gone' rest = record {
+      put = ap (of_seat p) same ∙ before.put;
+      taken = of_mine p gone z ∙ ap (λ (l : List Put). l ++ z ∷ []) before.taken;
+      run = before.run;
+    } in
+    let fits' : (q : ℕ) → Fits q (seat_known (set views p w) q) gone' rest =
+    each_set Q views p v w at mine (λ q n. let f = fits q in record { put = ap (of_seat q) same ∙ f.put; taken = of_other q p gone z n ∙ f.taken; run = f.run }) in (
       w,
       record {
-        gone = gone ++ z ∷ [];
+        gone = gone';
         line = rest;
         stands = others;
-        fits = each_set Q views p v w at mine (λ q n. fits' q);
-        among = each_set A views p v w at took' (λ q n. among_more (seat_known views q).taken gone z (among q));
+        fits = fits';
       },
-      (
-        y.0,
-        refl,
-        λ q. among_rises q taken (gone ++ z ∷ []) took' 0 (let P : List ℕ → Type 0 = λ l. Rises 0 l in rises_front 0 (counts_by q (gone ++ z ∷ [])) (counts_by q rest) (subst P (counts_append q (gone ++ z ∷ []) rest) (fits' q).rises)),
-      ),
+      (y.0, refl, in_order p w.taken gone' rest (set views p w) mine.taken fits'),
     )
 
-pub takes : (p : ℕ) (v : SeatView) → Pops Ordered p v (TakesNext v)
-takes p v x items views h at = takes_first p v x items views h.gone h.line at h.stands h.fits h.among
+pub takes : (p : ℕ) (v : SeatView) → Pops Merged p v (TakesNext v)
+takes p v x items views h at = takes_first p v x items views h.gone h.line at h.stands h.fits
 
 -- the rule tells nothing more of the items that wait
-pub learns : (p : ℕ) (v : SeatView) → Learns Ordered p v (λ items. Unit {0})
+pub learns : (p : ℕ) (v : SeatView) → Learns Merged p v (λ items. Unit {0})
 learns p v items views h at = tt
-
--- the list taken stays in order, whatever a take answers
-pub stays_in_order : (result : Option Item) (v w : SeatView) → MatchOption result ((w ≡ v) × Held 0 (λ (items : List Item). Unit {0})) (λ x. TakesNext v x w) → InOrder v.taken → InOrder w.taken
-stays_in_order None v w evidence order = let P : SeatView → Type 0 = λ u. InOrder u.taken in subst P (sym evidence.0) order
-stays_in_order (Some x) v w evidence order = evidence.2
-
--- a put takes nothing
-pub put_stays_in_order : (v w : SeatView) (mark : Option (ℕ × ℕ)) → w ≡ after_put v mark → InOrder v.taken → InOrder w.taken
-put_stays_in_order v w mark e order = let P : List Put → Type 0 = λ l. InOrder l in subst P (sym (ap (λ (u : SeatView). u.taken) e ∙ taken_after v mark)) order

@@ -16,8 +16,8 @@ front_of (x ∷ []) = []
 front_of (x ∷ (y ∷ ys)) = x ∷ front_of (y ∷ ys)
 
 -- what it has given out: all that it took, but an item that is held
-abbrev pub given : Taking → List Put
-given t = cond t.is_holding (front_of t.seat.view.taken) t.seat.view.taken
+abbrev pub deliveries : Taking → List Put
+deliveries t = cond t.is_holding (front_of t.seat.view.taken) t.seat.view.taken
 
 -- the item that is held is the last one that was taken
 abbrev pub EndsWith : Option Item → List Put → Type 0

@@ -1,12 +1,12 @@
 // Outboxes, as threads share them.
 
-ghost use Rattle.std.specs.Prelude.{◌≡◌, ◌⊎◌, ◌++◌, ◌∷◌, [], ℕ, true, IsTrue, IfOk, IsErr, MatchOption, MatchResult};
+ghost use Rattle.std.specs.Prelude.{◌≡◌, ◌⊎◌, ℕ, true, IsTrue, IfOk, IsErr, MatchOption, MatchResult};
 ghost use Rattle.outbox.specs.Counts.{InOrder};
-ghost use Rattle.outbox.specs.Views.{blank, Follows, after_put};
+ghost use Rattle.outbox.specs.Views.{blank, Follows, after_put, after_taken};
 ghost use Rattle.outbox.specs.Seated.{Seated};
 
 use crate::item::Item;
-use crate::rule::{Look, Ordering, Puts, SeatView, Shut, Shutting, Takes};
+use crate::rule::{Look, Merging, Puts, SeatView, Shut, Shutting, Takes};
 use crate::seats::Seat;
 use atomic_table::Table;
 use crossbeam_queue::RuledArrayQueue;
@@ -20,7 +20,7 @@ pub const ROOM: usize = 1024;
 // The queue, and the word that is 1 once the outbox is shut.
 #[derive(Drop)]
 pub(crate) struct Inner {
-    line: RuledArrayQueue<Item, SeatView, Ordering>,
+    line: RuledArrayQueue<Item, SeatView, Merging>,
     word: Table<(), bool, (), Shutting, Global>,
     ghost words: { word.shared.table_id.words ≡ 1 },
 }
@@ -58,7 +58,7 @@ impl Outbox {
         Ok(Outbox { inner })
     }
 
-    /// A new seat: it has put nothing, so it may name any origin, and has taken nothing. It takes no memory.
+    /// A new seat, which has put and taken nothing. It takes no memory.
     pub fn seat(&self) -> Seat
         ensures { (result.outbox ≡ self.now) × (result.view ≡ blank) }
     {
@@ -69,14 +69,14 @@ impl Outbox {
     }
 
     /// Puts an item after the others. A put into a full outbox is refused and shuts it, and a put into a shut one is
-    /// refused; the item comes back. A broadcast is of the origin that the seat names, or the seat's first, and its
-    /// count is above the seat's last. A put that began before another seat's shut may still land after it.
+    /// refused; the item comes back, and nothing is put. A seat puts broadcasts of one origin, by rising counts. A put
+    /// that began before another seat's shut may still land after it.
     pub fn put<R: Wait>(&self, rt: &R, seat: &mut Seat, item: Item) -> Result<(), Item>
         requires place { seat.old.outbox ≡ self.now }
-        requires follows { Follows seat.old.view item.mark }
+        requires follows { Follows seat.old.view.put item.mark }
         ensures seat { (seat.new.outbox ≡ seat.old.outbox) × (seat.new.number ≡ seat.old.number) }
         ensures put { MatchResult result
-            (λ _. seat.new.view ≡ after_put seat.old.view item.mark)
+            (λ _. seat.new.view ≡ after_put seat.old.view item)
             (λ back. (back ≡ item) × (seat.new.view ≡ seat.old.view) × (seat.new.knows_shut ≡ true)) }
         ensures shut { seat.old.knows_shut ≡ true → IsErr result × (seat.new.knows_shut ≡ true) }
     {
@@ -99,7 +99,7 @@ impl Outbox {
         ensures seat { (seat.new.outbox ≡ seat.old.outbox) × (seat.new.number ≡ seat.old.number) × (seat.new.knows_shut ≡ seat.old.knows_shut) }
         ensures taken { MatchOption result
             (seat.new.view ≡ seat.old.view)
-            (λ item. (by : ℕ) × (seat.new.view ≡ record seat.old.view { taken = seat.old.view.taken ++ (by, item) ∷ [] })) }
+            (λ item. (by : ℕ) × (seat.new.view ≡ after_taken seat.old.view (by, item))) }
         ensures order { InOrder seat.new.view.taken }
     {
         let inner: &Inner = &self.inner;

@@ -1,26 +1,33 @@
-// Laws about the definitions.
+// Laws of the rules.
 
-ghost use Rattle.std.specs.Prelude.{ℕ, ◌≡◌, ◌≤◌, ◌++◌, List, map};
+ghost use Rattle.std.specs.Prelude.{ℕ, ◌≡◌, ◌≤◌, ◌+◌, ◌++◌, List, map};
 ghost use mathlib.Core.Option.{some};
 ghost use lib.ListN.{get_elem?};
 ghost use Rattle.atomic_table.specs.Table.{State};
 ghost use Rattle.outbox.specs.Items.{Item};
 ghost use Rattle.outbox.specs.declared.rule.ReleaseView.{ReleaseView};
 ghost use Rattle.outbox.specs.declared.rule.SeatView.{SeatView};
-ghost use Rattle.outbox.specs.Counts.{Put, Rises, last_of, counts_from, InOrder, PutAlone};
+ghost use Rattle.outbox.specs.Counts.{Among, of_seat, Rises, counts_from};
 ghost use Rattle.outbox.specs.Released.{Counts, sender_at};
-ghost use Rattle.outbox.specs.Views.{Ordered, NamedAlone, seat_known, item_of};
+ghost use Rattle.outbox.specs.Views.{Merged, PutAlone, item_of, put_of, seat_known};
+ghost use Rattle.outbox.specs.Weights.{weight, put_in_all, taken_in_all};
 
-/// Where one seat alone put an origin's broadcasts, their counts rise strictly in the list taken: none is there twice.
-pub fn in_order_of_each_origin()
-    ensures { (origin seat : ℕ) (puts : List Put) → InOrder puts → PutAlone origin seat puts → Rises 0 (counts_from origin (map item_of puts)) }
+/// What a seat took of another one's items was put by that seat, in this order: nothing is invented.
+pub fn taken_was_put()
+    ensures { (items : List Item) (views : List SeatView) (taker putter : ℕ) → Merged items views → Among (of_seat putter (seat_known views taker).taken) (seat_known views putter).put }
 {}
 
-/// The rule: where one seat alone names an origin, its counts rise strictly in what was taken and then in what stands,
-/// and the last is that seat's.
-pub fn one_seat_alone()
-    ensures { (items : List Item) (views : List SeatView) (origin seat : ℕ) (h : Ordered items views) → NamedAlone origin seat views
-        → Rises 0 (counts_from origin (map item_of h.gone ++ items)) × (last_of 0 (counts_from origin (map item_of h.gone ++ items)) ≡ (seat_known views seat).last) }
+/// However items are weighed, what all seats have put is what all seats took and what stands: nothing is lost, and
+/// nothing is there twice.
+pub fn put_is_taken_or_stands()
+    ensures { (f : Item → ℕ) (items : List Item) (views : List SeatView) → Merged items views → put_in_all f views ≡ taken_in_all f views + weight f items }
+{}
+
+/// Where one seat alone has put an origin's broadcasts, their counts rise strictly in what was taken and then stands,
+/// and in what each seat took: none is there twice.
+pub fn in_order_of_each_origin()
+    ensures all { (items : List Item) (views : List SeatView) (origin seat : ℕ) (h : Merged items views) → PutAlone origin seat views → Rises 0 (counts_from origin (map item_of (map put_of h.gone) ++ items)) }
+    ensures each { (items : List Item) (views : List SeatView) (origin seat taker : ℕ) → Merged items views → PutAlone origin seat views → Rises 0 (counts_from origin (map item_of (seat_known views taker).taken)) }
 {}
 
 /// What a seat at a sender's word knows to be released is released: of an event that the sender still holds nobody can show

@@ -1,6 +1,7 @@
-//! Outboxes: bounded queues of messages, one for each connection, which shut when they are full. The layers above use
-//! what `take` ensures, that the list given out has each putting seat's broadcasts in rising order, none twice, and each
-//! message only once its sender has released it, and what `put` ensures of the seat's last count.
+//! Outboxes: bounded queues of messages, one for each connection, which shut when they are full. What an outbox holds
+//! and has given out is a merge of what its seats have put, in every interleaving. The layers above use what `put`
+//! ensures of the list of what a seat has put, and what `take` ensures: that the list given out has each putting seat's
+//! broadcasts in rising order, none twice, and each message only once its sender has released it.
 #![tactic(auto)]
 
 mod handle;
@@ -13,7 +14,7 @@ mod taker;
 
 pub use handle::{Outbox, ROOM};
 pub use item::Item;
-pub use laws::{in_order_of_each_origin, known_is_released, one_seat_alone};
+pub use laws::{in_order_of_each_origin, known_is_released, put_is_taken_or_stands, taken_was_put};
 pub use releases::{Releases, Shares};
 pub use rule::{ReleaseView, SeatView};
 pub use seats::Seat;

@@ -172,9 +172,10 @@ impl Releases {
         Ok(shares)
     }
 
-    /// No put of the message is left.
+    /// No put of the message is left. The shares are those that the last `begin` gave.
     pub fn end(&mut self, shares: Shares)
-        requires { shares.left ≡ 0 }
+        requires left { shares.left ≡ 0 }
+        requires own { shares.message.hold ≡ hold_of self.old }
         ensures { self.new ≡ record self.old { is_putting = false } }
     {
         let Shares {

@@ -7,20 +7,19 @@ use atomic_table::{Play, TableRule};
 use crossbeam_queue::protocol::{Lesson, Outcome, Protocol};
 use std::collections::LinkedList;
 
-/// What a seat knows: the origin whose broadcasts it puts with the count of the last one, and the items that it took,
-/// each with the number of the seat that put it. Contracts alone speak of it; no value of it is made.
+/// What a seat knows: the items that it put, and the items that it took, each with the number of the seat that put it.
+/// Contracts alone speak of it; no value of it is made.
 pub struct SeatView {
-    pub origin: Option<u64>,
-    pub last: u64,
+    pub put: LinkedList<Item>,
     pub taken: LinkedList<(u64, Item)>,
 }
 
-pub struct Ordering;
+pub struct Merging;
 
-impl Protocol<Item, SeatView> for Ordering {
-    ghost use Rattle.outbox.specs.Views.{blank, Ordered};
+impl Protocol<Item, SeatView> for Merging {
+    ghost use Rattle.outbox.specs.Views.{blank, Merged};
 
-    ghost holds = { Ordered };
+    ghost holds = { Merged };
 
     ghost first = { blank };
 }
@@ -31,7 +30,7 @@ impl Outcome<Item, SeatView> for Puts {
     ghost use Rattle.std.specs.Prelude.{◌≡◌};
     ghost use Rattle.outbox.specs.Views.{after_put};
 
-    ghost then = { λ v x w. w ≡ after_put v x.mark };
+    ghost then = { λ v x w. w ≡ after_put v x };
 }
 
 impl Lesson<Item, SeatView> for Puts {

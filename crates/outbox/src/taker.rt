@@ -2,7 +2,7 @@
 
 ghost use Rattle.std.specs.Prelude.{◌≡◌, ◌++◌, ◌∷◌, [], ℕ, false, true, IfOk, IsTrue, MatchOption, MatchResult};
 ghost use Rattle.outbox.specs.Counts.{InOrder};
-ghost use Rattle.outbox.specs.Taken.{Taking, given};
+ghost use Rattle.outbox.specs.Taken.{Taking, deliveries};
 
 use crate::handle::Outbox;
 use crate::item::Item;
@@ -86,7 +86,7 @@ impl Model for Taker {
 impl Taker {
     /// A taker at an outbox, which has taken nothing.
     pub fn new(outbox: &Outbox) -> Result<Taker, AllocError>
-        ensures { IfOk result (λ taker. (taker.seat.outbox ≡ outbox.now) × (given taker ≡ [])) }
+        ensures { IfOk result (λ taker. (taker.seat.outbox ≡ outbox.now) × (deliveries taker ≡ [])) }
     {
         let outbox = outbox.share()?;
         let seat = outbox.seat();
@@ -100,10 +100,10 @@ impl Taker {
     /// Takes the oldest message, if one is there and its sender has released it.
     pub fn take<R: Wait>(&mut self, rt: &R) -> Option<Delivery>
         ensures outbox { self.new.seat.outbox ≡ self.old.seat.outbox }
-        ensures given { MatchOption result
-            (given self.new ≡ given self.old)
-            (λ delivery. (by : ℕ) × (given self.new ≡ given self.old ++ (by, delivery) ∷ [])) }
-        ensures order { InOrder (given self.new) }
+        ensures deliveries { MatchOption result
+            (deliveries self.new ≡ deliveries self.old)
+            (λ delivery. (by : ℕ) × (deliveries self.new ≡ deliveries self.old ++ (by, delivery) ∷ [])) }
+        ensures order { InOrder (deliveries self.new) }
     {
         let item = self.next(rt)?;
         match Delivery::of(item) {
@@ -120,8 +120,8 @@ impl Taker {
         ensures outbox { self.new.seat.outbox ≡ self.old.seat.outbox }
         ensures none_held { self.new.is_holding ≡ false }
         ensures taken { MatchOption result
-            (self.new.seat.view.taken ≡ given self.old)
-            (λ item. (by : ℕ) × (self.new.seat.view.taken ≡ given self.old ++ (by, item) ∷ [])) }
+            (self.new.seat.view.taken ≡ deliveries self.old)
+            (λ item. (by : ℕ) × (self.new.seat.view.taken ≡ deliveries self.old ++ (by, item) ∷ [])) }
         ensures order { InOrder self.new.seat.view.taken }
     {
         match self.held.take() {
@@ -133,7 +133,7 @@ impl Taker {
     /// Whether the outbox is shut. Once shut it stays so.
     pub fn is_shut(&mut self) -> bool
         ensures outbox { self.new.seat.outbox ≡ self.old.seat.outbox }
-        ensures given { given self.new ≡ given self.old }
+        ensures deliveries { deliveries self.new ≡ deliveries self.old }
         ensures shut { result ≡ self.new.seat.knows_shut }
         ensures stays { self.old.seat.knows_shut ≡ true → IsTrue result }
     {

@@ -11,5 +11,5 @@ load-requires g c = (search rules, search rules, reads _ _ _)
 
 pub push_as-requires-clause-rule : goal.push_as-requires-clause-rule
 push_as-requires-clause-rule g c =
-    let may : SeatView → Type 0 = λ v. Follows v c.args.item.mark in
+    let may : SeatView → Type 0 = λ v. Follows v.put c.args.item.mark in
     (puts _ _ _ _ (subst may (sym (ap (λ (s : Seated). s.view) c.seat.view_is)) c.requires.follows), learns _ _)

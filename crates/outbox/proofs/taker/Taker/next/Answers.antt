@@ -1,5 +1,5 @@
 use Rattle.std.proofs.Common.{sym, ◌∙◌}
-use Rattle.outbox.proofs.Given.{held_last}
+use Rattle.outbox.proofs.Deliveries.{held_last}
 use Rattle.outbox.proofs.taker.Taker.next.Goals as goal
 
 pub returns-in-Some-clause-taken : goal.returns-in-Some-clause-taken

@@ -1,10 +1,10 @@
 -- What a taker has given out.
 use Rattle.std.proofs.Common.{ℕ, ◌≡◌, is_some, Option, Some, None, List, [], ◌∷◌, ◌++◌, refl, sym, ap, ◌∙◌, subst}
 use Rattle.outbox.specs.Items.{Item}
-use Rattle.outbox.specs.Counts.{Put, Rises, counts_by, InOrder}
+use Rattle.outbox.specs.Counts.{Put, Rises, of_seat, counts_of, InOrder}
 use Rattle.outbox.specs.Seated.{Seated}
-use Rattle.outbox.specs.Taken.{Taking, front_of, given, EndsWith}
-use Rattle.outbox.proofs.Rising.{rises_front, counts_append}
+use Rattle.outbox.specs.Taken.{Taking, front_of, deliveries, EndsWith}
+use Rattle.outbox.proofs.Rising.{rises_front, counts_append, of_append}
 
 front_snoc : (xs : List Put) (x : Put) → front_of (xs ++ x ∷ []) ≡ xs
 front_snoc [] x = refl
@@ -16,7 +16,10 @@ pub all_but_held : (front taken : List Put) (item : Item) → (by : ℕ) × (tak
 all_but_held front taken item (by, e) = ap front_of e ∙ front_snoc front (by, item)
 
 front_in_order : (xs : List Put) (x : Put) → InOrder (xs ++ x ∷ []) → InOrder xs
-front_in_order xs x order q = let P : List ℕ → Type 0 = λ l. Rises 0 l in rises_front 0 (counts_by q xs) (counts_by q (x ∷ [])) (subst P (counts_append q xs (x ∷ [])) (order q))
+front_in_order xs x order q =
+    let P : List ℕ → Type 0 = λ l. Rises 0 l in
+    let parts : counts_of (of_seat q (xs ++ x ∷ [])) ≡ counts_of (of_seat q xs) ++ counts_of (of_seat q (x ∷ [])) = ap counts_of (of_append q xs (x ∷ [])) ∙ counts_append (of_seat q xs) (of_seat q (x ∷ [])) in
+    rises_front 0 (counts_of (of_seat q xs)) (counts_of (of_seat q (x ∷ []))) (subst P parts (order q))
 
 -- and it is in order
 pub in_order_but_held : (front taken : List Put) (item : Item) → (by : ℕ) × (taken ≡ front ++ (by, item) ∷ []) → InOrder taken → InOrder (front_of taken)
@@ -28,10 +31,10 @@ ends_with item taken (front, by, e) = (by, e ∙ ap (λ l. l ++ (by, item) ∷ [
 
 -- what was taken is what was given out, and the item that is held
 pub held_last : (t : Taking) (seat : Seated) (held : Option Item) (item : Item) → record { seat = seat; is_holding = is_some held } ≡ t → held ≡ Some item → EndsWith held seat.view.taken
-    → (by : ℕ) × (seat.view.taken ≡ given t ++ (by, item) ∷ [])
+    → (by : ℕ) × (seat.view.taken ≡ deliveries t ++ (by, item) ∷ [])
 held_last t seat None item is e ends = absurd (cc)
 held_last t seat (Some other) item is e ends =
     let same : other ≡ item = cc in
     let last = ends_with other seat.view.taken ends in
-    let front : front_of seat.view.taken ≡ given t = ap given is in
-    (last.0, last.1 ∙ ap (λ l. l ++ (last.0, other) ∷ []) front ∙ ap (λ i. given t ++ (last.0, i) ∷ []) same)
+    let front : front_of seat.view.taken ≡ deliveries t = ap deliveries is in
+    (last.0, last.1 ∙ ap (λ l. l ++ (last.0, other) ∷ []) front ∙ ap (λ i. deliveries t ++ (last.0, i) ∷ []) same)
