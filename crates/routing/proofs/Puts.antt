@@ -1,6 +1,7 @@
 -- One recipient after the other.
 use Rattle.std.proofs.Common.{ℕ, zero, suc, ◌≡◌, ◌+◌, ◌<◌, ◌≤◌, ◌==◌, ◌&&◌, ◌||◌, not, Bool, true, false, true≢false, cond, List, [], ◌∷◌, ◌++◌, length, take, drop, get_or, refl, sym, ap, ◌∙◌, subst, arith, eqb-true, ne_eqb, take-append-drop, length-append, Option, Some, None, IsSome, IfSome, IsSomeAnd}
 use Rattle.std.proofs.lemmas.List.{take_more}
+use Rattle.outbox.specs.Items.{Item}
 use Rattle.routing.specs.SenderView.{StopView}
 use Rattle.routing.specs.Stops.{stop_at, is_in, RisesFrom, HasStop, AllHave}
 use Rattle.routing.specs.Puts.{end_of, PutThere, PutAt, RoutedAt, PutTo}
@@ -61,34 +62,34 @@ some_and None P has if_some = absurd (true≢false (sym has))
 some_and (Some s) P has if_some = if_some
 
 -- what holds of each stop before holds of the next recipient's now
-pub may_put : (mark : Option (ℕ × ℕ)) (k : ℕ) (recipients : List ℕ) (d : ℕ) (refused : List ℕ) (old stops : List StopView) (P : StopView → Type 0) → k < length recipients → RisesFrom 0 recipients → AllHave recipients old
-    → ((n : ℕ) → IfSome (stop_at n old) P) → PutTo mark (take k recipients) refused old stops → IsSomeAnd (stop_at (get_or recipients k d) stops) P
-may_put mark k recipients d refused old stops P lt rising all fits h =
+pub may_put : (item : Item) (k : ℕ) (recipients : List ℕ) (d : ℕ) (refused : List ℕ) (old stops : List StopView) (P : StopView → Type 0) → k < length recipients → RisesFrom 0 recipients → AllHave recipients old
+    → ((n : ℕ) → IfSome (stop_at n old) P) → PutTo item (take k recipients) refused old stops → IsSomeAnd (stop_at (get_or recipients k d) stops) P
+may_put item k recipients d refused old stops P lt rising all fits h =
     let m : ℕ = get_or recipients k d in
     let done : List ℕ = take k recipients in
     let r = next_above recipients k d lt rising in
     let out : is_in m done ≡ false = not_in 0 m done (rises_front 0 done (m ∷ []) r) (rises_last 0 m done r) in
-    let R : Bool → Type 0 = λ b. RoutedAt mark b (is_in m refused) (stop_at m old) (stop_at m stops) in
+    let R : Bool → Type 0 = λ b. RoutedAt item b (is_in m refused) (stop_at m old) (stop_at m stops) in
     let same = subst R out (h.each m) in
     let Q : Option StopView → Type 0 = λ o. IsSomeAnd o P in
     subst Q (sym same.1) (some_and (stop_at m old) P (all_at recipients k d old lt all) (fits m))
 
 -- what one more put makes of a stop: of its recipient's, or of another
-pub put_more : (mark : Option (ℕ × ℕ)) (e put done refused : Bool) (old stops new : Option StopView) (before after : StopView) → (e ≡ true → (done ≡ false) × (stops ≡ Some before)) → RoutedAt mark done refused old stops
-    → PutThere mark put before after → new ≡ cond e (Some after) stops → RoutedAt mark (done || e) (refused || (e && not put)) old new
-put_more mark true put true refused old stops new before after its h change is = absurd (true≢false (its refl).0)
-put_more mark true put false true old stops new before after its h change is = absurd (true≢false h.0)
-put_more mark true true false false old stops new before after its h change is = (before, after, sym h.1 ∙ (its refl).1, is, change)
-put_more mark true false false false old stops new before after its h change is = (before, after, sym h.1 ∙ (its refl).1, is, change)
-put_more mark false put false true old stops new before after its h change is = absurd (true≢false h.0)
-put_more mark false put false false old stops new before after its h change is = (refl, is ∙ h.1)
-put_more mark false put true true old stops new before after its h change is = (h.0, h.1, h.2, is ∙ h.3, h.4)
-put_more mark false put true false old stops new before after its h change is = (h.0, h.1, h.2, is ∙ h.3, h.4)
+pub put_more : (item : Item) (e put done refused : Bool) (old stops new : Option StopView) (before after : StopView) → (e ≡ true → (done ≡ false) × (stops ≡ Some before)) → RoutedAt item done refused old stops
+    → PutThere item put before after → new ≡ cond e (Some after) stops → RoutedAt item (done || e) (refused || (e && not put)) old new
+put_more item true put true refused old stops new before after its h change is = absurd (true≢false (its refl).0)
+put_more item true put false true old stops new before after its h change is = absurd (true≢false h.0)
+put_more item true true false false old stops new before after its h change is = (before, after, sym h.1 ∙ (its refl).1, is, change)
+put_more item true false false false old stops new before after its h change is = (before, after, sym h.1 ∙ (its refl).1, is, change)
+put_more item false put false true old stops new before after its h change is = absurd (true≢false h.0)
+put_more item false put false false old stops new before after its h change is = (refl, is ∙ h.1)
+put_more item false put true true old stops new before after its h change is = (h.0, h.1, h.2, is ∙ h.3, h.4)
+put_more item false put true false old stops new before after its h change is = (h.0, h.1, h.2, is ∙ h.3, h.4)
 
 -- one more recipient
-next_put : (mark : Option (ℕ × ℕ)) (m : ℕ) (done refused refused' : List ℕ) (old stops new : List StopView) (put : Bool) → RisesFrom 0 (done ++ m ∷ []) → refused' ≡ cond put refused (refused ++ m ∷ []) → PutTo mark done refused old stops
-    → PutAt m mark put stops new → PutTo mark (done ++ m ∷ []) refused' old new
-next_put mark m done refused refused' old stops new put r noted h now =
+next_put : (item : Item) (m : ℕ) (done refused refused' : List ℕ) (old stops new : List StopView) (put : Bool) → RisesFrom 0 (done ++ m ∷ []) → refused' ≡ cond put refused (refused ++ m ∷ []) → PutTo item done refused old stops
+    → PutAt m item put stops new → PutTo item (done ++ m ∷ []) refused' old new
+next_put item m done refused refused' old stops new put r noted h now =
     record {
       each = λ n. one n;
       rising = let P : List ℕ → Type 0 = λ l. RisesFrom 0 l in subst P (sym noted) (rising' put);
@@ -125,27 +126,27 @@ next_put mark m done refused refused' old stops new put r noted h now =
     its : (n : ℕ) → (m == n) ≡ true → (is_in n done ≡ false) × (stop_at n stops ≡ Some now.before)
     its n e = let P : ℕ → Type 0 = λ j. (is_in j done ≡ false) × (stop_at j stops ≡ Some now.before) in subst P (eqb-true m n e) (out_done, now.was)
 
-    one : (n : ℕ) → RoutedAt mark (is_in n (done ++ m ∷ [])) (is_in n refused') (stop_at n old) (stop_at n new)
+    one : (n : ℕ) → RoutedAt item (is_in n (done ++ m ∷ [])) (is_in n refused') (stop_at n old) (stop_at n new)
     one n =
         let listed : (is_in n refused || ((m == n) && not put)) ≡ is_in n refused' = sym (ap (is_in n) noted ∙ in_refused n put) in
-        let P : Bool → Type 0 = λ b. RoutedAt mark b (is_in n refused') (stop_at n old) (stop_at n new) in
-        let Q : Bool → Type 0 = λ b. RoutedAt mark (is_in n done || (m == n)) b (stop_at n old) (stop_at n new) in
-        subst P (sym (in_snoc n m done)) (subst Q listed (put_more mark (m == n) put (is_in n done) (is_in n refused) (stop_at n old) (stop_at n stops) (stop_at n new) now.before now.after (its n) (h.each n) now.change (now.now n)))
+        let P : Bool → Type 0 = λ b. RoutedAt item b (is_in n refused') (stop_at n old) (stop_at n new) in
+        let Q : Bool → Type 0 = λ b. RoutedAt item (is_in n done || (m == n)) b (stop_at n old) (stop_at n new) in
+        subst P (sym (in_snoc n m done)) (subst Q listed (put_more item (m == n) put (is_in n done) (is_in n refused) (stop_at n old) (stop_at n stops) (stop_at n new) now.before now.after (its n) (h.each n) now.change (now.now n)))
 
-pub next_recipient : (mark : Option (ℕ × ℕ)) (k : ℕ) (recipients : List ℕ) (d : ℕ) (refused refused' : List ℕ) (old stops new : List StopView) (put : Bool) → k < length recipients → RisesFrom 0 recipients
-    → refused' ≡ cond put refused (refused ++ get_or recipients k d ∷ []) → PutTo mark (take k recipients) refused old stops → PutAt (get_or recipients k d) mark put stops new → PutTo mark (take (k + 1) recipients) refused' old new
-next_recipient mark k recipients d refused refused' old stops new put lt rising noted h now =
-    let P : List ℕ → Type 0 = λ l. PutTo mark l refused' old new in
-    subst P (sym (take_more recipients k d lt)) (next_put mark (get_or recipients k d) (take k recipients) refused refused' old stops new put (next_above recipients k d lt rising) noted h now)
+pub next_recipient : (item : Item) (k : ℕ) (recipients : List ℕ) (d : ℕ) (refused refused' : List ℕ) (old stops new : List StopView) (put : Bool) → k < length recipients → RisesFrom 0 recipients
+    → refused' ≡ cond put refused (refused ++ get_or recipients k d ∷ []) → PutTo item (take k recipients) refused old stops → PutAt (get_or recipients k d) item put stops new → PutTo item (take (k + 1) recipients) refused' old new
+next_recipient item k recipients d refused refused' old stops new put lt rising noted h now =
+    let P : List ℕ → Type 0 = λ l. PutTo item l refused' old new in
+    subst P (sym (take_more recipients k d lt)) (next_put item (get_or recipients k d) (take k recipients) refused refused' old stops new put (next_above recipients k d lt rising) noted h now)
 
 pub noted_length : (put : Bool) (m : ℕ) (refused refused' : List ℕ) (k : ℕ) → refused' ≡ cond put refused (refused ++ m ∷ []) → length refused ≤ k → length refused' ≤ k + 1
 noted_length true m refused refused' k e l = let P : List ℕ → Type 0 = λ x. length x ≤ k + 1 in subst P (sym e) (omega (arith, l))
 noted_length false m refused refused' k e l = let P : List ℕ → Type 0 = λ x. length x ≤ k + 1 in let a = length-append refused (m ∷ []) in subst P (sym e) (omega (arith, l, a))
 
 -- a put at one stop, as puts to a list of one recipient
-pub put_once : (mark : Option (ℕ × ℕ)) (m : ℕ) (put : Bool) (old new : List StopView) → PutAt m mark put old new → (n : ℕ) → RoutedAt mark (m == n) ((m == n) && not put) (stop_at n old) (stop_at n new)
-put_once mark m put old new now n =
-    put_more mark (m == n) put false false (stop_at n old) (stop_at n old) (stop_at n new) now.before now.after (λ e. (refl, its e)) (refl, refl) now.change (now.now n)
+pub put_once : (item : Item) (m : ℕ) (put : Bool) (old new : List StopView) → PutAt m item put old new → (n : ℕ) → RoutedAt item (m == n) ((m == n) && not put) (stop_at n old) (stop_at n new)
+put_once item m put old new now n =
+    put_more item (m == n) put false false (stop_at n old) (stop_at n old) (stop_at n new) now.before now.after (λ e. (refl, its e)) (refl, refl) now.change (now.now n)
   where
     its : (m == n) ≡ true → stop_at n old ≡ Some now.before
     its e = let P : ℕ → Type 0 = λ j. stop_at j old ≡ Some now.before in subst P (eqb-true m n e) now.was

@@ -1,7 +1,11 @@
 -- Which stops a sender has, what their seats know, and what a call of the sender changes (own).
-use Rattle.std.specs.Prelude.{ℕ, ◌≡◌, ◌⊎◌, ◌≤◌, ◌+◌, ◌==◌, ◌&&◌, Bool, true, false, not, cond, Option, Some, None, IsSome, IfSome, List, [], ◌∷◌, find}
+use Rattle.std.specs.Prelude.{ℕ, ◌≡◌, ◌⊎◌, ◌≤◌, ◌+◌, ◌++◌, ◌==◌, ◌&&◌, Bool, true, false, not, cond, Option, Some, None, IsSome, IfSome, List, [], ◌∷◌, find}
 use Rattle.std.specs.List.{list_any}
+use Rattle.outbox.specs.Items.{Item}
+use Rattle.outbox.specs.Counts.{Put, AreOf, counts_of, last_of}
 use Rattle.outbox.specs.Seated.{OutboxId}
+use Rattle.routing.specs.declared.sender.Sent.{Sent}
+use Rattle.routing.specs.declared.sender.Sent.TheVariants as sent
 use Rattle.routing.specs.SenderView.{RecipientView, StopView, SenderView}
 
 abbrev pub number_of : RecipientView → ℕ
@@ -23,9 +27,13 @@ abbrev pub AllHave : List ℕ → List StopView → Type 0
 AllHave [] stops = Unit {0}
 AllHave (n ∷ ns) stops = HasStop n stops × AllHave ns stops
 
-abbrev pub last_count : Option StopView → ℕ
-last_count None = 0
-last_count (Some s) = s.seat.view.last
+abbrev pub put_in : Option StopView → List Item
+put_in None = []
+put_in (Some s) = s.seat.view.put
+
+abbrev pub taken_in : Option StopView → List Put
+taken_in None = []
+taken_in (Some s) = s.seat.view.taken
 
 abbrev pub outbox_id : Option StopView → Option OutboxId
 outbox_id None = None
@@ -35,9 +43,13 @@ abbrev pub knows_shut : Option StopView → Bool
 knows_shut None = false
 knows_shut (Some s) = s.seat.knows_shut
 
--- the last count of the seat at this recipient's outbox: 0 where there is no seat, or it has put no broadcast
-abbrev pub last_at : ℕ → List StopView → ℕ
-last_at n stops = last_count (stop_at n stops)
+-- what the seat at this recipient's outbox has put, in order: nothing if there is no seat
+abbrev pub puts_at : ℕ → List StopView → List Item
+puts_at n stops = put_in (stop_at n stops)
+
+-- what it has taken
+abbrev pub takes_at : ℕ → List StopView → List Put
+takes_at n stops = taken_in (stop_at n stops)
 
 -- the outbox at which the seat is
 abbrev pub outbox_at : ℕ → List StopView → Option OutboxId
@@ -47,9 +59,9 @@ outbox_at n stops = outbox_id (stop_at n stops)
 abbrev pub shut_at : ℕ → List StopView → Bool
 shut_at n stops = knows_shut (stop_at n stops)
 
--- the seat names this origin or none, and its last count is no greater
+-- the seat has put broadcasts of this origin alone, and the count of the last is no greater
 abbrev pub Fits : ℕ → ℕ → Option StopView → Type 0
-Fits origin count stop = IfSome stop (λ s. IfSome s.seat.view.origin (λ o. o ≡ origin) × (s.seat.view.last ≤ count))
+Fits origin count stop = IfSome stop (λ s. AreOf origin s.seat.view.put × (last_of 0 (counts_of s.seat.view.put) ≤ count))
 
 abbrev pub AllFit : ℕ → ℕ → List StopView → Type 0
 AllFit origin count stops = (n : ℕ) → Fits origin count (stop_at n stops)
@@ -71,25 +83,42 @@ abbrev pub Lists : List RecipientView → ℕ → OutboxId → Type 0
 Lists [] n outbox = ⊥
 Lists (r ∷ rs) n outbox = ((r.number ≡ n) × (r.outbox ≡ outbox)) ⊎ Lists rs n outbox
 
--- What calls of a sender keep: each seat stays at its outbox, a new one is at a newcomer's, and what is known to be
--- shut stays so
+-- What calls of a sender keep: each seat stays at its outbox, a new one is at a newcomer's, what is known to be shut
+-- stays so, and nothing is taken
 pub record Keeps (newcomers : List RecipientView) (old new : SenderView) : Type 0 where
   pub origin_is : new.origin ≡ old.origin
   pub stay : (n : ℕ) (outbox : OutboxId) → outbox_at n old.stops ≡ Some outbox → outbox_at n new.stops ≡ Some outbox
   pub theirs : (n : ℕ) (outbox : OutboxId) → outbox_at n new.stops ≡ Some outbox → (outbox_at n old.stops ≡ Some outbox) ⊎ Lists newcomers n outbox
   pub shut : (n : ℕ) → shut_at n old.stops ≡ true → shut_at n new.stops ≡ true
+  pub takes : (n : ℕ) → takes_at n new.stops ≡ takes_at n old.stops
 
--- One broadcast more. At a recipient that isn't listed, the seat's last count is this broadcast's; at a listed one and
--- at every other outbox, it is what it was. A listed one is a recipient whose outbox is shut, and where the seat knew
--- that before, the recipient is listed
-pub record Routed (recipients refused : List ℕ) (old new : SenderView) : Type 0 where
+-- One broadcast more, with these bytes. At a recipient that isn't listed just that item was put; at a listed one and at
+-- every other outbox nothing was. A listed one is a recipient whose outbox is shut, and if the seat knew that before,
+-- the recipient is listed
+pub record Routed (bytes recipients refused : List ℕ) (old new : SenderView) : Type 0 where
   pub count_is : new.count ≡ old.count + 1
-  pub lasts : (n : ℕ) → last_at n new.stops ≡ cond (is_put n recipients refused) new.count (last_at n old.stops)
+  pub item : Item
+  pub bytes_are : item.bytes ≡ bytes
+  pub mark_is : item.mark ≡ Some (new.origin, new.count)
+  pub puts : (n : ℕ) → puts_at n new.stops ≡ puts_at n old.stops ++ cond (is_put n recipients refused) (item ∷ []) []
   pub rising : RisesFrom 0 refused
   pub listed : (n : ℕ) → is_in n refused ≡ true → (is_in n recipients ≡ true) × (shut_at n new.stops ≡ true)
   pub again : (n : ℕ) → is_in n recipients ≡ true → shut_at n old.stops ≡ true → is_in n refused ≡ true
 
--- No broadcast was put, and the count isn't used
+abbrev pub is_sent : Sent → Bool
+is_sent sent.Put = true
+is_sent sent.Full = false
+
+-- A message that isn't a broadcast, with these bytes, was put at this recipient's outbox, or nowhere, and nothing else
+-- was put. No count is used
+pub record SentTo (recipient : ℕ) (bytes : List ℕ) (put : Bool) (old new : SenderView) : Type 0 where
+  pub count_is : new.count ≡ old.count
+  pub item : Item
+  pub bytes_are : item.bytes ≡ bytes
+  pub mark_is : item.mark ≡ None
+  pub puts : (n : ℕ) → puts_at n new.stops ≡ puts_at n old.stops ++ cond ((recipient == n) && put) (item ∷ []) []
+
+-- Nothing was put, and no count is used
 pub record Unrouted (old new : SenderView) : Type 0 where
   pub count_is : new.count ≡ old.count
-  pub lasts : (n : ℕ) → last_at n new.stops ≡ last_at n old.stops
+  pub puts : (n : ℕ) → puts_at n new.stops ≡ puts_at n old.stops

@@ -1,6 +1,7 @@
 // Messages of a sender that are held until they are put at all their recipients.
 
 ghost use Rattle.std.specs.Prelude.{◌≡◌, Bool, Some, IfOk, OnErr};
+ghost use Rattle.outbox.specs.Released.{hold_of};
 ghost use Rattle.routing.specs.Settled.{IsSettled, IsPutting};
 
 use bytes::Bytes;
@@ -17,7 +18,7 @@ pub(crate) fn begin(
 ) -> Result<Shares, AllocError>
     requires { (holding : Bool) × IsSettled holding releases.old }
     ensures shares { IfOk result (λ shares. (shares.left ≡ puts) × (shares.message.mark ≡ mark) × (shares.message.bytes ≡ bytes)) }
-    ensures putting { IfOk result (λ _. IsPutting releases.new) }
+    ensures putting { IfOk result (λ shares. IsPutting shares.message.hold releases.new) }
     ensures err { OnErr result (releases.new ≡ releases.old) }
 {
     match releases {
@@ -35,7 +36,7 @@ fn begin_first(
     puts: usize,
 ) -> Result<Shares, AllocError>
     ensures shares { IfOk result (λ shares. (shares.left ≡ puts) × (shares.message.mark ≡ mark) × (shares.message.bytes ≡ bytes)) }
-    ensures putting { IfOk result (λ _. IsPutting releases.new) }
+    ensures putting { IfOk result (λ shares. IsPutting shares.message.hold releases.new) }
     ensures err { OnErr result (releases.new ≡ releases.old) }
 {
     let mut first = Releases::new(alloc)?;
@@ -47,7 +48,7 @@ fn begin_first(
 /// No put of the message is left: it is released, unless further messages are to be held with it.
 pub(crate) fn end(releases: &mut Option<Releases>, shares: Shares, is_holding: bool)
     requires left { shares.left ≡ 0 }
-    requires putting { IsPutting releases.old }
+    requires putting { IsPutting shares.message.hold releases.old }
     ensures { IsSettled is_holding releases.new }
 {
     match releases {
@@ -57,7 +58,8 @@ pub(crate) fn end(releases: &mut Option<Releases>, shares: Shares, is_holding: b
 }
 
 fn end_of(releases: &mut Releases, shares: Shares, is_holding: bool)
-    requires { shares.left ≡ 0 }
+    requires left { shares.left ≡ 0 }
+    requires own { shares.message.hold ≡ hold_of releases.old }
     ensures { IsSettled is_holding (Some releases.new) }
 {
     releases.end(shares);

@@ -1,8 +1,8 @@
 // Senders.
 
 ghost use Rattle.std.specs.Prelude.{◌≡◌, ◌<◌, ◌≤◌, [], ◌↔◌, true, IfOk, OnOk, OnErr, None, filter, is_some, length, map};
-ghost use Rattle.routing.specs.Stops.{RisesFrom, number_of, is_in, stop_at, shut_at, HasStop, AllHave, AllFit, Keeps, Routed, Unrouted};
-ghost use Rattle.routing.specs.Puts.{RoutedTo, SentTo};
+ghost use Rattle.routing.specs.Stops.{RisesFrom, number_of, is_in, stop_at, shut_at, HasStop, AllHave, AllFit, Keeps, Routed, SentTo, Unrouted, is_sent};
+ghost use Rattle.routing.specs.Puts.{RoutedTo, PutOnce};
 
 use crate::carrier::Carrier;
 use crate::error::RouteError;
@@ -83,8 +83,8 @@ impl<C: Carrier> Sender<C> {
         take_seats(&mut self.stops, newcomers)
     }
 
-    /// Puts a broadcast into the outboxes of its recipients, whose numbers rise, and answers those whose outbox refused
-    /// it, a shut one included. The shares of the message are taken before the first put, so after an error nothing was
+    /// Puts a broadcast with these bytes into the outboxes of its recipients, whose numbers rise, and answers those whose
+    /// outbox refused it, a shut one included. The shares of the message are taken before the first put, so after an error nothing was
     /// put and the count isn't used.
     pub fn route<R: Wait>(
         &mut self,
@@ -96,7 +96,7 @@ impl<C: Carrier> Sender<C> {
         requires few { length recipients.now ≤ 256 }
         requires rising { RisesFrom 0 recipients.now }
         requires seats { AllHave recipients.now self.old.stops }
-        ensures ok { IfOk result (λ refused. Routed recipients.now refused.items self.old self.new) }
+        ensures ok { IfOk result (λ refused. Routed bytes.now recipients.now refused.items self.old self.new) }
         ensures keeps { Keeps [] self.old self.new }
         ensures err { OnErr result (self.new ≡ self.old) }
         ensures counts { (result ≡ Err RouteError.Counts) ↔ (self.old.count ≡ u64.MAX) }
@@ -122,7 +122,7 @@ impl<C: Carrier> Sender<C> {
         requires rising { RisesFrom 0 recipients.now }
         requires seats { AllHave recipients.now self.old.stops }
         requires none { refused.old.items ≡ [] }
-        ensures ok { OnOk result (Routed recipients.now refused.new.items self.old self.new) }
+        ensures ok { OnOk result (Routed bytes.now recipients.now refused.new.items self.old self.new) }
         ensures keeps { Keeps [] self.old self.new }
         ensures err { OnErr result (self.new ≡ self.old) }
         ensures counts { (result ≡ Err RouteError.Counts) ↔ (self.old.count ≡ u64.MAX) }
@@ -149,7 +149,7 @@ impl<C: Carrier> Sender<C> {
         requires rising { RisesFrom 0 recipients.now }
         requires seats { AllHave recipients.now self.old.stops }
         requires none { refused.old.items ≡ [] }
-        ensures ok { OnOk result (RoutedTo recipients.now refused.new.items self.old self.new) }
+        ensures ok { OnOk result (RoutedTo bytes.now recipients.now refused.new.items self.old self.new) }
         ensures err { OnErr result (self.new ≡ self.old) }
     {
         let mark = Some((self.origin, self.count + 1));
@@ -169,7 +169,7 @@ impl<C: Carrier> Sender<C> {
         Ok(())
     }
 
-    /// Puts a message that isn't a broadcast into the recipient's outbox. No last count changes.
+    /// Puts a message that isn't a broadcast into the recipient's outbox, and nothing else anywhere.
     pub fn unicast<R: Wait>(
         &mut self,
         rt: &R,
@@ -178,7 +178,8 @@ impl<C: Carrier> Sender<C> {
         bytes: &Bytes,
     ) -> Result<Sent, AllocError>
         requires { HasStop recipient self.old.stops }
-        ensures unrouted { Unrouted self.old self.new }
+        ensures sent { IfOk result (λ sent. SentTo recipient bytes.now (is_sent sent) self.old self.new) }
+        ensures err { OnErr result (self.new ≡ self.old) }
         ensures keeps { Keeps [] self.old self.new }
 
         // `Full` is answered only by an outbox that is shut, which then answers so always.
@@ -197,7 +198,7 @@ impl<C: Carrier> Sender<C> {
     fn put<R: Wait>(&mut self, rt: &R, recipient: u64, item: Item) -> bool
         requires has { HasStop recipient self.old.stops }
         requires unmarked { item.mark ≡ None }
-        ensures { SentTo recipient result self.old self.new }
+        ensures { PutOnce recipient item result self.old self.new }
     {
         put_at(rt, self.stops.as_mut_slice(), recipient, item)
     }
@@ -244,7 +245,7 @@ impl<C: Carrier> Sender<C> {
     /// At how many outboxes it has a seat.
     pub fn seats(&self) -> usize
         ensures seats { result ≡ length self.now.stops }
-        // Its seats name its origin or none, and no last count is above its count.
+        // Its seats have put broadcasts of its origin alone, and no count is above its count.
         ensures fits { AllFit self.now.origin self.now.count self.now.stops }
     {
         self.stops.len()

@@ -45,8 +45,8 @@ impl<C> Stop<C> {
 
     /// Puts an item there, and says whether it was put.
     pub(crate) fn put<R: Wait>(&mut self, rt: &R, item: Item) -> bool
-        requires { Follows self.old.seat.view item.mark }
-        ensures { PutThere item.mark result self.old self.new }
+        requires { Follows self.old.seat.view.put item.mark }
+        ensures { PutThere item result self.old self.new }
     {
         self.is_waiting = true;
         self.outbox.put(rt, &mut self.seat, item).is_ok()
@@ -90,8 +90,8 @@ pub(crate) fn place_of<C>(stops: &[Stop<C>], recipient: u64) -> Option<usize>
 
 /// Puts an item at the recipient's outbox, and says whether it was put.
 pub(crate) fn put_at<C, R: Wait>(rt: &R, stops: &mut [Stop<C>], recipient: u64, item: Item) -> bool
-    requires { IsSomeAnd (stop_at recipient stops.old) (λ s. Follows s.seat.view item.mark) }
-    ensures { PutAt recipient item.mark result stops.old stops.new }
+    requires { IsSomeAnd (stop_at recipient stops.old) (λ s. Follows s.seat.view.put item.mark) }
+    ensures { PutAt recipient item result stops.old stops.new }
 {
     match place_of(stops, recipient) {
         Some(place) => stops[place].put(rt, item),
@@ -107,8 +107,8 @@ pub(crate) fn put_next<C, R: Wait>(
     shares: &mut Shares,
 ) -> bool
     requires left { 0 < shares.old.left }
-    requires follows { IsSomeAnd (stop_at recipient stops.old) (λ s. Follows s.seat.view shares.old.message.mark) }
-    ensures put { PutAt recipient shares.old.message.mark result stops.old stops.new }
+    requires follows { IsSomeAnd (stop_at recipient stops.old) (λ s. Follows s.seat.view.put shares.old.message.mark) }
+    ensures put { PutAt recipient shares.old.message result stops.old stops.new }
     ensures left { (shares.new.left + 1 ≡ shares.old.left) × (shares.new.message ≡ shares.old.message) }
 {
     let item = shares.next();
@@ -167,10 +167,10 @@ pub(crate) fn put_all<C, R: Wait>(
     requires rising { RisesFrom 0 recipients.now }
     requires shares { shares.old.left ≡ length recipients.now }
     requires few { length recipients.now ≤ 256 }
-    requires follows { (n : ℕ) → IfSome (stop_at n stops.old) (λ s. Follows s.seat.view shares.old.message.mark) }
+    requires follows { (n : ℕ) → IfSome (stop_at n stops.old) (λ s. Follows s.seat.view.put shares.old.message.mark) }
     requires none { refused.old.items ≡ [] }
-    ensures put { PutTo shares.old.message.mark recipients.now refused.new.items stops.old stops.new }
-    ensures none_left { shares.new.left ≡ 0 }
+    ensures put { PutTo shares.old.message recipients.now refused.new.items stops.old stops.new }
+    ensures left { (shares.new.left ≡ 0) × (shares.new.message ≡ shares.old.message) }
 {
     for recipient in recipients {
         let put = put_next(rt, stops, *recipient, shares);

@@ -1,4 +1,4 @@
-use Rattle.std.proofs.Common.{ℕ, Option, IsSomeAnd, ap, sym, subst, rules, arith, get_or}
+use Rattle.std.proofs.Common.{IsSomeAnd, sym, subst, rules, arith, get_or}
 use Rattle.outbox.specs.Items.{Item}
 use Rattle.outbox.specs.Views.{Follows}
 use Rattle.routing.specs.SenderView.{StopView}
@@ -13,17 +13,17 @@ put_next-put-requires-clause-left g c = omega (arith, c.loop-recipient.invariant
 pub put_next-put-requires-clause-follows : goal.put_next-put-requires-clause-follows
 put_next-put-requires-clause-follows g c =
     let l = c.loop-recipient in
-    let mark = c.args.shares.now.message.mark in
-    let P : Option (ℕ × ℕ) → Type 0 = λ m. IsSomeAnd (stop_at (get_or c.args.recipients.now l.recipient-index 0) l.stops) (λ (s : StopView). Follows s.seat.view m) in
-    subst P (sym (ap (λ (i : Item). i.mark) l.invariant.3))
-    (may_put mark l.recipient-index c.args.recipients.now _ l.refused.items c.args.stops.now l.stops (λ (s : StopView). Follows s.seat.view mark)
+    let message : Item = c.args.shares.now.message in
+    let P : Item → Type 0 = λ i. IsSomeAnd (stop_at (get_or c.args.recipients.now l.recipient-index 0) l.stops) (λ (s : StopView). Follows s.seat.view.put i.mark) in
+    subst P (sym l.invariant.3)
+    (may_put message l.recipient-index c.args.recipients.now _ l.refused.items c.args.stops.now l.stops (λ (s : StopView). Follows s.seat.view.put message.mark)
     c.loop-recipient-test.true c.requires.rising c.requires.has c.requires.follows l.invariant.0)
 
 pub loop-recipient-preserved : goal.loop-recipient-preserved
 loop-recipient-preserved g c =
     let l = c.loop-recipient in
-    let P : Option (ℕ × ℕ) → Type 0 = λ m. PutAt (get_or c.args.recipients.now l.recipient-index 0) m c.put_next-put.result l.stops c.put_next-put.new.stops in
-    let put = subst P (ap (λ (i : Item). i.mark) l.invariant.3) c.put_next-put.ensures.put in (
+    let P : Item → Type 0 = λ i. PutAt (get_or c.args.recipients.now l.recipient-index 0) i c.put_next-put.result l.stops c.put_next-put.new.stops in
+    let put = subst P l.invariant.3 c.put_next-put.ensures.put in (
       next_recipient _ _ c.args.recipients.now _ l.refused.items _ _ l.stops _ c.put_next-put.result c.loop-recipient-test.true c.requires.rising c.note.ensures l.invariant.0 put,
       noted_length c.put_next-put.result _ l.refused.items _ _ c.note.ensures l.invariant.1,
       omega (arith, c.put_next-put.ensures.left.0, l.invariant.2),

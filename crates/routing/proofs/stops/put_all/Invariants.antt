@@ -4,5 +4,5 @@ use Rattle.routing.proofs.stops.put_all.Given as goal
 
 abbrev pub invariant-loop-recipient : goal.invariant-loop-recipient
 invariant-loop-recipient g l =
-    PutTo l.initial.shares.message.mark (take l.recipient-index l.recipients) l.refused.items l.initial.stops l.stops
+    PutTo l.initial.shares.message (take l.recipient-index l.recipients) l.refused.items l.initial.stops l.stops
     × (length l.refused.items ≤ l.recipient-index) × (l.shares.left + l.recipient-index ≡ length l.recipients) × (l.shares.message ≡ l.initial.shares.message)
