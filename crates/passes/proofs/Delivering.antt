@@ -16,46 +16,62 @@ use Rattle.lookups.proofs.Newcomers.{is_in-connected}
 use Rattle.passes.specs.declared.error.BusError.{BusError}
 use Rattle.passes.specs.declared.error.BusError.TheVariants as errors
 use Rattle.passes.specs.declared.unicasts.Sent.{Sent}
-use Rattle.passes.specs.declared.unicasts.Sent.TheVariants.{NoOwner}
+use Rattle.passes.specs.declared.unicasts.Sent.TheVariants.{Put, NoOwner, Full}
 use Rattle.passes.specs.Passes.{PassState}
-use Rattle.passes.specs.Routes.{HasNotRouted}
-use Rattle.passes.specs.Sending.{AreReachable, KeepsThose, UnroutedThose, stays, IsDelivered}
+use Rattle.passes.specs.Routes.{Sends, HasPut, HasNotPut}
+use Rattle.passes.specs.Sending.{sending, AreReachable, KeepsThose, PutThose, UnroutedThose, stays, IsDelivered}
 use Rattle.passes.specs.Unicasts.{Unicasts, IsUnsent}
-use Rattle.passes.proofs.Sending.{Turn, turned, saw, has_not_routed, has_seen}
+use Rattle.passes.proofs.Sending.{Turn, turned, saw, Reaches, sends_to, has_not_put, has_seen}
 
 module _ {M : Type 0} where
-  -- what became of the message, where an owner was found
-  pub delivered : (outbox_of : M → OutboxId) (to : List ℕ) (v p q w : PassState M) (old new : SenderView) (n : ℕ) (newcomers : List RecipientView) (connected : Option (List ℕ)) (r : Result Sent BusError)
-      → Turn v p q w old new → IsPrefix p.seen q.seen → IsAddressee outbox_of (after q.seen) to old.stops n newcomers connected → KeepsThose connected newcomers old new → AllFit new.origin new.count new.stops → UnroutedThose connected old new
-      → IfOk r (IsDelivered n new.stops) → IfErr r (λ e. e ≡ errors.NoMemory)
-      → MatchResult r (λ sent. Unicasts outbox_of to v sent w) (λ e. IsUnsent outbox_of e v w)
-  delivered outbox_of to v p q w old new n newcomers connected r t begins found k fits u = go r
+  -- what became of the message, if an owner was found
+  pub delivered : (outbox_of : M → OutboxId) (to bytes : List ℕ) (v p q w : PassState M) (old new : SenderView) (n : ℕ) (newcomers : List RecipientView) (connected : Option (List ℕ)) (r : Result Sent BusError)
+      → Turn v p q w old new → IsPrefix p.seen q.seen → IsAddressee outbox_of (after q.seen) to old.stops n newcomers connected → KeepsThose connected newcomers old new → AllFit new.origin new.count new.stops
+      → IfOk r (IsDelivered connected n bytes old new) → IfErr r (λ e. (e ≡ errors.NoMemory) × UnroutedThose connected old new)
+      → MatchResult r (λ sent. Unicasts outbox_of to bytes v sent w) (λ e. IsUnsent outbox_of e v w)
+  delivered outbox_of to bytes v p q w old new n newcomers connected r t begins found k fits = go r
     where
+      is : w ≡ record v { seen = q.seen; count = new.count; stops = new.stops }
+      is = turned v p q w old new t
+
       listed_stays : (c : Option (List ℕ)) → AreListed (after q.seen) c → (m : ℕ) → is_connected m (after q.seen).connections ≡ true → stays c m ≡ true
       listed_stays None a m e = refl
       listed_stays (Some numbers) a m e = ap (is_in m) a ∙ is_in-connected m (after q.seen).connections ∙ e
 
-      kept : HasNotRouted outbox_of v w
-      kept =
-          let K : SenderView → Type 0 = λ s. KeepsThose connected newcomers s new in
+      reaches : Reaches outbox_of q.seen newcomers connected
+      reaches = record { stay = listed_stays connected found.listed; theirs = found.new.theirs }
+
+      keeps : KeepsThose connected newcomers (sending v) new
+      keeps = let K : SenderView → Type 0 = λ s. KeepsThose connected newcomers s new in subst K t.is k
+
+      not_put : UnroutedThose connected old new → HasNotPut outbox_of v w
+      not_put u =
           let U : SenderView → Type 0 = λ s. UnroutedThose connected s new in
-          has_not_routed outbox_of v w q.seen new newcomers connected (turned v p q w old new t) (saw v p q w old new t begins)
-          (record { stay = listed_stays connected found.listed; theirs = found.new.theirs }) (subst K t.is k) fits (subst U t.is u)
+          has_not_put outbox_of v w q.seen new newcomers connected is (saw v p q w old new t begins) reaches keeps fits (subst U t.is u)
 
       owner : IsOwner (after w.seen) to n
-      owner = let O : PassState M → Type 0 = λ x. IsOwner (after x.seen) to n in subst O (sym (turned v p q w old new t)) found.owner
+      owner = let O : PassState M → Type 0 = λ x. IsOwner (after x.seen) to n in subst O (sym is) found.owner
 
-      go : (r : Result Sent BusError) → IfOk r (IsDelivered n new.stops) → IfErr r (λ e. e ≡ errors.NoMemory) → MatchResult r (λ sent. Unicasts outbox_of to v sent w) (λ e. IsUnsent outbox_of e v w)
-      go (Ok sent) (inl put) err = let S : Sent → Type 0 = λ s. Unicasts outbox_of to v s w in subst S (sym put) (kept, (n, owner))
-      go (Ok sent) (inr (full, shut)) err =
-          let S : Sent → Type 0 = λ s. Unicasts outbox_of to v s w in
-          let T : PassState M → Type 0 = λ x. shut_at n x.stops ≡ true in
-          subst S (sym full) (kept, (n, owner, subst T (sym (turned v p q w old new t)) shut))
-      go (Err e) ok err = inr (err, kept)
+      put : (new.count ≡ old.count) × PutThose connected (λ m. n == m) bytes None old new → Sends outbox_of v w × (w.count ≡ v.count) × HasPut (λ m. n == m) bytes None v w
+      put h =
+          let S : SenderView → Type 0 = λ s. (new.count ≡ s.count) × PutThose connected (λ m. n == m) bytes None s new in
+          let those = subst S t.is h in
+          let P : PassState M → Type 0 = λ x. Sends outbox_of v x × (x.count ≡ v.count) × HasPut (λ m. n == m) bytes None v x in
+          subst P (sym is) (
+            sends_to outbox_of v q.seen new newcomers connected (saw v p q w old new t begins) reaches keeps fits,
+            those.0,
+            record { item = those.1.item; bytes_are = those.1.bytes_are; mark_is = those.1.mark_is; puts = λ m there. those.1.puts m (reaches.stay m there) },
+          )
+
+      go : (r : Result Sent BusError) → IfOk r (IsDelivered connected n bytes old new) → IfErr r (λ e. (e ≡ errors.NoMemory) × UnroutedThose connected old new) → MatchResult r (λ sent. Unicasts outbox_of to bytes v sent w) (λ e. IsUnsent outbox_of e v w)
+      go (Ok Put) ok err = let done = put ok in (n, owner, done.0, done.1, done.2)
+      go (Ok NoOwner) ok err = absurd ok
+      go (Ok Full) ok err = let T : PassState M → Type 0 = λ x. shut_at n x.stops ≡ true in (not_put ok.0, n, owner, subst T (sym is) ok.1)
+      go (Err e) ok err = inr (err.0, not_put err.1)
 
   -- nobody owns the name
-  pub unowned : (outbox_of : M → OutboxId) (to : List ℕ) (v p q w : PassState M) (old : SenderView) → Turn v p q w old old → AllFit old.origin old.count old.stops → IsPrefix p.seen q.seen → ((n : ℕ) → IsOwner (after q.seen) to n → ⊥) → Unicasts outbox_of to v NoOwner w
-  unowned outbox_of to v p q w old t fits begins none =
+  pub unowned : (outbox_of : M → OutboxId) (to bytes : List ℕ) (v p q w : PassState M) (old : SenderView) → Turn v p q w old old → AllFit old.origin old.count old.stops → IsPrefix p.seen q.seen → ((n : ℕ) → IsOwner (after q.seen) to n → ⊥) → Unicasts outbox_of to bytes v NoOwner w
+  unowned outbox_of to bytes v p q w old t fits begins none =
       let O : SenderView → Type 0 = λ s. w ≡ record v { seen = q.seen; count = s.count; stops = s.stops } in
       let A : SenderView → Type 0 = λ s. AllFit s.origin s.count s.stops in
       let N : PassState M → Type 0 = λ x. (n : ℕ) → IsOwner (after x.seen) to n → ⊥ in

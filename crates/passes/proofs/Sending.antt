@@ -1,22 +1,23 @@
 -- What a pass's sender makes of what was found.
-use Rattle.std.proofs.Common.{◌≡◌, ◌⊎◌, inl, inr, ℕ, ◌+◌, ◌==◌, ◌||◌, Bool, true, false, true≢false, cond, List, [], ◌∷◌, map, Option, Some, None, IsSome, refl, sym, ap, subst, ◌∙◌, eq-eqb, eqb-true}
+use Rattle.std.proofs.Common.{◌≡◌, ◌⊎◌, inl, inr, ℕ, ◌+◌, ◌++◌, ◌==◌, ◌||◌, ◌&&◌, append-nil, Bool, true, false, true≢false, cond, List, [], ◌∷◌, map, Option, Some, None, IsSome, refl, sym, ap, subst, ◌∙◌, eq-eqb, eqb-true}
 use Rattle.std.specs.Prelude.{Result, Ok, Err, IfOk, IfErr, MatchResult}
 use mathlib.Core.List.{IsPrefix}
+use Rattle.outbox.specs.Items.{Item}
 use Rattle.outbox.specs.Seated.{OutboxId}
 use Rattle.lookups.specs.Command.{Command}
 use Rattle.lookups.specs.Connections.{is_connected}
 use Rattle.lookups.specs.History.{after}
 use Rattle.routing.specs.SenderView.{RecipientView, StopView, SenderView}
-use Rattle.routing.specs.Stops.{stop_at, last_count, outbox_id, knows_shut, is_in, is_put, number_of, outbox_at, HasStop, AllHave, AllFit, Lists, Keeps, Routed, Unrouted}
+use Rattle.routing.specs.Stops.{stop_at, put_in, puts_at, outbox_id, knows_shut, is_in, is_put, number_of, outbox_at, HasStop, AllHave, AllFit, Lists, Keeps, Routed, SentTo, Unrouted}
 use Rattle.routing.proofs.Routes.{kept_at}
 use Rattle.passes.specs.declared.reading.Source.{Source}
 use Rattle.passes.specs.Passes.{PassState, sender_of}
-use Rattle.passes.specs.Sending.{sending, kept_stops, stays, AreReachable, KeepsThose, UnroutedThose, RoutedThose}
+use Rattle.passes.specs.Sending.{sending, kept_stops, stays, AreReachable, KeepsThose, PutThose, UnroutedThose, RoutedThose}
 use Rattle.passes.specs.declared.error.BusError.{BusError}
 use Rattle.passes.specs.declared.error.BusError.TheVariants as errors
 use Rattle.lookups.specs.Newcomers.{IsOutboxOf}
 use Rattle.lookups.specs.Broadcasts.{IsFound}
-use Rattle.passes.specs.Routes.{max_count, Sends, HasRouted, HasNotRouted, IsUnrouted}
+use Rattle.passes.specs.Routes.{max_count, Sends, HasRouted, HasNotPut, IsUnrouted}
 use Rattle.passes.proofs.Finding.{stays-connected}
 
 kept_stop : (connected : Option (List ℕ)) (n : ℕ) (stops : List StopView) → stop_at n (kept_stops connected stops) ≡ cond (stays connected n) (stop_at n stops) None
@@ -52,7 +53,7 @@ prepared_keeps connected newcomers old mid new e k = record {
 pub prepared_unrouted : (connected : Option (List ℕ)) (old mid new : SenderView) → GaveUp connected old mid → Unrouted mid new → UnroutedThose connected old new
 prepared_unrouted connected old mid new e u = record {
   count_is = u.count_is ∙ ap (λ (v : SenderView). v.count) e;
-  lasts = λ n s. u.lasts n ∙ ap last_count (same_stop connected old mid n e s);
+  puts = λ n s. u.puts n ∙ ap put_in (same_stop connected old mid n e s);
 }
 
 has_outbox : (o : Option StopView) → IsSome o → (outbox : OutboxId) × (outbox_id o ≡ Some outbox)
@@ -99,13 +100,48 @@ routed_keeps connected newcomers old mid new h k = record {
     pick n outbox (inl e) = e
     pick n outbox (inr e) = absurd e
 
-pub routed_those : (connected : Option (List ℕ)) (recipients refused : List ℕ) (newcomers : List RecipientView) (old mid new : SenderView) → AreReachable connected recipients newcomers old.stops → KeepsThose connected newcomers old mid → UnroutedThose connected old mid → Routed recipients refused mid new → RoutedThose connected recipients refused old new
-routed_those connected recipients refused newcomers old mid new reach k u r = record {
+pub routed_those : (connected : Option (List ℕ)) (bytes recipients refused : List ℕ) (newcomers : List RecipientView) (old mid new : SenderView) → AreReachable connected recipients newcomers old.stops → KeepsThose connected newcomers old mid → UnroutedThose connected old mid → Routed bytes recipients refused mid new → RoutedThose connected bytes recipients refused old new
+routed_those connected bytes recipients refused newcomers old mid new reach k u r = record {
   count_is = r.count_is ∙ ap (λ c. c + 1) u.count_is;
-  lasts = λ n s. r.lasts n ∙ ap (λ l. cond (is_put n recipients refused) new.count l) (u.lasts n s);
+  put = record {
+    item = r.item;
+    bytes_are = r.bytes_are;
+    mark_is = r.mark_is;
+    puts = λ n s. r.puts n ∙ ap (λ (l : List Item). l ++ cond (is_put n recipients refused) (r.item ∷ []) []) (u.puts n s);
+  };
   rising = r.rising;
   listed = r.listed;
   again = λ n i e. r.again n i (k.shut n (reach.stay n i) e);
+}
+
+and_true : (b : Bool) → (b && true) ≡ b
+and_true true = refl
+and_true false = refl
+
+and_false : (b : Bool) → (b && false) ≡ false
+and_false true = refl
+and_false false = refl
+
+-- the message was put to the connection
+pub sent_those : (connected : Option (List ℕ)) (m : ℕ) (bytes : List ℕ) (old mid new : SenderView) → UnroutedThose connected old mid → SentTo m bytes true mid new → (new.count ≡ old.count) × PutThose connected (λ n. m == n) bytes None old new
+sent_those connected m bytes old mid new u s = (
+  s.count_is ∙ u.count_is,
+  record {
+    item = s.item;
+    bytes_are = s.bytes_are;
+    mark_is = s.mark_is;
+    puts = λ n h.
+        s.puts n ∙ ap (λ (l : List Item). l ++ cond ((m == n) && true) (s.item ∷ []) []) (u.puts n h)
+        ∙ ap (λ (b : Bool). puts_at n old.stops ++ cond b (s.item ∷ []) []) (and_true (m == n));
+  },
+)
+
+-- its outbox refused it
+pub full_those : (connected : Option (List ℕ)) (m : ℕ) (bytes : List ℕ) (old mid new : SenderView) → UnroutedThose connected old mid → SentTo m bytes false mid new → UnroutedThose connected old new
+full_those connected m bytes old mid new u s = record {
+  count_is = s.count_is ∙ u.count_is;
+  puts = λ n h.
+      s.puts n ∙ ap (λ (b : Bool). puts_at n mid.stops ++ cond b (s.item ∷ []) []) (and_false (m == n)) ∙ append-nil (puts_at n mid.stops) ∙ u.puts n h;
 }
 
 module _ {M : Type 0} where
@@ -122,7 +158,7 @@ module _ {M : Type 0} where
   pub found_reaches : (outbox_of : M → OutboxId) (from : Option ℕ) (bytes : List ℕ) (stops : List StopView) (l : List (Command M)) (recipients : List ℕ) (newcomers : List RecipientView) (connected : Option (List ℕ)) → IsFound outbox_of (after l) from bytes stops recipients newcomers connected → Reaches outbox_of l newcomers connected
   found_reaches outbox_of from bytes stops l recipients newcomers connected found = record { stay = λ n there. stays-connected (after l) connected n found.there there; theirs = found.new.theirs }
 
-  sends_to : (outbox_of : M → OutboxId) (v : PassState M) (l : List (Command M)) (new : SenderView) (newcomers : List RecipientView) (connected : Option (List ℕ)) → IsPrefix v.seen l
+  pub sends_to : (outbox_of : M → OutboxId) (v : PassState M) (l : List (Command M)) (new : SenderView) (newcomers : List RecipientView) (connected : Option (List ℕ)) → IsPrefix v.seen l
       → Reaches outbox_of l newcomers connected → KeepsThose connected newcomers (sending v) new → AllFit new.origin new.count new.stops
       → Sends outbox_of v (record v { seen = l; count = new.count; stops = new.stops })
   sends_to outbox_of v l new newcomers connected begins reaches k fits = record {
@@ -141,7 +177,7 @@ module _ {M : Type 0} where
       pick n outbox (inr e) = inr (reaches.theirs n outbox e)
 
   pub has_routed : (outbox_of : M → OutboxId) (source : Source) (bytes : List ℕ) (v w : PassState M) (l : List (Command M)) (new : SenderView) (recipients refused : List ℕ) (newcomers : List RecipientView) (connected : Option (List ℕ)) → w ≡ record v { seen = l; count = new.count; stops = new.stops } → IsPrefix v.seen l
-      → IsFound outbox_of (after l) (sender_of source v.connection) bytes v.stops recipients newcomers connected → KeepsThose connected newcomers (sending v) new → AllFit new.origin new.count new.stops → RoutedThose connected recipients refused (sending v) new
+      → IsFound outbox_of (after l) (sender_of source v.connection) bytes v.stops recipients newcomers connected → KeepsThose connected newcomers (sending v) new → AllFit new.origin new.count new.stops → RoutedThose connected bytes recipients refused (sending v) new
       → HasRouted outbox_of source bytes v recipients refused w
   has_routed outbox_of source bytes v w l new recipients refused newcomers connected is begins found k fits r =
       let P : PassState M → Type 0 = λ x. HasRouted outbox_of source bytes v recipients refused x in
@@ -149,30 +185,35 @@ module _ {M : Type 0} where
         sends = sends_to outbox_of v l new newcomers connected begins (found_reaches outbox_of (sender_of source v.connection) bytes v.stops l recipients newcomers connected found) k fits;
         are = found.are;
         count_is = r.count_is;
-        lasts = λ n there. r.lasts n (stays-connected (after l) connected n found.there there);
+        put = record {
+          item = r.put.item;
+          bytes_are = r.put.bytes_are;
+          mark_is = r.put.mark_is ∙ ap (λ (o : ℕ). Some (o, new.count)) k.origin_is;
+          puts = λ n there. r.put.puts n (stays-connected (after l) connected n found.there there);
+        };
         rising = r.rising;
         listed = r.listed;
         again = r.again;
       })
 
-  pub has_not_routed : (outbox_of : M → OutboxId) (v w : PassState M) (l : List (Command M)) (new : SenderView) (newcomers : List RecipientView) (connected : Option (List ℕ)) → w ≡ record v { seen = l; count = new.count; stops = new.stops } → IsPrefix v.seen l
-      → Reaches outbox_of l newcomers connected → KeepsThose connected newcomers (sending v) new → AllFit new.origin new.count new.stops → UnroutedThose connected (sending v) new → HasNotRouted outbox_of v w
-  has_not_routed outbox_of v w l new newcomers connected is begins reaches k fits u =
-      let P : PassState M → Type 0 = λ x. HasNotRouted outbox_of v x in
+  pub has_not_put : (outbox_of : M → OutboxId) (v w : PassState M) (l : List (Command M)) (new : SenderView) (newcomers : List RecipientView) (connected : Option (List ℕ)) → w ≡ record v { seen = l; count = new.count; stops = new.stops } → IsPrefix v.seen l
+      → Reaches outbox_of l newcomers connected → KeepsThose connected newcomers (sending v) new → AllFit new.origin new.count new.stops → UnroutedThose connected (sending v) new → HasNotPut outbox_of v w
+  has_not_put outbox_of v w l new newcomers connected is begins reaches k fits u =
+      let P : PassState M → Type 0 = λ x. HasNotPut outbox_of v x in
       subst P (sym is) (record {
         sends = sends_to outbox_of v l new newcomers connected begins reaches k fits;
         count_is = u.count_is;
-        lasts = λ n there. u.lasts n (reaches.stay n there);
+        puts = λ n there. u.puts n (reaches.stay n there);
       })
 
   -- nothing was found for want of memory
-  pub has_seen : (outbox_of : M → OutboxId) (v w : PassState M) (l : List (Command M)) → w ≡ record v { seen = l; count = v.count; stops = v.stops } → IsPrefix v.seen l → AllFit v.connection v.count v.stops → HasNotRouted outbox_of v w
+  pub has_seen : (outbox_of : M → OutboxId) (v w : PassState M) (l : List (Command M)) → w ≡ record v { seen = l; count = v.count; stops = v.stops } → IsPrefix v.seen l → AllFit v.connection v.count v.stops → HasNotPut outbox_of v w
   has_seen outbox_of v w l is begins fits =
-      let P : PassState M → Type 0 = λ x. HasNotRouted outbox_of v x in
+      let P : PassState M → Type 0 = λ x. HasNotPut outbox_of v x in
       subst P (sym is) (record {
         sends = record { begins = begins; same = refl; keeps = record { stay = λ n outbox there e. e; theirs = λ n outbox e. inl e; shut = λ n there e. e; fits = fits } };
         count_is = refl;
-        lasts = λ n there. refl;
+        puts = λ n there. refl;
       })
 
   -- The pass v gave its sender away, saw more, and got its sender back.
@@ -191,19 +232,19 @@ module _ {M : Type 0} where
   -- what a broadcast came to
   pub answered : {A : Type 0} (outbox_of : M → OutboxId) (source : Source) (from : Option ℕ) (bytes : List ℕ) (v p q w : PassState M) (old new : SenderView) (recipients : List ℕ) (newcomers : List RecipientView) (connected : Option (List ℕ)) (items : A → List ℕ) (r : Result A BusError)
       → Turn v p q w old new → from ≡ sender_of source v.connection → IsPrefix p.seen q.seen → IsFound outbox_of (after q.seen) from bytes old.stops recipients newcomers connected → KeepsThose connected newcomers old new → AllFit new.origin new.count new.stops
-      → IfOk r (λ a. RoutedThose connected recipients (items a) old new) → IfErr r (λ e. ((e ≡ errors.NoMemory) ⊎ ((e ≡ errors.Counts) × (old.count ≡ max_count))) × UnroutedThose connected old new)
+      → IfOk r (λ a. RoutedThose connected bytes recipients (items a) old new) → IfErr r (λ e. ((e ≡ errors.NoMemory) ⊎ ((e ≡ errors.Counts) × (old.count ≡ max_count))) × UnroutedThose connected old new)
       → MatchResult r (λ a. HasRouted outbox_of source bytes v recipients (items a) w) (λ e. IsUnrouted outbox_of e v w)
   answered outbox_of source from bytes v p q w old new recipients newcomers connected items (Ok a) t is begins found k fits ok err =
       let F : SenderView → Type 0 = λ s. IsFound outbox_of (after q.seen) from bytes s.stops recipients newcomers connected in
       let G : Option ℕ → Type 0 = λ o. IsFound outbox_of (after q.seen) o bytes v.stops recipients newcomers connected in
       let K : SenderView → Type 0 = λ s. KeepsThose connected newcomers s new in
-      let R : SenderView → Type 0 = λ s. RoutedThose connected recipients (items a) s new in
+      let R : SenderView → Type 0 = λ s. RoutedThose connected bytes recipients (items a) s new in
       has_routed outbox_of source bytes v w q.seen new recipients (items a) newcomers connected (turned v p q w old new t) (saw v p q w old new t begins) (subst G is (subst F t.is found)) (subst K t.is k) fits (subst R t.is ok)
   answered outbox_of source from bytes v p q w old new recipients newcomers connected items (Err e) t is begins found k fits ok err =
       let K : SenderView → Type 0 = λ s. KeepsThose connected newcomers s new in
       let W : SenderView → Type 0 = λ s. (e ≡ errors.NoMemory) ⊎ ((e ≡ errors.Counts) × (s.count ≡ max_count)) in
       let U : SenderView → Type 0 = λ s. UnroutedThose connected s new in
-      inr (subst W t.is err.0, has_not_routed outbox_of v w q.seen new newcomers connected (turned v p q w old new t) (saw v p q w old new t begins) (found_reaches outbox_of from bytes old.stops q.seen recipients newcomers connected found) (subst K t.is k) fits (subst U t.is err.1))
+      inr (subst W t.is err.0, has_not_put outbox_of v w q.seen new newcomers connected (turned v p q w old new t) (saw v p q w old new t begins) (found_reaches outbox_of from bytes old.stops q.seen recipients newcomers connected found) (subst K t.is k) fits (subst U t.is err.1))
 
   -- nothing was found
   pub not_found : (outbox_of : M → OutboxId) (v p q w : PassState M) (old : SenderView) (e : BusError) → Turn v p q w old old → AllFit old.origin old.count old.stops → ((e ≡ errors.Closed) × (q.seen ≡ p.seen)) ⊎ ((e ≡ errors.NoMemory) × IsPrefix p.seen q.seen) → IsUnrouted outbox_of e v w

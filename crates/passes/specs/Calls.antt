@@ -16,6 +16,10 @@ use Rattle.passes.specs.Errors.{error_of}
 use Rattle.passes.specs.Passes.{PassState}
 
 module _ {M : Type 0} where
+  -- What is said of a call through the bus: it is so of what was published when it had the lock, and after it.
+  abbrev pub Once : (Publication M → Publication M → Type 0) → Type 0
+  Once P = (before : Publication M) × (next : Publication M) × P before next
+
   -- A command of w's connection is accepted after the history that is published, which begins with what the pass v had
   -- seen. It is published and seen by the pass w. The commands of the connection that w has seen are those that v had
   -- seen, and this one, and they are as many as it took.
@@ -71,10 +75,6 @@ module _ {M : Type 0} where
   Answers closes v before command (Ok reply) w next = IsDone v before command reply w next × (w.connection ≡ v.connection) × (w.is_closed ≡ closes)
   Answers closes v before command (Err error) w next = (IsRefused v before command error w next × KeepsOwn v w) ⊎ IsClosed v before error w next
 
-  -- the same of a call through the bus, for what was published when it had the lock
-  abbrev pub AnswersOnce : Bool → PassState M → Command M → Result Reply BusError → PassState M → Type 0
-  AnswersOnce closes v command result w = (before : Publication M) × (next : Publication M) × Answers closes v before command result w next
-
   -- why a Connect is Closed, whatever the state says
   pub data IsPast (v : PassState M) (before next : Publication M) : Type 0 where
     -- the pass was connected already
@@ -91,6 +91,3 @@ module _ {M : Type 0} where
   Connects v before mailbox (Ok reply) w next = IsDone v before (Connect mailbox) reply w next × (reply ≡ Connected w.connection) × (w.is_closed ≡ false)
   Connects v before mailbox (Err error) w next =
       IsRefused v before (Connect mailbox) error w next ⊎ (IsStopped v before w next × (((error ≡ errors.Closed) × IsPast v before next) ⊎ (error ≡ errors.NoMemory)))
-
-  abbrev pub ConnectsOnce : PassState M → M → Result Reply BusError → PassState M → Type 0
-  ConnectsOnce v mailbox result w = (before : Publication M) × (next : Publication M) × Connects v before mailbox result w next

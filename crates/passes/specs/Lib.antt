@@ -4,6 +4,7 @@ pub use Rattle.lookups.specs.History
 pub use Rattle.lookups.specs.Recipients
 pub use Rattle.lookups.specs.State
 pub use Rattle.lookups.specs.Command
+pub use Rattle.lookups.specs.Reply
 pub use Rattle.lookups.specs.Publication
 pub use Rattle.lookups.specs.Names
 pub use Rattle.lookups.specs.NameOwners

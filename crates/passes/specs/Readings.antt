@@ -65,16 +65,10 @@ module _ {M : Type 0} where
   AddsMatch text v before result w next =
       ((rule : RuleTree) × ReadsAs text rule × AddsRule rule v before result w next) ⊎ IsUnread text v before result w next
 
-  abbrev pub AddsMatchOnce : List ℕ → PassState M → Result Reply BusError → PassState M → Type 0
-  AddsMatchOnce text v result w = (before : Publication M) × (next : Publication M) × AddsMatch text v before result w next
-
   -- RemoveMatch: the text reads as a rule, which is to go
   abbrev pub RemovesMatch : List ℕ → PassState M → Publication M → Result Reply BusError → PassState M → Publication M → Type 0
   RemovesMatch text v before result w next =
       ((rule : RuleTree) × ReadsAs text rule × Answers false v before (RemoveRule v.connection rule) result w next) ⊎ IsUnread text v before result w next
-
-  abbrev pub RemovesMatchOnce : List ℕ → PassState M → Result Reply BusError → PassState M → Type 0
-  RemovesMatchOnce text v result w = (before : Publication M) × (next : Publication M) × RemovesMatch text v before result w next
 
   -- the program isn't taken: it isn't well formed, or memory was refused. Nothing was done.
   pub record IsUntaken (program : List Ins) (v : PassState M) (before : Publication M) (result : Result Reply BusError) (w : PassState M) (next : Publication M) : Type 0 where
@@ -86,6 +80,3 @@ module _ {M : Type 0} where
   abbrev pub Attaches : Edition → List Ins → PassState M → Publication M → Result Reply BusError → PassState M → Publication M → Type 0
   Attaches edition program v before result w next =
       (WellFormed program × Answers false v before (Attach v.connection (record { edition = edition; program = program })) result w next) ⊎ IsUntaken program v before result w next
-
-  abbrev pub AttachesOnce : Edition → List Ins → PassState M → Result Reply BusError → PassState M → Type 0
-  AttachesOnce edition program v result w = (before : Publication M) × (next : Publication M) × Attaches edition program v before result w next

@@ -1,13 +1,14 @@
 -- Broadcasts of a pass (own).
-use Rattle.std.specs.Prelude.{◌≡◌, ◌⊎◌, ◌+◌, ℕ, Bool, true, cond, List, Some}
+use Rattle.std.specs.Prelude.{◌≡◌, ◌⊎◌, ◌+◌, ◌++◌, ℕ, Bool, true, cond, List, [], ◌∷◌, Option, Some}
 use mathlib.Core.List.{IsPrefix}
 use Rattle.message_view.specs.Message.{Message}
 use Rattle.message_view.specs.Valid.{Valid}
+use Rattle.outbox.specs.Items.{Item}
 use Rattle.outbox.specs.Seated.{OutboxId}
 use Rattle.lookups.specs.Connections.{is_connected}
 use Rattle.lookups.specs.History.{after}
 use Rattle.lookups.specs.Recipients.{AreRecipients}
-use Rattle.routing.specs.Stops.{RisesFrom, last_at, outbox_at, shut_at, is_in, is_put, AllFit}
+use Rattle.routing.specs.Stops.{RisesFrom, puts_at, outbox_at, shut_at, is_in, is_put, AllFit}
 use Rattle.lookups.specs.Newcomers.{IsOutboxOf}
 use Rattle.passes.specs.declared.error.BusError.{BusError}
 use Rattle.passes.specs.declared.error.BusError.TheVariants as errors
@@ -38,15 +39,21 @@ module _ {M : Type 0} where
     pub same : w ≡ record v { seen = w.seen; count = w.count; stops = w.stops }
     pub keeps : KeepsSeats outbox_of v w
 
-  -- One broadcast more of the message of these bytes, to its recipients after what the pass has seen. At a recipient that
-  -- didn't refuse it the seat's last count is this broadcast's; at one that did, and at each other connection that is
-  -- there, it is what it was. One that refused is a recipient whose outbox is shut, and where the seat knew that before,
-  -- the recipient refused.
+  -- One item more, with these bytes and this mark, was put to just these connections, of those that are there.
+  pub record HasPut (goes_to : ℕ → Bool) (bytes : List ℕ) (mark : Option (ℕ × ℕ)) (v w : PassState M) : Type 0 where
+    pub item : Item
+    pub bytes_are : item.bytes ≡ bytes
+    pub mark_is : item.mark ≡ mark
+    pub puts : (n : ℕ) → is_there n w ≡ true → puts_at n w.stops ≡ puts_at n v.stops ++ cond (goes_to n) (item ∷ []) []
+
+  -- One broadcast more of the message of these bytes, to its recipients after what the pass has seen: it was put to each
+  -- that didn't refuse it, and nothing was put anywhere else. One that refused is a recipient whose outbox is shut, and if
+  -- the seat knew that before, the recipient refused.
   pub record HasRouted (outbox_of : M → OutboxId) (source : Source) (bytes : List ℕ) (v : PassState M) (recipients refused : List ℕ) (w : PassState M) : Type 0 where
     pub sends : Sends outbox_of v w
     pub are : (m : Message) → Valid bytes m → AreRecipients (after w.seen) (sender_of source v.connection) m recipients
     pub count_is : w.count ≡ v.count + 1
-    pub lasts : (n : ℕ) → is_there n w ≡ true → last_at n w.stops ≡ cond (is_put n recipients refused) w.count (last_at n v.stops)
+    pub put : HasPut (λ n. is_put n recipients refused) bytes (Some (v.connection, w.count)) v w
     pub rising : RisesFrom 0 refused
     pub listed : (n : ℕ) → is_in n refused ≡ true → (is_in n recipients ≡ true) × (shut_at n w.stops ≡ true)
     pub again : (n : ℕ) → is_in n recipients ≡ true → shut_at n v.stops ≡ true → is_in n refused ≡ true
@@ -55,13 +62,13 @@ module _ {M : Type 0} where
   abbrev pub HasRoutedToSome : (M → OutboxId) → Source → List ℕ → PassState M → List ℕ → PassState M → Type 0
   HasRoutedToSome outbox_of source bytes v refused w = (recipients : List ℕ) × HasRouted outbox_of source bytes v recipients refused w
 
-  -- no broadcast was put, and the count isn't used
-  pub record HasNotRouted (outbox_of : M → OutboxId) (v w : PassState M) : Type 0 where
+  -- nothing was put, and no count is used
+  pub record HasNotPut (outbox_of : M → OutboxId) (v w : PassState M) : Type 0 where
     pub sends : Sends outbox_of v w
     pub count_is : w.count ≡ v.count
-    pub lasts : (n : ℕ) → is_there n w ≡ true → last_at n w.stops ≡ last_at n v.stops
+    pub puts : (n : ℕ) → is_there n w ≡ true → puts_at n w.stops ≡ puts_at n v.stops
 
-  -- Nothing was put: where the pass is closed or the bus is gone it is as it was.
+  -- Nothing was put: if the pass is closed or the bus is gone, the pass is as it was.
   abbrev pub IsUnrouted : (M → OutboxId) → BusError → PassState M → PassState M → Type 0
   IsUnrouted outbox_of error v w =
-      ((error ≡ errors.Closed) × (w ≡ v)) ⊎ (((error ≡ errors.NoMemory) ⊎ ((error ≡ errors.Counts) × (v.count ≡ max_count))) × HasNotRouted outbox_of v w)
+      ((error ≡ errors.Closed) × (w ≡ v)) ⊎ (((error ≡ errors.NoMemory) ⊎ ((error ≡ errors.Counts) × (v.count ≡ max_count))) × HasNotPut outbox_of v w)

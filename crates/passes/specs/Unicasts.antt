@@ -1,5 +1,5 @@
 -- Unicast messages of a pass (own).
-use Rattle.std.specs.Prelude.{◌≡◌, ◌⊎◌, ℕ, true, List}
+use Rattle.std.specs.Prelude.{◌≡◌, ◌⊎◌, ◌==◌, ℕ, true, List, None}
 use Rattle.outbox.specs.Seated.{OutboxId}
 use Rattle.lookups.specs.History.{after}
 use Rattle.routing.specs.Stops.{shut_at}
@@ -9,19 +9,17 @@ use Rattle.passes.specs.declared.error.BusError.TheVariants as errors
 use Rattle.passes.specs.declared.unicasts.Sent.{Sent}
 use Rattle.passes.specs.declared.unicasts.Sent.TheVariants.{Put, NoOwner, Full}
 use Rattle.passes.specs.Passes.{PassState}
-use Rattle.passes.specs.Routes.{HasNotRouted}
+use Rattle.passes.specs.Routes.{Sends, HasPut, HasNotPut}
 
 module _ {M : Type 0} where
-  -- what became of a unicast message to the owner of a name, after what the pass has seen
-  abbrev pub IsSent : List ℕ → PassState M → Sent → Type 0
-  IsSent to w Put = (n : ℕ) × IsOwner (after w.seen) to n
-  IsSent to w NoOwner = (n : ℕ) → IsOwner (after w.seen) to n → ⊥
-  IsSent to w Full = (n : ℕ) × IsOwner (after w.seen) to n × (shut_at n w.stops ≡ true)
-
-  -- no broadcast is put, and no count is used
-  abbrev pub Unicasts : (M → OutboxId) → List ℕ → PassState M → Sent → PassState M → Type 0
-  Unicasts outbox_of to v sent w = HasNotRouted outbox_of v w × IsSent to w sent
+  -- What became of a unicast message with these bytes to the owner of a name, after what the pass has seen: it was put to
+  -- the owner, and nothing was put anywhere else; or nothing was put, since nobody owns the name, or the owner's outbox is
+  -- shut. No count is used.
+  abbrev pub Unicasts : (M → OutboxId) → List ℕ → List ℕ → PassState M → Sent → PassState M → Type 0
+  Unicasts outbox_of to bytes v Put w = (n : ℕ) × IsOwner (after w.seen) to n × Sends outbox_of v w × (w.count ≡ v.count) × HasPut (λ m. n == m) bytes None v w
+  Unicasts outbox_of to bytes v NoOwner w = HasNotPut outbox_of v w × ((n : ℕ) → IsOwner (after w.seen) to n → ⊥)
+  Unicasts outbox_of to bytes v Full w = HasNotPut outbox_of v w × (n : ℕ) × IsOwner (after w.seen) to n × (shut_at n w.stops ≡ true)
 
   -- nothing was put
   abbrev pub IsUnsent : (M → OutboxId) → BusError → PassState M → PassState M → Type 0
-  IsUnsent outbox_of error v w = ((error ≡ errors.Closed) × (w ≡ v)) ⊎ ((error ≡ errors.NoMemory) × HasNotRouted outbox_of v w)
+  IsUnsent outbox_of error v w = ((error ≡ errors.Closed) × (w ≡ v)) ⊎ ((error ≡ errors.NoMemory) × HasNotPut outbox_of v w)

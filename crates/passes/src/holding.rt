@@ -27,7 +27,9 @@ impl<J: Naming, M: Mailbox + Carrier> Pass<J, M> {
     pub fn release(&mut self)
         ensures { self.new ≡ self.old }
     {
-        self.release_sent();
+        if let Some(sender) = &mut self.sender {
+            sender.release();
+        }
     }
 
     /// A message that isn't a broadcast, for a put at one outbox, held with what is put between `hold` and `release`.
@@ -35,12 +37,9 @@ impl<J: Naming, M: Mailbox + Carrier> Pass<J, M> {
         ensures ok { IfOk result (λ item. (item.bytes ≡ bytes) × (item.mark ≡ None)) }
         ensures same { self.new ≡ self.old }
     {
-        if self.connection() == 0 {
-            return Item::new(alloc, bytes);
+        match &mut self.sender {
+            Some(sender) => sender.message(alloc, bytes),
+            None => Item::new(alloc, bytes),
         }
-        let mut sender = self.take_sender(alloc);
-        let message = sender.message(alloc, bytes);
-        self.put_back(sender);
-        message
     }
 }

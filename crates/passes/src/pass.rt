@@ -46,7 +46,7 @@ where
     is_closed: bool,
     took: u64,
     // It exists from the first message on.
-    sender: Option<Sender<M>>,
+    pub(crate) sender: Option<Sender<M>>,
 }
 
 impl<J: Naming, M: Mailbox> Model for Pass<J, M>
@@ -286,24 +286,6 @@ impl<J: Naming, M: Mailbox + Sync> Pass<J, M> {
 }
 
 impl<J: Naming, M: Mailbox + Carrier> Pass<J, M> {
-    // Writes out what stands in each outbox into which its sender has put since the last call.
-    pub(crate) fn push_out_sent<W: Wait>(&mut self, rt: &W)
-        ensures { self.new ≡ self.old }
-    {
-        if let Some(sender) = &mut self.sender {
-            sender.push_out(rt);
-        }
-    }
-
-    // Releases all that its sender has put.
-    pub(crate) fn release_sent(&mut self)
-        ensures { self.new ≡ self.old }
-    {
-        if let Some(sender) = &mut self.sender {
-            sender.release();
-        }
-    }
-
     // Enters the published state, lists the recipients, and finds what the sender needs for them.
     pub(crate) fn look_for_mailboxes(
         &mut self,

@@ -17,6 +17,15 @@ use routing::{Carrier, Gate, Recipient, RouteError, Sender};
 use std::alloc::{AllocError, Global};
 use std::sync::Wait;
 
+/// A gate that holds nothing back.
+struct OpenGate;
+
+impl Gate for OpenGate {
+    fn before(&self, _piece: u32) {}
+
+    fn after(&self, _piece: u32) {}
+}
+
 // Gives up the seats of those who aren't connected, where it is told who is.
 fn give_up<M: Carrier>(sender: &mut Sender<M>, connected: Option<Vec<u64>>)
     ensures { sender.new ≡ record sender.old { stops = kept_stops (option_map (λ v. v.items) connected) sender.old.stops } }
@@ -56,7 +65,7 @@ fn broadcast<M: Carrier, W: Wait, G: Gate>(
     requires reachable { AreReachable (option_map (λ v. v.items) found.connected) recipients.now.items found.newcomers.items sender.old.stops }
     requires rising { RisesFrom 0 recipients.now.items }
     ensures keeps { KeepsThose (option_map (λ v. v.items) found.connected) found.newcomers.items sender.old sender.new }
-    ensures ok { OnOk result (RoutedThose (option_map (λ v. v.items) found.connected) recipients.now.items refused.new.items sender.old sender.new) }
+    ensures ok { OnOk result (RoutedThose (option_map (λ v. v.items) found.connected) bytes.now recipients.now.items refused.new.items sender.old sender.new) }
     ensures err { IfErr result (λ error. ((error ≡ BusError.NoMemory) ⊎ ((error ≡ BusError.Counts) × (sender.old.count ≡ u64.MAX))) × UnroutedThose (option_map (λ v. v.items) found.connected) sender.old sender.new) }
 {
     let Audience {
@@ -75,17 +84,34 @@ fn broadcast<M: Carrier, W: Wait, G: Gate>(
 }
 
 impl<J: Naming, M: Mailbox + Carrier> Pass<J, M> {
-    /// Finds the recipients of a broadcast, leaves the published state, and puts the message into their outboxes.
-    /// The caller's lists are then of this broadcast: its recipients, and those whose outbox refused it, a shut one
-    /// included. No outbox gives the message out before it was put at all of them. `gate.before(0)` is called once the
-    /// published state is left and the seats are there, before the first put, and `gate.after(0)` after the last, before
-    /// the message is given out.
+    /// Finds the recipients of a broadcast, leaves the published state, and puts the message into their outboxes, without
+    /// any lock. The caller's lists are then of this broadcast: its recipients, and those whose outbox refused it, a shut
+    /// one included. No outbox gives the message out before it was put at all of them. Nothing is written out:
+    /// `push_out` does it.
     ///
     /// # Errors
     ///
-    /// Nothing was put then. `Closed` where the pass was never connected, or was closed and the message isn't the
-    /// bus's, or the bus is gone; `NoMemory`; `Counts` where the pass's last count was used.
-    pub fn broadcast<W: Wait, G: Gate>(
+    /// Nothing was put then. `Closed` if the pass was never connected, or was closed and the message isn't the bus's, or
+    /// the bus is gone; `NoMemory`; `Counts` if the pass's last count was used.
+    pub fn broadcast<W: Wait>(
+        &mut self,
+        rt: &W,
+        alloc: Global,
+        source: Source,
+        view: &View<'_>,
+        bytes: &Bytes,
+        lists: &mut RouteLists,
+    ) -> Result<(), BusError>
+        // The view is that of the bytes.
+        requires { view.now ≡ bytes.now }
+        ensures { MatchResult result (λ _. HasRouted M.outbox_of source bytes.now self.old lists.new.recipients.items lists.new.refused.items self.new) (λ error. IsUnrouted M.outbox_of error self.old self.new) }
+    {
+        self.broadcast_gated(rt, alloc, source, view, bytes, &OpenGate, lists)
+    }
+
+    /// Routes as `broadcast` does. `gate.before(0)` is called once the published state is left and the seats are there,
+    /// before the first put, and `gate.after(0)` after the last, before the message is given out.
+    pub fn broadcast_gated<W: Wait, G: Gate>(
         &mut self,
         rt: &W,
         alloc: Global,
@@ -134,6 +160,8 @@ impl<J: Naming, M: Mailbox + Carrier> Pass<J, M> {
     pub fn push_out<W: Wait>(&mut self, rt: &W)
         ensures { self.new ≡ self.old }
     {
-        self.push_out_sent(rt);
+        if let Some(sender) = &mut self.sender {
+            sender.push_out(rt);
+        }
     }
 }

@@ -33,9 +33,8 @@ fn deliver<M: Carrier, W: Wait>(
 ) -> Result<Sent, BusError>
     requires { AreReachable (option_map (λ v. v.items) addressee.connected) (addressee.number ∷ []) addressee.newcomers.items sender.old.stops }
     ensures keeps { KeepsThose (option_map (λ v. v.items) addressee.connected) addressee.newcomers.items sender.old sender.new }
-    ensures unrouted { UnroutedThose (option_map (λ v. v.items) addressee.connected) sender.old sender.new }
-    ensures sent { IfOk result (IsDelivered addressee.number sender.new.stops) }
-    ensures err { IfErr result (λ error. error ≡ BusError.NoMemory) }
+    ensures sent { IfOk result (IsDelivered (option_map (λ v. v.items) addressee.connected) addressee.number bytes.now sender.old sender.new) }
+    ensures err { IfErr result (λ error. (error ≡ BusError.NoMemory) × UnroutedThose (option_map (λ v. v.items) addressee.connected) sender.old sender.new) }
 {
     let Addressee {
         number,
@@ -68,7 +67,7 @@ impl<J: Naming, M: Mailbox + Carrier> Pass<J, M> {
         to: &str,
         bytes: &Bytes,
     ) -> Result<Sent, BusError>
-        ensures { MatchResult result (λ sent. Unicasts M.outbox_of to.now self.old sent self.new) (λ error. IsUnsent M.outbox_of error self.old self.new) }
+        ensures { MatchResult result (λ sent. Unicasts M.outbox_of to.now bytes.now self.old sent self.new) (λ error. IsUnsent M.outbox_of error self.old self.new) }
     {
         if self.connection() == 0 || self.is_closed() {
             return Err(BusError::Closed);

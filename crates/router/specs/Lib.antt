@@ -5,6 +5,10 @@ pub use Rattle.passes.specs.Connections
 pub use Rattle.passes.specs.History
 pub use Rattle.passes.specs.Recipients
 pub use Rattle.passes.specs.State
+pub use Rattle.passes.specs.Command
+pub use Rattle.passes.specs.Reply
+pub use Rattle.passes.specs.Publication
+pub use Rattle.passes.specs.declared.unicasts.Sent
 pub use Rattle.passes.specs.Errors
 pub use Rattle.passes.specs.Passes
 pub use Rattle.passes.specs.Routes

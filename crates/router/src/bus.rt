@@ -4,9 +4,9 @@ ghost use Rattle.std.specs.Prelude.{◌≡◌, ◌⊎◌, MatchResult, IfErr, fa
 ghost use mathlib.Core.List.{IsPrefix};
 ghost use Rattle.passes.specs.Command.TheVariants.{Detach, Request, Release, DropOne, Close};
 ghost use Rattle.passes.specs.Publication.{Publication};
-ghost use Rattle.passes.specs.Passes.{PassState};
-ghost use Rattle.passes.specs.Calls.{AnswersOnce, ConnectsOnce};
-ghost use Rattle.passes.specs.Readings.{AddsMatchOnce, RemovesMatchOnce, AttachesOnce};
+ghost use Rattle.passes.specs.Passes.{PassState, new_pass};
+ghost use Rattle.passes.specs.Calls.{Once, Answers, Connects};
+ghost use Rattle.passes.specs.Readings.{AddsMatch, RemovesMatch, Attaches};
 
 use bpf_code::Ins;
 use owners::WellKnown;
@@ -17,24 +17,24 @@ use std::alloc::Global;
 use std::sync::{Mutex, MutexGuard, Wait};
 use summary::Edition;
 
-/// A bus, which threads share. Each call takes its lock.
+/// A bus, which threads share.
 #[derive(Drop)]
-pub struct Bus<J: Naming, M: Mailbox, R: Wait + Drop> {
-    control: Mutex<Control<J, M, R>>,
-    kept: Mutex<KeptPasses<J, M>>,
+pub struct Bus<B: Naming, M: Mailbox, R: Wait + Drop> {
+    control: Mutex<Control<B, M, R>>,
+    kept: Mutex<KeptPasses<B, M>>,
     // The turn to change an owner and to announce the change.
     turns: Mutex<()>,
 }
 
-impl<J: Naming, M: Mailbox, R: Wait + Drop> Bus<J, M, R> {
+impl<B: Naming, M: Mailbox, R: Wait + Drop> Bus<B, M, R> {
     /// A bus to which nobody is connected. The key is that of its index of entries.
     pub fn new(
         rt: R,
         alloc: Global,
         key: IndexKey,
         opened: Opened<M>,
-    ) -> Result<Bus<J, M, R>, BusError>
-        requires { opened ≡ J.book }
+    ) -> Result<Bus<B, M, R>, BusError>
+        requires { opened ≡ B.book }
         ensures { IfErr result (λ error. error ≡ BusError.NoMemory) }
     {
         let Ok(kept) = KeptPasses::new(alloc) else {
@@ -50,54 +50,60 @@ impl<J: Naming, M: Mailbox, R: Wait + Drop> Bus<J, M, R> {
         }
     }
 
+    /// Waits for the lock, and keeps it while the guard is there. The calls of the guard say what is published before and
+    /// after them; those of the bus below are one of its calls each.
+    pub fn control(&self, rt: &impl Wait) -> MutexGuard<'_, Control<B, M, R>> {
+        self.control.lock(rt)
+    }
+
     /// Waits for the turn to change who owns a name, and keeps it while the guard is there. Whoever changes an owner
     /// takes the turn first and announces the change before giving it up, so that changes are announced in their order.
     pub fn turn(&self, rt: &impl Wait) -> MutexGuard<'_, ()> {
         self.turns.lock(rt)
     }
 
-    /// A new pass, which has no connection. A reader that was given back has seen what it had.
+    /// A new pass, which has no connection, and has sent nothing. A reader that was given back has seen what it had.
     ///
     /// # Errors
     ///
     /// `Busy` where each place of a reader is in use.
-    pub fn pass(&self, rt: &impl Wait) -> Result<Pass<J, M>, BusError>
-        ensures { MatchResult result (λ pass. (pass.connection ≡ 0) × (pass.is_closed ≡ false) × (pass.took ≡ 0)) (λ error. error ≡ BusError.Busy) }
+    pub fn pass(&self, rt: &impl Wait) -> Result<Pass<B, M>, BusError>
+        ensures { MatchResult result (λ pass. pass ≡ new_pass pass.seen) (λ error. error ≡ BusError.Busy) }
     {
         let kept = self.kept.lock(rt).take();
         match kept {
             Some(pass) => Ok(pass),
-            None => self.control.lock(rt).pass(),
+            None => self.control(rt).pass(),
         }
     }
 
     /// Keeps the reader of a pass that is closed or was never connected for a later pass, or drops it where 256 are
     /// kept.
-    pub fn take_back(&self, rt: &impl Wait, pass: Pass<J, M>)
+    pub fn take_back(&self, rt: &impl Wait, pass: Pass<B, M>)
         requires { (pass.is_closed ≡ true) ⊎ (pass.connection ≡ 0) }
     {
         self.kept.lock(rt).put(pass);
     }
 
     /// Tells the published history, which begins with what the pass had seen, and is seen then.
-    pub fn tell(&self, rt: &impl Wait, pass: &mut Pass<J, M>) -> Result<Front<J, M>, BusError>
-        ensures { MatchResult result
-            (λ told_history. IsPrefix pass.old.seen told_history × (pass.new ≡ record pass.old { seen = told_history }))
-            (λ error. (error ≡ BusError.Closed) × (pass.new ≡ pass.old)) }
+    pub fn tell(&self, rt: &impl Wait, pass: &mut Pass<B, M>) -> Result<Front<B, M>, BusError>
+        ensures { Once (λ before next. MatchResult result
+            (λ told_history. (told_history ≡ before.history) × IsPrefix pass.old.seen told_history × (pass.new ≡ record pass.old { seen = told_history }))
+            (λ error. (error ≡ BusError.Closed) × (length before.history < length pass.old.seen) × (pass.new ≡ pass.old))) }
     {
-        self.control.lock(rt).tell(pass)
+        self.control(rt).tell(pass)
     }
 
     /// Makes the connection of a pass that has none yet, whose messages go to the mailbox.
     pub fn connect(
         &self,
         rt: &impl Wait,
-        pass: &mut Pass<J, M>,
+        pass: &mut Pass<B, M>,
         mailbox: M,
     ) -> Result<Reply, BusError>
-        ensures { ConnectsOnce pass.old mailbox result pass.new }
+        ensures { Once (λ before next. Connects pass.old before mailbox result pass.new next) }
     {
-        self.control.lock(rt).connect(pass, mailbox)
+        self.control(rt).connect(pass, mailbox)
     }
 
     /// Adds an entry with a rule (AddMatch).
@@ -105,12 +111,13 @@ impl<J: Naming, M: Mailbox, R: Wait + Drop> Bus<J, M, R> {
         &self,
         rt: &impl Wait,
         alloc: Global,
-        pass: &mut Pass<J, M>,
+        pass: &mut Pass<B, M>,
         text: &str,
     ) -> Result<Reply, BusError>
-        ensures { AddsMatchOnce text.now pass.old result pass.new }
+        ensures answer { Once (λ before next. AddsMatch text.now pass.old before result pass.new next) }
+        ensures connection { pass.new.connection ≡ pass.old.connection }
     {
-        self.control.lock(rt).add_match(alloc, pass, text)
+        self.control(rt).add_match(alloc, pass, text)
     }
 
     /// Takes away the oldest entry with an equal rule (RemoveMatch).
@@ -118,12 +125,13 @@ impl<J: Naming, M: Mailbox, R: Wait + Drop> Bus<J, M, R> {
         &self,
         rt: &impl Wait,
         alloc: Global,
-        pass: &mut Pass<J, M>,
+        pass: &mut Pass<B, M>,
         text: &str,
     ) -> Result<Reply, BusError>
-        ensures { RemovesMatchOnce text.now pass.old result pass.new }
+        ensures answer { Once (λ before next. RemovesMatch text.now pass.old before result pass.new next) }
+        ensures connection { pass.new.connection ≡ pass.old.connection }
     {
-        self.control.lock(rt).remove_match(alloc, pass, text)
+        self.control(rt).remove_match(alloc, pass, text)
     }
 
     /// Attaches a program that reads images of this edition.
@@ -131,58 +139,64 @@ impl<J: Naming, M: Mailbox, R: Wait + Drop> Bus<J, M, R> {
         &self,
         rt: &impl Wait,
         alloc: Global,
-        pass: &mut Pass<J, M>,
+        pass: &mut Pass<B, M>,
         edition: Edition,
         program: Vec<Ins>,
     ) -> Result<Reply, BusError>
-        ensures { AttachesOnce edition program.items pass.old result pass.new }
+        ensures answer { Once (λ before next. Attaches edition program.items pass.old before result pass.new next) }
+        ensures connection { pass.new.connection ≡ pass.old.connection }
     {
-        self.control.lock(rt).attach(alloc, pass, edition, program)
+        self.control(rt).attach(alloc, pass, edition, program)
     }
 
     /// Asks for a name (RequestName).
     pub fn request_name(
         &self,
         rt: &impl Wait,
-        pass: &mut Pass<J, M>,
+        pass: &mut Pass<B, M>,
         name: &WellKnown,
         flags: u32,
     ) -> Result<Reply, BusError>
-        ensures { AnswersOnce false pass.old (Request pass.old.connection name.now flags) result pass.new }
+        ensures answer { Once (λ before next. Answers false pass.old before (Request pass.old.connection name.now flags) result pass.new next) }
+        ensures connection { pass.new.connection ≡ pass.old.connection }
     {
-        self.control.lock(rt).request_name(pass, name, flags)
+        self.control(rt).request_name(pass, name, flags)
     }
 
     /// Gives up a claim on a name (ReleaseName).
     pub fn release_name(
         &self,
         rt: &impl Wait,
-        pass: &mut Pass<J, M>,
+        pass: &mut Pass<B, M>,
         name: &WellKnown,
     ) -> Result<Reply, BusError>
-        ensures { AnswersOnce false pass.old (Release pass.old.connection name.now) result pass.new }
+        ensures answer { Once (λ before next. Answers false pass.old before (Release pass.old.connection name.now) result pass.new next) }
+        ensures connection { pass.new.connection ≡ pass.old.connection }
     {
-        self.control.lock(rt).release_name(pass, name)
+        self.control(rt).release_name(pass, name)
     }
 
     /// Takes away the attached program of this id.
-    pub fn detach(&self, rt: &impl Wait, pass: &mut Pass<J, M>, id: u32) -> Result<Reply, BusError>
-        ensures { AnswersOnce false pass.old (Detach pass.old.connection id) result pass.new }
+    pub fn detach(&self, rt: &impl Wait, pass: &mut Pass<B, M>, id: u32) -> Result<Reply, BusError>
+        ensures answer { Once (λ before next. Answers false pass.old before (Detach pass.old.connection id) result pass.new next) }
+        ensures connection { pass.new.connection ≡ pass.old.connection }
     {
-        self.control.lock(rt).detach(pass, id)
+        self.control(rt).detach(pass, id)
     }
 
     /// Gives up the claim on the least of the connection's names in byte order.
-    pub fn drop_name(&self, rt: &impl Wait, pass: &mut Pass<J, M>) -> Result<Reply, BusError>
-        ensures { AnswersOnce false pass.old (DropOne pass.old.connection) result pass.new }
+    pub fn drop_name(&self, rt: &impl Wait, pass: &mut Pass<B, M>) -> Result<Reply, BusError>
+        ensures answer { Once (λ before next. Answers false pass.old before (DropOne pass.old.connection) result pass.new next) }
+        ensures connection { pass.new.connection ≡ pass.old.connection }
     {
-        self.control.lock(rt).drop_name(pass)
+        self.control(rt).drop_name(pass)
     }
 
     /// Closes the connection, with its entries and claims.
-    pub fn close(&self, rt: &impl Wait, pass: &mut Pass<J, M>) -> Result<Reply, BusError>
-        ensures { AnswersOnce true pass.old (Close pass.old.connection) result pass.new }
+    pub fn close(&self, rt: &impl Wait, pass: &mut Pass<B, M>) -> Result<Reply, BusError>
+        ensures answer { Once (λ before next. Answers true pass.old before (Close pass.old.connection) result pass.new next) }
+        ensures connection { pass.new.connection ≡ pass.old.connection }
     {
-        self.control.lock(rt).close(pass)
+        self.control(rt).close(pass)
     }
 }

@@ -12,16 +12,7 @@ use routing::{Carrier, Gate};
 use std::alloc::Global;
 use std::sync::Wait;
 
-/// A gate that holds nothing back.
-struct OpenGate;
-
-impl Gate for OpenGate {
-    fn before(&self, _piece: u32) {}
-
-    fn after(&self, _piece: u32) {}
-}
-
-impl<J: Naming, M: Mailbox + Carrier, R: Wait + Drop> Bus<J, M, R> {
+impl<B: Naming, M: Mailbox + Carrier, R: Wait + Drop> Bus<B, M, R> {
     /// Finds the recipients of a broadcast, leaves the published state, and puts the message into their outboxes.
     /// Answers those whose outbox refused it, a shut one included, by rising number.
     /// Nothing is written out: `Pass::push_out` does it.
@@ -34,7 +25,7 @@ impl<J: Naming, M: Mailbox + Carrier, R: Wait + Drop> Bus<J, M, R> {
         &self,
         rt: &W,
         alloc: Global,
-        pass: &mut Pass<J, M>,
+        pass: &mut Pass<B, M>,
         source: Source,
         view: &View<'_>,
         bytes: &Bytes,
@@ -54,7 +45,7 @@ impl<J: Naming, M: Mailbox + Carrier, R: Wait + Drop> Bus<J, M, R> {
         &self,
         rt: &W,
         alloc: Global,
-        pass: &mut Pass<J, M>,
+        pass: &mut Pass<B, M>,
         source: Source,
         view: &View<'_>,
         bytes: &Bytes,
@@ -64,7 +55,7 @@ impl<J: Naming, M: Mailbox + Carrier, R: Wait + Drop> Bus<J, M, R> {
         requires { view.now ≡ bytes.now }
         ensures { MatchResult result (λ _. HasRouted M.outbox_of source bytes.now pass.old lists.new.recipients.items lists.new.refused.items pass.new) (λ error. IsUnrouted M.outbox_of error pass.old pass.new) }
     {
-        pass.broadcast(rt, alloc, source, view, bytes, &OpenGate, lists)
+        pass.broadcast(rt, alloc, source, view, bytes, lists)
     }
 
     /// Routes as `route` does. `gate.before(0)` is called once the published state is left and the seats are there,
@@ -73,7 +64,7 @@ impl<J: Naming, M: Mailbox + Carrier, R: Wait + Drop> Bus<J, M, R> {
         &self,
         rt: &W,
         alloc: Global,
-        pass: &mut Pass<J, M>,
+        pass: &mut Pass<B, M>,
         source: Source,
         view: &View<'_>,
         bytes: &Bytes,
@@ -84,7 +75,7 @@ impl<J: Naming, M: Mailbox + Carrier, R: Wait + Drop> Bus<J, M, R> {
         ensures { MatchResult result (λ refused. HasRoutedToSome M.outbox_of source bytes.now pass.old refused.items pass.new) (λ error. IsUnrouted M.outbox_of error pass.old pass.new) }
     {
         let mut lists = RouteLists::new();
-        pass.broadcast(rt, alloc, source, view, bytes, gate, &mut lists)?;
+        pass.broadcast_gated(rt, alloc, source, view, bytes, gate, &mut lists)?;
         let RouteLists { refused, .. } = lists;
         Ok(refused)
     }

@@ -10,7 +10,7 @@ use routing::Carrier;
 use std::alloc::Global;
 use std::sync::Wait;
 
-impl<J: Naming, M: Mailbox + Carrier, R: Wait + Drop> Bus<J, M, R> {
+impl<B: Naming, M: Mailbox + Carrier, R: Wait + Drop> Bus<B, M, R> {
     /// Finds the owner of a name, which is unique or well-known, leaves the published state, and puts the message into
     /// the owner's outbox. Nothing is written out: `Pass::push_out` does it.
     ///
@@ -22,11 +22,11 @@ impl<J: Naming, M: Mailbox + Carrier, R: Wait + Drop> Bus<J, M, R> {
         &self,
         rt: &W,
         alloc: Global,
-        pass: &mut Pass<J, M>,
+        pass: &mut Pass<B, M>,
         to: &str,
         bytes: &Bytes,
     ) -> Result<Sent, BusError>
-        ensures { MatchResult result (λ sent. Unicasts M.outbox_of to.now pass.old sent pass.new) (λ error. IsUnsent M.outbox_of error pass.old pass.new) }
+        ensures { MatchResult result (λ sent. Unicasts M.outbox_of to.now bytes.now pass.old sent pass.new) (λ error. IsUnsent M.outbox_of error pass.old pass.new) }
     {
         pass.send_to(rt, alloc, to, bytes)
     }

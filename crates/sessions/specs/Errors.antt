@@ -2,8 +2,8 @@
 use Rattle.std.specs.Prelude.{ℕ, List, codes}
 use Rattle.frames.specs.declared.error.FrameError.{FrameError}
 use Rattle.frames.specs.declared.error.FrameError.TheVariants as frame_errors
-use Rattle.bus_methods.specs.AnswerError.{AnswerError}
-use Rattle.bus_methods.specs.AnswerError.TheVariants as answer_errors
+use Rattle.peers.specs.declared.error.AnswerError.{AnswerError}
+use Rattle.peers.specs.declared.error.AnswerError.TheVariants as answer_errors
 use Rattle.sessions.specs.declared.error.SessionError.{SessionError}
 use Rattle.sessions.specs.declared.error.SessionError.TheVariants.{Auth, Message, NoHello, Read, Write, Slow, NoMemory}
 

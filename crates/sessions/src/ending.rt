@@ -1,44 +1,43 @@
 // The end of a session.
 
-use bus_methods::{Bus, Command, Connection, Leaving, Mailbox, Naming, Published, Shown, Site};
 use crossbeam_utils::rule::Protocol;
+use peers::{Bus, Command, Context, Leaving, Mailbox, Naming, Peer, Published, Shown};
 use routing::Carrier;
 use std::alloc::Global;
 use std::collections::LinkedList;
 use std::sync::Wait;
 
-/// What is left of a session whose end was refused memory: its connection is still on the bus.
+/// What is left of a session whose end was refused memory: its peer is still on the bus.
 #[derive(Drop)]
-pub struct Rest<J: Naming, M: Mailbox>
+pub struct Rest<B: Naming, M: Mailbox + Carrier>
 where
-    Published: Protocol<Shown<J, M>, LinkedList<Command<M>>>,
+    Published: Protocol<Shown<B, M>, LinkedList<Command<M>>>,
 {
-    connection: Connection<J, M>,
+    peer: Peer<B, M>,
 }
 
-impl<J: Naming, M: Mailbox + Carrier> Rest<J, M> {
-    /// Goes on with the session's end. Answers what is left of it where memory was refused again.
+impl<B: Naming, M: Mailbox + Carrier> Rest<B, M> {
+    /// Goes on with the session's end. Answers what is left of it if memory was refused again.
     pub fn retry<W: Wait, R: Wait + Drop>(
         self,
         rt: &W,
         alloc: Global,
-        bus: &Bus<J, M, R>,
-    ) -> Option<Rest<J, M>> {
-        let Rest { connection } = self;
-        end(connection, &Site { rt, alloc, bus })
+        bus: &Bus<B, M, R>,
+    ) -> Option<Rest<B, M>> {
+        let Rest { peer } = self;
+        end(peer, &Context { rt, alloc, bus })
     }
 }
 
-/// Takes a connection off the bus. Answers what is left of it where memory was refused.
-pub(crate) fn end<J: Naming, M: Mailbox + Carrier, W: Wait, R: Wait + Drop>(
-    mut connection: Connection<J, M>,
-    site: &Site<'_, J, M, W, R>,
-) -> Option<Rest<J, M>> {
-    match connection.leave(site) {
-        Leaving::Refused => Some(Rest { connection }),
-        Leaving::Done => {
-            let Connection { pass, .. } = connection;
-            site.give_back(pass);
+/// Takes a peer off the bus. Answers what is left of it if memory was refused.
+pub(crate) fn end<B: Naming, M: Mailbox + Carrier, W: Wait, R: Wait + Drop>(
+    mut peer: Peer<B, M>,
+    context: &Context<'_, B, M, W, R>,
+) -> Option<Rest<B, M>> {
+    match peer.leave(context) {
+        Leaving::Refused => Some(Rest { peer }),
+        Leaving::Done | Leaving::Ended => {
+            context.give_back(peer.into_pass());
             None
         }
     }

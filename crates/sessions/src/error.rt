@@ -3,9 +3,9 @@
 ghost use Rattle.std.specs.Prelude.{◌≡◌};
 ghost use Rattle.sessions.specs.Errors.{number_of, name_of};
 
-use bus_methods::AnswerError;
 use frames::FrameError;
 use message_view::MsgError;
+use peers::AnswerError;
 use std::error::Error;
 use std::fmt;
 

@@ -1,36 +1,38 @@
 // The first message of a session, which has to be Hello.
 
-use crate::dispatch::is_for_bus;
 use crate::error::SessionError;
 use bus_messages::Call;
-use bus_methods::{
-    BUS_NAME, Connection, Home, Identity, Mailbox, Naming, Refused, Request, Site, put_refusal,
-};
 use message_view::View;
+use peers::{
+    BUS_NAME, Context, Identity, Mailbox, Naming, OwnOutbox, Pass, Peer, Refused, Request,
+    is_for_bus, put_refusal,
+};
 use routing::Carrier;
 use std::sync::Wait;
 
-/// The connection that the first message asks for.
+/// The peer that the first message makes of an outbox; the outbox comes back if it makes none.
 ///
 /// # Errors
 ///
-/// `NoHello` where the message isn't the call Hello, and where Hello is refused, which is answered with the error;
-/// `Slow`; `NoMemory`.
-pub(crate) fn greet<J: Naming, M: Mailbox + Carrier, W: Wait, R: Wait + Drop>(
-    site: &Site<'_, J, M, W, R>,
-    home: &mut Home<M>,
+/// `NoHello` if the message isn't the call Hello, and if Hello is refused, which is answered with the error; `Slow`;
+/// `NoMemory`.
+pub(crate) fn greet<B: Naming, M: Mailbox + Carrier, W: Wait, R: Wait + Drop>(
+    context: &Context<'_, B, M, W, R>,
+    mut own: OwnOutbox<M>,
     identity: Identity,
     view: &View<'_>,
-) -> Result<Connection<J, M>, SessionError> {
+) -> Result<Peer<B, M>, (SessionError, OwnOutbox<M>)> {
     if !is_hello(view) {
-        return Err(SessionError::NoHello);
+        return Err((SessionError::NoHello, own));
     }
-    match connect_pass(site, home, identity, view) {
-        Ok(connection) => Ok(connection),
-        Err(Refused::Ended) => Err(SessionError::NoMemory),
+    match connect_pass(context, &own, view) {
+        Ok(pass) => Ok(Peer::new(pass, own, identity)),
+        Err(Refused::Ended) => Err((SessionError::NoMemory, own)),
         Err(Refused::Error(name)) => {
-            put_refusal(site, home, Request::of(view), name)?;
-            Err(SessionError::NoHello)
+            match put_refusal(context, &mut own, Request::of(view), name) {
+                Ok(()) => Err((SessionError::NoHello, own)),
+                Err(error) => Err((SessionError::from(error), own)),
+            }
         }
     }
 }
@@ -44,19 +46,19 @@ fn is_hello(view: &View<'_>) -> bool {
     is_for_bus(view) && has_interface && view.member() == Some("Hello")
 }
 
-fn connect_pass<J: Naming, M: Mailbox + Carrier, W: Wait, R: Wait + Drop>(
-    site: &Site<'_, J, M, W, R>,
-    home: &Home<M>,
-    identity: Identity,
+// A pass with a connection whose messages go to the outbox.
+fn connect_pass<B: Naming, M: Mailbox + Carrier, W: Wait, R: Wait + Drop>(
+    context: &Context<'_, B, M, W, R>,
+    own: &OwnOutbox<M>,
     view: &View<'_>,
-) -> Result<Connection<J, M>, Refused> {
-    let _ = Call::read(site.alloc, view)?;
-    let mailbox = home.share()?;
-    let mut pass = site.bus.pass(site.rt)?;
-    match site.bus.connect(site.rt, &mut pass, mailbox) {
-        Ok(_) => Ok(Connection::new(pass, identity)),
+) -> Result<Pass<B, M>, Refused> {
+    let _ = Call::read(context.alloc, view)?;
+    let mailbox = own.share()?;
+    let mut pass = context.bus.pass(context.rt)?;
+    match context.bus.connect(context.rt, &mut pass, mailbox) {
+        Ok(_) => Ok(pass),
         Err(error) => {
-            site.give_back(pass);
+            context.give_back(pass);
             Err(Refused::from(error))
         }
     }

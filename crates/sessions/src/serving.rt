@@ -4,7 +4,7 @@ use crate::ending::Rest;
 use crate::error::SessionError;
 use crate::session::{Session, Step};
 use crate::writing::Writing;
-use bus_methods::{Bus, Letterbox, Naming};
+use peers::{Bus, Letterbox, Naming};
 use routing::Carrier;
 use std::alloc::{AllocError, Global};
 use std::io::{ErrorKind, Read, Write};
@@ -20,14 +20,14 @@ const READ_LEN: usize = 4096;
 ///
 /// Those of a session. A fault of the writer ends the session at once before BEGIN; after it the session goes on
 /// reading to the end of its input, and then answers `Write`, whatever ended it.
-pub fn serve_one<J: Naming, W: Wait, R: Wait + Drop, I: Read + Drop, O: Write + Drop>(
+pub fn serve_one<B: Naming, W: Wait, R: Wait + Drop, I: Read + Drop, O: Write + Drop>(
     rt: &W,
     alloc: Global,
-    bus: &Bus<J, Letterbox, R>,
+    bus: &Bus<B, Letterbox, R>,
     guid: [u8; 32],
     mut reader: I,
     writer: O,
-) -> (Result<(), SessionError>, Option<Rest<J, Letterbox>>) {
+) -> (Result<(), SessionError>, Option<Rest<B, Letterbox>>) {
     let Ok((mut session, mut writing)) = open_session(alloc, guid, writer) else {
         return (Err(SessionError::NoMemory), None);
     };
@@ -42,22 +42,22 @@ pub fn serve_one<J: Naming, W: Wait, R: Wait + Drop, I: Read + Drop, O: Write + 
 }
 
 /// A session with an outbox of its own, and what writes that out.
-fn open_session<J: Naming, O: Write + Drop>(
+fn open_session<B: Naming, O: Write + Drop>(
     alloc: Global,
     guid: [u8; 32],
     writer: O,
-) -> Result<(Session<J, Letterbox>, Writing<O>), AllocError> {
+) -> Result<(Session<B, Letterbox>, Writing<O>), AllocError> {
     let letterbox = Letterbox::new(alloc)?;
     let writing = Writing::new(letterbox.outbox(), writer)?;
     Ok((Session::new(alloc, guid, letterbox), writing))
 }
 
 /// Reads to the end of the input, or to what ends the session before it.
-fn read_to_end<J: Naming, W: Wait, R: Wait + Drop, I: Read, O: Write + Drop>(
+fn read_to_end<B: Naming, W: Wait, R: Wait + Drop, I: Read, O: Write + Drop>(
     rt: &W,
     alloc: Global,
-    bus: &Bus<J, Letterbox, R>,
-    session: &mut Session<J, Letterbox>,
+    bus: &Bus<B, Letterbox, R>,
+    session: &mut Session<B, Letterbox>,
     writing: &mut Writing<O>,
     reader: &mut I,
 ) -> Result<(), SessionError> {
@@ -80,11 +80,11 @@ fn read_to_end<J: Naming, W: Wait, R: Wait + Drop, I: Read, O: Write + Drop>(
 }
 
 /// Treats each whole line or message that was read, and writes what stands in the outbox after each.
-fn treat_all<J: Naming, W: Wait, R: Wait + Drop, O: Write + Drop>(
+fn treat_all<B: Naming, W: Wait, R: Wait + Drop, O: Write + Drop>(
     rt: &W,
     alloc: Global,
-    bus: &Bus<J, Letterbox, R>,
-    session: &mut Session<J, Letterbox>,
+    bus: &Bus<B, Letterbox, R>,
+    session: &mut Session<B, Letterbox>,
     writing: &mut Writing<O>,
 ) -> Result<(), SessionError> {
     for _ in 0..u64::MAX {

@@ -2,18 +2,17 @@
 
 ghost use Rattle.std.specs.Prelude.{◌≡◌, None};
 
-use crate::dispatch::treat;
 use crate::ending::{Rest, end};
 use crate::error::SessionError;
 use crate::greeting::greet;
 use crate::talk::Talk;
-use bus_methods::{
-    Bus, Command, Connection, Home, Identity, Mailbox, Naming, Published, Request, RouteLists,
-    Shown, Site,
-};
 use crossbeam_utils::rule::Protocol;
 use frames::Frames;
-use message_view::MsgError;
+use message_view::{MsgError, View};
+use peers::{
+    Bus, Command, Context, Identity, Mailbox, Naming, OwnOutbox, Peer, Published, Request,
+    RouteLists, Shown,
+};
 use routing::Carrier;
 use std::alloc::Global;
 use std::collections::LinkedList;
@@ -22,7 +21,7 @@ use std::sync::Wait;
 /// What a step did.
 #[derive(Clone, Copy, Debug, PartialEq, Eq)]
 pub enum Step {
-    /// A line or a message was treated.
+    /// A line or a message was handled.
     Done,
     /// The next line or message isn't there whole.
     Waits,
@@ -31,26 +30,26 @@ pub enum Step {
 /// One client's session: the talk, then messages, of which the first is Hello. What it answers, and what others send to
 /// its client, waits in the outbox of its mailbox.
 #[derive(Drop)]
-pub struct Session<J: Naming, M: Mailbox + Carrier>
+pub struct Session<B: Naming, M: Mailbox + Carrier>
 where
-    Published: Protocol<Shown<J, M>, LinkedList<Command<M>>>,
+    Published: Protocol<Shown<B, M>, LinkedList<Command<M>>>,
 {
     identity: Identity,
     talk: Talk,
-    // What is read and not treated.
+    // What is read and not handled.
     input: Frames,
-    home: Home<M>,
     lists: RouteLists,
-    // None before Hello.
-    connection: Option<Connection<J, M>>,
+    // The client's outbox before Hello, then its peer, which has the outbox.
+    own: Option<OwnOutbox<M>>,
+    peer: Option<Peer<B, M>>,
     fault: Option<SessionError>,
     // The faults of messages are kept in the session's own fault, and not in its frames.
     ghost is_clean: { input.fault ≡ None },
 }
 
-impl<J: Naming, M: Mailbox + Carrier> Session<J, M> {
+impl<B: Naming, M: Mailbox + Carrier> Session<B, M> {
     /// A session before its first byte, of a bus with this GUID. All that it says goes to the mailbox.
-    pub fn new(alloc: Global, guid: [u8; 32], mailbox: M) -> Session<J, M> {
+    pub fn new(alloc: Global, guid: [u8; 32], mailbox: M) -> Session<B, M> {
         Session {
             identity: Identity {
                 guid,
@@ -58,9 +57,9 @@ impl<J: Naming, M: Mailbox + Carrier> Session<J, M> {
             },
             talk: Talk::new(guid),
             input: Frames::new(alloc),
-            home: Home::new(mailbox),
             lists: RouteLists::new(),
-            connection: None,
+            own: Some(OwnOutbox::new(mailbox)),
+            peer: None,
             fault: None,
         }
     }
@@ -77,7 +76,7 @@ impl<J: Naming, M: Mailbox + Carrier> Session<J, M> {
 
     /// Whether Hello was accepted.
     pub fn is_connected(&self) -> bool {
-        self.connection.is_some()
+        self.peer.is_some()
     }
 
     /// Keeps the client's next bytes.
@@ -95,7 +94,7 @@ impl<J: Naming, M: Mailbox + Carrier> Session<J, M> {
         }
     }
 
-    /// Treats the next line of the talk or the next message.
+    /// Handles the next line of the talk or the next message.
     ///
     /// # Errors
     ///
@@ -104,19 +103,19 @@ impl<J: Naming, M: Mailbox + Carrier> Session<J, M> {
         &mut self,
         rt: &W,
         alloc: Global,
-        bus: &Bus<J, M, R>,
+        bus: &Bus<B, M, R>,
     ) -> Result<Step, SessionError> {
         if let Some(fault) = self.fault {
             return Err(fault);
         }
-        if self.home.is_shut() {
+        if self.is_shut() {
             return Err(self.fail(SessionError::Slow));
         }
-        let site = Site { rt, alloc, bus };
+        let context = Context { rt, alloc, bus };
         let outcome = if self.talk.has_begun() {
-            self.take_message(&site)
+            self.take_message(&context)
         } else {
-            self.take_line(&site)
+            self.take_line(&context)
         };
         match outcome {
             Ok(step) => Ok(step),
@@ -129,24 +128,34 @@ impl<J: Naming, M: Mailbox + Carrier> Session<J, M> {
         error
     }
 
+    // Whether the client's outbox was shut, since a message found no room.
+    fn is_shut(&mut self) -> bool {
+        match (&mut self.own, &mut self.peer) {
+            (Some(own), _) => own.is_shut(),
+            (None, Some(peer)) => peer.is_shut(),
+            (None, None) => false,
+        }
+    }
+
     fn take_line<W: Wait, R: Wait + Drop>(
         &mut self,
-        site: &Site<'_, J, M, W, R>,
+        context: &Context<'_, B, M, W, R>,
     ) -> Result<Step, SessionError> {
+        let Some(own) = &mut self.own else {
+            return Ok(Step::Waits);
+        };
         if self.input.is_empty() {
             return Ok(Step::Waits);
         }
         let bytes = self.input.unread();
-        let taken = self
-            .talk
-            .take_line(site.rt, site.alloc, &mut self.home, bytes)?;
+        let taken = self.talk.take_line(context.rt, context.alloc, own, bytes)?;
         self.input.skip(taken);
         Ok(Step::Done)
     }
 
     fn take_message<W: Wait, R: Wait + Drop>(
         &mut self,
-        site: &Site<'_, J, M, W, R>,
+        context: &Context<'_, B, M, W, R>,
     ) -> Result<Step, SessionError> {
         let view = match self.input.front() {
             Ok(Some(view)) => view,
@@ -154,13 +163,11 @@ impl<J: Naming, M: Mailbox + Carrier> Session<J, M> {
             Err(fault) => return Err(SessionError::Message(fault)),
         };
         let len = view.raw().len();
-        match &mut self.connection {
-            Some(connection) => treat(connection, site, &mut self.home, &mut self.lists, &view)?,
+        match &mut self.peer {
+            Some(peer) => peer.handle(context, &mut self.lists, &view)?,
             None => {
-                let mut connection = greet(site, &mut self.home, self.identity, &view)?;
-                let welcomed = connection.welcome(site, &mut self.home, Request::of(&view));
-                self.connection = Some(connection);
-                welcomed?;
+                let identity = self.identity;
+                arrive(context, &mut self.own, &mut self.peer, identity, &view)?;
             }
         }
         self.input.skip(len);
@@ -169,9 +176,11 @@ impl<J: Naming, M: Mailbox + Carrier> Session<J, M> {
 
     /// Writes out what the session has put, its own outbox's and that of others.
     pub fn push_out<W: Wait>(&mut self, rt: &W) {
-        self.home.push_out(rt);
-        if let Some(connection) = &mut self.connection {
-            connection.pass.push_out(rt);
+        if let Some(own) = &mut self.own {
+            own.push_out(rt);
+        }
+        if let Some(peer) = &mut self.peer {
+            peer.push_out(rt);
         }
     }
 
@@ -200,12 +209,36 @@ impl<J: Naming, M: Mailbox + Carrier> Session<J, M> {
         self,
         rt: &W,
         alloc: Global,
-        bus: &Bus<J, M, R>,
-    ) -> Option<Rest<J, M>> {
-        let Session { connection, .. } = self;
-        match connection {
-            Some(connection) => end(connection, &Site { rt, alloc, bus }),
+        bus: &Bus<B, M, R>,
+    ) -> Option<Rest<B, M>> {
+        let Session { peer, .. } = self;
+        match peer {
+            Some(peer) => end(peer, &Context { rt, alloc, bus }),
             None => None,
+        }
+    }
+}
+
+/// Makes the peer that the first message asks for, and answers it.
+fn arrive<B: Naming, M: Mailbox + Carrier, W: Wait, R: Wait + Drop>(
+    context: &Context<'_, B, M, W, R>,
+    own: &mut Option<OwnOutbox<M>>,
+    peer: &mut Option<Peer<B, M>>,
+    identity: Identity,
+    view: &View<'_>,
+) -> Result<(), SessionError> {
+    let Some(outbox) = own.take() else {
+        return Ok(());
+    };
+    match greet(context, outbox, identity, view) {
+        Ok(mut newcomer) => {
+            let registered = newcomer.register(context, Request::of(view));
+            *peer = Some(newcomer);
+            Ok(registered?)
+        }
+        Err((error, outbox)) => {
+            *own = Some(outbox);
+            Err(error)
         }
     }
 }

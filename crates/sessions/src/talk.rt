@@ -4,9 +4,9 @@ ghost use Rattle.std.specs.Prelude.{◌≡◌, ◌≤◌, None, length, IfOk};
 
 use crate::error::SessionError;
 use auth::Auth;
-use bus_methods::{Home, Mailbox};
 use bytes::Bytes;
 use outbox::Item;
+use peers::{Mailbox, OwnOutbox};
 use routing::Carrier;
 use std::alloc::{AllocError, Global};
 use std::sync::Wait;
@@ -41,7 +41,7 @@ impl Talk {
         &mut self,
         rt: &W,
         alloc: Global,
-        home: &mut Home<M>,
+        own: &mut OwnOutbox<M>,
         bytes: &[u8],
     ) -> Result<usize, SessionError>
         ensures { IfOk result (λ taken. taken ≤ length bytes.now) }
@@ -50,7 +50,7 @@ impl Talk {
             return Err(SessionError::Auth);
         };
         self.has_begun = fed.begun;
-        put_answer(rt, alloc, home, fed.answer.as_slice())?;
+        put_answer(rt, alloc, own, fed.answer.as_slice())?;
         Ok(fed.taken)
     }
 }
@@ -58,14 +58,14 @@ impl Talk {
 fn put_answer<M: Mailbox + Carrier, W: Wait>(
     rt: &W,
     alloc: Global,
-    home: &mut Home<M>,
+    own: &mut OwnOutbox<M>,
     answer: &[u8],
 ) -> Result<(), SessionError> {
     if answer.is_empty() {
         return Ok(());
     }
     match message_of(alloc, answer) {
-        Ok(message) => Ok(home.put(rt, message)?),
+        Ok(message) => Ok(own.put(rt, message)?),
         Err(_) => Err(SessionError::NoMemory),
     }
 }

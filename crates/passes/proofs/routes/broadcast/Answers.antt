@@ -13,6 +13,6 @@ returns-in-Ok-route_gated-clause-keeps g c = routed_keeps _ _ c.args.sender.now 
 
 pub returns-in-Ok-route_gated-clause-ok : goal.returns-in-Ok-route_gated-clause-ok
 returns-in-Ok-route_gated-clause-ok g c =
-    let P : List ℕ → Type 0 = λ l. Routed l c.route_gated.new.refused.items c.prepare.new.sender c.route_gated.new.self in
-    routed_those _ c.args.recipients.now.items _ c.args.found.newcomers.items c.args.sender.now c.prepare.new.sender c.route_gated.new.self c.requires.reachable c.prepare.ensures.keeps c.prepare.ensures.unrouted
+    let P : List ℕ → Type 0 = λ l. Routed c.args.bytes.now l c.route_gated.new.refused.items c.prepare.new.sender c.route_gated.new.self in
+    routed_those _ c.args.bytes.now c.args.recipients.now.items _ c.args.found.newcomers.items c.args.sender.now c.prepare.new.sender c.route_gated.new.self c.requires.reachable c.prepare.ensures.keeps c.prepare.ensures.unrouted
     (subst P c.as_slice.ensures.value c.in-Ok-route_gated.ensures.ok)

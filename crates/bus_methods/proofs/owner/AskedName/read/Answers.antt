@@ -1,6 +1,0 @@
-use Rattle.std.proofs.Common.{sym, ◌∙◌}
-use Rattle.bus_methods.proofs.AskedNames.{name_read}
-use Rattle.bus_methods.proofs.owner.AskedName.read.Goals as goal
-
-pub returns-in-Ok : goal.returns-in-Ok
-returns-in-Ok c = name_read c.args.text.now c.in-Ok.name (sym c.read.ensures ∙ c.in-Ok.is)

@@ -1,2 +1,0 @@
-pub use Rattle.connections.specs.declared.error.AnswerError
-pub mod Asked

@@ -1,0 +1,2 @@
+mod StampedTexts
+mod AskedNames

@@ -1,0 +1,76 @@
+-- What the bus announces of names (D-Bus Specification, "Message Bus Messages": NameOwnerChanged, NameLost, NameAcquired).
+use Rattle.std.specs.Prelude.{ℕ, ◌≡◌, ◌⊎◌, List, [], ◌∷◌, codes, Option, Some, None, Result, Ok, Err}
+use Rattle.outbox.specs.Seated.{OutboxId}
+use Rattle.owners.specs.declared.answer.Change.{Change}
+use Rattle.message_build.specs.Asked.{Asked}
+use Rattle.message_build.specs.Building.{AreAsked}
+use Rattle.bus_messages.specs.Sent.{signal_asked}
+use Rattle.unique_name.specs.UniqueNames.{unique_name}
+use Rattle.router.specs.BusError.{BusError}
+use Rattle.router.specs.Source.TheVariants.{Bus}
+use Rattle.router.specs.Passes.{PassState}
+use Rattle.router.specs.Routes.{HasRouted, IsUnrouted}
+use Rattle.router.specs.Unicasts.{Unicasts, IsUnsent}
+use Rattle.router.specs.Sent.{Sent}
+use Rattle.peers.specs.declared.error.AnswerError.{AnswerError}
+use Rattle.peers.specs.declared.error.AnswerError.TheVariants.{NoMemory}
+use Rattle.peers.specs.Answers.{after_serial}
+use Rattle.peers.specs.Passing.{with_pass}
+use Rattle.peers.specs.PeerState.{PeerState, name_of}
+
+-- an owner's name, empty for none
+abbrev pub owner_text : Option ℕ → List ℕ
+owner_text None = []
+owner_text (Some n) = unique_name n
+
+-- NameOwnerChanged with this serial, of a name whose owner was one connection and is another now
+abbrev pub change_asked : ℕ → List ℕ → Option ℕ → Option ℕ → Asked
+change_asked serial name old new = signal_asked serial None (codes "NameOwnerChanged") (name ∷ owner_text old ∷ owner_text new ∷ [])
+
+-- two things were done, and both well if the result is
+abbrev pub AreBoth : Result (Unit {0}) AnswerError → Result (Unit {0}) AnswerError → Result (Unit {0}) AnswerError → Type 0
+AreBoth first second result = result ≡ Ok tt → (first ≡ Ok tt) × (second ≡ Ok tt)
+
+module _ {M : Type 0} where
+  -- The pass sent this message of the bus to the owner of a name, who may be gone; or nothing was put.
+  abbrev pub IsTold : (M → OutboxId) → Asked → List ℕ → PassState M → Result (Unit {0}) AnswerError → PassState M → Type 0
+  IsTold outbox_of asked to v (Ok _) w = (bytes : List ℕ) × (sent : Sent) × AreAsked asked bytes × Unicasts outbox_of to bytes v sent w
+  IsTold outbox_of asked to v (Err error) w = (error ≡ NoMemory) × ((w ≡ v) ⊎ ((why : BusError) × IsUnsent outbox_of why v w))
+
+  -- The pass put this broadcast of the bus to its recipients, or nothing was put.
+  abbrev pub IsSignalled : (M → OutboxId) → Asked → PassState M → Result (Unit {0}) AnswerError → PassState M → Type 0
+  IsSignalled outbox_of asked v (Ok _) w = (bytes recipients refused : List ℕ) × AreAsked asked bytes × HasRouted outbox_of Bus bytes v recipients refused w
+  IsSignalled outbox_of asked v (Err error) w = (error ≡ NoMemory) × ((w ≡ v) ⊎ ((why : BusError) × IsUnrouted outbox_of why v w))
+
+  -- one of the bus's messages was made and sent by the peer's pass
+  abbrev pub IsMade : PeerState M → PeerState M → Type 0
+  IsMade v w = w ≡ with_pass (after_serial v) w.pass
+
+  abbrev pub HasTold : (M → OutboxId) → Asked → List ℕ → PeerState M → Result (Unit {0}) AnswerError → PeerState M → Type 0
+  HasTold outbox_of asked to v result w = IsMade v w × IsTold outbox_of asked to v.pass result w.pass
+
+  abbrev pub HasSignalled : (M → OutboxId) → Asked → PeerState M → Result (Unit {0}) AnswerError → PeerState M → Type 0
+  HasSignalled outbox_of asked v result w = IsMade v w × IsSignalled outbox_of asked v.pass result w.pass
+
+  -- a connection is told by this signal that a name was lost or acquired; nobody is nobody
+  abbrev pub TellsOwner : (M → OutboxId) → List ℕ → List ℕ → Option ℕ → PeerState M → Result (Unit {0}) AnswerError → PeerState M → Type 0
+  TellsOwner outbox_of member name None v result w = (result ≡ Ok tt) × (w ≡ v)
+  TellsOwner outbox_of member name (Some n) v result w = HasTold outbox_of (signal_asked v.serial (Some (unique_name n)) member (name ∷ [])) (unique_name n) v result w
+
+  -- A change of a name's owner: NameLost to the old one, NameOwnerChanged to all whose rules hold of it, NameAcquired to
+  -- the new one, in this order, and nothing else.
+  abbrev pub Announces : (M → OutboxId) → Change → PeerState M → Result (Unit {0}) AnswerError → PeerState M → Type 0
+  Announces outbox_of change v result w =
+      (mid next : PeerState M) × (lost changed acquired : Result (Unit {0}) AnswerError)
+      × TellsOwner outbox_of (codes "NameLost") change.name change.old v lost mid
+      × HasSignalled outbox_of (change_asked mid.serial change.name change.old change.new) mid changed next
+      × TellsOwner outbox_of (codes "NameAcquired") change.name change.new next acquired w
+      × (result ≡ Ok tt → (lost ≡ Ok tt) × (changed ≡ Ok tt) × (acquired ≡ Ok tt))
+
+  -- the client's own unique name is there: NameOwnerChanged, then NameAcquired
+  abbrev pub AnnouncesArrival : (M → OutboxId) → PeerState M → Result (Unit {0}) AnswerError → PeerState M → Type 0
+  AnnouncesArrival outbox_of v result w =
+      (mid : PeerState M) × (changed acquired : Result (Unit {0}) AnswerError)
+      × HasSignalled outbox_of (change_asked v.serial (name_of v) None (Some v.pass.connection)) v changed mid
+      × TellsOwner outbox_of (codes "NameAcquired") (name_of v) (Some v.pass.connection) mid acquired w
+      × AreBoth changed acquired result

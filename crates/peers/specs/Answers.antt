@@ -1,0 +1,51 @@
+-- What calls are answered (D-Bus Specification, "Message Format").
+use Rattle.std.specs.Prelude.{ℕ, ◌≡◌, ◌⊎◌, ◌++◌, Bool, true, false, List, [], ◌∷◌, Some, None, Result, Ok, Err, IfErr}
+use Rattle.outbox.specs.Items.{Item}
+use Rattle.message_build.specs.Asked.{Asked}
+use Rattle.message_build.specs.Building.{AreAsked}
+use Rattle.bus_messages.specs.Sent.{error_asked}
+use Rattle.bus_messages.specs.declared.error_name.ErrorName.{ErrorName}
+use Rattle.bus_messages.specs.declared.error_name.ErrorName.TheVariants as names
+use Rattle.peers.specs.declared.error.AnswerError.{AnswerError}
+use Rattle.peers.specs.declared.error.AnswerError.TheVariants.{NoMemory}
+use Rattle.peers.specs.declared.request.Request.{Request}
+use Rattle.peers.specs.declared.refused.Refused.{Refused}
+use Rattle.peers.specs.declared.refused.Refused.TheVariants.{Error, Ended}
+use Rattle.peers.specs.PeerState.{PeerState, name_of}
+use Rattle.peers.specs.Serials.{serial_after}
+
+-- Only want of memory ends a call whose caller waits for no answer: no room is needed for one.
+abbrev pub NeverSlow : {A : Type 0} → Bool → Result A AnswerError → Type 0
+NeverSlow wants_answer result = wants_answer ≡ false → IfErr result (λ error. error ≡ NoMemory)
+
+-- the bytes are those of one of two messages
+abbrev pub IsEither : Asked → Asked → List ℕ → Type 0
+IsEither asked other bytes = AreAsked asked bytes ⊎ AreAsked other bytes
+
+module _ {M : Type 0} where
+  -- One message more was put to the client, whose bytes are so; or nothing was put.
+  abbrev pub IsPut : (List ℕ → Type 0) → PeerState M → Result (Unit {0}) AnswerError → PeerState M → Type 0
+  IsPut P v (Ok _) w = (item : Item) × (item.mark ≡ None) × P item.bytes × (w ≡ record v { answers = v.answers ++ item ∷ [] })
+  IsPut P v (Err error) w = w ≡ v
+
+  -- one serial is used for a message of the bus
+  abbrev pub after_serial : PeerState M → PeerState M
+  after_serial v = record v { serial = serial_after v.serial }
+
+  -- the error that a call of the client is answered with
+  abbrev pub fault_asked : PeerState M → Request → ErrorName → Asked
+  fault_asked v request name = error_asked v.serial (Some (name_of v)) request.serial name
+
+  abbrev pub AnswersIf : Bool → Request → Asked → PeerState M → Result (Unit {0}) AnswerError → PeerState M → Type 0
+  AnswersIf false request asked v result w = (result ≡ Ok tt) × (w ≡ v)
+  AnswersIf true request asked v result w = IsPut (IsEither asked (fault_asked v request names.NoMemory)) (after_serial v) result w
+
+  -- The call of a caller that waits is answered with just this message, or with the error NoMemory in its place; or the
+  -- answer finds no room or no memory, and nothing is put. The call of one that doesn't wait is answered with nothing.
+  abbrev pub IsAnswered : Request → Asked → PeerState M → Result (Unit {0}) AnswerError → PeerState M → Type 0
+  IsAnswered request asked v result w = AnswersIf request.wants_answer request asked v result w
+
+  -- the call is answered with an error; or the bus has ended, and with it the session
+  abbrev pub IsRefused : Request → Refused → PeerState M → Result (Unit {0}) AnswerError → PeerState M → Type 0
+  IsRefused request Ended v result w = (result ≡ Err NoMemory) × (w ≡ v)
+  IsRefused request (Error name) v result w = IsAnswered request (fault_asked v request name) v result w

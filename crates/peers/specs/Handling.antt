@@ -1,0 +1,53 @@
+-- Where a client's message goes (D-Bus Specification, "Message Bus Message Routing").
+use Rattle.std.specs.Prelude.{ℕ, ◌≡◌, ◌⊎◌, Bool, true, false, ◌&&◌, List, Option, Some, None, Result, Ok, Err}
+use Rattle.std.specs.Str.{bytes_eq}
+use Rattle.signature.specs.Name.{bus_name}
+use Rattle.outbox.specs.Seated.{OutboxId}
+use Rattle.message_view.specs.declared.kind.Kind.{Kind}
+use Rattle.message_view.specs.declared.kind.Kind.TheVariants as kinds
+use Rattle.message_view.specs.Message.{Message, destination_of}
+use Rattle.message_view.specs.Valid.{Valid}
+use Rattle.bus_messages.specs.declared.call.Call.{Call}
+use Rattle.bus_messages.specs.declared.call.CallError.{CallError}
+use Rattle.bus_messages.specs.Calls.{IsReadAs}
+use Rattle.bus_messages.specs.CallErrors.{error_name_of}
+use Rattle.peers.specs.Answers.{IsRefused}
+use Rattle.peers.specs.Passing.{HasBroadcast, HasSent, IsRequestOf, is_call}
+use Rattle.peers.specs.PeerState.{PeerState}
+use Rattle.peers.specs.Table.{Performs}
+use Rattle.peers.specs.declared.error.AnswerError.{AnswerError}
+use Rattle.peers.specs.declared.refused.Refused.TheVariants.{Error}
+use Rattle.peers.specs.declared.request.Request.{Request}
+
+-- a message without a destination, or with that of the bus, may be for the bus
+abbrev pub names_bus : Option (List ℕ) → Bool
+names_bus None = true
+names_bus (Some name) = bytes_eq name bus_name
+
+-- a call of the bus itself
+abbrev pub is_for_bus : Message → Bool
+is_for_bus m = is_call m.kind && names_bus (destination_of m)
+
+module _ {M : Type 0} where
+  -- The bus understands the call, and does what the table of methods says; or it is refused with the error of the reading.
+  abbrev pub CallsBus : (M → OutboxId) → Message → PeerState M → Result (Unit {0}) AnswerError → PeerState M → Type 0
+  CallsBus outbox_of m v result w =
+      (request : Request) × IsRequestOf m request
+      × (((call : Call) × IsReadAs m (Ok call) × Performs outbox_of request call v result w)
+      ⊎ ((error : CallError) × IsReadAs m (Err error) × IsRefused request (Error (error_name_of error)) v result w))
+
+  -- a message that isn't for the bus
+  abbrev pub PassesOn : (M → OutboxId) → List ℕ → Kind → Option (List ℕ) → PeerState M → Result (Unit {0}) AnswerError → PeerState M → Type 0
+  PassesOn outbox_of bytes (kinds.Other code) to v result w = (result ≡ Ok tt) × (w ≡ v)
+  PassesOn outbox_of bytes kinds.Signal None v result w = HasBroadcast outbox_of bytes v result w
+  PassesOn outbox_of bytes kind None v result w = (result ≡ Ok tt) × (w ≡ v)
+  PassesOn outbox_of bytes kind (Some to) v result w = HasSent outbox_of bytes to v result w
+
+  abbrev pub HandledAs : (M → OutboxId) → List ℕ → Message → Bool → PeerState M → Result (Unit {0}) AnswerError → PeerState M → Type 0
+  HandledAs outbox_of bytes m true v result w = CallsBus outbox_of m v result w
+  HandledAs outbox_of bytes m false v result w = PassesOn outbox_of bytes m.kind (destination_of m) v result w
+
+  -- A message of these bytes is handled: a call of the bus is answered, a signal without destination is a broadcast, another
+  -- message with a destination goes there, and all else is dropped.
+  abbrev pub Handles : (M → OutboxId) → List ℕ → PeerState M → Result (Unit {0}) AnswerError → PeerState M → Type 0
+  Handles outbox_of bytes v result w = (m : Message) → Valid bytes m → HandledAs outbox_of bytes m (is_for_bus m) v result w

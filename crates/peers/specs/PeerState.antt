@@ -1,0 +1,17 @@
+-- What clauses see of a client on the bus (own).
+use Rattle.std.specs.Prelude.{ℕ, List}
+use Rattle.outbox.specs.Items.{Item}
+use Rattle.unique_name.specs.UniqueNames.{unique_name}
+use Rattle.router.specs.Passes.{PassState}
+
+-- what its pass has seen and done; the messages that the bus put to the client itself, in order; and the serial of the
+-- next message that the bus makes for it
+pub record PeerState (M : Type 0) : Type 0 where
+  pub pass : PassState M
+  pub answers : List Item
+  pub serial : ℕ
+
+module _ {M : Type 0} where
+  -- its unique name
+  abbrev pub name_of : PeerState M → List ℕ
+  name_of v = unique_name v.pass.connection

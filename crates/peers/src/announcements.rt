@@ -1,0 +1,200 @@
+// What the bus announces of names.
+
+ghost use Rattle.std.specs.Prelude.{◌≡◌, ◌∷◌, [], codes, None, Some, IfErr, option_map};
+ghost use Rattle.bus_messages.specs.Sent.{signal_asked, Builds};
+ghost use Rattle.message_build.specs.Asked.{Asked};
+ghost use Rattle.unique_name.specs.UniqueNames.{unique_name};
+ghost use Rattle.peers.specs.Announcements.{Announces, AnnouncesArrival, HasSignalled, HasTold, IsTold, change_asked, owner_text};
+ghost use Rattle.peers.specs.Broadcasts.{Broadcasts};
+ghost use Rattle.peers.specs.Passing.{with_pass};
+ghost use Rattle.peers.specs.PeerState.{name_of};
+
+use crate::context::Context;
+use crate::error::AnswerError;
+use crate::peer::Peer;
+use bus_messages::{BuildError, Bytes, UniqueName, name_acquired, name_lost, name_owner_changed};
+use message_view::View;
+use owners::Change;
+use router::{Mailbox, Naming, RouteLists, Source};
+use routing::Carrier;
+use std::sync::Wait;
+
+impl<B: Naming, M: Mailbox + Carrier> Peer<B, M> {
+    /// Announces that a well-known name has another owner: NameLost to the old one, NameOwnerChanged to all whose rules
+    /// hold of it, NameAcquired to the new one (D-Bus Specification, "Message Bus Messages"). A caller that holds what the
+    /// pass puts has them given out as one.
+    ///
+    /// # Errors
+    ///
+    /// `NoMemory` if memory refused one of them, or the bus has ended. The others are sent all the same.
+    pub(crate) fn announce<W: Wait, R: Wait + Drop>(
+        &mut self,
+        context: &Context<'_, B, M, W, R>,
+        change: &Change,
+    ) -> Result<(), AnswerError>
+        ensures announced { Announces M.outbox_of change.now self.old result self.new }
+        ensures error { IfErr result (λ error. error ≡ AnswerError.NoMemory) }
+    {
+        let name = change.name.as_str();
+        let lost = match change.old {
+            Some(old) => self.tell_lost(context, old, name),
+            None => Ok(()),
+        };
+        let changed = self.tell_changed(context, name, change.old, change.new);
+        let acquired = match change.new {
+            Some(new) => self.tell_acquired(context, new, name),
+            None => Ok(()),
+        };
+        lost.and(changed).and(acquired)
+    }
+
+    /// Announces the client's own unique name, after Hello.
+    ///
+    /// # Errors
+    ///
+    /// As those of `announce`.
+    pub(crate) fn announce_arrival<W: Wait, R: Wait + Drop>(
+        &mut self,
+        context: &Context<'_, B, M, W, R>,
+    ) -> Result<(), AnswerError>
+        ensures announced { AnnouncesArrival M.outbox_of self.old result self.new }
+        ensures error { IfErr result (λ error. error ≡ AnswerError.NoMemory) }
+    {
+        let number = self.pass.connection();
+        let name = UniqueName::new(number);
+        let changed = self.tell_changed(context, name.as_str(), None, Some(number));
+        let acquired = self.tell_acquired(context, number, name.as_str());
+        changed.and(acquired)
+    }
+
+    /// Announces that the client's own unique name is gone, after its pass was closed.
+    ///
+    /// # Errors
+    ///
+    /// As those of `announce`.
+    pub(crate) fn announce_departure<W: Wait, R: Wait + Drop>(
+        &mut self,
+        context: &Context<'_, B, M, W, R>,
+    ) -> Result<(), AnswerError>
+        ensures announced { HasSignalled M.outbox_of (change_asked self.old.serial (name_of self.old) (Some self.old.pass.connection) None) self.old result self.new }
+    {
+        let number = self.pass.connection();
+        let name = UniqueName::new(number);
+        self.tell_changed(context, name.as_str(), Some(number), None)
+    }
+
+    fn tell_lost<W: Wait, R: Wait + Drop>(
+        &mut self,
+        context: &Context<'_, B, M, W, R>,
+        old: u64,
+        name: &str,
+    ) -> Result<(), AnswerError>
+        ensures { HasTold M.outbox_of (signal_asked self.old.serial (Some (unique_name old)) (codes "NameLost") (name.now ∷ [])) (unique_name old) self.old result self.new }
+    {
+        let to = UniqueName::new(old);
+        let serial = self.serials.take();
+        let built_message = name_lost(context.alloc, serial, to.as_str(), name);
+        self.tell(context, &to, built_message)
+    }
+
+    fn tell_acquired<W: Wait, R: Wait + Drop>(
+        &mut self,
+        context: &Context<'_, B, M, W, R>,
+        new: u64,
+        name: &str,
+    ) -> Result<(), AnswerError>
+        ensures { HasTold M.outbox_of (signal_asked self.old.serial (Some (unique_name new)) (codes "NameAcquired") (name.now ∷ [])) (unique_name new) self.old result self.new }
+    {
+        let to = UniqueName::new(new);
+        let serial = self.serials.take();
+        let built_message = name_acquired(context.alloc, serial, to.as_str(), name);
+        self.tell(context, &to, built_message)
+    }
+
+    // Sends a signal to one connection, which may be gone by now.
+    fn tell<W: Wait, R: Wait + Drop>(
+        &mut self,
+        context: &Context<'_, B, M, W, R>,
+        to: &UniqueName,
+        built_message: Result<Bytes, BuildError>,
+    ) -> Result<(), AnswerError>
+        ensures pass { (asked : Asked) → Builds asked built_message → IsTold M.outbox_of asked (unique_name to.now) self.old.pass result self.new.pass }
+        ensures same { self.new ≡ with_pass self.old self.new.pass }
+    {
+        let Ok(bytes) = built_message else {
+            return Err(AnswerError::NoMemory);
+        };
+        match self
+            .pass
+            .send_to(context.rt, context.alloc, to.as_str(), &bytes)
+        {
+            Ok(_) => Ok(()),
+            Err(_) => Err(AnswerError::NoMemory),
+        }
+    }
+
+    fn tell_changed<W: Wait, R: Wait + Drop>(
+        &mut self,
+        context: &Context<'_, B, M, W, R>,
+        name: &str,
+        old: Option<u64>,
+        new: Option<u64>,
+    ) -> Result<(), AnswerError>
+        ensures { HasSignalled M.outbox_of (change_asked self.old.serial name.now old new) self.old result self.new }
+    {
+        let serial = self.serials.take();
+        let old = old.map(|number| UniqueName::new(number));
+        let new = new.map(|number| UniqueName::new(number));
+        let built_message = name_owner_changed(
+            context.alloc,
+            serial,
+            name,
+            text_of(&old),
+            text_of(&new),
+        );
+        let Ok(bytes) = built_message else {
+            return Err(AnswerError::NoMemory);
+        };
+        let view = View::of_message(bytes.as_slice());
+        let mut lists = RouteLists::new();
+        self.broadcast(context, Source::Bus, &view, &bytes, &mut lists)
+    }
+
+    /// Routes a broadcast. The lists are then of this broadcast: its recipients, and those whose outbox refused it.
+    ///
+    /// # Errors
+    ///
+    /// `NoMemory` if memory was refused or the bus has ended.
+    pub(crate) fn broadcast<W: Wait, R: Wait + Drop>(
+        &mut self,
+        context: &Context<'_, B, M, W, R>,
+        source: Source,
+        view: &View<'_>,
+        bytes: &Bytes,
+        lists: &mut RouteLists,
+    ) -> Result<(), AnswerError>
+        // The view is that of the bytes.
+        requires { view.now ≡ bytes.now }
+        ensures error { IfErr result (λ error. error ≡ AnswerError.NoMemory) }
+        ensures routed { Broadcasts M.outbox_of source bytes.now self.old.pass result lists.new.recipients.items lists.new.refused.items self.new.pass }
+        ensures same { self.new ≡ with_pass self.old self.new.pass }
+    {
+        let routed = self
+            .pass
+            .broadcast(context.rt, context.alloc, source, view, bytes, lists);
+        match routed {
+            Ok(()) => Ok(()),
+            Err(_) => Err(AnswerError::NoMemory),
+        }
+    }
+}
+
+/// An owner's name, empty for none.
+fn text_of(owner: &Option<UniqueName>) -> &str
+    ensures { result.now ≡ owner_text owner.now }
+{
+    match owner {
+        Some(name) => name.as_str(),
+        None => "",
+    }
+}

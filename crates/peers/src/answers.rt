@@ -1,0 +1,121 @@
+// How a call is answered.
+
+ghost use Rattle.std.specs.Prelude.{◌≡◌, Some, IfOk, option_map};
+ghost use Rattle.bus_messages.specs.Sent.{reply_asked, error_asked};
+ghost use Rattle.peers.specs.Answers.{IsAnswered, IsRefused, IsPut, IsEither, NeverSlow};
+ghost use Rattle.peers.specs.PeerState.{name_of};
+
+use crate::context::Context;
+use crate::error::AnswerError;
+use crate::peer::Peer;
+use crate::refused::Refused;
+use crate::request::Request;
+use bus_messages::{Body, Bytes, ErrorName, error, reply};
+use router::{Mailbox, Naming};
+use routing::Carrier;
+use std::alloc::Global;
+use std::sync::Wait;
+
+impl<B: Naming, M: Mailbox + Carrier> Peer<B, M> {
+    /// Answers a call, if its caller waits for an answer.
+    ///
+    /// # Errors
+    ///
+    /// `Slow`, and `NoMemory` if not even the error NoMemory could be built. Nothing is put then.
+    pub(crate) fn answer<W: Wait, R: Wait + Drop>(
+        &mut self,
+        context: &Context<'_, B, M, W, R>,
+        request: Request,
+        body: Body<'_>,
+    ) -> Result<(), AnswerError>
+        ensures answer { IsAnswered request (reply_asked self.old.serial (Some (name_of self.old)) request.serial body.entry) self.old result self.new }
+        ensures error { NeverSlow request.wants_answer result }
+    {
+        if !request.wants_answer {
+            return Ok(());
+        }
+        let serial = self.serials.take();
+        let to = Some(self.name.as_str());
+        match reply(context.alloc, serial, to, request.serial, body) {
+            Ok(bytes) => self.put(context, bytes),
+            Err(_) => self.put_error(context, request, serial, ErrorName::NoMemory),
+        }
+    }
+
+    /// Answers a call with an error, if its caller waits for an answer.
+    ///
+    /// # Errors
+    ///
+    /// As those of `answer`, and `NoMemory` if the bus has ended.
+    pub(crate) fn refuse<W: Wait, R: Wait + Drop>(
+        &mut self,
+        context: &Context<'_, B, M, W, R>,
+        request: Request,
+        why: Refused,
+    ) -> Result<(), AnswerError>
+        ensures answer { IsRefused request why self.old result self.new }
+        ensures error { NeverSlow request.wants_answer result }
+    {
+        let Refused::Error(name) = why else {
+            return Err(AnswerError::NoMemory);
+        };
+        if !request.wants_answer {
+            return Ok(());
+        }
+        let serial = self.serials.take();
+        self.put_error(context, request, serial, name)
+    }
+
+    // Puts an error with this serial, or the error NoMemory in its place.
+    fn put_error<W: Wait, R: Wait + Drop>(
+        &mut self,
+        context: &Context<'_, B, M, W, R>,
+        request: Request,
+        serial: u32,
+        name: ErrorName,
+    ) -> Result<(), AnswerError>
+        ensures { IsPut (IsEither (error_asked serial (Some (name_of self.old)) request.serial name) (error_asked serial (Some (name_of self.old)) request.serial ErrorName.NoMemory)) self.old result self.new }
+    {
+        let to = Some(self.name.as_str());
+        let bytes = error_bytes(context.alloc, serial, to, request, name)?;
+        self.put(context, bytes)
+    }
+
+    // Puts a message to the client, held with what its pass holds.
+    fn put<W: Wait, R: Wait + Drop>(
+        &mut self,
+        context: &Context<'_, B, M, W, R>,
+        bytes: Bytes,
+    ) -> Result<(), AnswerError>
+        ensures { IsPut (λ put. put ≡ bytes) self.old result self.new }
+    {
+        match self.pass.message(context.alloc, bytes) {
+            Ok(message) => self.own.put(context.rt, message),
+            Err(_) => Err(AnswerError::NoMemory),
+        }
+    }
+}
+
+/// The bytes of an error, or of the error NoMemory in its place.
+///
+/// # Errors
+///
+/// `NoMemory` if neither could be built.
+pub(crate) fn error_bytes(
+    alloc: Global,
+    serial: u32,
+    to: Option<&str>,
+    request: Request,
+    name: ErrorName,
+) -> Result<Bytes, AnswerError>
+    ensures { IfOk result (IsEither (error_asked serial (option_map (λ text. text.now) to.entry) request.serial name) (error_asked serial (option_map (λ text. text.now) to.entry) request.serial ErrorName.NoMemory)) }
+{
+    match error(alloc, serial, to, request.serial, name) {
+        Ok(bytes) => Ok(bytes),
+        Err(_) => {
+            error(alloc, serial, to, request.serial, ErrorName::NoMemory).map_err(
+                |_| AnswerError::NoMemory,
+            )
+        }
+    }
+}

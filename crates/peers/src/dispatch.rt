@@ -1,0 +1,70 @@
+// Where a client's message goes.
+
+ghost use Rattle.std.specs.Prelude.{◌≡◌};
+ghost use Rattle.message_view.specs.Message.{Message};
+ghost use Rattle.message_view.specs.Valid.{Valid};
+ghost use Rattle.peers.specs.Handling.{CallsBus, Handles, is_for_bus};
+
+use crate::context::Context;
+use crate::error::AnswerError;
+use crate::identity::BUS_NAME;
+use crate::peer::Peer;
+use crate::refused::Refused;
+use crate::request::Request;
+use bus_messages::Call;
+use message_view::{Kind, View};
+use router::{Mailbox, Naming, RouteLists};
+use routing::Carrier;
+use std::sync::Wait;
+
+/// Whether a message is a call of the bus itself.
+pub fn is_for_bus(view: &View<'_>) -> bool
+    ensures { (m : Message) → Valid view.now m → result ≡ is_for_bus m }
+{
+    view.kind() == Kind::MethodCall
+        && match view.destination() {
+            Some(name) => name == BUS_NAME,
+            None => true,
+        }
+}
+
+impl<B: Naming, M: Mailbox + Carrier> Peer<B, M> {
+    /// Handles a message: a call of the bus is answered, a signal without destination is a broadcast, another message with
+    /// a destination goes there, and all else is dropped.
+    ///
+    /// # Errors
+    ///
+    /// `Slow` if an answer has no room, `NoMemory` if a message can't be passed on or answered for want of memory.
+    pub fn handle<W: Wait, R: Wait + Drop>(
+        &mut self,
+        context: &Context<'_, B, M, W, R>,
+        lists: &mut RouteLists,
+        view: &View<'_>,
+    ) -> Result<(), AnswerError>
+        ensures { Handles M.outbox_of view.now self.old result self.new }
+    {
+        if is_for_bus(view) {
+            return self.call_bus(context, view);
+        }
+        match (view.kind(), view.destination()) {
+            (Kind::Other(_), _) => Ok(()),
+            (Kind::Signal, None) => self.send_broadcast(context, lists, view),
+            (_, Some(name)) => self.send_to(context, view, name),
+            (_, None) => Ok(()),
+        }
+    }
+
+    fn call_bus<W: Wait, R: Wait + Drop>(
+        &mut self,
+        context: &Context<'_, B, M, W, R>,
+        view: &View<'_>,
+    ) -> Result<(), AnswerError>
+        ensures { (m : Message) → Valid view.now m → CallsBus M.outbox_of m self.old result self.new }
+    {
+        let request = Request::of(view);
+        match Call::read(context.alloc, view) {
+            Ok(call) => self.perform(context, request, call),
+            Err(error) => self.refuse(context, request, Refused::from(error)),
+        }
+    }
+}

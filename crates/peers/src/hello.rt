@@ -1,0 +1,66 @@
+// What Hello is answered.
+
+ghost use Rattle.std.specs.Prelude.{◌≡◌, false, IsOk};
+ghost use Rattle.peers.specs.Answers.{NeverSlow};
+ghost use Rattle.peers.specs.Arrival.{Registers};
+
+use crate::answers::error_bytes;
+use crate::context::Context;
+use crate::error::AnswerError;
+use crate::own_outbox::OwnOutbox;
+use crate::peer::Peer;
+use crate::request::Request;
+use crate::serial::Serials;
+use bus_messages::{Body, ErrorName, UniqueName};
+use outbox::Item;
+use router::{Mailbox, Naming};
+use routing::Carrier;
+use std::sync::Wait;
+
+/// Answers a Hello that is refused, if its caller waits for an answer. The client has no name that the answer could bear.
+///
+/// # Errors
+///
+/// `Slow`, and `NoMemory` if not even the error NoMemory could be built.
+pub fn put_refusal<B: Naming, M: Mailbox + Carrier, W: Wait, R: Wait + Drop>(
+    context: &Context<'_, B, M, W, R>,
+    own: &mut OwnOutbox<M>,
+    request: Request,
+    name: ErrorName,
+) -> Result<(), AnswerError>
+    ensures { request.wants_answer ≡ false → IsOk result }
+{
+    if !request.wants_answer {
+        return Ok(());
+    }
+    let serial = Serials::new().take();
+    let bytes = error_bytes(context.alloc, serial, None, request, name)?;
+    match Item::new(context.alloc, bytes) {
+        Ok(message) => own.put(context.rt, message),
+        Err(_) => Err(AnswerError::NoMemory),
+    }
+}
+
+impl<B: Naming, M: Mailbox + Carrier> Peer<B, M> {
+    /// Answers Hello with the client's name, and announces it. Nobody gets one of these messages before all are put.
+    ///
+    /// # Errors
+    ///
+    /// `Slow` if the answer has no room, and `NoMemory` if memory was refused or the bus has ended. The name is announced
+    /// even if it isn't answered.
+    pub fn register<W: Wait, R: Wait + Drop>(
+        &mut self,
+        context: &Context<'_, B, M, W, R>,
+        request: Request,
+    ) -> Result<(), AnswerError>
+        ensures registered { Registers M.outbox_of request self.old result self.new }
+        ensures error { NeverSlow request.wants_answer result }
+    {
+        let name = UniqueName::new(self.pass.connection());
+        self.pass.hold(context.alloc);
+        let answered = self.answer(context, request, Body::Text(name.as_str()));
+        let announced = self.announce_arrival(context);
+        self.pass.release();
+        answered.and(announced)
+    }
+}

@@ -1,0 +1,136 @@
+// The methods of the bus.
+
+ghost use Rattle.std.specs.Prelude.{◌≡◌};
+ghost use Rattle.peers.specs.Answers.{NeverSlow};
+ghost use Rattle.peers.specs.Queries.{IsAnsweredOnce};
+ghost use Rattle.peers.specs.Table.{Performs};
+
+use crate::context::Context;
+use crate::error::AnswerError;
+use crate::identity::BUS_NAME;
+use crate::peer::Peer;
+use crate::refused::Refused;
+use crate::request::Request;
+use bus_messages::{Body, Call, ErrorName, introspection};
+use router::{Mailbox, Naming};
+use routing::Carrier;
+use std::sync::Wait;
+
+/// What StartServiceByName answers of a name that has an owner (D-Bus Specification, DBUS_START_REPLY_ALREADY_RUNNING).
+const ALREADY_RUNNING: u32 = 2;
+
+impl<B: Naming, M: Mailbox + Carrier> Peer<B, M> {
+    /// Does what a call of the bus asks for, and answers it.
+    ///
+    /// # Errors
+    ///
+    /// `Slow` if the answer has no room, and `NoMemory`.
+    pub(crate) fn perform<W: Wait, R: Wait + Drop>(
+        &mut self,
+        context: &Context<'_, B, M, W, R>,
+        request: Request,
+        call: Call<'_>,
+    ) -> Result<(), AnswerError>
+        ensures row { Performs M.outbox_of request call.entry self.old result self.new }
+        ensures error { NeverSlow request.wants_answer result }
+    {
+        match call {
+            Call::Hello => self.refuse(context, request, Refused::Error(ErrorName::Failed)),
+            Call::AddMatch(text) => self.add_match(context, request, text),
+            Call::RemoveMatch(text) => self.remove_match(context, request, text),
+            Call::Attach(edition, program) => self.attach(context, request, edition, program),
+            Call::Detach(id) => self.detach(context, request, id),
+            Call::RequestName(name, flags) => self.request_name(context, request, name, flags),
+            Call::ReleaseName(name) => self.release_name(context, request, name),
+            Call::GetNameOwner(name) => self.get_name_owner(context, request, name),
+            Call::NameHasOwner(name) => self.name_has_owner(context, request, name),
+            Call::ListQueuedOwners(name) => self.list_queued_owners(context, request, name),
+            Call::ListNames => self.list_names(context, request),
+            Call::ListActivatableNames => {
+                let names = Body::Texts([BUS_NAME].as_slice());
+                self.answer(context, request, names)
+            }
+            Call::StartServiceByName(name) => {
+                let found = Ok(Body::Number(ALREADY_RUNNING));
+                let missing = ErrorName::ServiceUnknown;
+                self.answer_of_owned(context, request, name, found, missing)
+            }
+            Call::GetConnectionUnixUser(name) => {
+                let missing = ErrorName::NameHasNoOwner;
+                let unknown = Err(ErrorName::Failed);
+                self.answer_of_owned(context, request, name, unknown, missing)
+            }
+            Call::GetConnectionUnixProcessId(name) => {
+                let missing = ErrorName::NameHasNoOwner;
+                let unknown = Err(ErrorName::UnixProcessIdUnknown);
+                self.answer_of_owned(context, request, name, unknown, missing)
+            }
+            Call::GetConnectionCredentials(name) => {
+                let missing = ErrorName::NameHasNoOwner;
+                let nothing_known = Ok(Body::EmptyDict);
+                self.answer_of_owned(context, request, name, nothing_known, missing)
+            }
+            Call::Ping => self.answer(context, request, Body::Nothing),
+            Call::GetId => self.get_id(context, request),
+            Call::GetMachineId => self.get_machine_id(context, request),
+            Call::Introspect => self.introspect(context, request),
+            Call::Get => self.answer(context, request, Body::EmptyList),
+            Call::GetAll => self.answer(context, request, Body::Properties),
+        }
+    }
+
+    fn get_id<W: Wait, R: Wait + Drop>(
+        &mut self,
+        context: &Context<'_, B, M, W, R>,
+        request: Request,
+    ) -> Result<(), AnswerError>
+        ensures row { IsAnsweredOnce request self.old result self.new }
+        ensures error { NeverSlow request.wants_answer result }
+    {
+        let id = self.identity.guid.map(|digit| digit.to_ascii_lowercase());
+        self.answer_digits(context, request, id)
+    }
+
+    fn get_machine_id<W: Wait, R: Wait + Drop>(
+        &mut self,
+        context: &Context<'_, B, M, W, R>,
+        request: Request,
+    ) -> Result<(), AnswerError>
+        ensures row { IsAnsweredOnce request self.old result self.new }
+        ensures error { NeverSlow request.wants_answer result }
+    {
+        match self.identity.machine_id {
+            Some(id) => self.answer_digits(context, request, id),
+            None => self.refuse(context, request, Refused::Error(ErrorName::Failed)),
+        }
+    }
+
+    fn answer_digits<W: Wait, R: Wait + Drop>(
+        &mut self,
+        context: &Context<'_, B, M, W, R>,
+        request: Request,
+        digits: [u8; 32],
+    ) -> Result<(), AnswerError>
+        ensures row { IsAnsweredOnce request self.old result self.new }
+        ensures error { NeverSlow request.wants_answer result }
+    {
+        match str::from_utf8(&digits) {
+            Ok(text) => self.answer(context, request, Body::Text(text)),
+            Err(_) => self.refuse(context, request, Refused::Error(ErrorName::Failed)),
+        }
+    }
+
+    fn introspect<W: Wait, R: Wait + Drop>(
+        &mut self,
+        context: &Context<'_, B, M, W, R>,
+        request: Request,
+    ) -> Result<(), AnswerError>
+        ensures row { IsAnsweredOnce request self.old result self.new }
+        ensures error { NeverSlow request.wants_answer result }
+    {
+        match introspection(context.alloc) {
+            Ok(text) => self.answer(context, request, Body::Text(text.as_str())),
+            Err(refused) => self.refuse(context, request, Refused::from(refused)),
+        }
+    }
+}

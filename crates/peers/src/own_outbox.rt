@@ -1,0 +1,84 @@
+// The outbox of a client, as its own session puts messages there.
+
+ghost use Rattle.std.specs.Prelude.{◌≡◌, ◌++◌, ◌∷◌, [], None, IfOk, MatchResult};
+
+use crate::error::AnswerError;
+use outbox::{Item, Seat};
+use router::Mailbox;
+use routing::Carrier;
+use std::alloc::AllocError;
+use std::marker::Model;
+use std::sync::Wait;
+
+/// A client's own mailbox, and a seat at its outbox. All that is written to the client goes through this outbox.
+/// Contracts see what was put by this seat, in order.
+#[derive(Drop)]
+pub struct OwnOutbox<M: Mailbox + Carrier> {
+    mailbox: M,
+    seat: Seat,
+    // Something was put that nobody was asked to write out.
+    is_waiting: bool,
+}
+
+impl<M: Mailbox + Carrier> Model for OwnOutbox<M> {
+    ghost use Rattle.std.specs.Prelude.{◌≡◌, List};
+    ghost use Rattle.outbox.specs.Items.{Item};
+
+    ghost Value = { List Item };
+
+    ghost view = { λ o. o.seat.view.put };
+
+    ghost invariant = { λ o. o.seat.outbox ≡ M.outbox_of o.mailbox };
+}
+
+impl<M: Mailbox + Carrier> OwnOutbox<M> {
+    /// What goes through the outbox of this mailbox. Nothing is put yet.
+    pub fn new(mailbox: M) -> OwnOutbox<M>
+        ensures { result ≡ [] }
+    {
+        let seat = mailbox.outbox().seat();
+        OwnOutbox {
+            mailbox,
+            seat,
+            is_waiting: false,
+        }
+    }
+
+    /// Another handle of the mailbox, for the bus.
+    pub fn share(&self) -> Result<M, AllocError> {
+        self.mailbox.share()
+    }
+
+    /// Puts a message that is no broadcast.
+    ///
+    /// # Errors
+    ///
+    /// `Slow` if the outbox is full or shut. Nothing is put then.
+    pub fn put<W: Wait>(&mut self, rt: &W, message: Item) -> Result<(), AnswerError>
+        requires { message.mark ≡ None }
+        ensures { MatchResult result (λ _. self.new ≡ self.old ++ message ∷ []) (λ error. (error ≡ AnswerError.Slow) × (self.new ≡ self.old)) }
+    {
+        self.is_waiting = true;
+        match self.mailbox.outbox().put(rt, &mut self.seat, message) {
+            Ok(()) => Ok(()),
+            Err(_) => Err(AnswerError::Slow),
+        }
+    }
+
+    /// Whether the outbox was shut, since a message found no room.
+    pub fn is_shut(&mut self) -> bool
+        ensures { self.new ≡ self.old }
+    {
+        self.mailbox.outbox().is_shut(&mut self.seat)
+    }
+
+    /// Writes out what was put since the last call.
+    pub fn push_out<W: Wait>(&mut self, rt: &W)
+        ensures { self.new ≡ self.old }
+    {
+        if self.is_waiting {
+            self.is_waiting = false;
+            self.mailbox.push_out(rt);
+        }
+    }
+}

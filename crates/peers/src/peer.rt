@@ -1,0 +1,89 @@
+// A client that has said Hello.
+
+ghost use Rattle.std.specs.Prelude.{◌≡◌};
+ghost use Rattle.peers.specs.PeerState.{PeerState};
+
+use crate::identity::Identity;
+use crate::own_outbox::OwnOutbox;
+use crate::serial::Serials;
+use bus_messages::UniqueName;
+use crossbeam_utils::rule::Protocol;
+use router::{Command, Mailbox, Naming, Pass, Published, Shown};
+use routing::Carrier;
+use std::collections::LinkedList;
+use std::marker::Model;
+use std::sync::Wait;
+
+/// A client on the bus. Its name is that of its pass's connection. Contracts see what its pass has seen and done, what
+/// the bus has put to the client itself, and the serial of the next message that the bus makes for it.
+#[derive(Drop)]
+pub struct Peer<B: Naming, M: Mailbox + Carrier>
+where
+    Published: Protocol<Shown<B, M>, LinkedList<Command<M>>>,
+{
+    pub(crate) pass: Pass<B, M>,
+    pub(crate) name: UniqueName,
+    // What the client is told of the bus.
+    pub(crate) identity: Identity,
+    pub(crate) serials: Serials,
+    pub(crate) own: OwnOutbox<M>,
+}
+
+impl<B: Naming, M: Mailbox + Carrier> Model for Peer<B, M>
+where
+    Published: Protocol<Shown<B, M>, LinkedList<Command<M>>>,
+{
+    ghost use Rattle.std.specs.Prelude.{◌≡◌};
+    ghost use Rattle.peers.specs.PeerState.{PeerState};
+
+    ghost Value = { PeerState M };
+
+    ghost view = { λ p. record { pass = p.pass; answers = p.own; serial = p.serials } };
+
+    ghost invariant = { λ p. p.name ≡ p.pass.connection };
+}
+
+impl<B: Naming, M: Mailbox + Carrier> Peer<B, M> {
+    /// The peer of a pass that is connected, named by its number.
+    pub fn new(pass: Pass<B, M>, own: OwnOutbox<M>, identity: Identity) -> Peer<B, M>
+        ensures { result ≡ record { pass = pass; answers = own; serial = 1 } }
+    {
+        let name = UniqueName::new(pass.connection());
+        Peer {
+            pass,
+            name,
+            identity,
+            serials: Serials::new(),
+            own,
+        }
+    }
+
+    /// Whether the client's outbox was shut, since a message found no room.
+    pub fn is_shut(&mut self) -> bool
+        ensures { self.new ≡ self.old }
+    {
+        self.own.is_shut()
+    }
+
+    /// Writes out what was put, to the client itself and to others.
+    pub fn push_out<W: Wait>(&mut self, rt: &W)
+        ensures { self.new ≡ self.old }
+    {
+        self.own.push_out(rt);
+        self.pass.push_out(rt);
+    }
+
+    /// Gives up the peer, and keeps its pass.
+    pub fn into_pass(self) -> Pass<B, M>
+        ensures { result ≡ self.pass }
+    {
+        let Self {
+            pass,
+            name: _,
+            identity: _,
+            serials: _,
+            own: _,
+        } = self;
+        pass
+    }
+}

@@ -1,0 +1,116 @@
+// What a client sends to others.
+
+ghost use Rattle.std.specs.Prelude.{◌≡◌, IfOk, MatchResult};
+ghost use Rattle.message_view.specs.Message.{Message};
+ghost use Rattle.message_view.specs.Valid.{Valid};
+ghost use Rattle.message_build.specs.Stamped.{Stamps};
+ghost use Rattle.unique_name.specs.UniqueNames.{unique_name};
+ghost use Rattle.peers.specs.Passing.{HasBroadcast, HasSent, GivesUp, IsStamped, listed_bytes};
+ghost use Rattle.peers.specs.PeerState.{name_of};
+
+use crate::context::Context;
+use crate::error::AnswerError;
+use crate::peer::Peer;
+use crate::refused::Refused;
+use crate::request::Request;
+use bus_messages::{Bytes, ErrorName, UniqueName};
+use message_build::{StampError, stamp};
+use message_view::{Kind, View};
+use router::{Mailbox, Naming, RouteLists, Sent, Source};
+use routing::Carrier;
+use std::alloc::Global;
+use std::sync::Wait;
+
+impl<B: Naming, M: Mailbox + Carrier> Peer<B, M> {
+    /// Passes on a signal without destination, stamped with the client's name, to its recipients. Most broadcasts are for
+    /// nobody, and aren't even stamped. One that would be above the limits with its sender is dropped.
+    ///
+    /// # Errors
+    ///
+    /// `NoMemory` if memory was refused or the bus has ended.
+    pub(crate) fn send_broadcast<W: Wait, R: Wait + Drop>(
+        &mut self,
+        context: &Context<'_, B, M, W, R>,
+        lists: &mut RouteLists,
+        view: &View<'_>,
+    ) -> Result<(), AnswerError>
+        ensures { HasBroadcast M.outbox_of view.now self.old result self.new }
+    {
+        if self.reaches_nobody(view) {
+            return Ok(());
+        }
+        match stamp_message(context.alloc, view, &self.name) {
+            Ok(bytes) => {
+                let stamped = View::of_message(bytes.as_slice());
+                self.broadcast(context, Source::Own, &stamped, &bytes, lists)
+            }
+            Err(StampError::TooLarge) => Ok(()),
+            Err(StampError::NoMemory) => Err(AnswerError::NoMemory),
+        }
+    }
+
+    /// Passes on a message to the owner of a name, stamped with the client's name.
+    ///
+    /// # Errors
+    ///
+    /// `Slow` if the client's own answer has no room, `NoMemory`.
+    pub(crate) fn send_to<W: Wait, R: Wait + Drop>(
+        &mut self,
+        context: &Context<'_, B, M, W, R>,
+        view: &View<'_>,
+        to: &str,
+    ) -> Result<(), AnswerError>
+        ensures { HasSent M.outbox_of view.now to.now self.old result self.new }
+    {
+        let bytes = match stamp_message(context.alloc, view, &self.name) {
+            Ok(bytes) => bytes,
+            Err(StampError::TooLarge) => {
+                return self.give_up(context, view, Refused::Error(ErrorName::LimitsExceeded));
+            }
+            Err(StampError::NoMemory) => {
+                return self.give_up(context, view, Refused::Error(ErrorName::NoMemory));
+            }
+        };
+        match self.pass.send_to(context.rt, context.alloc, to, &bytes) {
+            Ok(Sent::Put | Sent::Full) => Ok(()),
+            Ok(Sent::NoOwner) => {
+                self.give_up(context, view, Refused::Error(ErrorName::ServiceUnknown))
+            }
+            Err(error) => self.give_up(context, view, Refused::from(error)),
+        }
+    }
+
+    /// A message that isn't passed on: a call whose caller waits is answered with the error. Another message is dropped;
+    /// but none is lost for want of memory without a word: that ends the session.
+    fn give_up<W: Wait, R: Wait + Drop>(
+        &mut self,
+        context: &Context<'_, B, M, W, R>,
+        view: &View<'_>,
+        why: Refused,
+    ) -> Result<(), AnswerError>
+        ensures { GivesUp view.now why self.old result self.new }
+    {
+        let request = Request::of(view);
+        if view.kind() == Kind::MethodCall && request.wants_answer {
+            return self.refuse(context, request, why);
+        }
+        match why {
+            Refused::Ended | Refused::Error(ErrorName::NoMemory) => Err(AnswerError::NoMemory),
+            Refused::Error(_) => Ok(()),
+        }
+    }
+}
+
+/// The message as it is passed on, with its sender.
+fn stamp_message(alloc: Global, view: &View<'_>, sender: &UniqueName) -> Result<Bytes, StampError>
+    ensures stamps { (m : Message) → Valid view.now m → Stamps m (unique_name sender.now) (listed_bytes result) }
+    ensures valid { IfOk result (λ bytes. (m : Message) × Valid bytes m) }
+{
+    match stamp(alloc, view, sender.as_str()) {
+        Ok(bytes) => match Bytes::from_vec(bytes) {
+            Ok(bytes) => Ok(bytes),
+            Err(_) => Err(StampError::NoMemory),
+        },
+        Err(error) => Err(error),
+    }
+}
