@@ -1,6 +1,6 @@
 // The bus as threads share it.
 
-ghost use Rattle.std.specs.Prelude.{◌≡◌, ◌⊎◌, MatchResult, IfErr, false, true};
+ghost use Rattle.std.specs.Prelude.{◌≡◌, ◌⊎◌, ◌<◌, MatchResult, IfErr, false, true, length};
 ghost use mathlib.Core.List.{IsPrefix};
 ghost use Rattle.passes.specs.Command.TheVariants.{Detach, Request, Release, DropOne, Close};
 ghost use Rattle.passes.specs.Publication.{Publication};
