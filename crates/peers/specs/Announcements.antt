@@ -24,8 +24,12 @@ owner_text None = []
 owner_text (Some n) = unique_name n
 
 -- NameOwnerChanged with this serial, of a name whose owner was one connection and is another now
-abbrev pub change_asked : ℕ → List ℕ → Option ℕ → Option ℕ → Asked
+unfoldable pub change_asked : ℕ → List ℕ → Option ℕ → Option ℕ → Asked
 change_asked serial name old new = signal_asked serial None (codes "NameOwnerChanged") (name ∷ owner_text old ∷ owner_text new ∷ [])
+
+-- a signal with this serial to one connection, whose argument is a name
+unfoldable pub told_asked : ℕ → List ℕ → List ℕ → ℕ → Asked
+told_asked serial member name n = signal_asked serial (Some (unique_name n)) member (name ∷ [])
 
 -- two things were done, and both well if the result is
 abbrev pub AreBoth : Result (Unit {0}) AnswerError → Result (Unit {0}) AnswerError → Result (Unit {0}) AnswerError → Type 0
@@ -55,7 +59,7 @@ module _ {M : Type 0} where
   -- a connection is told by this signal that a name was lost or acquired; nobody is nobody
   abbrev pub TellsOwner : (M → OutboxId) → List ℕ → List ℕ → Option ℕ → PeerState M → Result (Unit {0}) AnswerError → PeerState M → Type 0
   TellsOwner outbox_of member name None v result w = (result ≡ Ok tt) × (w ≡ v)
-  TellsOwner outbox_of member name (Some n) v result w = HasTold outbox_of (signal_asked v.serial (Some (unique_name n)) member (name ∷ [])) (unique_name n) v result w
+  TellsOwner outbox_of member name (Some n) v result w = HasTold outbox_of (told_asked v.serial member name n) (unique_name n) v result w
 
   -- A change of a name's owner: NameLost to the old one, NameOwnerChanged to all whose rules hold of it, NameAcquired to
   -- the new one, in this order, and nothing else.
@@ -66,6 +70,11 @@ module _ {M : Type 0} where
       × HasSignalled outbox_of (change_asked mid.serial change.name change.old change.new) mid changed next
       × TellsOwner outbox_of (codes "NameAcquired") change.name change.new next acquired w
       × (result ≡ Ok tt → (lost ≡ Ok tt) × (changed ≡ Ok tt) × (acquired ≡ Ok tt))
+
+  -- a change, if there is one, is announced
+  abbrev pub AnnouncesAny : (M → OutboxId) → Option Change → PeerState M → Result (Unit {0}) AnswerError → PeerState M → Type 0
+  AnnouncesAny outbox_of None v result w = (result ≡ Ok tt) × (w ≡ v)
+  AnnouncesAny outbox_of (Some change) v result w = Announces outbox_of change v result w
 
   -- the client's own unique name is there: NameOwnerChanged, then NameAcquired
   abbrev pub AnnouncesArrival : (M → OutboxId) → PeerState M → Result (Unit {0}) AnswerError → PeerState M → Type 0

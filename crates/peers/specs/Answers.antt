@@ -3,7 +3,10 @@ use Rattle.std.specs.Prelude.{ℕ, ◌≡◌, ◌⊎◌, ◌++◌, Bool, true, f
 use Rattle.outbox.specs.Items.{Item}
 use Rattle.message_build.specs.Asked.{Asked}
 use Rattle.message_build.specs.Building.{AreAsked}
-use Rattle.bus_messages.specs.Sent.{error_asked}
+use Rattle.bus_messages.specs.Bodies.{with_text}
+use Rattle.bus_messages.specs.Sent.{reply_asked, error_asked}
+use Rattle.bus_messages.specs.declared.body.Body.{Body}
+use Rattle.bus_messages.specs.declared.body.Body.TheVariants.{Nothing}
 use Rattle.bus_messages.specs.declared.error_name.ErrorName.{ErrorName}
 use Rattle.bus_messages.specs.declared.error_name.ErrorName.TheVariants as names
 use Rattle.peers.specs.declared.error.AnswerError.{AnswerError}
@@ -17,6 +20,18 @@ use Rattle.peers.specs.Serials.{serial_after}
 -- Only want of memory ends a call whose caller waits for no answer: no room is needed for one.
 abbrev pub NeverSlow : {A : Type 0} → Bool → Result A AnswerError → Type 0
 NeverSlow wants_answer result = wants_answer ≡ false → IfErr result (λ error. error ≡ NoMemory)
+
+-- the answer to a call, with this serial and to this name
+unfoldable pub reply_with : ℕ → List ℕ → Request → Body → Asked
+reply_with serial to request body = reply_asked serial (Some to) request.serial body
+
+-- the answer with a text
+unfoldable pub text_with : ℕ → List ℕ → Request → List ℕ → Asked
+text_with serial to request text = with_text (reply_asked serial (Some to) request.serial Nothing) text
+
+-- the error that a call is answered with
+unfoldable pub fault_with : ℕ → List ℕ → Request → ErrorName → Asked
+fault_with serial to request name = error_asked serial (Some to) request.serial name
 
 -- the bytes are those of one of two messages
 abbrev pub IsEither : Asked → Asked → List ℕ → Type 0
@@ -34,7 +49,7 @@ module _ {M : Type 0} where
 
   -- the error that a call of the client is answered with
   abbrev pub fault_asked : PeerState M → Request → ErrorName → Asked
-  fault_asked v request name = error_asked v.serial (Some (name_of v)) request.serial name
+  fault_asked v request name = fault_with v.serial (name_of v) request name
 
   abbrev pub AnswersIf : Bool → Request → Asked → PeerState M → Result (Unit {0}) AnswerError → PeerState M → Type 0
   AnswersIf false request asked v result w = (result ≡ Ok tt) × (w ≡ v)

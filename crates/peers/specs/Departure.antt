@@ -5,8 +5,8 @@ use Rattle.peers.specs.declared.leaving.Leaving.TheVariants.{Done, Ended, Refuse
 use Rattle.peers.specs.PeerState.{PeerState}
 
 module _ {M : Type 0} where
-  -- a peer that has left has closed its pass, and the connection is the one that it was
-  abbrev pub HasLeft : PeerState M → Leaving → PeerState M → Type 0
-  HasLeft v Done w = (w.pass.connection ≡ v.pass.connection) × (w.pass.is_closed ≡ true)
-  HasLeft v Ended w = w.pass.connection ≡ v.pass.connection
-  HasLeft v Refused w = w.pass.connection ≡ v.pass.connection
+  -- a peer that has left has closed its pass
+  abbrev pub HasLeft : Leaving → PeerState M → Type 0
+  HasLeft Done w = w.pass.is_closed ≡ true
+  HasLeft Ended w = Unit {0}
+  HasLeft Refused w = Unit {0}

@@ -19,6 +19,15 @@ use Rattle.peers.specs.declared.error.AnswerError.{AnswerError}
 use Rattle.peers.specs.declared.refused.Refused.TheVariants.{Error}
 use Rattle.peers.specs.declared.request.Request.{Request}
 
+-- whether the D-Bus Specification has this kind of messages
+abbrev pub is_known : Kind → Bool
+is_known (kinds.Other code) = false
+is_known _ = true
+
+abbrev pub is_signal : Kind → Bool
+is_signal kinds.Signal = true
+is_signal _ = false
+
 -- a message without a destination, or with that of the bus, may be for the bus
 abbrev pub names_bus : Option (List ℕ) → Bool
 names_bus None = true
@@ -36,16 +45,16 @@ module _ {M : Type 0} where
       × (((call : Call) × IsReadAs m (Ok call) × Performs outbox_of request call v result w)
       ⊎ ((error : CallError) × IsReadAs m (Err error) × IsRefused request (Error (error_name_of error)) v result w))
 
-  -- a message that isn't for the bus
-  abbrev pub PassesOn : (M → OutboxId) → List ℕ → Kind → Option (List ℕ) → PeerState M → Result (Unit {0}) AnswerError → PeerState M → Type 0
-  PassesOn outbox_of bytes (kinds.Other code) to v result w = (result ≡ Ok tt) × (w ≡ v)
-  PassesOn outbox_of bytes kinds.Signal None v result w = HasBroadcast outbox_of bytes v result w
-  PassesOn outbox_of bytes kind None v result w = (result ≡ Ok tt) × (w ≡ v)
-  PassesOn outbox_of bytes kind (Some to) v result w = HasSent outbox_of bytes to v result w
+  -- a message that isn't for the bus, by whether its kind is known, whether it is a signal, and its destination
+  abbrev pub PassesOn : (M → OutboxId) → List ℕ → Bool → Bool → Option (List ℕ) → PeerState M → Result (Unit {0}) AnswerError → PeerState M → Type 0
+  PassesOn outbox_of bytes known true None v result w = HasBroadcast outbox_of bytes v result w
+  PassesOn outbox_of bytes known false None v result w = (result ≡ Ok tt) × (w ≡ v)
+  PassesOn outbox_of bytes true signal (Some to) v result w = HasSent outbox_of bytes to v result w
+  PassesOn outbox_of bytes false signal (Some to) v result w = (result ≡ Ok tt) × (w ≡ v)
 
   abbrev pub HandledAs : (M → OutboxId) → List ℕ → Message → Bool → PeerState M → Result (Unit {0}) AnswerError → PeerState M → Type 0
   HandledAs outbox_of bytes m true v result w = CallsBus outbox_of m v result w
-  HandledAs outbox_of bytes m false v result w = PassesOn outbox_of bytes m.kind (destination_of m) v result w
+  HandledAs outbox_of bytes m false v result w = PassesOn outbox_of bytes (is_known m.kind) (is_signal m.kind) (destination_of m) v result w
 
   -- A message of these bytes is handled: a call of the bus is answered, a signal without destination is a broadcast, another
   -- message with a destination goes there, and all else is dropped.

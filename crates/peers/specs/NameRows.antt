@@ -1,10 +1,9 @@
 -- What RequestName and ReleaseName do, and are answered (D-Bus Specification, "Message Bus Messages").
-use Rattle.std.specs.Prelude.{ℕ, ◌≡◌, ◌⊎◌, List, Option, Some, None, Result, Ok, Err}
+use Rattle.std.specs.Prelude.{ℕ, ◌≡◌, ◌⊎◌, List, Result, Ok, Err}
 use Rattle.outbox.specs.Seated.{OutboxId}
 use Rattle.owners.specs.WellKnown.{name_in}
 use Rattle.owners.specs.declared.error.ClaimError.{ClaimError}
 use Rattle.owners.specs.Numbers.{name_reply_number}
-use Rattle.owners.specs.declared.answer.Change.{Change}
 use Rattle.owners.specs.declared.answer.Named.{Named}
 use Rattle.bus_messages.specs.declared.body.Body.TheVariants.{Number}
 use Rattle.bus_messages.specs.declared.error_name.ErrorName.TheVariants.{InvalidArgs}
@@ -15,19 +14,14 @@ use Rattle.router.specs.Passes.{PassState}
 use Rattle.peers.specs.declared.error.AnswerError.{AnswerError}
 use Rattle.peers.specs.declared.request.Request.{Request}
 use Rattle.peers.specs.declared.refused.Refused.TheVariants.{Error}
-use Rattle.peers.specs.Announcements.{AreBoth, Announces}
+use Rattle.peers.specs.Announcements.{AreBoth, AnnouncesAny}
 use Rattle.peers.specs.Answers.{IsRefused}
 use Rattle.peers.specs.Passing.{with_pass}
 use Rattle.peers.specs.PeerState.{PeerState}
 use Rattle.peers.specs.Refusals.{refusal_of}
-use Rattle.peers.specs.Rows.{Asking, Replies}
+use Rattle.peers.specs.Rows.{Replies}
 
 module _ {M : Type 0} where
-  -- a change, if there is one, is announced
-  abbrev pub AnnouncesAny : (M → OutboxId) → Option Change → PeerState M → Result (Unit {0}) AnswerError → PeerState M → Type 0
-  AnnouncesAny outbox_of None v result w = (result ≡ Ok tt) × (w ≡ v)
-  AnnouncesAny outbox_of (Some change) v result w = Announces outbox_of change v result w
-
   -- the number of the answer, and then what changed
   abbrev pub TellsName : (M → OutboxId) → Request → Named → PeerState M → Result (Unit {0}) AnswerError → PeerState M → Type 0
   TellsName outbox_of request named v result w =
@@ -41,7 +35,7 @@ module _ {M : Type 0} where
 
   -- The pass made this call of the bus, the client is told what it came to, and a change of the owner is announced; or the
   -- name isn't one that can be asked for.
-  abbrev pub ChangesName : (M → OutboxId) → Request → List ℕ → Asking → PeerState M → Result (Unit {0}) AnswerError → PeerState M → Type 0
+  abbrev pub ChangesName : (M → OutboxId) → Request → List ℕ → (Result Reply BusError → PassState M → Type 0) → PeerState M → Result (Unit {0}) AnswerError → PeerState M → Type 0
   ChangesName outbox_of request name P v result w =
       ((fault : ClaimError) × (name_in name ≡ Err fault) × IsRefused request (Error InvalidArgs) v result w)
       ⊎ ((asked : Result Reply BusError) × (pass : PassState M) × P asked pass × TellsNamed outbox_of request asked (with_pass v pass) result w)

@@ -1,5 +1,5 @@
 -- What a peer passes on for its client (D-Bus Specification, "Message Bus Message Routing").
-use Rattle.std.specs.Prelude.{ℕ, ◌≡◌, ◌⊎◌, Bool, true, false, ◌&&◌, ◌==◌, List, [], Some, Result, Ok, Err, MatchResult, bit_and}
+use Rattle.std.specs.Prelude.{ℕ, ◌≡◌, ◌⊎◌, Bool, true, false, ◌&&◌, ◌==◌, List, [], Some, Result, Ok, Err, bit_and}
 use mathlib.Core.List.{IsPrefix}
 use Rattle.outbox.specs.Seated.{OutboxId}
 use Rattle.message_view.specs.declared.kind.Kind.{Kind}
@@ -95,10 +95,13 @@ module _ {M : Type 0} where
   Delivers outbox_of bytes to stamped v (Ok put) mid result w = Unicasts outbox_of to stamped v.pass put mid × (result ≡ Ok tt) × (w ≡ with_pass v mid)
   Delivers outbox_of bytes to stamped v (Err error) mid result w = IsUnsent outbox_of error v.pass mid × GivesUp bytes (refusal_of error) (with_pass v mid) result w
 
+  abbrev pub SendsStamped : (M → OutboxId) → List ℕ → List ℕ → List ℕ → PeerState M → Result (Unit {0}) AnswerError → PeerState M → Type 0
+  SendsStamped outbox_of bytes to stamped v result w = (mid : PassState M) × (asked : Result Sent BusError) × Delivers outbox_of bytes to stamped v asked mid result w
+
   -- A message of the client to the owner of a name: it was put there, stamped with the client's name, or the owner's outbox
   -- is shut; or it is given up, since nobody owns the name, the bus has ended, or memory was refused, or since it would be
   -- above the limits with its sender.
   abbrev pub HasSent : (M → OutboxId) → List ℕ → List ℕ → PeerState M → Result (Unit {0}) AnswerError → PeerState M → Type 0
   HasSent outbox_of bytes to v result w =
-      ((stamped : List ℕ) × (mid : PassState M) × (asked : Result Sent BusError) × IsStamped bytes (name_of v) stamped × Delivers outbox_of bytes to stamped v asked mid result w)
+      ((stamped : List ℕ) × IsStamped bytes (name_of v) stamped × SendsStamped outbox_of bytes to stamped v result w)
       ⊎ ((IsOverLimit bytes (name_of v) × GivesUp bytes (Error names.LimitsExceeded) v result w) ⊎ GivesUp bytes (Error names.NoMemory) v result w)

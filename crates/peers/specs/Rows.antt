@@ -1,21 +1,14 @@
 -- What each method of the bus does, and is answered (D-Bus Specification, "Message Bus Messages").
-use Rattle.std.specs.Prelude.{ℕ, ◌≡◌, ◌⊎◌, true, false, Bool, List, [], ◌∷◌, Option, Some, None, Result, Ok, Err}
-use Rattle.std.specs.Slice.{Slice}
-use Rattle.outbox.specs.Seated.{OutboxId}
+use Rattle.std.specs.Prelude.{◌≡◌, Result, Ok, Err}
 use Rattle.bus_messages.specs.declared.body.Body.{Body}
 use Rattle.bus_messages.specs.declared.body.Body.TheVariants as bodies
-use Rattle.bus_messages.specs.declared.error_name.ErrorName.{ErrorName}
-use Rattle.bus_messages.specs.declared.error_name.ErrorName.TheVariants as names
-use Rattle.bus_messages.specs.Sent.{reply_asked}
 use Rattle.router.specs.BusError.{BusError}
 use Rattle.router.specs.Reply.{Reply}
 use Rattle.router.specs.Reply.TheVariants as replies
 use Rattle.router.specs.Passes.{PassState}
 use Rattle.peers.specs.declared.error.AnswerError.{AnswerError}
 use Rattle.peers.specs.declared.request.Request.{Request}
-use Rattle.peers.specs.declared.refused.Refused.{Refused}
-use Rattle.peers.specs.declared.refused.Refused.TheVariants.{Error}
-use Rattle.peers.specs.Answers.{IsAnswered, IsRefused}
+use Rattle.peers.specs.Answers.{IsAnswered, IsRefused, reply_with}
 use Rattle.peers.specs.Passing.{with_pass}
 use Rattle.peers.specs.PeerState.{PeerState, name_of}
 use Rattle.peers.specs.Refusals.{refusal_of}
@@ -23,19 +16,15 @@ use Rattle.peers.specs.Refusals.{refusal_of}
 module _ {M : Type 0} where
   -- the call is answered with these arguments
   abbrev pub Replies : Request → Body → PeerState M → Result (Unit {0}) AnswerError → PeerState M → Type 0
-  Replies request body v result w = IsAnswered request (reply_asked v.serial (Some (name_of v)) request.serial body) v result w
+  Replies request body v result w = IsAnswered request (reply_with v.serial (name_of v) request body) v result w
 
   -- an empty answer if the bus did what was asked, or the error of its refusal
   abbrev pub Confirms : Request → Result Reply BusError → PeerState M → Result (Unit {0}) AnswerError → PeerState M → Type 0
   Confirms request (Ok _) v result w = Replies request bodies.Nothing v result w
   Confirms request (Err error) v result w = IsRefused request (refusal_of error) v result w
 
-  -- what a call of the client's pass was answered by the bus, with what the pass has then seen and done
-  abbrev pub Asking : Type 1
-  Asking = Result Reply BusError → PassState M → Type 0
-
   -- the pass made this call of the bus, and the client is told whether it was done
-  abbrev pub IsConfirmed : Request → Asking → PeerState M → Result (Unit {0}) AnswerError → PeerState M → Type 0
+  abbrev pub IsConfirmed : Request → (Result Reply BusError → PassState M → Type 0) → PeerState M → Result (Unit {0}) AnswerError → PeerState M → Type 0
   IsConfirmed request P v result w = (asked : Result Reply BusError) × (pass : PassState M) × P asked pass × Confirms request asked (with_pass v pass) result w
 
   -- the id of an entry, or the error of a refusal
@@ -45,5 +34,5 @@ module _ {M : Type 0} where
   Numbers request (Err error) v result w = IsRefused request (refusal_of error) v result w
 
   -- the pass made this call of the bus, and the client is told the new entry's id
-  abbrev pub NumbersEntry : Request → Asking → PeerState M → Result (Unit {0}) AnswerError → PeerState M → Type 0
+  abbrev pub NumbersEntry : Request → (Result Reply BusError → PassState M → Type 0) → PeerState M → Result (Unit {0}) AnswerError → PeerState M → Type 0
   NumbersEntry request P v result w = (asked : Result Reply BusError) × (pass : PassState M) × P asked pass × Numbers request asked (with_pass v pass) result w

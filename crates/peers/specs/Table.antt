@@ -1,8 +1,7 @@
 -- The table of the methods of the bus: what each call does, and is answered (D-Bus Specification, "Message Bus Messages").
-use Rattle.std.specs.Prelude.{ℕ, ◌≡◌, ◌⊎◌, Bool, true, false, List, [], ◌∷◌, Option, Some, None, Result, Ok, Err}
+use Rattle.std.specs.Prelude.{ℕ, false, [], ◌∷◌, Result, Ok, Err}
 use Rattle.signature.specs.Name.{bus_name}
 use Rattle.outbox.specs.Seated.{OutboxId}
-use Rattle.message_view.specs.Message.{Message}
 use Rattle.bus_messages.specs.declared.body.Body.TheVariants as bodies
 use Rattle.bus_messages.specs.declared.call.Call.{Call}
 use Rattle.bus_messages.specs.declared.call.Call.TheVariants as calls

@@ -1,10 +1,10 @@
 // What the bus announces of names.
 
 ghost use Rattle.std.specs.Prelude.{◌≡◌, ◌∷◌, [], codes, None, Some, IfErr, option_map};
-ghost use Rattle.bus_messages.specs.Sent.{signal_asked, Builds};
+ghost use Rattle.bus_messages.specs.Sent.{Builds};
 ghost use Rattle.message_build.specs.Asked.{Asked};
 ghost use Rattle.unique_name.specs.UniqueNames.{unique_name};
-ghost use Rattle.peers.specs.Announcements.{Announces, AnnouncesArrival, HasSignalled, HasTold, IsTold, change_asked, owner_text};
+ghost use Rattle.peers.specs.Announcements.{Announces, AnnouncesArrival, AnnouncesAny, TellsOwner, HasSignalled, HasTold, IsTold, change_asked, told_asked, owner_text};
 ghost use Rattle.peers.specs.Broadcasts.{Broadcasts};
 ghost use Rattle.peers.specs.Passing.{with_pass};
 ghost use Rattle.peers.specs.PeerState.{name_of};
@@ -36,16 +36,29 @@ impl<B: Naming, M: Mailbox + Carrier> Peer<B, M> {
         ensures error { IfErr result (λ error. error ≡ AnswerError.NoMemory) }
     {
         let name = change.name.as_str();
-        let lost = match change.old {
-            Some(old) => self.tell_lost(context, old, name),
-            None => Ok(()),
-        };
+        let lost = self.tell_old_owner(context, change.old, name);
         let changed = self.tell_changed(context, name, change.old, change.new);
-        let acquired = match change.new {
-            Some(new) => self.tell_acquired(context, new, name),
-            None => Ok(()),
-        };
+        let acquired = self.tell_new_owner(context, change.new, name);
         lost.and(changed).and(acquired)
+    }
+
+    /// Announces a change, if there is one.
+    ///
+    /// # Errors
+    ///
+    /// As those of `announce`.
+    pub(crate) fn announce_any<W: Wait, R: Wait + Drop>(
+        &mut self,
+        context: &Context<'_, B, M, W, R>,
+        change: &Option<Change>,
+    ) -> Result<(), AnswerError>
+        ensures announced { AnnouncesAny M.outbox_of change.now self.old result self.new }
+        ensures error { IfErr result (λ error. error ≡ AnswerError.NoMemory) }
+    {
+        match change {
+            Some(change) => self.announce(context, change),
+            None => Ok(()),
+        }
     }
 
     /// Announces the client's own unique name, after Hello.
@@ -63,7 +76,7 @@ impl<B: Naming, M: Mailbox + Carrier> Peer<B, M> {
         let number = self.pass.connection();
         let name = UniqueName::new(number);
         let changed = self.tell_changed(context, name.as_str(), None, Some(number));
-        let acquired = self.tell_acquired(context, number, name.as_str());
+        let acquired = self.tell_new_owner(context, Some(number), name.as_str());
         changed.and(acquired)
     }
 
@@ -83,13 +96,41 @@ impl<B: Naming, M: Mailbox + Carrier> Peer<B, M> {
         self.tell_changed(context, name.as_str(), Some(number), None)
     }
 
+    fn tell_old_owner<W: Wait, R: Wait + Drop>(
+        &mut self,
+        context: &Context<'_, B, M, W, R>,
+        owner: Option<u64>,
+        name: &str,
+    ) -> Result<(), AnswerError>
+        ensures { TellsOwner M.outbox_of (codes "NameLost") name.now owner self.old result self.new }
+    {
+        match owner {
+            Some(old) => self.tell_lost(context, old, name),
+            None => Ok(()),
+        }
+    }
+
+    fn tell_new_owner<W: Wait, R: Wait + Drop>(
+        &mut self,
+        context: &Context<'_, B, M, W, R>,
+        owner: Option<u64>,
+        name: &str,
+    ) -> Result<(), AnswerError>
+        ensures { TellsOwner M.outbox_of (codes "NameAcquired") name.now owner self.old result self.new }
+    {
+        match owner {
+            Some(new) => self.tell_acquired(context, new, name),
+            None => Ok(()),
+        }
+    }
+
     fn tell_lost<W: Wait, R: Wait + Drop>(
         &mut self,
         context: &Context<'_, B, M, W, R>,
         old: u64,
         name: &str,
     ) -> Result<(), AnswerError>
-        ensures { HasTold M.outbox_of (signal_asked self.old.serial (Some (unique_name old)) (codes "NameLost") (name.now ∷ [])) (unique_name old) self.old result self.new }
+        ensures { HasTold M.outbox_of (told_asked self.old.serial (codes "NameLost") name.now old) (unique_name old) self.old result self.new }
     {
         let to = UniqueName::new(old);
         let serial = self.serials.take();
@@ -103,7 +144,7 @@ impl<B: Naming, M: Mailbox + Carrier> Peer<B, M> {
         new: u64,
         name: &str,
     ) -> Result<(), AnswerError>
-        ensures { HasTold M.outbox_of (signal_asked self.old.serial (Some (unique_name new)) (codes "NameAcquired") (name.now ∷ [])) (unique_name new) self.old result self.new }
+        ensures { HasTold M.outbox_of (told_asked self.old.serial (codes "NameAcquired") name.now new) (unique_name new) self.old result self.new }
     {
         let to = UniqueName::new(new);
         let serial = self.serials.take();
@@ -143,8 +184,8 @@ impl<B: Naming, M: Mailbox + Carrier> Peer<B, M> {
         ensures { HasSignalled M.outbox_of (change_asked self.old.serial name.now old new) self.old result self.new }
     {
         let serial = self.serials.take();
-        let old = old.map(|number| UniqueName::new(number));
-        let new = new.map(|number| UniqueName::new(number));
+        let old = unique_name_of(old);
+        let new = unique_name_of(new);
         let built_message = name_owner_changed(
             context.alloc,
             serial,
@@ -186,6 +227,15 @@ impl<B: Naming, M: Mailbox + Carrier> Peer<B, M> {
             Ok(()) => Ok(()),
             Err(_) => Err(AnswerError::NoMemory),
         }
+    }
+}
+
+fn unique_name_of(owner: Option<u64>) -> Option<UniqueName>
+    ensures { result ≡ owner }
+{
+    match owner {
+        Some(number) => Some(UniqueName::new(number)),
+        None => None,
     }
 }
 

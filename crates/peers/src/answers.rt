@@ -1,9 +1,11 @@
 // How a call is answered.
 
 ghost use Rattle.std.specs.Prelude.{◌≡◌, Some, IfOk, option_map};
-ghost use Rattle.bus_messages.specs.Sent.{reply_asked, error_asked};
-ghost use Rattle.peers.specs.Answers.{IsAnswered, IsRefused, IsPut, IsEither, NeverSlow};
+ghost use Rattle.bus_messages.specs.Sent.{error_asked};
+ghost use Rattle.peers.specs.Answers.{IsRefused, IsPut, IsEither, NeverSlow, fault_with};
 ghost use Rattle.peers.specs.PeerState.{name_of};
+ghost use Rattle.peers.specs.Queries.{RepliesText};
+ghost use Rattle.peers.specs.Rows.{Replies};
 
 use crate::context::Context;
 use crate::error::AnswerError;
@@ -28,7 +30,7 @@ impl<B: Naming, M: Mailbox + Carrier> Peer<B, M> {
         request: Request,
         body: Body<'_>,
     ) -> Result<(), AnswerError>
-        ensures answer { IsAnswered request (reply_asked self.old.serial (Some (name_of self.old)) request.serial body.entry) self.old result self.new }
+        ensures answer { Replies request body.entry self.old result self.new }
         ensures error { NeverSlow request.wants_answer result }
     {
         if !request.wants_answer {
@@ -66,6 +68,23 @@ impl<B: Naming, M: Mailbox + Carrier> Peer<B, M> {
         self.put_error(context, request, serial, name)
     }
 
+    /// Answers a call with a text, if its caller waits for an answer.
+    ///
+    /// # Errors
+    ///
+    /// As those of `answer`.
+    pub(crate) fn answer_text<W: Wait, R: Wait + Drop>(
+        &mut self,
+        context: &Context<'_, B, M, W, R>,
+        request: Request,
+        text: &str,
+    ) -> Result<(), AnswerError>
+        ensures answer { RepliesText request text.now self.old result self.new }
+        ensures error { NeverSlow request.wants_answer result }
+    {
+        self.answer(context, request, Body::Text(text))
+    }
+
     // Puts an error with this serial, or the error NoMemory in its place.
     fn put_error<W: Wait, R: Wait + Drop>(
         &mut self,
@@ -74,7 +93,7 @@ impl<B: Naming, M: Mailbox + Carrier> Peer<B, M> {
         serial: u32,
         name: ErrorName,
     ) -> Result<(), AnswerError>
-        ensures { IsPut (IsEither (error_asked serial (Some (name_of self.old)) request.serial name) (error_asked serial (Some (name_of self.old)) request.serial ErrorName.NoMemory)) self.old result self.new }
+        ensures { IsPut (IsEither (fault_with serial (name_of self.old) request name) (fault_with serial (name_of self.old) request ErrorName.NoMemory)) self.old result self.new }
     {
         let to = Some(self.name.as_str());
         let bytes = error_bytes(context.alloc, serial, to, request, name)?;

@@ -3,7 +3,7 @@
 ghost use Rattle.std.specs.Prelude.{◌≡◌};
 ghost use Rattle.message_view.specs.Message.{Message};
 ghost use Rattle.message_view.specs.Valid.{Valid};
-ghost use Rattle.peers.specs.Handling.{CallsBus, Handles, is_for_bus};
+ghost use Rattle.peers.specs.Handling.{CallsBus, Handles, is_for_bus, is_known, is_signal};
 
 use crate::context::Context;
 use crate::error::AnswerError;
@@ -28,6 +28,19 @@ pub fn is_for_bus(view: &View<'_>) -> bool
         }
 }
 
+/// Whether the D-Bus Specification has this kind of messages.
+fn is_known(kind: Kind) -> bool
+    ensures { result ≡ is_known kind }
+{
+    !matches!(kind, Kind::Other(_))
+}
+
+fn is_signal(kind: Kind) -> bool
+    ensures { result ≡ is_signal kind }
+{
+    matches!(kind, Kind::Signal)
+}
+
 impl<B: Naming, M: Mailbox + Carrier> Peer<B, M> {
     /// Handles a message: a call of the bus is answered, a signal without destination is a broadcast, another message with
     /// a destination goes there, and all else is dropped.
@@ -46,11 +59,10 @@ impl<B: Naming, M: Mailbox + Carrier> Peer<B, M> {
         if is_for_bus(view) {
             return self.call_bus(context, view);
         }
-        match (view.kind(), view.destination()) {
-            (Kind::Other(_), _) => Ok(()),
-            (Kind::Signal, None) => self.send_broadcast(context, lists, view),
-            (_, Some(name)) => self.send_to(context, view, name),
-            (_, None) => Ok(()),
+        match view.destination() {
+            Some(name) if is_known(view.kind()) => self.send_to(context, view, name),
+            None if is_signal(view.kind()) => self.send_broadcast(context, lists, view),
+            _ => Ok(()),
         }
     }
 

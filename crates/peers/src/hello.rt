@@ -58,7 +58,7 @@ impl<B: Naming, M: Mailbox + Carrier> Peer<B, M> {
     {
         let name = UniqueName::new(self.pass.connection());
         self.pass.hold(context.alloc);
-        let answered = self.answer(context, request, Body::Text(name.as_str()));
+        let answered = self.answer_text(context, request, name.as_str());
         let announced = self.announce_arrival(context);
         self.pass.release();
         answered.and(announced)

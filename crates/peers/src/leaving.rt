@@ -1,6 +1,5 @@
 // How a peer leaves the bus.
 
-ghost use Rattle.std.specs.Prelude.{◌≡◌};
 ghost use Rattle.peers.specs.Departure.{HasLeft};
 
 use crate::context::Context;
@@ -35,7 +34,7 @@ impl<B: Naming, M: Mailbox + Carrier> Peer<B, M> {
     /// Gives up the client's names one after the other, each change announced, closes its pass, and writes out what was
     /// announced. An announcement that memory refuses is left out.
     pub fn leave<W: Wait, R: Wait + Drop>(&mut self, context: &Context<'_, B, M, W, R>) -> Leaving
-        ensures { HasLeft self.old result self.new }
+        ensures { HasLeft result self.new }
     {
         let leaving = if self.give_up_names(context) {
             self.close(context)
@@ -47,9 +46,10 @@ impl<B: Naming, M: Mailbox + Carrier> Peer<B, M> {
     }
 
     // Whether no name is left.
-    fn give_up_names<W: Wait, R: Wait + Drop>(&mut self, context: &Context<'_, B, M, W, R>) -> bool
-        ensures { self.new.pass.connection ≡ self.old.pass.connection }
-    {
+    fn give_up_names<W: Wait, R: Wait + Drop>(
+        &mut self,
+        context: &Context<'_, B, M, W, R>,
+    ) -> bool {
         for _ in 0..=MAX_CLAIMS {
             match self.give_up_name(context) {
                 Giving::Further => {}
@@ -60,9 +60,10 @@ impl<B: Naming, M: Mailbox + Carrier> Peer<B, M> {
         true
     }
 
-    fn give_up_name<W: Wait, R: Wait + Drop>(&mut self, context: &Context<'_, B, M, W, R>) -> Giving
-        ensures { self.new.pass.connection ≡ self.old.pass.connection }
-    {
+    fn give_up_name<W: Wait, R: Wait + Drop>(
+        &mut self,
+        context: &Context<'_, B, M, W, R>,
+    ) -> Giving {
         let _turn = context.bus.turn(context.rt);
         match context.bus.drop_name(context.rt, &mut self.pass) {
             Ok(Reply::Changed(change)) => {
@@ -79,7 +80,7 @@ impl<B: Naming, M: Mailbox + Carrier> Peer<B, M> {
 
     // Takes the connection off the bus, and announces that its unique name is gone.
     fn close<W: Wait, R: Wait + Drop>(&mut self, context: &Context<'_, B, M, W, R>) -> Leaving
-        ensures { HasLeft self.old result self.new }
+        ensures { HasLeft result self.new }
     {
         match context.bus.close(context.rt, &mut self.pass) {
             Ok(_) => {

@@ -1,11 +1,11 @@
 // The calls that change a client's rules and programs.
 
-ghost use Rattle.std.specs.Prelude.{◌≡◌};
+ghost use Rattle.std.specs.Prelude.{◌≡◌, false};
 ghost use Rattle.router.specs.Calls.{Once, Answers};
 ghost use Rattle.router.specs.Readings.{AddsMatch, RemovesMatch, Attaches};
 ghost use Rattle.router.specs.Command.TheVariants.{Detach};
 ghost use Rattle.peers.specs.Answers.{NeverSlow};
-ghost use Rattle.peers.specs.Rows.{Confirms, IsConfirmed, NumbersEntry};
+ghost use Rattle.peers.specs.Rows.{Confirms, IsConfirmed, Numbers, NumbersEntry};
 
 use crate::context::Context;
 use crate::error::AnswerError;
@@ -88,7 +88,21 @@ impl<B: Naming, M: Mailbox + Carrier> Peer<B, M> {
         ensures error { NeverSlow request.wants_answer result }
     {
         let bus = context.bus;
-        match bus.attach(context.rt, context.alloc, &mut self.pass, edition, program) {
+        let attached = bus.attach(context.rt, context.alloc, &mut self.pass, edition, program);
+        self.answer_entry(context, request, attached)
+    }
+
+    // The id of the new entry.
+    fn answer_entry<W: Wait, R: Wait + Drop>(
+        &mut self,
+        context: &Context<'_, B, M, W, R>,
+        request: Request,
+        reply: Result<Reply, BusError>,
+    ) -> Result<(), AnswerError>
+        ensures row { Numbers request reply self.old result self.new }
+        ensures error { NeverSlow request.wants_answer result }
+    {
+        match reply {
             Ok(Reply::Entry(id)) => self.answer(context, request, Body::Number(id)),
             Ok(_) => Ok(()),
             Err(error) => self.refuse(context, request, Refused::from(error)),

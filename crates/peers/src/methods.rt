@@ -115,7 +115,7 @@ impl<B: Naming, M: Mailbox + Carrier> Peer<B, M> {
         ensures error { NeverSlow request.wants_answer result }
     {
         match str::from_utf8(&digits) {
-            Ok(text) => self.answer(context, request, Body::Text(text)),
+            Ok(text) => self.answer_text(context, request, text),
             Err(_) => self.refuse(context, request, Refused::Error(ErrorName::Failed)),
         }
     }
@@ -129,7 +129,7 @@ impl<B: Naming, M: Mailbox + Carrier> Peer<B, M> {
         ensures error { NeverSlow request.wants_answer result }
     {
         match introspection(context.alloc) {
-            Ok(text) => self.answer(context, request, Body::Text(text.as_str())),
+            Ok(text) => self.answer_text(context, request, text.as_str()),
             Err(refused) => self.refuse(context, request, Refused::from(refused)),
         }
     }

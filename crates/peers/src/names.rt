@@ -1,6 +1,6 @@
 // The calls that change who owns a name.
 
-ghost use Rattle.std.specs.Prelude.{◌≡◌};
+ghost use Rattle.std.specs.Prelude.{◌≡◌, false};
 ghost use Rattle.router.specs.Calls.{Once, Answers};
 ghost use Rattle.router.specs.Command.TheVariants.{Request as RequestName, Release};
 ghost use Rattle.peers.specs.Answers.{NeverSlow};
@@ -83,10 +83,7 @@ impl<B: Naming, M: Mailbox + Carrier> Peer<B, M> {
     {
         self.pass.hold(context.alloc);
         let answered = self.answer(context, request, Body::Number(named.answer.number()));
-        let announced = match &named.change {
-            Some(change) => self.announce(context, change),
-            None => Ok(()),
-        };
+        let announced = self.announce_any(context, &named.change);
         self.pass.release();
         answered.and(announced)
     }

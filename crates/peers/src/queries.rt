@@ -30,10 +30,10 @@ impl<B: Naming, M: Mailbox + Carrier> Peer<B, M> {
         ensures error { NeverSlow request.wants_answer result }
     {
         match self.owner_named(name) {
-            Ok(Some(Owner::Bus)) => self.answer(context, request, Body::Text(BUS_NAME)),
+            Ok(Some(Owner::Bus)) => self.answer_text(context, request, BUS_NAME),
             Ok(Some(Owner::Connection(number))) => {
                 let owner = UniqueName::new(number);
-                self.answer(context, request, Body::Text(owner.as_str()))
+                self.answer_text(context, request, owner.as_str())
             }
             Ok(None) => { self.refuse(context, request, Refused::Error(ErrorName::NameHasNoOwner)) }
             Err(why) => self.refuse(context, request, why),
@@ -84,16 +84,21 @@ impl<B: Naming, M: Mailbox + Carrier> Peer<B, M> {
         ensures row { OnlyAnswers request self.old result self.new }
         ensures error { NeverSlow request.wants_answer result }
     {
-        let (numbers, names) = match self.pass.names(context.alloc) {
-            Ok(found) => found,
-            Err(error) => return self.refuse(context, request, Refused::from(error)),
-        };
-        match unique_names(context.alloc, numbers.as_slice()) {
-            Ok(unique) => {
+        match self.all_names(context.alloc) {
+            Ok((unique, names)) => {
                 self.answer_names(context, request, unique.as_slice(), names.as_slice())
             }
-            Err(refused) => self.refuse(context, request, Refused::from(refused)),
+            Err(why) => self.refuse(context, request, why),
         }
+    }
+
+    // The unique names and the well-known ones.
+    fn all_names(&mut self, alloc: Global) -> Result<(Vec<UniqueName>, Vec<WellKnown>), Refused>
+        ensures later { HasSeenMore self.old.pass self.new.pass }
+        ensures same { self.new ≡ with_pass self.old self.new.pass }
+    {
+        let (numbers, names) = self.pass.names(alloc)?;
+        Ok((unique_names(alloc, numbers.as_slice())?, names))
     }
 
     // The name of the bus, the unique names, the well-known ones.

@@ -5,7 +5,7 @@ ghost use Rattle.message_view.specs.Message.{Message};
 ghost use Rattle.message_view.specs.Valid.{Valid};
 ghost use Rattle.message_build.specs.Stamped.{Stamps};
 ghost use Rattle.unique_name.specs.UniqueNames.{unique_name};
-ghost use Rattle.peers.specs.Passing.{HasBroadcast, HasSent, GivesUp, IsStamped, listed_bytes};
+ghost use Rattle.peers.specs.Passing.{HasBroadcast, HasSent, SendsStamped, GivesUp, listed_bytes};
 ghost use Rattle.peers.specs.PeerState.{name_of};
 
 use crate::context::Context;
@@ -62,17 +62,29 @@ impl<B: Naming, M: Mailbox + Carrier> Peer<B, M> {
     ) -> Result<(), AnswerError>
         ensures { HasSent M.outbox_of view.now to.now self.old result self.new }
     {
-        let bytes = match stamp_message(context.alloc, view, &self.name) {
-            Ok(bytes) => bytes,
+        match stamp_message(context.alloc, view, &self.name) {
+            Ok(bytes) => self.send_stamped(context, view, to, &bytes),
             Err(StampError::TooLarge) => {
-                return self.give_up(context, view, Refused::Error(ErrorName::LimitsExceeded));
+                self.give_up(context, view, Refused::Error(ErrorName::LimitsExceeded))
             }
             Err(StampError::NoMemory) => {
-                return self.give_up(context, view, Refused::Error(ErrorName::NoMemory));
+                self.give_up(context, view, Refused::Error(ErrorName::NoMemory))
             }
-        };
-        match self.pass.send_to(context.rt, context.alloc, to, &bytes) {
-            Ok(Sent::Put | Sent::Full) => Ok(()),
+        }
+    }
+
+    fn send_stamped<W: Wait, R: Wait + Drop>(
+        &mut self,
+        context: &Context<'_, B, M, W, R>,
+        view: &View<'_>,
+        to: &str,
+        bytes: &Bytes,
+    ) -> Result<(), AnswerError>
+        ensures { SendsStamped M.outbox_of view.now to.now bytes.now self.old result self.new }
+    {
+        match self.pass.send_to(context.rt, context.alloc, to, bytes) {
+            Ok(Sent::Put) => Ok(()),
+            Ok(Sent::Full) => Ok(()),
             Ok(Sent::NoOwner) => {
                 self.give_up(context, view, Refused::Error(ErrorName::ServiceUnknown))
             }

@@ -1,0 +1,53 @@
+-- What is put to a client.
+use Rattle.std.proofs.Common.{◌≡◌, ℕ, Bool, true, false, not, List, [], ◌∷◌, ◌++◌, Some, Result, Ok, Err, refl, sym, ap, subst, ◌∙◌, true≢false, Bor}
+use Rattle.outbox.specs.Items.{Item}
+use Rattle.message_build.specs.Asked.{Asked}
+use Rattle.message_build.specs.Building.{AreAsked}
+use Rattle.bus_messages.specs.Sent.{reply_asked, error_asked}
+use Rattle.bus_messages.specs.declared.body.Body.{Body}
+use Rattle.bus_messages.specs.declared.body.Body.TheVariants.{Text}
+use Rattle.bus_messages.specs.declared.error_name.ErrorName.{ErrorName}
+use Rattle.bus_messages.specs.declared.error_name.ErrorName.TheVariants as names
+use Rattle.router.specs.Passes.{PassState}
+use Rattle.peers.specs.declared.error.AnswerError.{AnswerError}
+use Rattle.peers.specs.declared.refused.Refused.{Refused}
+use Rattle.peers.specs.declared.refused.Refused.TheVariants.{Error}
+use Rattle.peers.specs.declared.request.Request.{Request}
+use Rattle.peers.specs.Answers.{IsPut, IsEither, AnswersIf, IsAnswered, IsRefused, after_serial, fault_asked, reply_with, text_with, fault_with}
+use Rattle.peers.specs.PeerState.{PeerState}
+use Rattle.peers.specs.Serials.{serial_after}
+
+-- each definition of an answer is the message that a builder is asked for
+pub reply_is : (serial : ℕ) (to : List ℕ) (request : Request) (body : Body) (bytes : List ℕ) → AreAsked (reply_asked serial (Some to) request.serial body) bytes → AreAsked (reply_with serial to request body) bytes
+unfolding reply_with
+reply_is serial to request body bytes h = h
+
+pub fault_is : (serial : ℕ) (to : List ℕ) (request : Request) (name : ErrorName) (bytes : List ℕ) → AreAsked (error_asked serial (Some to) request.serial name) bytes → AreAsked (fault_with serial to request name) bytes
+unfolding fault_with
+fault_is serial to request name bytes h = h
+
+pub text_is : (serial : ℕ) (to : List ℕ) (request : Request) (text : Bor (List ℕ)) → reply_with serial to request (Text text) ≡ text_with serial to request text.now
+unfolding reply_with text_with
+text_is serial to request text = refl
+
+pub not_false : (b : Bool) → not b ≡ false → b ≡ true
+not_false true e = refl
+not_false false e = absurd (true≢false e)
+
+module _ {M : Type 0} where
+  -- what is put by a peer that is seen as another record of the same, and whose bytes are so for another reason
+  pub put_as : (P Q : List ℕ → Type 0) (u v : PeerState M) (result : Result (Unit {0}) AnswerError) (w : PeerState M) → u ≡ v → ((bytes : List ℕ) → P bytes → Q bytes) → IsPut P u result w → IsPut Q v result w
+  put_as P Q u v (Ok x) w e f (item, mark, p, is) = (item, mark, f item.bytes p, is ∙ ap (λ (s : PeerState M). record s { answers = s.answers ++ item ∷ [] }) e)
+  put_as P Q u v (Err x) w e f is = is ∙ e
+
+  pub answered_if : (request : Request) (asked : Asked) (v : PeerState M) (result : Result (Unit {0}) AnswerError) (w : PeerState M) → request.wants_answer ≡ true
+      → IsPut (IsEither asked (fault_asked v request names.NoMemory)) (after_serial v) result w → IsAnswered request asked v result w
+  answered_if request asked v result w e h = let P : Bool → Type 0 = λ b. AnswersIf b request asked v result w in subst P (sym e) h
+
+  pub refused_if : (request : Request) (why : Refused) (name : ErrorName) (v : PeerState M) (result : Result (Unit {0}) AnswerError) (w : PeerState M) → why ≡ Error name → request.wants_answer ≡ true
+      → IsPut (IsEither (fault_asked v request name) (fault_asked v request names.NoMemory)) (after_serial v) result w → IsRefused request why v result w
+  refused_if request why name v result w is e h = let P : Refused → Type 0 = λ y. IsRefused request y v result w in subst P (sym is) (answered_if request (fault_asked v request name) v result w e h)
+
+  -- a peer that has used a serial
+  pub used_serial : (pass : PassState M) (answers : List Item) (serial next : ℕ) (v : PeerState M) → record { pass = pass; answers = answers; serial = serial } ≡ v → next ≡ serial_after serial → record { pass = pass; answers = answers; serial = next } ≡ after_serial v
+  used_serial pass answers serial next v is e = ap (λ (n : ℕ). record { pass = pass; answers = answers; serial = n }) e ∙ ap after_serial is
