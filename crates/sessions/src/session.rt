@@ -130,10 +130,12 @@ impl<B: Naming, M: Mailbox + Carrier> Session<B, M> {
 
     // Whether the client's outbox was shut, since a message found no room.
     fn is_shut(&mut self) -> bool {
-        match (&mut self.own, &mut self.peer) {
-            (Some(own), _) => own.is_shut(),
-            (None, Some(peer)) => peer.is_shut(),
-            (None, None) => false,
+        if let Some(own) = &mut self.own {
+            return own.is_shut();
+        }
+        match &mut self.peer {
+            Some(peer) => peer.is_shut(),
+            None => false,
         }
     }
 
