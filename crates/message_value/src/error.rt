@@ -19,7 +19,7 @@ pub enum MsgError {
     Serial,
     /// The message would be above 2^27 bytes.
     TooLarge,
-    /// A header field has a code that isn't known.
+    /// A header field has the code 0, which no field has (D-Bus Specification, "Header Fields": INVALID).
     FieldCode,
     /// A known header field is of another type.
     FieldType,
