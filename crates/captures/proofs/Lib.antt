@@ -1,0 +1,2 @@
+pub mod Choices
+pub mod OptionLists

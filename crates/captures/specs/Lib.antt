@@ -1,0 +1,6 @@
+pub mod Blocks
+pub mod Errors
+pub mod Interfaces
+pub mod Options
+pub mod Pcap
+pub mod Words
