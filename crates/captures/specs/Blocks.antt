@@ -1,5 +1,5 @@
 -- Blocks of a pcapng file (draft-ietf-opsawg-pcapng, "General Block Structure").
-use Rattle.std.specs.Prelude.{ℕ, ◌-◌, ◌%◌, Bool, not, List, length, slice_range, Option, Some, None, Result, Ok, Err, nat_lt, nat_le, ◌==◌, ◌&&◌, if◌then◌else◌}
+use Rattle.std.specs.Prelude.{ℕ, ◌-◌, ◌%◌, Bool, not, List, length, slice_range, Option, Some, None, Result, Ok, Err, nat_lt, nat_le, ◌==◌, ◌&&◌, ◌||◌, if◌then◌else◌}
 use Rattle.captures.specs.declared.order.Order.{Order}
 use Rattle.captures.specs.declared.order.Order.TheVariants.{Little, Big}
 use Rattle.captures.specs.declared.error.CaptureError.{CaptureError}
@@ -10,7 +10,8 @@ use Rattle.captures.specs.declared.block.Block.{Block}
 use Rattle.captures.specs.declared.block.Framing.{Framing}
 use Rattle.captures.specs.declared.block.Framing.TheVariants.{Wants, Whole}
 use Rattle.captures.specs.declared.block.TheConstants.{SECTION, INTERFACE, OBSOLETE, SIMPLE, ENHANCED, BIG_MAGIC, LITTLE_MAGIC, BLOCK_HEADER_LEN, MAGIC_END, TRAILER_LEN, MIN_BLOCK_LEN, MAX_BLOCK_LEN}
-use Rattle.captures.specs.Words.{word}
+use Rattle.captures.specs.declared.section.TheConstants.{SECTION_LEN, SECTION_MAJOR, SECTION_MINOR, SECTION_MINOR_TOO}
+use Rattle.captures.specs.Words.{half, word}
 
 -- what a block of a type is ("Block Types")
 abbrev pub kind_of : ℕ → BlockKind
@@ -53,3 +54,11 @@ framing_at order bytes =
 
 abbrev pub body_of : Block → List ℕ → List ℕ
 body_of block bytes = slice_range bytes BLOCK_HEADER_LEN (block.len - TRAILER_LEN)
+
+-- what is wrong with a section's header: after its magic its version, 1.0, or 1.2, which is the same, and the
+-- section's length, which isn't needed ("Section Header Block")
+abbrev pub section_fault : Order → List ℕ → Option CaptureError
+section_fault order body =
+    if nat_lt (length body) SECTION_LEN then Some faults.BlockLength
+    else if half order body 4 == SECTION_MAJOR && (half order body 6 == SECTION_MINOR || half order body 6 == SECTION_MINOR_TOO) then None
+    else Some faults.Version

@@ -1,5 +1,5 @@
 -- Interfaces of a pcapng section (draft-ietf-opsawg-pcapng, "Interface Description Block").
-use Rattle.std.specs.Prelude.{ℕ, List, length, drop, Result, Ok, Err, nat_lt, ◌==◌, if◌then◌else◌}
+use Rattle.std.specs.Prelude.{ℕ, List, length, drop, Result, Ok, Err, nat_lt, ◌==◌, ◌||◌, if◌then◌else◌}
 use Rattle.captures.specs.declared.order.Order.{Order}
 use Rattle.captures.specs.declared.error.CaptureError.{CaptureError}
 use Rattle.captures.specs.declared.error.CaptureError.TheVariants as faults
@@ -22,6 +22,10 @@ abbrev pub interface_of : Order → List ℕ → Result Interface CaptureError
 interface_of order body =
     if nat_lt (length body) INTERFACE_LEN then Err faults.BlockLength
     else with_times (half order body 0) (word order body 4) (times_from order usual 0 (drop INTERFACE_LEN body))
+
+-- how many bytes of a packet of this length are kept; the snap length 0 says all ("SnapLen")
+abbrev pub kept_of : Interface → ℕ → ℕ
+kept_of interface original = if interface.snap_len == 0 || nat_lt original interface.snap_len then original else interface.snap_len
 
 -- a packet of an interface is of D-Bus where its link type says so (own)
 abbrev pub seen_of : Interface → Packet → Step

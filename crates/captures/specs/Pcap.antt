@@ -1,6 +1,7 @@
 -- Files of the format pcap (draft-ietf-opsawg-pcap).
 use Rattle.std.specs.Prelude.{ℕ, ◌+◌, ◌*◌, ◌%◌, Bool, not, List, length, Option, Some, None, Result, Ok, Err, nat_lt, ◌==◌, ◌&&◌, if◌then◌else◌}
 use Rattle.captures.specs.declared.order.Order.{Order}
+use Rattle.captures.specs.declared.order.Order.TheVariants.{Little, Big}
 use Rattle.captures.specs.declared.error.CaptureError.{CaptureError}
 use Rattle.captures.specs.declared.error.CaptureError.TheVariants as faults
 use Rattle.captures.specs.declared.step.Step.{Step}
@@ -9,12 +10,27 @@ use Rattle.captures.specs.declared.step.TheConstants.{LINKTYPE_DBUS, MAX_PACKET_
 use Rattle.captures.specs.declared.pcap.TimeUnit.{TimeUnit}
 use Rattle.captures.specs.declared.pcap.TimeUnit.TheVariants.{Micro, Nano}
 use Rattle.captures.specs.declared.pcap.TheConstants.{RECORD_HEADER_LEN, VERSION_MAJOR, VERSION_MINOR, LINK_TYPES, NANOS_PER_SECOND}
+use Rattle.captures.specs.declared.magic.Magic.{Magic}
+use Rattle.captures.specs.declared.magic.Magic.TheVariants as magics
+use Rattle.captures.specs.declared.magic.TheConstants.{BIG_MICRO, LITTLE_MICRO, BIG_NANO, LITTLE_NANO}
+use Rattle.captures.specs.declared.block.TheConstants.{SECTION}
 use Rattle.captures.specs.Words.{half, word}
 
 -- how many nanoseconds a unit of the fractions is (section 4, "Magic Number")
 abbrev pub nanoseconds : TimeUnit → ℕ
 nanoseconds Micro = 1000
 nanoseconds Nano = 1
+
+-- What a file's first four bytes say, read with the highest byte first: the byte order and the unit of a pcap file
+-- (section 4, "Magic Number"), or that a section begins (draft-ietf-opsawg-pcapng, "Section Header Block").
+abbrev pub magic_of : ℕ → Option Magic
+magic_of number =
+    if number == BIG_MICRO then Some (magics.Pcap Big Micro)
+    else if number == LITTLE_MICRO then Some (magics.Pcap Little Micro)
+    else if number == BIG_NANO then Some (magics.Pcap Big Nano)
+    else if number == LITTLE_NANO then Some (magics.Pcap Little Nano)
+    else if number == SECTION then Some magics.Pcapng
+    else None
 
 -- the link type, in the low 28 bits of the header's last word (section 4, "LinkType")
 abbrev pub link_type : Order → List ℕ → ℕ

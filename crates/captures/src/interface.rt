@@ -1,7 +1,7 @@
 // What a section says of an interface.
 
 ghost use Rattle.std.specs.Prelude.{◌≡◌};
-ghost use Rattle.captures.specs.Interfaces.{interface_of, seen_of};
+ghost use Rattle.captures.specs.Interfaces.{interface_of, kept_of, seen_of};
 
 use crate::error::CaptureError;
 use crate::order::Order;
@@ -12,7 +12,7 @@ use crate::times::Times;
 pub(crate) const INTERFACE_LEN: usize = 8;
 
 /// An interface: the link type of its packets, how many bytes of each are kept at most (0 for all), and its times.
-#[derive(Clone, Copy, Debug, PartialEq, Eq)]
+#[derive(Clone, Copy, Debug, Default, PartialEq, Eq)]
 pub struct Interface {
     pub link_type: u16,
     pub snap_len: u32,
@@ -35,6 +35,16 @@ impl Interface {
             }),
             Err(fault) => Err(fault),
         }
+    }
+
+    /// How many bytes of a packet are kept.
+    pub(crate) fn kept(self, original: u32) -> u32
+        ensures { result ≡ kept_of self original }
+    {
+        if self.snap_len == 0 || original < self.snap_len {
+            return original;
+        }
+        self.snap_len
     }
 
     /// A packet of this interface: of D-Bus, or passed over.

@@ -2,15 +2,21 @@
 #![tactic(auto)]
 
 mod block;
+mod block_packet;
 mod error;
 mod interface;
+mod magic;
 mod options;
 mod order;
+mod packets;
 mod pcap;
+mod section;
 mod step;
 mod times;
 
+pub use block::MAX_BLOCK_LEN;
 pub use error::CaptureError;
 pub use order::Order;
+pub use packets::{MAX_INTERFACES, Packets};
 pub use pcap::{FILE_HEADER_LEN, RECORD_HEADER_LEN, TimeUnit};
 pub use step::{LINKTYPE_DBUS, MAX_PACKET_LEN, Packet, Step};

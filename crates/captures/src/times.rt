@@ -13,7 +13,7 @@ use crate::pcap::NANOS_PER_SECOND;
 pub(crate) const MICROSECONDS: u8 = 6;
 
 /// The resolution of an interface's times, and whether they have an offset.
-#[derive(Clone, Copy, Debug, PartialEq, Eq)]
+#[derive(Clone, Copy, Debug, Default, PartialEq, Eq)]
 pub struct Times {
     pub resolution: u8,
     pub are_offset: bool,
