@@ -1,7 +1,7 @@
 // Blocks of a pcapng file.
 
 ghost use Rattle.std.specs.Prelude.{◌≡◌, ◌+◌, ◌≤◌, IfOk, length};
-ghost use Rattle.captures.specs.Blocks.{kind_of, order_of, is_block_len, framed, framing_at};
+ghost use Rattle.captures.specs.Blocks.{kind_of, order_of, is_block_len, framed, framing_at, IsFramed, body_of};
 
 use crate::error::CaptureError;
 use crate::order::Order;
@@ -78,6 +78,17 @@ impl BlockKind {
     }
 }
 
+impl Block {
+    /// What stands between the block's two lengths.
+    pub(crate) fn body<'a>(&self, bytes: &'a [u8]) -> &'a [u8]
+        requires two { MIN_BLOCK_LEN ≤ self.now.len }
+        requires there { self.now.len ≤ length bytes.now }
+        ensures { result.now ≡ body_of self.now bytes.now }
+    {
+        &bytes[BLOCK_HEADER_LEN..self.len - TRAILER_LEN]
+    }
+}
+
 /// The byte order that a section's magic says.
 fn order_of(magic: u32) -> Option<Order>
     ensures { result ≡ order_of magic }
@@ -99,7 +110,8 @@ fn is_block_len(len: u32) -> bool
 /// The block that bytes of a byte order begin with.
 fn framed(order: Order, bytes: &[u8]) -> Result<Framing, CaptureError>
     requires { BLOCK_HEADER_LEN ≤ length bytes.now }
-    ensures { result ≡ framed order bytes.now }
+    ensures block { result ≡ framed order bytes.now }
+    ensures there { IfOk result (IsFramed bytes.now) }
 {
     let said = order.word(bytes, 4);
     if !is_block_len(said) {
@@ -121,7 +133,8 @@ fn framed(order: Order, bytes: &[u8]) -> Result<Framing, CaptureError>
 
 /// The block that bytes of a section begin with, or the next section's header.
 pub(crate) fn framing_at(order: Order, bytes: &[u8]) -> Result<Framing, CaptureError>
-    ensures { result ≡ framing_at order bytes.now }
+    ensures block { result ≡ framing_at order bytes.now }
+    ensures there { IfOk result (IsFramed bytes.now) }
 {
     if bytes.len() < BLOCK_HEADER_LEN {
         return Ok(Framing::Wants(BLOCK_HEADER_LEN));

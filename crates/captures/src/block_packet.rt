@@ -3,7 +3,7 @@
 ghost use Rattle.std.specs.Prelude.{◌≡◌, ◌+◌, ◌≤◌, length, Some};
 ghost use Rattle.captures.specs.BlockPackets.{of_interface, timed_packet, enhanced_packet, obsolete_packet, simple_packet};
 
-use crate::block::{BLOCK_HEADER_LEN, Block, TRAILER_LEN};
+use crate::block::{BLOCK_HEADER_LEN, Block};
 use crate::error::CaptureError;
 use crate::interface::Interface;
 use crate::step::{Packet, Step};

@@ -5,7 +5,7 @@ ghost use Rattle.captures.specs.Blocks.{framing_at};
 ghost use Rattle.captures.specs.Interfaces.{interface_of};
 ghost use Rattle.captures.specs.Reading.{start, step_at, first_step, header_step, block_step, body_step, section_step, interface_step, Gives, end_of};
 
-use crate::block::{BLOCK_HEADER_LEN, Block, BlockKind, Framing, TRAILER_LEN, framing_at};
+use crate::block::{Block, BlockKind, Framing, framing_at};
 use crate::block_packet::{enhanced_packet, obsolete_packet, simple_packet};
 use crate::error::CaptureError;
 use crate::interface::Interface;
@@ -112,9 +112,7 @@ impl Packets {
     {
         match framing_at(order, bytes) {
             Ok(Framing::Wants(len)) => Ok(Step::More(len)),
-            Ok(Framing::Whole(block)) => {
-                self.take_body(block, &bytes[BLOCK_HEADER_LEN..block.len - TRAILER_LEN])
-            }
+            Ok(Framing::Whole(block)) => self.take_body(block, block.body(bytes)),
             Err(fault) => Err(fault),
         }
     }
