@@ -1,2 +1,3 @@
 pub mod Choices
+pub mod Grown
 pub mod OptionLists

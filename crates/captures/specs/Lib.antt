@@ -1,5 +1,6 @@
 pub mod BlockPackets
 pub mod Blocks
+pub mod Contents
 pub mod Errors
 pub mod Interfaces
 pub mod Options

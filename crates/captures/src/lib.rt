@@ -5,6 +5,7 @@ mod block;
 mod block_packet;
 mod error;
 mod interface;
+mod laws;
 mod magic;
 mod options;
 mod order;
@@ -16,6 +17,7 @@ mod times;
 
 pub use block::MAX_BLOCK_LEN;
 pub use error::CaptureError;
+pub use laws::{ends_as_said, faults_stay, given_come_first};
 pub use order::Order;
 pub use packets::{MAX_INTERFACES, Packets};
 pub use pcap::{FILE_HEADER_LEN, RECORD_HEADER_LEN, TimeUnit};
