@@ -48,7 +48,7 @@ framed_as order bytes len =
     (cond (not (word order bytes (len - 4) == len)) (Err faults.BlockLength)
     (Ok (Whole (record { kind = kind_of (word order bytes 0); order = order; len = len })))))
 
-twelve : (len : ℕ) → not (is_block_len len) ≡ false → 12 ≤ len
+pub twelve : (len : ℕ) → not (is_block_len len) ≡ false → 12 ≤ len
 twelve len e = go (is_block_len len) refl e
   where
     go : (b : Bool) → is_block_len len ≡ b → not b ≡ false → 12 ≤ len

@@ -1,3 +1,7 @@
 pub mod Choices
+pub mod FileContents
 pub mod Grown
 pub mod OptionLists
+pub mod Parts
+pub mod StepsStay
+pub mod StepsWithin

@@ -1,9 +1,10 @@
 // The packets of a capture.
 
-ghost use Rattle.std.specs.Prelude.{◌≡◌};
+ghost use Rattle.std.specs.Prelude.{◌≡◌, IfOk};
 ghost use Rattle.captures.specs.Blocks.{framing_at};
 ghost use Rattle.captures.specs.Interfaces.{interface_of};
 ghost use Rattle.captures.specs.Reading.{start, step_at, first_step, header_step, block_step, body_step, section_step, interface_step, Gives, end_of};
+ghost use Rattle.captures.specs.Contents.{IsWithin};
 
 use crate::block::{Block, BlockKind, Framing, framing_at};
 use crate::block_packet::{enhanced_packet, obsolete_packet, simple_packet};
@@ -62,7 +63,8 @@ impl Packets {
     ///
     /// The first fault of the file, which changes nothing. `Short` is what `end` says.
     pub fn next(&mut self, bytes: &[u8]) -> Result<Step, CaptureError>
-        ensures { Gives result self.old self.new (step_at self.old bytes.now) }
+        ensures gives { Gives result self.old self.new (step_at self.old bytes.now) }
+        ensures within { IfOk result (IsWithin bytes.now) }
     {
         match self.format {
             Format::Unread => self.begin(bytes),
