@@ -1,16 +1,13 @@
 -- What calls of the reader gave is what the file contains.
-use Rattle.std.proofs.Common.{◌≡◌, ℕ, zero, suc, ◌+◌, ◌-◌, ◌<◌, ◌≤◌, Bool, true, false, List, [], ◌∷◌, ◌++◌, length, drop, Option, Some, None, Result, Ok, Err, refl, sym, ap, ◌∙◌, arith, length-append, append_assoc}
-use Rattle.std.specs.Prelude.{slice_range}
-use Rattle.std.proofs.lemmas.List.{drop-append-le, append-nil}
+use Rattle.std.proofs.Common.{◌≡◌, ℕ, zero, suc, ◌-◌, ◌<◌, ◌≤◌, true, List, [], ◌∷◌, ◌++◌, length, drop, Result, Ok, Err, refl, sym, ap, ◌∙◌, arith, append_assoc}
+use Rattle.std.proofs.lemmas.List.{drop-append-le}
 use Rattle.captures.specs.declared.error.CaptureError.{CaptureError}
-use Rattle.captures.specs.declared.error.CaptureError.TheVariants as faults
-use Rattle.captures.specs.declared.step.Packet.{Packet}
 use Rattle.captures.specs.declared.step.Step.{Step}
 use Rattle.captures.specs.declared.step.Step.TheVariants.{Message, Other, Skip, More}
 use Rattle.captures.specs.declared.packets.Format.{Format}
 use Rattle.captures.specs.declared.packets.Format.TheVariants as formats
-use Rattle.captures.specs.Reading.{Reading, Taken, step_in, step_at, end_of}
-use Rattle.captures.specs.Contents.{Contents, len_of, takes, IsWithin, seen_in, ahead, ending, by_step, by_taken, contents_past, contents_of, Call, bytes_of, AreCalls, given}
+use Rattle.captures.specs.Reading.{Reading, Taken, step_in, step_at}
+use Rattle.captures.specs.Contents.{Contents, len_of, takes, IsWithin, ahead, ending, by_step, by_taken, contents_past, contents_of, Call, bytes_of, AreCalls, given}
 use Rattle.captures.proofs.Parts.{same_part}
 use Rattle.captures.proofs.StepsStay.{is_taken, step_stays}
 use Rattle.captures.proofs.StepsWithin.{step_within}

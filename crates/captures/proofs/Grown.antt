@@ -1,19 +1,18 @@
 -- Numbers and blocks at the front of bytes stay where they are, whatever comes after the bytes.
-use Rattle.std.proofs.Common.{◌≡◌, ℕ, ◌+◌, ◌-◌, ◌<◌, ◌≤◌, Bool, true, false, not, cond, ltb, leb, eqb, List, [], ◌∷◌, ◌++◌, get_or, length, take, drop, Option, Some, None, Result, Ok, Err, refl, sym, ap, ◌∙◌, arith, length-append}
-use Rattle.std.specs.Prelude.{slice_range, nat_lt, nat_le, ◌==◌, ◌&&◌}
+use Rattle.std.proofs.Common.{◌≡◌, ℕ, ◌+◌, ◌-◌, ◌≤◌, Bool, true, false, not, cond, List, ◌++◌, get_or, length, Option, Some, None, Result, Ok, Err, refl, ap, ◌∙◌, arith, length-append}
+use Rattle.std.specs.Prelude.{nat_lt, nat_le, ◌==◌}
 use Rattle.std.proofs.lemmas.Bool.{ltb-false, le-ltb, leb-true}
 use Rattle.std.proofs.lemmas.List.{get_or_append_left}
 use Rattle.captures.specs.declared.order.Order.{Order}
-use Rattle.captures.specs.declared.order.Order.TheVariants.{Little, Big}
+use Rattle.captures.specs.declared.order.Order.TheVariants.{Big}
 use Rattle.captures.specs.declared.error.CaptureError.{CaptureError}
 use Rattle.captures.specs.declared.error.CaptureError.TheVariants as faults
-use Rattle.captures.specs.declared.block.Block.{Block}
 use Rattle.captures.specs.declared.block.Framing.{Framing}
 use Rattle.captures.specs.declared.block.Framing.TheVariants.{Wants, Whole}
 use Rattle.captures.specs.declared.block.TheConstants.{SECTION}
 use Rattle.captures.specs.Words.{half, word}
-use Rattle.captures.specs.Blocks.{kind_of, order_of, is_block_len, framed, framed_in, framing_at, IsFramed}
-use Rattle.captures.proofs.Choices.{both_true, either_has, Stays, stays_where_same, stays_past}
+use Rattle.captures.specs.Blocks.{kind_of, order_of, is_block_len, framed, framed_in, framing_at}
+use Rattle.captures.proofs.Choices.{both_true, Stays, stays_where_same, stays_past}
 
 pub same_word : (order : Order) (bytes more : List ℕ) (at : ℕ) → at + 4 ≤ length bytes → word order (bytes ++ more) at ≡ word order bytes at
 same_word order bytes more at le =

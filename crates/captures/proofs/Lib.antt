@@ -5,3 +5,4 @@ pub mod OptionLists
 pub mod Parts
 pub mod StepsStay
 pub mod StepsWithin
+pub mod WrittenFiles

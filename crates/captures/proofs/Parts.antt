@@ -1,5 +1,5 @@
 -- Parts of bytes, and whole blocks.
-use Rattle.std.proofs.Common.{◌≡◌, ℕ, ◌+◌, ◌-◌, ◌<◌, ◌≤◌, Bool, true, false, not, List, [], ◌∷◌, ◌++◌, length, take, drop, Option, Some, None, Result, Ok, Err, refl, sym, ap, ◌∙◌, arith, length-append, length-drop, min}
+use Rattle.std.proofs.Common.{◌≡◌, ℕ, ◌-◌, ◌≤◌, false, not, List, ◌++◌, length, take, drop, Option, Some, None, Result, ap, ◌∙◌, arith, length-drop, min}
 use Rattle.std.specs.Prelude.{slice_range, nat_lt, ◌==◌, IfOk}
 use Rattle.std.proofs.lemmas.Bool.{ltb-false, ltb-true}
 use Rattle.std.proofs.lemmas.List.{take-append-le, drop-append-le, length-take}

@@ -1,5 +1,5 @@
 -- A step that took something, or a fault, stays the same, whatever comes after the bytes.
-use Rattle.std.proofs.Common.{◌≡◌, ℕ, ◌+◌, ◌*◌, ◌%◌, ◌<◌, ◌≤◌, Bool, true, false, not, cond, List, [], ◌∷◌, ◌++◌, length, Option, Some, None, Result, Ok, Err, refl, sym, ap, ◌∙◌, arith}
+use Rattle.std.proofs.Common.{◌≡◌, ℕ, ◌+◌, ◌*◌, ◌%◌, ◌≤◌, Bool, true, false, not, cond, List, ◌++◌, length, Option, Some, None, Result, Ok, Err, refl, ap, ◌∙◌, arith}
 use Rattle.std.specs.Prelude.{nat_lt, ◌==◌, ◌&&◌, IfOk}
 use Rattle.std.proofs.lemmas.Bool.{ltb-false}
 use Rattle.captures.specs.declared.order.Order.{Order}
@@ -11,14 +11,13 @@ use Rattle.captures.specs.declared.step.Step.TheVariants.{Message, More}
 use Rattle.captures.specs.declared.magic.Magic.{Magic}
 use Rattle.captures.specs.declared.magic.Magic.TheVariants as magics
 use Rattle.captures.specs.declared.pcap.TimeUnit.{TimeUnit}
-use Rattle.captures.specs.declared.block.Block.{Block}
 use Rattle.captures.specs.declared.block.Framing.{Framing}
 use Rattle.captures.specs.declared.block.Framing.TheVariants.{Wants, Whole}
 use Rattle.captures.specs.declared.packets.Format.{Format}
 use Rattle.captures.specs.declared.packets.Format.TheVariants as formats
 use Rattle.captures.specs.Words.{half, word}
 use Rattle.captures.specs.Pcap.{nanoseconds, header_fault, magic_of, record_at}
-use Rattle.captures.specs.Blocks.{framing_at, IsFramed, body_of}
+use Rattle.captures.specs.Blocks.{framing_at, IsFramed}
 use Rattle.captures.specs.Reading.{Reading, Taken, staying, heading, block_step, body_step, header_step, first_of, first_step, step_in, step_at}
 use Rattle.captures.specs.Contents.{takes}
 use Rattle.captures.proofs.Choices.{Stays, stays_past}
@@ -40,7 +39,7 @@ staying_stays reading (Ok step) y stays settled = ap (staying reading) (stays se
 -- ---- pcap
 
 -- a record of these words
-abbrev record_as : TimeUnit → ℕ → ℕ → ℕ → ℕ → ℕ → Result Step CaptureError
+abbrev pub record_as : TimeUnit → ℕ → ℕ → ℕ → ℕ → ℕ → Result Step CaptureError
 record_as unit have seconds fraction captured original =
     cond (nat_lt 134217728 captured) (Err faults.RecordLength)
     (cond (nat_lt have (16 + captured)) (Ok (More (16 + captured)))

@@ -1,13 +1,13 @@
 -- A step lies within the bytes.
-use Rattle.std.proofs.Common.{◌≡◌, ℕ, zero, suc, ◌+◌, ◌-◌, ◌*◌, ◌%◌, ◌<◌, ◌≤◌, Bool, true, false, not, cond, List, [], ◌∷◌, ◌++◌, length, drop, Option, Some, None, Result, Ok, Err, refl, sym, ap, ◌∙◌, arith, subst, length-drop}
-use Rattle.std.specs.Prelude.{nat_lt, ◌==◌, ◌&&◌, ◌||◌, IfOk, slice_get}
+use Rattle.std.proofs.Common.{◌≡◌, ℕ, ◌+◌, ◌-◌, ◌<◌, ◌≤◌, false, List, length, Option, Some, None, Result, Ok, Err, arith, subst}
+use Rattle.std.specs.Prelude.{nat_lt, ◌==◌, IfOk, slice_get}
 use Rattle.std.proofs.lemmas.Bool.{ltb-true, ltb-false}
 use Rattle.captures.specs.declared.order.Order.{Order}
 use Rattle.captures.specs.declared.order.Order.TheVariants.{Big}
 use Rattle.captures.specs.declared.error.CaptureError.{CaptureError}
 use Rattle.captures.specs.declared.step.Packet.{Packet}
 use Rattle.captures.specs.declared.step.Step.{Step}
-use Rattle.captures.specs.declared.step.Step.TheVariants.{Message, Other, Skip, More}
+use Rattle.captures.specs.declared.step.Step.TheVariants.{Message, Other}
 use Rattle.captures.specs.declared.magic.Magic.{Magic}
 use Rattle.captures.specs.declared.magic.Magic.TheVariants as magics
 use Rattle.captures.specs.declared.pcap.TimeUnit.{TimeUnit}
@@ -24,8 +24,8 @@ use Rattle.captures.specs.Options.{nanoseconds_in}
 use Rattle.captures.specs.Pcap.{header_fault, magic_of, record_at, captured_len}
 use Rattle.captures.specs.Blocks.{framing_at, IsFramed, body_of, section_fault}
 use Rattle.captures.specs.Interfaces.{kept_of, seen_of, interface_of}
-use Rattle.captures.specs.BlockPackets.{packet_after, of_interface, timed_packet, enhanced_packet, obsolete_packet, of_first, simple_packet}
-use Rattle.captures.specs.Reading.{Reading, Taken, staying, heading, section_step, interface_step, block_step, body_step, header_step, first_of, first_step, step_in, step_at, Gives}
+use Rattle.captures.specs.BlockPackets.{packet_after, of_interface, enhanced_packet, obsolete_packet, of_first, simple_packet}
+use Rattle.captures.specs.Reading.{Reading, Taken, staying, heading, interface_step, block_step, body_step, header_step, first_of, step_in, step_at, Gives}
 use Rattle.captures.specs.Contents.{IsWithin}
 use Rattle.captures.proofs.Choices.{either_has}
 use Rattle.captures.proofs.Parts.{framing_there, body_len}
@@ -69,7 +69,7 @@ packet_within bytes front interface block body time captured original le lies =
     either_has (StepWithin bytes) (nat_lt (length body - front) captured) _ _ (λ _. tt) (λ (enough : nat_lt (length body - front) captured ≡ false).
     let room : captured ≤ length body - front = ltb-false (length body - front) captured enough in
     seen_within bytes interface (record { len = block.len; start = 8 + front; end = 8 + front + captured; time = time; is_cut = nat_lt captured original })
-        (omega (arith, lies.min), omega arith, omega (arith, lies.min, lies.body_is, room, le), lies.there))
+    (omega (arith, lies.min), omega arith, omega (arith, lies.min, lies.body_is, room, le), lies.there))
 
 of_interface_within : (bytes : List ℕ) (interface : Option Interface) (block : Block) (body : List ℕ) → 20 ≤ length body → Lies bytes block body → StepWithin bytes (of_interface interface block body)
 of_interface_within bytes None block body le lies = tt

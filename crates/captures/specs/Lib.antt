@@ -7,3 +7,4 @@ pub mod Options
 pub mod Pcap
 pub mod Reading
 pub mod Words
+pub mod Writing

@@ -1,5 +1,5 @@
 -- What the times of a pcapng interface count (draft-ietf-opsawg-pcapng, "Options" and "Interface Description Block").
-use Rattle.std.specs.Prelude.{ℕ, zero, suc, ◌+◌, ◌-◌, ◌*◌, ◌/◌, ◌^◌, Bool, true, false, List, [], ◌∷◌, length, slice_index, Option, Some, None, Result, Ok, Err, nat_lt, nat_le, ◌==◌, if◌then◌else◌}
+use Rattle.std.specs.Prelude.{ℕ, zero, suc, ◌+◌, ◌-◌, ◌*◌, ◌/◌, ◌^◌, true, false, List, [], ◌∷◌, length, slice_index, Option, Some, None, Result, Ok, Err, nat_lt, nat_le, ◌==◌, if◌then◌else◌}
 use Rattle.captures.specs.declared.order.Order.{Order}
 use Rattle.captures.specs.declared.error.CaptureError.{CaptureError}
 use Rattle.captures.specs.declared.error.CaptureError.TheVariants as faults

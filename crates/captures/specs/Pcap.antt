@@ -1,5 +1,5 @@
 -- Files of the format pcap (draft-ietf-opsawg-pcap).
-use Rattle.std.specs.Prelude.{ℕ, ◌+◌, ◌*◌, ◌%◌, Bool, not, List, length, Option, Some, None, Result, Ok, Err, nat_lt, ◌==◌, ◌&&◌, if◌then◌else◌}
+use Rattle.std.specs.Prelude.{ℕ, ◌+◌, ◌*◌, ◌%◌, not, List, length, Option, Some, None, Result, Ok, Err, nat_lt, ◌==◌, ◌&&◌, if◌then◌else◌}
 use Rattle.captures.specs.declared.order.Order.{Order}
 use Rattle.captures.specs.declared.order.Order.TheVariants.{Little, Big}
 use Rattle.captures.specs.declared.error.CaptureError.{CaptureError}

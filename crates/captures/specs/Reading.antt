@@ -1,11 +1,11 @@
 -- The packets of a capture, one step after the other (draft-ietf-opsawg-pcap; draft-ietf-opsawg-pcapng).
-use Rattle.std.specs.Prelude.{◌≡◌, ℕ, ◌<◌, ◌≤◌, Bool, List, [], ◌∷◌, ◌++◌, length, Option, Some, None, Result, Ok, Err, nat_lt, if◌then◌else◌}
+use Rattle.std.specs.Prelude.{◌≡◌, ℕ, List, [], ◌∷◌, ◌++◌, length, Option, Some, None, Result, Ok, Err, nat_lt, if◌then◌else◌}
 use Rattle.captures.specs.declared.order.Order.{Order}
 use Rattle.captures.specs.declared.order.Order.TheVariants.{Big}
 use Rattle.captures.specs.declared.error.CaptureError.{CaptureError}
 use Rattle.captures.specs.declared.error.CaptureError.TheVariants as faults
 use Rattle.captures.specs.declared.step.Step.{Step}
-use Rattle.captures.specs.declared.step.Step.TheVariants.{Message, Other, Skip, More}
+use Rattle.captures.specs.declared.step.Step.TheVariants.{Skip, More}
 use Rattle.captures.specs.declared.magic.Magic.{Magic}
 use Rattle.captures.specs.declared.magic.Magic.TheVariants as magics
 use Rattle.captures.specs.declared.magic.TheConstants.{MAGIC_LEN}

@@ -16,11 +16,7 @@ pub(crate) const UNTIMED_LEN: usize = 4;
 
 /// The packet of an interface in a block that has a time: its interface's number aside, Enhanced and obsolete blocks
 /// are alike.
-fn timed_packet_of(
-    interface: Interface,
-    block: Block,
-    body: &[u8],
-) -> Result<Step, CaptureError>
+fn timed_packet_of(interface: Interface, block: Block, body: &[u8]) -> Result<Step, CaptureError>
     requires { TIMED_LEN ≤ length body.now }
     ensures { result ≡ of_interface (Some interface) block body.now }
 {

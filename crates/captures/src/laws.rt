@@ -4,7 +4,9 @@ ghost use Rattle.std.specs.Prelude.{◌≡◌, ◌++◌, ℕ, List, Ok, Err};
 ghost use Rattle.captures.specs.declared.error.CaptureError.{CaptureError};
 ghost use Rattle.captures.specs.declared.step.Step.TheVariants.{More};
 ghost use Rattle.captures.specs.Reading.{Reading, Taken, step_at, end_of};
-ghost use Rattle.captures.specs.Contents.{Call, AreCalls, bytes_of, given, contents_of, ending};
+ghost use Rattle.captures.specs.declared.pcap.TimeUnit.{TimeUnit};
+ghost use Rattle.captures.specs.Writing.{Sent, AllFit, file_of, contents_again};
+ghost use Rattle.captures.specs.Contents.{contents, Call, AreCalls, bytes_of, given, contents_of, ending};
 
 /// What calls gave are the first packets of the file, whatever comes after them, however its bytes came.
 pub fn given_come_first()
@@ -20,4 +22,9 @@ pub fn faults_stay()
 /// Where more bytes are needed and none come, the file has ended as `end` says.
 pub fn ends_as_said()
     ensures { (reading after : Reading) (bytes : List ℕ) (len : ℕ) → step_at reading bytes ≡ Ok (record { step = More len; after = after }) → contents_of reading bytes ≡ ending (end_of reading bytes) }
+{}
+
+/// A file that was written is read: the same messages, at their times in whole units, and no fault.
+pub fn what_is_written_is_read()
+    ensures { (unit : TimeUnit) (all : List Sent) → AllFit all → contents (file_of unit all) ≡ contents_again unit all }
 {}

@@ -24,7 +24,9 @@ pub(crate) fn section_fault(order: Order, body: &[u8]) -> Option<CaptureError>
         return Some(CaptureError::BlockLength);
     }
     let minor = order.half(body, 6);
-    if order.half(body, 4) != SECTION_MAJOR || (minor != SECTION_MINOR && minor != SECTION_MINOR_TOO) {
+    if order.half(body, 4) != SECTION_MAJOR
+        || (minor != SECTION_MINOR && minor != SECTION_MINOR_TOO)
+    {
         return Some(CaptureError::Version);
     }
     None

@@ -1,4 +1,4 @@
-use Rattle.std.proofs.Common.{◌^◌, arith, lit<, zero-lt-suc}
+use Rattle.std.proofs.Common.{arith}
 use Rattle.std.proofs.Math.Nat.{one-le-pow}
 use Rattle.captures.proofs.options.units_of.Goals as goal
 

@@ -1,4 +1,4 @@
-use Rattle.std.proofs.Common.{◌≡◌, ℕ, ◌+◌, ◌<◌, ◌≤◌, List, length, drop, sym, ap, ◌∙◌, arith, length-drop}
+use Rattle.std.proofs.Common.{◌≡◌, ℕ, ◌+◌, drop, sym, ap, ◌∙◌, arith, length-drop}
 use Rattle.captures.specs.Options.{padded, times_from}
 use Rattle.captures.specs.Words.{half}
 use Rattle.captures.proofs.OptionLists.{ends_with_bytes, after_one}
