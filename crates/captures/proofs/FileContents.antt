@@ -6,8 +6,8 @@ use Rattle.captures.specs.declared.step.Step.{Step}
 use Rattle.captures.specs.declared.step.Step.TheVariants.{Message, Other, Skip, More}
 use Rattle.captures.specs.declared.packets.Format.{Format}
 use Rattle.captures.specs.declared.packets.Format.TheVariants as formats
-use Rattle.captures.specs.Reading.{Reading, Taken, step_in, step_at}
-use Rattle.captures.specs.Contents.{Contents, len_of, takes, IsWithin, ahead, ending, by_step, by_taken, contents_past, contents_of, Call, bytes_of, AreCalls, given}
+use Rattle.captures.specs.Reading.{Reading, Progress, step_in, step_at}
+use Rattle.captures.specs.Contents.{Contents, len_of, takes, IsWithin, ahead, ending, by_step, by_progress, contents_past, contents_of, Call, bytes_of, AreCalls, all_ahead}
 use Rattle.captures.proofs.Parts.{same_part}
 use Rattle.captures.proofs.StepsStay.{is_taken, step_stays}
 use Rattle.captures.proofs.StepsWithin.{step_within}
@@ -17,7 +17,7 @@ past reading zero bytes = refl
 past reading (suc k) [] = refl
 past reading (suc k) (byte ∷ rest) = past reading k rest
 
--- nothing is taken of no bytes, and no fault is in them
+-- nothing is progress of no bytes, and no fault is in them
 none_taken : (reading : Reading) → is_taken (step_at reading []) ≡ true → ⊥
 none_taken reading settled = go reading.format settled
   where
@@ -53,29 +53,29 @@ same_ahead (Other len link_type) bytes more later within = refl
 same_ahead (Skip len) bytes more later within = refl
 same_ahead (More len) bytes more later within = refl
 
-pub one_call : (reading : Reading) (taken : Taken) (bytes more : List ℕ) → step_at reading bytes ≡ Ok taken → takes taken.step ≡ true
-    → contents_of reading (bytes ++ more) ≡ ahead taken.step bytes (contents_of taken.after (drop (len_of taken.step) bytes ++ more))
-one_call reading taken [] more e some = absurd (none_taken reading (ap is_taken e ∙ some))
-one_call reading taken (byte ∷ rest) more e some =
-    let within : IsWithin (byte ∷ rest) taken.step = step_within reading (byte ∷ rest) taken e in
-    let lens = some_taken (byte ∷ rest) taken.step some within in
-    ap (λ (r : Result Taken CaptureError). by_taken r (byte ∷ (rest ++ more)) (λ after len. contents_past (len - 1) after (rest ++ more))) (step_stays reading (byte ∷ rest) more (ap is_taken e ∙ some) ∙ e)
-    ∙ step_ahead taken.step taken.after byte (rest ++ more) some lens.0
-    ∙ same_ahead taken.step (byte ∷ rest) more _ within
-    ∙ ap (λ (left : List ℕ). ahead taken.step (byte ∷ rest) (contents_of taken.after left)) (drop-append-le (len_of taken.step) (byte ∷ rest) more lens.1)
+pub one_call : (reading : Reading) (progress : Progress) (bytes more : List ℕ) → step_at reading bytes ≡ Ok progress → takes progress.step ≡ true
+    → contents_of reading (bytes ++ more) ≡ ahead progress.step bytes (contents_of progress.after (drop (len_of progress.step) bytes ++ more))
+one_call reading progress [] more e some = absurd (none_taken reading (ap is_taken e ∙ some))
+one_call reading progress (byte ∷ rest) more e some =
+    let within : IsWithin (byte ∷ rest) progress.step = step_within reading (byte ∷ rest) progress e in
+    let lens = some_taken (byte ∷ rest) progress.step some within in
+    ap (λ (r : Result Progress CaptureError). by_progress r (byte ∷ (rest ++ more)) (λ after len. contents_past (len - 1) after (rest ++ more))) (step_stays reading (byte ∷ rest) more (ap is_taken e ∙ some) ∙ e)
+    ∙ step_ahead progress.step progress.after byte (rest ++ more) some lens.0
+    ∙ same_ahead progress.step (byte ∷ rest) more _ within
+    ∙ ap (λ (left : List ℕ). ahead progress.step (byte ∷ rest) (contents_of progress.after left)) (drop-append-le (len_of progress.step) (byte ∷ rest) more lens.1)
 
 pub fault_stays : (reading : Reading) (bytes more : List ℕ) (fault : CaptureError) → step_at reading bytes ≡ Err fault → contents_of reading (bytes ++ more) ≡ ending (Err fault)
 fault_stays reading [] more fault e = absurd (none_taken reading (ap is_taken e))
 fault_stays reading (byte ∷ rest) more fault e =
-    ap (λ (r : Result Taken CaptureError). by_taken r (byte ∷ (rest ++ more)) (λ after len. contents_past (len - 1) after (rest ++ more))) (step_stays reading (byte ∷ rest) more (ap is_taken e) ∙ e)
+    ap (λ (r : Result Progress CaptureError). by_progress r (byte ∷ (rest ++ more)) (λ after len. contents_past (len - 1) after (rest ++ more))) (step_stays reading (byte ∷ rest) more (ap is_taken e) ∙ e)
 
 pub calls_first : (calls : List Call) (reading last : Reading) (unread left more : List ℕ) → AreCalls calls reading unread last left
-    → contents_of reading (unread ++ (bytes_of calls ++ more)) ≡ given calls unread (contents_of last (left ++ more))
+    → contents_of reading (unread ++ (bytes_of calls ++ more)) ≡ all_ahead calls unread (contents_of last (left ++ more))
 calls_first [] reading last unread left more (same, unread_is) =
     ap (λ (r : Reading). contents_of r (unread ++ more)) same ∙ ap (λ (u : List ℕ). contents_of last (u ++ more)) unread_is
 calls_first (call ∷ calls) reading last unread left more (e, some, are) =
     let bytes = unread ++ call.piece in
     let rest = bytes_of calls ++ more in
     let joined : unread ++ ((call.piece ++ bytes_of calls) ++ more) ≡ bytes ++ rest = ap (λ (x : List ℕ). unread ++ x) (append_assoc call.piece (bytes_of calls) more) ∙ sym (append_assoc unread call.piece rest) in
-    ap (contents_of reading) joined ∙ one_call reading call.taken bytes rest e some
-    ∙ ap (ahead call.taken.step bytes) (calls_first calls call.taken.after last (drop (len_of call.taken.step) bytes) left more are)
+    ap (contents_of reading) joined ∙ one_call reading call.progress bytes rest e some
+    ∙ ap (ahead call.progress.step bytes) (calls_first calls call.progress.after last (drop (len_of call.progress.step) bytes) left more are)

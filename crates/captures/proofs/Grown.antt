@@ -10,8 +10,8 @@ use Rattle.captures.specs.declared.error.CaptureError.TheVariants as faults
 use Rattle.captures.specs.declared.block.Framing.{Framing}
 use Rattle.captures.specs.declared.block.Framing.TheVariants.{Wants, Whole}
 use Rattle.captures.specs.declared.block.TheConstants.{SECTION}
-use Rattle.captures.specs.Words.{half, word}
-use Rattle.captures.specs.Blocks.{kind_of, order_of, is_block_len, framed, framed_in, framing_at}
+use Rattle.captures.specs.Numbers.{half, word}
+use Rattle.captures.specs.Blocks.{kind_of, order_of, is_block_len, block_at, block_in, framing_at}
 use Rattle.captures.proofs.Choices.{both_true, Stays, stays_where_same, stays_past}
 
 pub same_word : (order : Order) (bytes more : List ℕ) (at : ℕ) → at + 4 ≤ length bytes → word order (bytes ++ more) at ≡ word order bytes at
@@ -40,8 +40,8 @@ is_framed (Ok (Wants len)) = false
 is_framed (Ok (Whole block)) = true
 
 -- a block of a length
-abbrev framed_as : Order → List ℕ → ℕ → Result Framing CaptureError
-framed_as order bytes len =
+abbrev block_as : Order → List ℕ → ℕ → Result Framing CaptureError
+block_as order bytes len =
     cond (not (is_block_len len)) (Err faults.BlockLength)
     (cond (nat_lt (length bytes) len) (Ok (Wants len))
     (cond (not (word order bytes (len - 4) == len)) (Err faults.BlockLength)
@@ -54,8 +54,8 @@ twelve len e = go (is_block_len len) refl e
     go true is e = leb-true 12 len (both_true (nat_le 12 len) _ (both_true _ _ is).0).0
     go false is e = absurd cc
 
-framed_as_stays : (order : Order) (bytes more : List ℕ) (len : ℕ) → Stays is_framed (framed_as order bytes len) (framed_as order (bytes ++ more) len)
-framed_as_stays order bytes more len =
+block_as_stays : (order : Order) (bytes more : List ℕ) (len : ℕ) → Stays is_framed (block_as order bytes len) (block_as order (bytes ++ more) len)
+block_as_stays order bytes more len =
     stays_where_same is_framed (not (is_block_len len)) _ _ _ _ _ refl (λ _ _. refl) (λ (good : not (is_block_len len) ≡ false).
     stays_past is_framed (nat_lt (length bytes) len) _ _ _ _ refl (still_enough bytes more len) (λ (enough : nat_lt (length bytes) len ≡ false).
     let le : len ≤ length bytes = ltb-false (length bytes) len enough in
@@ -66,13 +66,13 @@ framed_as_stays order bytes more len =
     stays_where_same is_framed (not (word order bytes (len - 4) == len)) _ _ _ _ _ test (λ _ _. refl) (λ _ _.
     ap (λ (w : ℕ). let whole : Result Framing CaptureError = Ok (Whole (record { kind = kind_of w; order = order; len = len })) in whole) first)))
 
-framed_stays : (order : Order) (bytes more : List ℕ) → 8 ≤ length bytes → Stays is_framed (framed order bytes) (framed order (bytes ++ more))
-framed_stays order bytes more le settled =
-    ap (framed_as order (bytes ++ more)) (same_word order bytes more 4 le) ∙ framed_as_stays order bytes more (word order bytes 4) settled
+block_at_stays : (order : Order) (bytes more : List ℕ) → 8 ≤ length bytes → Stays is_framed (block_at order bytes) (block_at order (bytes ++ more))
+block_at_stays order bytes more le settled =
+    ap (block_as order (bytes ++ more)) (same_word order bytes more 4 le) ∙ block_as_stays order bytes more (word order bytes 4) settled
 
-framed_in_stays : (bytes more : List ℕ) (order : Option Order) → 8 ≤ length bytes → Stays is_framed (framed_in bytes order) (framed_in (bytes ++ more) order)
-framed_in_stays bytes more None le settled = refl
-framed_in_stays bytes more (Some order) le settled = framed_stays order bytes more le settled
+block_in_stays : (bytes more : List ℕ) (order : Option Order) → 8 ≤ length bytes → Stays is_framed (block_in bytes order) (block_in (bytes ++ more) order)
+block_in_stays bytes more None le settled = refl
+block_in_stays bytes more (Some order) le settled = block_at_stays order bytes more le settled
 
 pub framing_stays : (order : Order) (bytes more : List ℕ) → Stays is_framed (framing_at order bytes) (framing_at order (bytes ++ more))
 framing_stays order bytes more =
@@ -80,8 +80,8 @@ framing_stays order bytes more =
     let eight : 8 ≤ length bytes = ltb-false (length bytes) 8 enough in
     let first : word Big (bytes ++ more) 0 ≡ word Big bytes 0 = same_word Big bytes more 0 (omega arith) in
     let test : (not (word Big (bytes ++ more) 0 == SECTION)) ≡ (not (word Big bytes 0 == SECTION)) = ap (λ (w : ℕ). not (w == SECTION)) first in
-    stays_where_same is_framed (not (word Big bytes 0 == SECTION)) _ _ _ _ _ test (λ _. framed_stays order bytes more eight) (λ _.
+    stays_where_same is_framed (not (word Big bytes 0 == SECTION)) _ _ _ _ _ test (λ _. block_at_stays order bytes more eight) (λ _.
     stays_past is_framed (nat_lt (length bytes) 12) _ _ _ _ refl (still_enough bytes more 12) (λ (enough : nat_lt (length bytes) 12 ≡ false).
     let le : 12 ≤ length bytes = ltb-false (length bytes) 12 enough in
     let magic : word Big (bytes ++ more) 8 ≡ word Big bytes 8 = same_word Big bytes more 8 le in
-    (λ settled. ap (λ (w : ℕ). framed_in (bytes ++ more) (order_of w)) magic ∙ framed_in_stays bytes more (order_of (word Big bytes 8)) eight settled))))
+    (λ settled. ap (λ (w : ℕ). block_in (bytes ++ more) (order_of w)) magic ∙ block_in_stays bytes more (order_of (word Big bytes 8)) eight settled))))

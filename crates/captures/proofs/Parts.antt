@@ -9,8 +9,8 @@ use Rattle.captures.specs.declared.error.CaptureError.{CaptureError}
 use Rattle.captures.specs.declared.block.Block.{Block}
 use Rattle.captures.specs.declared.block.Framing.{Framing}
 use Rattle.captures.specs.declared.block.TheConstants.{SECTION}
-use Rattle.captures.specs.Words.{word}
-use Rattle.captures.specs.Blocks.{order_of, is_block_len, framed, framed_in, framing_at, IsFramed, body_of}
+use Rattle.captures.specs.Numbers.{word}
+use Rattle.captures.specs.Blocks.{order_of, is_block_len, block_at, block_in, framing_at, IsFramed, body_of}
 use Rattle.captures.proofs.Choices.{either_has}
 use Rattle.captures.proofs.Grown.{twelve}
 
@@ -24,25 +24,25 @@ part_len bytes from to order le = length-take (to - from) (drop from bytes) ∙ 
 
 -- ---- whole blocks lie within the bytes
 
-framed_there : (order : Order) (bytes : List ℕ) → IfOk (framed order bytes) (IsFramed bytes)
-framed_there order bytes =
+block_at_there : (order : Order) (bytes : List ℕ) → IfOk (block_at order bytes) (IsFramed bytes)
+block_at_there order bytes =
     let P : Result Framing CaptureError → Type 0 = λ r. IfOk r (IsFramed bytes) in
     either_has P (not (is_block_len (word order bytes 4))) _ _ (λ _. tt) (λ (good : not (is_block_len (word order bytes 4)) ≡ false).
     either_has P (nat_lt (length bytes) (word order bytes 4)) _ _ (λ few. ltb-true (length bytes) (word order bytes 4) few) (λ (enough : nat_lt (length bytes) (word order bytes 4) ≡ false).
     either_has P (not (word order bytes (word order bytes 4 - 4) == word order bytes 4)) _ _ (λ _. tt) (λ _.
     (twelve (word order bytes 4) good, ltb-false (length bytes) (word order bytes 4) enough))))
 
-framed_in_there : (bytes : List ℕ) (order : Option Order) → IfOk (framed_in bytes order) (IsFramed bytes)
-framed_in_there bytes None = tt
-framed_in_there bytes (Some order) = framed_there order bytes
+block_in_there : (bytes : List ℕ) (order : Option Order) → IfOk (block_in bytes order) (IsFramed bytes)
+block_in_there bytes None = tt
+block_in_there bytes (Some order) = block_at_there order bytes
 
 pub framing_there : (order : Order) (bytes : List ℕ) → IfOk (framing_at order bytes) (IsFramed bytes)
 framing_there order bytes =
     let P : Result Framing CaptureError → Type 0 = λ r. IfOk r (IsFramed bytes) in
     either_has P (nat_lt (length bytes) 8) _ _ (λ few. ltb-true (length bytes) 8 few) (λ _.
-    either_has P (not (word Big bytes 0 == SECTION)) _ _ (λ _. framed_there order bytes) (λ _.
+    either_has P (not (word Big bytes 0 == SECTION)) _ _ (λ _. block_at_there order bytes) (λ _.
     either_has P (nat_lt (length bytes) 12) _ _ (λ few. ltb-true (length bytes) 12 few) (λ _.
-    framed_in_there bytes (order_of (word Big bytes 8)))))
+    block_in_there bytes (order_of (word Big bytes 8)))))
 
 -- ---- bodies
 

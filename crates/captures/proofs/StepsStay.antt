@@ -15,18 +15,18 @@ use Rattle.captures.specs.declared.block.Framing.{Framing}
 use Rattle.captures.specs.declared.block.Framing.TheVariants.{Wants, Whole}
 use Rattle.captures.specs.declared.packets.Format.{Format}
 use Rattle.captures.specs.declared.packets.Format.TheVariants as formats
-use Rattle.captures.specs.Words.{half, word}
+use Rattle.captures.specs.Numbers.{half, word}
 use Rattle.captures.specs.Pcap.{nanoseconds, header_fault, magic_of, record_at}
 use Rattle.captures.specs.Blocks.{framing_at, IsFramed}
-use Rattle.captures.specs.Reading.{Reading, Taken, staying, heading, block_step, body_step, header_step, first_of, first_step, step_in, step_at}
+use Rattle.captures.specs.Reading.{Reading, Progress, staying, heading, block_step, body_step, header_step, first_of, first_step, step_in, step_at}
 use Rattle.captures.specs.Contents.{takes}
 use Rattle.captures.proofs.Choices.{Stays, stays_past}
 use Rattle.captures.proofs.Grown.{same_word, same_half, still_enough, is_framed, framing_stays}
 use Rattle.captures.proofs.Parts.{framing_there, same_body}
 
-abbrev pub is_taken : Result Taken CaptureError → Bool
+abbrev pub is_taken : Result Progress CaptureError → Bool
 is_taken (Err fault) = true
-is_taken (Ok taken) = takes taken.step
+is_taken (Ok progress) = takes progress.step
 
 abbrev is_answered : Result Step CaptureError → Bool
 is_answered (Err fault) = true

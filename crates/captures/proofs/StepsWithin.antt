@@ -19,20 +19,20 @@ use Rattle.captures.specs.declared.block.Framing.TheVariants.{Wants, Whole}
 use Rattle.captures.specs.declared.interface.Interface.{Interface}
 use Rattle.captures.specs.declared.packets.Format.{Format}
 use Rattle.captures.specs.declared.packets.Format.TheVariants as formats
-use Rattle.captures.specs.Words.{half, word}
+use Rattle.captures.specs.Numbers.{half, word}
 use Rattle.captures.specs.Options.{nanoseconds_in}
 use Rattle.captures.specs.Pcap.{header_fault, magic_of, record_at, captured_len}
 use Rattle.captures.specs.Blocks.{framing_at, IsFramed, body_of, section_fault}
-use Rattle.captures.specs.Interfaces.{kept_of, seen_of, interface_of}
+use Rattle.captures.specs.Interfaces.{kept_len, step_with, interface_of}
 use Rattle.captures.specs.BlockPackets.{packet_after, of_interface, enhanced_packet, obsolete_packet, of_first, simple_packet}
-use Rattle.captures.specs.Reading.{Reading, Taken, staying, heading, interface_step, block_step, body_step, header_step, first_of, step_in, step_at, Gives}
+use Rattle.captures.specs.Reading.{Reading, Progress, staying, heading, interface_step, block_step, body_step, header_step, first_of, step_in, step_at, Gives}
 use Rattle.captures.specs.Contents.{IsWithin}
 use Rattle.captures.proofs.Choices.{either_has}
 use Rattle.captures.proofs.Parts.{framing_there, body_len}
 
 -- the bytes have what was read
-abbrev AllWithin : List ℕ → Result Taken CaptureError → Type 0
-AllWithin bytes read = IfOk read (λ (t : Taken). IsWithin bytes t.step)
+abbrev AllWithin : List ℕ → Result Progress CaptureError → Type 0
+AllWithin bytes read = IfOk read (λ (t : Progress). IsWithin bytes t.step)
 
 abbrev StepWithin : List ℕ → Result Step CaptureError → Type 0
 StepWithin bytes read = IfOk read (IsWithin bytes)
@@ -54,8 +54,8 @@ record_within order unit bytes =
     let le : 16 + captured_len order bytes ≤ length bytes = ltb-false (length bytes) (16 + captured_len order bytes) enough in
     (let a : 0 < 16 + captured_len order bytes = omega arith in a, let b : 16 ≤ 16 + captured_len order bytes = omega arith in b, let c : 16 + captured_len order bytes ≤ 16 + captured_len order bytes = omega arith in c, le))))
 
-seen_within : (bytes : List ℕ) (interface : Interface) (packet : Packet) → IsWithin bytes (Message packet) → IsWithin bytes (seen_of interface packet)
-seen_within bytes interface packet within =
+step_with_within : (bytes : List ℕ) (interface : Interface) (packet : Packet) → IsWithin bytes (Message packet) → IsWithin bytes (step_with interface packet)
+step_with_within bytes interface packet within =
     either_has (IsWithin bytes) (interface.link_type == 231) (Message packet) (Other packet.len interface.link_type) (λ _. within) (λ _. (within.0, within.3))
 
 -- a block that lies within the bytes, with its body
@@ -68,7 +68,7 @@ packet_within : (bytes : List ℕ) (front : ℕ) (interface : Interface) (block 
 packet_within bytes front interface block body time captured original le lies =
     either_has (StepWithin bytes) (nat_lt (length body - front) captured) _ _ (λ _. tt) (λ (enough : nat_lt (length body - front) captured ≡ false).
     let room : captured ≤ length body - front = ltb-false (length body - front) captured enough in
-    seen_within bytes interface (record { len = block.len; start = 8 + front; end = 8 + front + captured; time = time; is_cut = nat_lt captured original })
+    step_with_within bytes interface (record { len = block.len; start = 8 + front; end = 8 + front + captured; time = time; is_cut = nat_lt captured original })
     (omega (arith, lies.min), omega arith, omega (arith, lies.min, lies.body_is, room, le), lies.there))
 
 of_interface_within : (bytes : List ℕ) (interface : Option Interface) (block : Block) (body : List ℕ) → 20 ≤ length body → Lies bytes block body → StepWithin bytes (of_interface interface block body)
@@ -79,7 +79,7 @@ of_interface_within bytes (Some interface) block body le lies =
 of_first_within : (bytes : List ℕ) (interface : Option Interface) (block : Block) (body : List ℕ) → 4 ≤ length body → Lies bytes block body → StepWithin bytes (of_first interface block body)
 of_first_within bytes None block body le lies = tt
 of_first_within bytes (Some interface) block body le lies =
-    packet_within bytes 4 interface block body None (kept_of interface (word block.order body 0)) (word block.order body 0) le lies
+    packet_within bytes 4 interface block body None (kept_len interface (word block.order body 0)) (word block.order body 0) le lies
 
 interface_within : (reading : Reading) (bytes : List ℕ) (block : Block) (body : List ℕ) (described : Result Interface CaptureError) → Lies bytes block body → AllWithin bytes (interface_step reading block described)
 interface_within reading bytes block body (Err fault) lies = tt
@@ -123,11 +123,11 @@ step_in_within formats.Unread reading bytes =
 step_in_within (formats.Pcap order unit) reading bytes = staying_within reading bytes (record_at order unit bytes) (record_within order unit bytes)
 step_in_within (formats.Pcapng order) reading bytes = block_within reading bytes (framing_at order bytes) (framing_there order bytes)
 
-pub step_within : (reading : Reading) (bytes : List ℕ) (taken : Taken) → step_at reading bytes ≡ Ok taken → IsWithin bytes taken.step
-step_within reading bytes taken e =
-    let P : Result Taken CaptureError → Type 0 = AllWithin bytes in subst P e (step_in_within reading.format reading bytes)
+pub step_within : (reading : Reading) (bytes : List ℕ) (progress : Progress) → step_at reading bytes ≡ Ok progress → IsWithin bytes progress.step
+step_within reading bytes progress e =
+    let P : Result Progress CaptureError → Type 0 = AllWithin bytes in subst P e (step_in_within reading.format reading bytes)
 
-pub given_within : (format : Format) (old new : Reading) (bytes : List ℕ) (result : Result Step CaptureError) → Gives result old new (step_in format old bytes) → IfOk result (IsWithin bytes)
-given_within format old new bytes (Err fault) gives = tt
-given_within format old new bytes (Ok step) gives =
-    let P : Result Taken CaptureError → Type 0 = AllWithin bytes in subst P gives (step_in_within format old bytes)
+pub answer_within : (format : Format) (old new : Reading) (bytes : List ℕ) (result : Result Step CaptureError) → Gives result old new (step_in format old bytes) → IfOk result (IsWithin bytes)
+answer_within format old new bytes (Err fault) gives = tt
+answer_within format old new bytes (Ok step) gives =
+    let P : Result Progress CaptureError → Type 0 = AllWithin bytes in subst P gives (step_in_within format old bytes)

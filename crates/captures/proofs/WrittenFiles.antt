@@ -10,20 +10,20 @@ use Rattle.captures.specs.declared.error.CaptureError.{CaptureError}
 use Rattle.captures.specs.declared.pcap.TimeUnit.{TimeUnit}
 use Rattle.captures.specs.declared.pcap.TimeUnit.TheVariants.{Micro, Nano}
 use Rattle.captures.specs.declared.packets.Format.TheVariants as formats
-use Rattle.captures.specs.Words.{word}
+use Rattle.captures.specs.Numbers.{word}
 use Rattle.captures.specs.Pcap.{nanoseconds}
-use Rattle.captures.specs.Reading.{Reading, Taken, start, staying, step_at}
+use Rattle.captures.specs.Reading.{Reading, Progress, start, staying, step_at}
 use Rattle.captures.specs.Contents.{Contents, contents, contents_of, ahead}
-use Rattle.captures.specs.Writing.{header_bytes, record_bytes, Sent, Fits, AllFit, records_of, file_of, seen_again, contents_again}
+use Rattle.captures.specs.Writing.{header_bytes, record_bytes, Record, Fits, AllFit, records_of, file_of, message_again, contents_again}
 use Rattle.captures.proofs.Choices.{fails}
 use Rattle.captures.proofs.FileContents.{one_call}
 use Rattle.captures.proofs.StepsStay.{record_as}
 
 -- after the header
-abbrev written : TimeUnit → Reading
-written unit = record { format = formats.Pcap Little unit; interfaces = [] }
+abbrev after_header : TimeUnit → Reading
+after_header unit = record { format = formats.Pcap Little unit; interfaces = [] }
 
-header_read : (unit : TimeUnit) → step_at start (header_bytes unit) ≡ Ok (record { step = Skip 24; after = written unit })
+header_read : (unit : TimeUnit) → step_at start (header_bytes unit) ≡ Ok (record { step = Skip 24; after = after_header unit })
 header_read Micro = refl
 header_read Nano = refl
 
@@ -36,64 +36,64 @@ words_read Nano time len message early small =
     (from_le_bytes-to_le_bytes_4 (time / 1000000000) (omega arith), from_le_bytes-to_le_bytes_4 (time % 1000000000 / 1) (omega arith), from_le_bytes-to_le_bytes_4 len (omega arith), from_le_bytes-to_le_bytes_4 len (omega arith))
 
 -- the record of a message, as one of its words
-abbrev taken_again : TimeUnit → Sent → Taken
-taken_again unit sent = record { step = Message (record { len = 16 + length sent.message; start = 16; end = 16 + length sent.message; time = Some (sent.time / nanoseconds unit * nanoseconds unit); is_cut = false }); after = written unit }
+abbrev progress_again : TimeUnit → Record → Progress
+progress_again unit entry = record { step = Message (record { len = 16 + length entry.message; start = 16; end = 16 + length entry.message; time = Some (entry.time / nanoseconds unit * nanoseconds unit); is_cut = false }); after = after_header unit }
 
-abbrev record_of : TimeUnit → Sent → List ℕ
-record_of unit sent = record_bytes unit sent.time (length sent.message) ++ sent.message
+abbrev record_of : TimeUnit → Record → List ℕ
+record_of unit entry = record_bytes unit entry.time (length entry.message) ++ entry.message
 
 whole_units : (unit : TimeUnit) (time : ℕ) → time / 1000000000 * 1000000000 + time % 1000000000 / nanoseconds unit * nanoseconds unit ≡ time / nanoseconds unit * nanoseconds unit
 whole_units Micro time = omega arith
 whole_units Nano time = omega arith
 
 -- a record of these words, all of which is there
-abbrev read_as : TimeUnit → ℕ → ℕ → ℕ → ℕ → ℕ → Result Taken CaptureError
-read_as unit have seconds fraction captured original = staying (written unit) (record_as unit have seconds fraction captured original)
+abbrev read_as : TimeUnit → ℕ → ℕ → ℕ → ℕ → ℕ → Result Progress CaptureError
+read_as unit have seconds fraction captured original = staying (after_header unit) (record_as unit have seconds fraction captured original)
 
-record_read : (unit : TimeUnit) (sent : Sent) → Fits sent → step_at (written unit) (record_of unit sent) ≡ Ok (taken_again unit sent)
-record_read unit sent fits =
-    let bytes = record_of unit sent in
-    let n = length sent.message in
-    let words = words_read unit sent.time n sent.message fits.time fits.message in
-    let have : length bytes ≡ 16 + n = length-append (record_bytes unit sent.time n) sent.message in
+record_read : (unit : TimeUnit) (entry : Record) → Fits entry → step_at (after_header unit) (record_of unit entry) ≡ Ok (progress_again unit entry)
+record_read unit entry fits =
+    let bytes = record_of unit entry in
+    let n = length entry.message in
+    let words = words_read unit entry.time n entry.message fits.time fits.message in
+    let have : length bytes ≡ 16 + n = length-append (record_bytes unit entry.time n) entry.message in
     let sixteen : nat_lt (length bytes) 16 ≡ false = le-ltb (length bytes) 16 (omega (arith, have)) in
     let there : nat_lt (length bytes) (16 + n) ≡ false = le-ltb (length bytes) (16 + n) (omega (arith, have)) in
     let small : nat_lt 134217728 n ≡ false = le-ltb 134217728 n fits.message in
     let whole : nat_lt n n ≡ false = le-ltb n n (omega arith) in
-    ap (staying (written unit)) (fails (nat_lt (length bytes) 16) _ _ sixteen)
+    ap (staying (after_header unit)) (fails (nat_lt (length bytes) 16) _ _ sixteen)
     ∙ ap (λ (w : ℕ). read_as unit (length bytes) w (word Little bytes 4) (word Little bytes 8) (word Little bytes 12)) words.0
-    ∙ ap (λ (w : ℕ). read_as unit (length bytes) (sent.time / 1000000000) w (word Little bytes 8) (word Little bytes 12)) words.1
-    ∙ ap (λ (w : ℕ). read_as unit (length bytes) (sent.time / 1000000000) (sent.time % 1000000000 / nanoseconds unit) w (word Little bytes 12)) words.2
-    ∙ ap (λ (w : ℕ). read_as unit (length bytes) (sent.time / 1000000000) (sent.time % 1000000000 / nanoseconds unit) n w) words.3
-    ∙ ap (staying (written unit)) (fails (nat_lt 134217728 n) _ _ small ∙ fails (nat_lt (length bytes) (16 + n)) _ _ there)
-    ∙ ap (λ (time : ℕ). let r : Result Taken CaptureError = Ok (record { step = Message (record { len = 16 + n; start = 16; end = 16 + n; time = Some time; is_cut = nat_lt n n }); after = written unit }) in r) (whole_units unit sent.time)
-    ∙ ap (λ (cut : Bool). let r : Result Taken CaptureError = Ok (record { step = Message (record { len = 16 + n; start = 16; end = 16 + n; time = Some (sent.time / nanoseconds unit * nanoseconds unit); is_cut = cut }); after = written unit }) in r) whole
+    ∙ ap (λ (w : ℕ). read_as unit (length bytes) (entry.time / 1000000000) w (word Little bytes 8) (word Little bytes 12)) words.1
+    ∙ ap (λ (w : ℕ). read_as unit (length bytes) (entry.time / 1000000000) (entry.time % 1000000000 / nanoseconds unit) w (word Little bytes 12)) words.2
+    ∙ ap (λ (w : ℕ). read_as unit (length bytes) (entry.time / 1000000000) (entry.time % 1000000000 / nanoseconds unit) n w) words.3
+    ∙ ap (staying (after_header unit)) (fails (nat_lt 134217728 n) _ _ small ∙ fails (nat_lt (length bytes) (16 + n)) _ _ there)
+    ∙ ap (λ (time : ℕ). let r : Result Progress CaptureError = Ok (record { step = Message (record { len = 16 + n; start = 16; end = 16 + n; time = Some time; is_cut = nat_lt n n }); after = after_header unit }) in r) (whole_units unit entry.time)
+    ∙ ap (λ (cut : Bool). let r : Result Progress CaptureError = Ok (record { step = Message (record { len = 16 + n; start = 16; end = 16 + n; time = Some (entry.time / nanoseconds unit * nanoseconds unit); is_cut = cut }); after = after_header unit }) in r) whole
 
 -- what stands in a record is its message, and nothing is left of it
-message_there : (unit : TimeUnit) (sent : Sent) → slice_range (record_of unit sent) 16 (16 + length sent.message) ≡ sent.message
-message_there unit sent =
-    let n = length sent.message in
-    ap (λ (k : ℕ). take k sent.message) (let e : 16 + n - 16 ≡ n = omega arith in e) ∙ take_all n sent.message (omega arith)
+message_there : (unit : TimeUnit) (entry : Record) → slice_range (record_of unit entry) 16 (16 + length entry.message) ≡ entry.message
+message_there unit entry =
+    let n = length entry.message in
+    ap (λ (k : ℕ). take k entry.message) (let e : 16 + n - 16 ≡ n = omega arith in e) ∙ take_all n entry.message (omega arith)
 
-nothing_left : (unit : TimeUnit) (sent : Sent) (more : List ℕ) → drop (16 + length sent.message) (record_of unit sent) ++ more ≡ more
-nothing_left unit sent more =
-    let n = length sent.message in
-    ap (λ (left : List ℕ). left ++ more) (drop_all (16 + n) (record_of unit sent) (omega (arith, length-append (record_bytes unit sent.time n) sent.message)))
+nothing_left : (unit : TimeUnit) (entry : Record) (more : List ℕ) → drop (16 + length entry.message) (record_of unit entry) ++ more ≡ more
+nothing_left unit entry more =
+    let n = length entry.message in
+    ap (λ (left : List ℕ). left ++ more) (drop_all (16 + n) (record_of unit entry) (omega (arith, length-append (record_bytes unit entry.time n) entry.message)))
 
-records_read : (unit : TimeUnit) (all : List Sent) → AllFit all → contents_of (written unit) (records_of unit all) ≡ contents_again unit all
+records_read : (unit : TimeUnit) (all : List Record) → AllFit all → contents_of (after_header unit) (records_of unit all) ≡ contents_again unit all
 records_read unit [] fit = refl
-records_read unit (sent ∷ later) (fits, fit) =
-    one_call (written unit) (taken_again unit sent) (record_of unit sent) (records_of unit later) (record_read unit sent fits) refl
-    ∙ ap (λ (left : List ℕ). ahead (taken_again unit sent).step (record_of unit sent) (contents_of (written unit) left)) (nothing_left unit sent (records_of unit later))
-    ∙ ap (ahead (taken_again unit sent).step (record_of unit sent)) (records_read unit later fit)
-    ∙ ap (λ (message : List ℕ). let c : Contents = record { messages = record { message = message; time = Some (sent.time / nanoseconds unit * nanoseconds unit); is_cut = false } ∷ map (seen_again unit) later; passed_over = 0; fault = None } in c) (message_there unit sent)
+records_read unit (entry ∷ later) (fits, fit) =
+    one_call (after_header unit) (progress_again unit entry) (record_of unit entry) (records_of unit later) (record_read unit entry fits) refl
+    ∙ ap (λ (left : List ℕ). ahead (progress_again unit entry).step (record_of unit entry) (contents_of (after_header unit) left)) (nothing_left unit entry (records_of unit later))
+    ∙ ap (ahead (progress_again unit entry).step (record_of unit entry)) (records_read unit later fit)
+    ∙ ap (λ (message : List ℕ). let c : Contents = record { messages = record { message = message; time = Some (entry.time / nanoseconds unit * nanoseconds unit); is_cut = false } ∷ map (message_again unit) later; passed_over = 0; fault = None } in c) (message_there unit entry)
 
-pub file_read : (unit : TimeUnit) (all : List Sent) → AllFit all → contents (file_of unit all) ≡ contents_again unit all
+pub file_read : (unit : TimeUnit) (all : List Record) → AllFit all → contents (file_of unit all) ≡ contents_again unit all
 file_read unit all fit =
-    one_call start (record { step = Skip 24; after = written unit }) (header_bytes unit) (records_of unit all) (header_read unit) refl
+    one_call start (record { step = Skip 24; after = after_header unit }) (header_bytes unit) (records_of unit all) (header_read unit) refl
     ∙ after unit
     ∙ records_read unit all fit
   where
-    after : (u : TimeUnit) → contents_of (written unit) (drop 24 (header_bytes u) ++ records_of unit all) ≡ contents_of (written unit) (records_of unit all)
+    after : (u : TimeUnit) → contents_of (after_header unit) (drop 24 (header_bytes u) ++ records_of unit all) ≡ contents_of (after_header unit) (records_of unit all)
     after Micro = refl
     after Nano = refl

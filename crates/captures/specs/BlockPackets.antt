@@ -7,16 +7,16 @@ use Rattle.captures.specs.declared.block.Block.{Block}
 use Rattle.captures.specs.declared.block.TheConstants.{BLOCK_HEADER_LEN}
 use Rattle.captures.specs.declared.interface.Interface.{Interface}
 use Rattle.captures.specs.declared.block_packet.TheConstants.{TIMED_LEN, UNTIMED_LEN}
-use Rattle.captures.specs.Words.{half, word}
+use Rattle.captures.specs.Numbers.{half, word}
 use Rattle.captures.specs.Options.{nanoseconds_in}
-use Rattle.captures.specs.Interfaces.{kept_of, seen_of}
+use Rattle.captures.specs.Interfaces.{kept_len, step_with}
 
--- the packet of an interface, after so many bytes of a block's body, if the body has as many bytes as are captured
+-- the packet of an interface, after `front` bytes of a block's body, if the body has as many bytes as are captured
 abbrev pub packet_after : ℕ → Interface → Block → List ℕ → Option ℕ → ℕ → ℕ → Result Step CaptureError
 packet_after front interface block body time captured original =
     let start = BLOCK_HEADER_LEN + front in
     if nat_lt (length body - front) captured then Err faults.RecordLength
-    else Ok (seen_of interface (record { len = block.len; start = start; end = start + captured; time = time; is_cut = nat_lt captured original }))
+    else Ok (step_with interface (record { len = block.len; start = start; end = start + captured; time = time; is_cut = nat_lt captured original }))
 
 -- The words after the interface's number: a time in two words, the captured and the original length, the packet
 -- ("Enhanced Packet Block").
@@ -42,7 +42,7 @@ obsolete_packet interfaces block body =
 abbrev pub of_first : Option Interface → Block → List ℕ → Result Step CaptureError
 of_first None block body = Err faults.Interface
 of_first (Some interface) block body =
-    packet_after UNTIMED_LEN interface block body None (kept_of interface (word block.order body 0)) (word block.order body 0)
+    packet_after UNTIMED_LEN interface block body None (kept_len interface (word block.order body 0)) (word block.order body 0)
 
 abbrev pub simple_packet : List Interface → Block → List ℕ → Result Step CaptureError
 simple_packet interfaces block body =

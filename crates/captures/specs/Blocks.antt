@@ -11,7 +11,7 @@ use Rattle.captures.specs.declared.block.Framing.{Framing}
 use Rattle.captures.specs.declared.block.Framing.TheVariants.{Wants, Whole}
 use Rattle.captures.specs.declared.block.TheConstants.{SECTION, INTERFACE, OBSOLETE, SIMPLE, ENHANCED, BIG_MAGIC, LITTLE_MAGIC, BLOCK_HEADER_LEN, MAGIC_END, TRAILER_LEN, MIN_BLOCK_LEN, MAX_BLOCK_LEN}
 use Rattle.captures.specs.declared.section.TheConstants.{SECTION_LEN, SECTION_MAJOR, SECTION_MINOR, SECTION_MINOR_TOO}
-use Rattle.captures.specs.Words.{half, word}
+use Rattle.captures.specs.Numbers.{half, word}
 
 -- what a block of a type is ("Block Types")
 abbrev pub kind_of : ℕ → BlockKind
@@ -32,25 +32,25 @@ abbrev pub is_block_len : ℕ → Bool
 is_block_len len = nat_le MIN_BLOCK_LEN len && nat_le len MAX_BLOCK_LEN && len % 4 == 0
 
 -- a block: its type, its length, its body, and its length again
-abbrev pub framed : Order → List ℕ → Result Framing CaptureError
-framed order bytes =
+abbrev pub block_at : Order → List ℕ → Result Framing CaptureError
+block_at order bytes =
     let len = word order bytes 4 in
     if not (is_block_len len) then Err faults.BlockLength
     else if nat_lt (length bytes) len then Ok (Wants len)
     else if not (word order bytes (len - TRAILER_LEN) == len) then Err faults.BlockLength
     else Ok (Whole (record { kind = kind_of (word order bytes 0); order = order; len = len }))
 
-abbrev pub framed_in : List ℕ → Option Order → Result Framing CaptureError
-framed_in bytes None = Err faults.ByteOrder
-framed_in bytes (Some order) = framed order bytes
+abbrev pub block_in : List ℕ → Option Order → Result Framing CaptureError
+block_in bytes None = Err faults.ByteOrder
+block_in bytes (Some order) = block_at order bytes
 
 -- the block at the front of bytes, in the byte order of its section; a section's header says its own
 abbrev pub framing_at : Order → List ℕ → Result Framing CaptureError
 framing_at order bytes =
     if nat_lt (length bytes) BLOCK_HEADER_LEN then Ok (Wants BLOCK_HEADER_LEN)
-    else if not (word Big bytes 0 == SECTION) then framed order bytes
+    else if not (word Big bytes 0 == SECTION) then block_at order bytes
     else if nat_lt (length bytes) MAGIC_END then Ok (Wants MAGIC_END)
-    else framed_in bytes (order_of (word Big bytes 8))
+    else block_in bytes (order_of (word Big bytes 8))
 
 -- a block that is whole has its lengths among the bytes; one that isn't wants more of them
 abbrev pub IsFramed : List ℕ → Framing → Type 0

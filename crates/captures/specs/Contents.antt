@@ -5,22 +5,22 @@ use Rattle.captures.specs.declared.error.CaptureError.TheVariants as faults
 use Rattle.captures.specs.declared.step.Packet.{Packet}
 use Rattle.captures.specs.declared.step.Step.{Step}
 use Rattle.captures.specs.declared.step.Step.TheVariants.{Message, Other, Skip, More}
-use Rattle.captures.specs.Reading.{Reading, Taken, start, step_at, end_of}
+use Rattle.captures.specs.Reading.{Reading, Progress, start, step_at, end_of}
 
 -- a message, when it was seen, and whether it is only the beginning of one
-pub record Seen : Type 0 where
+pub record TimedMessage : Type 0 where
   pub message : List ℕ
   pub time : Option ℕ
   pub is_cut : Bool
 
 -- the messages, how many packets of other link types were passed over, and the fault
 pub record Contents : Type 0 where
-  pub messages : List Seen
+  pub messages : List TimedMessage
   pub passed_over : ℕ
   pub fault : Option CaptureError
 
-abbrev pub seen_in : Packet → List ℕ → Seen
-seen_in packet bytes = record { message = slice_range bytes packet.start packet.end; time = packet.time; is_cut = packet.is_cut }
+abbrev pub message_in : Packet → List ℕ → TimedMessage
+message_in packet bytes = record { message = slice_range bytes packet.start packet.end; time = packet.time; is_cut = packet.is_cut }
 
 -- how many bytes a step takes
 abbrev pub len_of : Step → ℕ
@@ -42,7 +42,7 @@ IsWithin bytes (More len) = length bytes < len
 
 -- what a step adds in front of the contents after it
 abbrev pub ahead : Step → List ℕ → Contents → Contents
-ahead (Message packet) bytes later = record { messages = seen_in packet bytes ∷ later.messages; passed_over = later.passed_over; fault = later.fault }
+ahead (Message packet) bytes later = record { messages = message_in packet bytes ∷ later.messages; passed_over = later.passed_over; fault = later.fault }
 ahead (Other len link_type) bytes later = record { messages = later.messages; passed_over = suc later.passed_over; fault = later.fault }
 ahead _ bytes later = later
 
@@ -58,15 +58,15 @@ by_step (Other len link_type) bytes later = ahead (Other len link_type) bytes (l
 by_step (Skip len) bytes later = ahead (Skip len) bytes (later len)
 by_step (More len) bytes later = ending (Err faults.Short)
 
-abbrev pub by_taken : Result Taken CaptureError → List ℕ → (Reading → ℕ → Contents) → Contents
-by_taken (Err fault) bytes later = ending (Err fault)
-by_taken (Ok taken) bytes later = by_step taken.step bytes (later taken.after)
+abbrev pub by_progress : Result Progress CaptureError → List ℕ → (Reading → ℕ → Contents) → Contents
+by_progress (Err fault) bytes later = ending (Err fault)
+by_progress (Ok progress) bytes later = by_step progress.step bytes (later progress.after)
 
 -- the contents of the bytes of a file past the first k of them
 abbrev pub contents_past : ℕ → Reading → List ℕ → Contents
 contents_past k reading [] = ending (end_of reading [])
 contents_past (suc k) reading (byte ∷ rest) = contents_past k reading rest
-contents_past zero reading (byte ∷ rest) = by_taken (step_at reading (byte ∷ rest)) (byte ∷ rest) (λ after len. contents_past (len - 1) after rest)
+contents_past zero reading (byte ∷ rest) = by_progress (step_at reading (byte ∷ rest)) (byte ∷ rest) (λ after len. contents_past (len - 1) after rest)
 
 -- the contents of the rest of a file
 abbrev pub contents_of : Reading → List ℕ → Contents
@@ -79,7 +79,7 @@ contents file = contents_of start file
 -- A call of the reader: the bytes that came since the last one, and what it answered.
 pub record Call : Type 0 where
   pub piece : List ℕ
-  pub taken : Taken
+  pub progress : Progress
 
 -- all bytes that came
 abbrev pub bytes_of : List Call → List ℕ
@@ -92,11 +92,11 @@ abbrev pub AreCalls : List Call → Reading → List ℕ → Reading → List �
 AreCalls [] reading unread last left = (reading ≡ last) × (unread ≡ left)
 AreCalls (call ∷ later) reading unread last left =
     let bytes = unread ++ call.piece in
-    (step_at reading bytes ≡ Ok call.taken) × (takes call.taken.step ≡ true) × AreCalls later call.taken.after (drop (len_of call.taken.step) bytes) last left
+    (step_at reading bytes ≡ Ok call.progress) × (takes call.progress.step ≡ true) × AreCalls later call.progress.after (drop (len_of call.progress.step) bytes) last left
 
 -- what calls gave, in front of what comes after them
-abbrev pub given : List Call → List ℕ → Contents → Contents
-given [] unread later = later
-given (call ∷ calls) unread later =
+abbrev pub all_ahead : List Call → List ℕ → Contents → Contents
+all_ahead [] unread later = later
+all_ahead (call ∷ calls) unread later =
     let bytes = unread ++ call.piece in
-    ahead call.taken.step bytes (given calls (drop (len_of call.taken.step) bytes) later)
+    ahead call.progress.step bytes (all_ahead calls (drop (len_of call.progress.step) bytes) later)

@@ -10,7 +10,7 @@ use Rattle.captures.specs.declared.step.TheConstants.{LINKTYPE_DBUS}
 use Rattle.captures.specs.declared.times.Times.{Times}
 use Rattle.captures.specs.declared.interface.Interface.{Interface}
 use Rattle.captures.specs.declared.interface.TheConstants.{INTERFACE_LEN}
-use Rattle.captures.specs.Words.{half, word}
+use Rattle.captures.specs.Numbers.{half, word}
 use Rattle.captures.specs.Options.{usual, times_from}
 
 abbrev pub with_times : ℕ → ℕ → Result Times CaptureError → Result Interface CaptureError
@@ -24,9 +24,9 @@ interface_of order body =
     else with_times (half order body 0) (word order body 4) (times_from order usual 0 (drop INTERFACE_LEN body))
 
 -- how many bytes of a packet of this length are kept; the snap length 0 says all ("SnapLen")
-abbrev pub kept_of : Interface → ℕ → ℕ
-kept_of interface original = if interface.snap_len == 0 || nat_lt original interface.snap_len then original else interface.snap_len
+abbrev pub kept_len : Interface → ℕ → ℕ
+kept_len interface original = if interface.snap_len == 0 || nat_lt original interface.snap_len then original else interface.snap_len
 
 -- a packet of an interface is of D-Bus where its link type says so (own)
-abbrev pub seen_of : Interface → Packet → Step
-seen_of interface packet = if interface.link_type == LINKTYPE_DBUS then Message packet else Other packet.len interface.link_type
+abbrev pub step_with : Interface → Packet → Step
+step_with interface packet = if interface.link_type == LINKTYPE_DBUS then Message packet else Other packet.len interface.link_type

@@ -6,5 +6,5 @@ pub mod Interfaces
 pub mod Options
 pub mod Pcap
 pub mod Reading
-pub mod Words
+pub mod Numbers
 pub mod Writing

@@ -7,7 +7,7 @@ use Rattle.captures.specs.declared.times.Times.{Times}
 use Rattle.captures.specs.declared.options.TheConstants.{OPTION_HEADER_LEN, END_OF_OPTIONS, RESOLUTION, OFFSET, BINARY, MAX_DECIMAL, MAX_BINARY}
 use Rattle.captures.specs.declared.times.TheConstants.{MICROSECONDS}
 use Rattle.captures.specs.declared.pcap.TheConstants.{NANOS_PER_SECOND}
-use Rattle.captures.specs.Words.{half}
+use Rattle.captures.specs.Numbers.{half}
 
 -- How many units a second has: a power of 2 where the highest bit is set, else of 10 ("if_tsresol"), if 64 bits
 -- suffice.
@@ -21,8 +21,8 @@ abbrev pub usual : Times
 usual = record { resolution = MICROSECONDS; are_offset = false }
 
 -- a length filled up to whole words ("Options")
-abbrev pub padded : ℕ → ℕ
-padded len = (len + 3) / 4 * 4
+abbrev pub padded_len : ℕ → ℕ
+padded_len len = (len + 3) / 4 * 4
 
 -- what the option at the front of a list says of the times: if_tsresol has one byte, if_tsoffset moves them
 abbrev pub after_option : Order → List ℕ → Times → Result Times CaptureError
@@ -47,7 +47,7 @@ times_from order times zero (byte ∷ rest) =
     if nat_lt (length options) OPTION_HEADER_LEN then Ok times
     else if half order options 0 == END_OF_OPTIONS then Ok times
     else if nat_lt (length options) (OPTION_HEADER_LEN + len) then Err faults.OptionLength
-    else and_then (after_option order options times) (λ after. times_from order after (3 + padded len) rest)
+    else and_then (after_option order options times) (λ after. times_from order after (3 + padded_len len) rest)
 
 -- Nanoseconds since 1970 of a time in two words ("Enhanced Packet Block"), where the interface's times have no offset
 -- and 64 bits suffice.

@@ -14,7 +14,7 @@ use Rattle.captures.specs.declared.magic.Magic.{Magic}
 use Rattle.captures.specs.declared.magic.Magic.TheVariants as magics
 use Rattle.captures.specs.declared.magic.TheConstants.{BIG_MICRO, LITTLE_MICRO, BIG_NANO, LITTLE_NANO}
 use Rattle.captures.specs.declared.block.TheConstants.{SECTION}
-use Rattle.captures.specs.Words.{half, word}
+use Rattle.captures.specs.Numbers.{half, word}
 
 -- how many nanoseconds a unit of the fractions is (section 4, "Magic Number")
 abbrev pub nanoseconds : TimeUnit → ℕ

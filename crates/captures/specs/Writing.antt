@@ -8,7 +8,7 @@ use Rattle.captures.specs.declared.pcap.TimeUnit.TheVariants.{Micro, Nano}
 use Rattle.captures.specs.declared.pcap.TheConstants.{VERSION_MAJOR, VERSION_MINOR, NANOS_PER_SECOND}
 use Rattle.captures.specs.declared.writing.TheConstants.{MAX_TIME}
 use Rattle.captures.specs.Pcap.{nanoseconds}
-use Rattle.captures.specs.Contents.{Seen, Contents}
+use Rattle.captures.specs.Contents.{TimedMessage, Contents}
 
 -- the magic number (section 4, "Magic Number")
 abbrev pub magic_bytes : TimeUnit → List ℕ
@@ -28,30 +28,30 @@ record_bytes unit time len =
     to_le_bytes w32 (time / NANOS_PER_SECOND) ++ to_le_bytes w32 (time % NANOS_PER_SECOND / nanoseconds unit) ++ to_le_bytes w32 len ++ to_le_bytes w32 len
 
 -- a message and when it was seen
-pub record Sent : Type 0 where
+pub record Record : Type 0 where
   pub time : ℕ
   pub message : List ℕ
 
 -- what a record can hold
-pub record Fits (sent : Sent) : Type 0 where
-  pub time : sent.time ≤ MAX_TIME
-  pub message : length sent.message ≤ MAX_PACKET_LEN
+pub record Fits (entry : Record) : Type 0 where
+  pub time : entry.time ≤ MAX_TIME
+  pub message : length entry.message ≤ MAX_PACKET_LEN
 
-abbrev pub AllFit : List Sent → Type 0
+abbrev pub AllFit : List Record → Type 0
 AllFit [] = Unit {0}
-AllFit (sent ∷ later) = Fits sent × AllFit later
+AllFit (entry ∷ later) = Fits entry × AllFit later
 
-abbrev pub records_of : TimeUnit → List Sent → List ℕ
+abbrev pub records_of : TimeUnit → List Record → List ℕ
 records_of unit [] = []
-records_of unit (sent ∷ later) = (record_bytes unit sent.time (length sent.message) ++ sent.message) ++ records_of unit later
+records_of unit (entry ∷ later) = (record_bytes unit entry.time (length entry.message) ++ entry.message) ++ records_of unit later
 
 -- a file of these messages
-abbrev pub file_of : TimeUnit → List Sent → List ℕ
+abbrev pub file_of : TimeUnit → List Record → List ℕ
 file_of unit all = header_bytes unit ++ records_of unit all
 
 -- a message as it is read again: its time in whole units
-abbrev pub seen_again : TimeUnit → Sent → Seen
-seen_again unit sent = record { message = sent.message; time = Some (sent.time / nanoseconds unit * nanoseconds unit); is_cut = false }
+abbrev pub message_again : TimeUnit → Record → TimedMessage
+message_again unit entry = record { message = entry.message; time = Some (entry.time / nanoseconds unit * nanoseconds unit); is_cut = false }
 
-abbrev pub contents_again : TimeUnit → List Sent → Contents
-contents_again unit all = record { messages = map (seen_again unit) all; passed_over = 0; fault = None }
+abbrev pub contents_again : TimeUnit → List Record → Contents
+contents_again unit all = record { messages = map (message_again unit) all; passed_over = 0; fault = None }

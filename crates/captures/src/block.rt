@@ -1,7 +1,7 @@
 // Blocks of a pcapng file.
 
 ghost use Rattle.std.specs.Prelude.{◌≡◌, ◌+◌, ◌≤◌, IfOk, length};
-ghost use Rattle.captures.specs.Blocks.{kind_of, order_of, is_block_len, framed, framing_at, IsFramed, body_of};
+ghost use Rattle.captures.specs.Blocks.{kind_of, order_of, is_block_len, block_at, framing_at, IsFramed, body_of};
 
 use crate::error::CaptureError;
 use crate::order::Order;
@@ -81,7 +81,7 @@ impl BlockKind {
 impl Block {
     /// What stands between the block's two lengths.
     pub(crate) fn body<'a>(&self, bytes: &'a [u8]) -> &'a [u8]
-        requires two { MIN_BLOCK_LEN ≤ self.now.len }
+        requires long_enough { MIN_BLOCK_LEN ≤ self.now.len }
         requires there { self.now.len ≤ length bytes.now }
         ensures { result.now ≡ body_of self.now bytes.now }
     {
@@ -108,9 +108,9 @@ fn is_block_len(len: u32) -> bool
 }
 
 /// The block that bytes of a byte order begin with.
-fn framed(order: Order, bytes: &[u8]) -> Result<Framing, CaptureError>
+fn block_at(order: Order, bytes: &[u8]) -> Result<Framing, CaptureError>
     requires { BLOCK_HEADER_LEN ≤ length bytes.now }
-    ensures block { result ≡ framed order bytes.now }
+    ensures block { result ≡ block_at order bytes.now }
     ensures there { IfOk result (IsFramed bytes.now) }
 {
     let said = order.word(bytes, 4);
@@ -140,13 +140,13 @@ pub(crate) fn framing_at(order: Order, bytes: &[u8]) -> Result<Framing, CaptureE
         return Ok(Framing::Wants(BLOCK_HEADER_LEN));
     }
     if Order::Big.word(bytes, 0) != SECTION {
-        return framed(order, bytes);
+        return block_at(order, bytes);
     }
     if bytes.len() < MAGIC_END {
         return Ok(Framing::Wants(MAGIC_END));
     }
     match order_of(Order::Big.word(bytes, 8)) {
-        Some(order) => framed(order, bytes),
+        Some(order) => block_at(order, bytes),
         None => Err(CaptureError::ByteOrder),
     }
 }

@@ -27,7 +27,7 @@ fn timed_packet_of(interface: Interface, block: Block, body: &[u8]) -> Result<St
     let high = block.order.word(body, 4);
     let low = block.order.word(body, 8);
     let start = BLOCK_HEADER_LEN + TIMED_LEN;
-    Ok(interface.seen(Packet {
+    Ok(interface.step_with(Packet {
         len: block.len,
         start,
         end: start + captured as usize,
@@ -95,12 +95,12 @@ pub(crate) fn simple_packet(
         return Err(CaptureError::Interface);
     };
     let original = block.order.word(body, 0);
-    let captured = interface.kept(original);
+    let captured = interface.kept_len(original);
     if body.len() - UNTIMED_LEN < captured as usize {
         return Err(CaptureError::RecordLength);
     }
     let start = BLOCK_HEADER_LEN + UNTIMED_LEN;
-    Ok(interface.seen(Packet {
+    Ok(interface.step_with(Packet {
         len: block.len,
         start,
         end: start + captured as usize,

@@ -1,7 +1,7 @@
 // What a section says of an interface.
 
 ghost use Rattle.std.specs.Prelude.{◌≡◌};
-ghost use Rattle.captures.specs.Interfaces.{interface_of, kept_of, seen_of};
+ghost use Rattle.captures.specs.Interfaces.{interface_of, kept_len, step_with};
 
 use crate::error::CaptureError;
 use crate::order::Order;
@@ -38,8 +38,8 @@ impl Interface {
     }
 
     /// How many bytes of a packet are kept.
-    pub(crate) fn kept(self, original: u32) -> u32
-        ensures { result ≡ kept_of self original }
+    pub(crate) fn kept_len(self, original: u32) -> u32
+        ensures { result ≡ kept_len self original }
     {
         if self.snap_len == 0 || original < self.snap_len {
             return original;
@@ -48,8 +48,8 @@ impl Interface {
     }
 
     /// A packet of this interface: of D-Bus, or passed over.
-    pub(crate) fn seen(self, packet: Packet) -> Step
-        ensures { result ≡ seen_of self packet }
+    pub(crate) fn step_with(self, packet: Packet) -> Step
+        ensures { result ≡ step_with self packet }
     {
         if self.link_type as u32 == LINKTYPE_DBUS {
             return Step::Message(packet);

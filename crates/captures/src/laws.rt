@@ -3,15 +3,15 @@
 ghost use Rattle.std.specs.Prelude.{◌≡◌, ◌++◌, ℕ, List, Ok, Err};
 ghost use Rattle.captures.specs.declared.error.CaptureError.{CaptureError};
 ghost use Rattle.captures.specs.declared.step.Step.TheVariants.{More};
-ghost use Rattle.captures.specs.Reading.{Reading, Taken, step_at, end_of};
+ghost use Rattle.captures.specs.Reading.{Reading, Progress, step_at, end_of};
 ghost use Rattle.captures.specs.declared.pcap.TimeUnit.{TimeUnit};
-ghost use Rattle.captures.specs.Writing.{Sent, AllFit, file_of, contents_again};
-ghost use Rattle.captures.specs.Contents.{contents, Call, AreCalls, bytes_of, given, contents_of, ending};
+ghost use Rattle.captures.specs.Writing.{Record, AllFit, file_of, contents_again};
+ghost use Rattle.captures.specs.Contents.{contents, Call, AreCalls, bytes_of, all_ahead, contents_of, ending};
 
 /// What calls gave are the first packets of the file, whatever comes after them, however its bytes came.
 pub fn given_come_first()
     ensures { (calls : List Call) (reading last : Reading) (unread left more : List ℕ) → AreCalls calls reading unread last left
-        → contents_of reading (unread ++ (bytes_of calls ++ more)) ≡ given calls unread (contents_of last (left ++ more)) }
+        → contents_of reading (unread ++ (bytes_of calls ++ more)) ≡ all_ahead calls unread (contents_of last (left ++ more)) }
 {}
 
 /// A fault is the file's, whatever comes after it.
@@ -26,5 +26,5 @@ pub fn ends_as_said()
 
 /// A file that was written is read: the same messages, at their times in whole units, and no fault.
 pub fn what_is_written_is_read()
-    ensures { (unit : TimeUnit) (all : List Sent) → AllFit all → contents (file_of unit all) ≡ contents_again unit all }
+    ensures { (unit : TimeUnit) (all : List Record) → AllFit all → contents (file_of unit all) ≡ contents_again unit all }
 {}

@@ -1,7 +1,7 @@
 // Options of an interface's block.
 
 ghost use Rattle.std.specs.Prelude.{◌≡◌, ◌+◌, ◌<◌, ◌≤◌, IfSome};
-ghost use Rattle.captures.specs.Options.{units_of, padded};
+ghost use Rattle.captures.specs.Options.{units_of, padded_len};
 
 /// The bytes of an option before its value.
 pub(crate) const OPTION_HEADER_LEN: usize = 4;
@@ -41,9 +41,9 @@ pub(crate) fn units_of(byte: u8) -> Option<u64>
 }
 
 /// The bytes of a value with those that fill its last word.
-pub(crate) fn padded(len: usize) -> usize
+pub(crate) fn padded_len(len: usize) -> usize
     requires { len + 4 ≤ usize.MAX }
-    ensures { result ≡ padded len }
+    ensures { result ≡ padded_len len }
 {
     (len + 3) / 4 * 4
 }

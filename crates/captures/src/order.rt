@@ -1,7 +1,7 @@
 // Numbers of a capture.
 
 ghost use Rattle.std.specs.Prelude.{◌≡◌, ◌+◌, ◌≤◌, length};
-ghost use Rattle.captures.specs.Words.{half, word};
+ghost use Rattle.captures.specs.Numbers.{half, word};
 
 /// The order of the bytes of each number: that of the machine which wrote the file or the section.
 #[derive(Clone, Copy, Debug, PartialEq, Eq)]

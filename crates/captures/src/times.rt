@@ -1,11 +1,11 @@
 // What the times of a pcapng interface count.
 
 ghost use Rattle.std.specs.Prelude.{◌≡◌, ◌+◌, ◌≤◌, length};
-ghost use Rattle.captures.specs.Words.{half};
+ghost use Rattle.captures.specs.Numbers.{half};
 ghost use Rattle.captures.specs.Options.{after_option, usual, times_from, nanoseconds_in};
 
 use crate::error::CaptureError;
-use crate::options::{END_OF_OPTIONS, OFFSET, OPTION_HEADER_LEN, RESOLUTION, padded, units_of};
+use crate::options::{END_OF_OPTIONS, OFFSET, OPTION_HEADER_LEN, RESOLUTION, padded_len, units_of};
 use crate::order::Order;
 use crate::pcap::NANOS_PER_SECOND;
 
@@ -64,7 +64,7 @@ impl Times {
                 Ok(after) => times = after,
                 Err(fault) => return Err(fault),
             }
-            let next = OPTION_HEADER_LEN + padded(len);
+            let next = OPTION_HEADER_LEN + padded_len(len);
             if rest.len() < next {
                 return Ok(times);
             }
