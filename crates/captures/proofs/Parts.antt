@@ -10,7 +10,8 @@ use Rattle.captures.specs.declared.block.Block.{Block}
 use Rattle.captures.specs.declared.block.Framing.{Framing}
 use Rattle.captures.specs.declared.block.TheConstants.{SECTION}
 use Rattle.captures.specs.Numbers.{word}
-use Rattle.captures.specs.Blocks.{order_of, is_block_len, block_at, block_in, framing_at, IsFramed, body_of}
+use Rattle.captures.specs.Blocks.{order_of, is_block_len, block_at, block_in, framing_at, body_of}
+use Rattle.captures.specs.BlockLengths.{IsFramed}
 use Rattle.captures.proofs.Choices.{either_has}
 use Rattle.captures.proofs.Grown.{twelve}
 

@@ -17,7 +17,8 @@ use Rattle.captures.specs.declared.packets.Format.{Format}
 use Rattle.captures.specs.declared.packets.Format.TheVariants as formats
 use Rattle.captures.specs.Numbers.{half, word}
 use Rattle.captures.specs.Pcap.{nanoseconds, header_fault, magic_of, record_at}
-use Rattle.captures.specs.Blocks.{framing_at, IsFramed}
+use Rattle.captures.specs.Blocks.{framing_at}
+use Rattle.captures.specs.BlockLengths.{IsFramed}
 use Rattle.captures.specs.Reading.{Reading, Progress, staying, heading, block_step, body_step, header_step, first_of, first_step, step_in, step_at}
 use Rattle.captures.specs.Contents.{takes}
 use Rattle.captures.proofs.Choices.{Stays, stays_past}

@@ -22,7 +22,8 @@ use Rattle.captures.specs.declared.packets.Format.TheVariants as formats
 use Rattle.captures.specs.Numbers.{half, word}
 use Rattle.captures.specs.Options.{nanoseconds_in}
 use Rattle.captures.specs.Pcap.{header_fault, magic_of, record_at, captured_len}
-use Rattle.captures.specs.Blocks.{framing_at, IsFramed, body_of, section_fault}
+use Rattle.captures.specs.Blocks.{framing_at, body_of, section_fault}
+use Rattle.captures.specs.BlockLengths.{IsFramed}
 use Rattle.captures.specs.Interfaces.{kept_len, step_with, interface_of}
 use Rattle.captures.specs.BlockPackets.{packet_after, of_interface, enhanced_packet, obsolete_packet, of_first, simple_packet}
 use Rattle.captures.specs.Reading.{Reading, Progress, staying, heading, interface_step, block_step, body_step, header_step, first_of, step_in, step_at, Gives}

@@ -1,5 +1,5 @@
 -- Blocks of a pcapng file (draft-ietf-opsawg-pcapng, "General Block Structure").
-use Rattle.std.specs.Prelude.{ℕ, ◌<◌, ◌≤◌, ◌-◌, ◌%◌, Bool, not, List, length, slice_range, Option, Some, None, Result, Ok, Err, nat_lt, nat_le, ◌==◌, ◌&&◌, ◌||◌, if◌then◌else◌}
+use Rattle.std.specs.Prelude.{ℕ, ◌-◌, ◌%◌, Bool, not, List, length, slice_range, Option, Some, None, Result, Ok, Err, nat_lt, nat_le, ◌==◌, ◌&&◌, ◌||◌, if◌then◌else◌}
 use Rattle.captures.specs.declared.order.Order.{Order}
 use Rattle.captures.specs.declared.order.Order.TheVariants.{Little, Big}
 use Rattle.captures.specs.declared.error.CaptureError.{CaptureError}
@@ -51,11 +51,6 @@ framing_at order bytes =
     else if not (word Big bytes 0 == SECTION) then block_at order bytes
     else if nat_lt (length bytes) MAGIC_END then Ok (Wants MAGIC_END)
     else block_in bytes (order_of (word Big bytes 8))
-
--- a block that is whole has its lengths among the bytes; one that isn't wants more of them
-abbrev pub IsFramed : List ℕ → Framing → Type 0
-IsFramed bytes (Wants len) = length bytes < len
-IsFramed bytes (Whole block) = (MIN_BLOCK_LEN ≤ block.len) × (block.len ≤ length bytes)
 
 -- what stands between a block's two lengths
 abbrev pub body_of : Block → List ℕ → List ℕ

@@ -1,3 +1,4 @@
+pub mod BlockLengths
 pub mod BlockPackets
 pub mod Blocks
 pub mod Contents

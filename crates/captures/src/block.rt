@@ -1,7 +1,8 @@
 // Blocks of a pcapng file.
 
 ghost use Rattle.std.specs.Prelude.{◌≡◌, ◌+◌, ◌≤◌, IfOk, length};
-ghost use Rattle.captures.specs.Blocks.{kind_of, order_of, is_block_len, block_at, framing_at, IsFramed, body_of};
+ghost use Rattle.captures.specs.Blocks.{kind_of, order_of, is_block_len, block_at, framing_at, body_of};
+ghost use Rattle.captures.specs.BlockLengths.{IsFramed};
 
 use crate::error::CaptureError;
 use crate::order::Order;
