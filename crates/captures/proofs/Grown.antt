@@ -54,6 +54,13 @@ twelve len e = go (is_block_len len) refl e
     go true is e = leb-true 12 len (both_true (nat_le 12 len) _ (both_true _ _ is).0).0
     go false is e = absurd cc
 
+pub no_more : (len : ℕ) → not (is_block_len len) ≡ false → len ≤ 268435456
+no_more len e = go (is_block_len len) refl e
+  where
+    go : (b : Bool) → is_block_len len ≡ b → not b ≡ false → len ≤ 268435456
+    go true is e = leb-true len 268435456 (both_true (nat_le 12 len) _ (both_true _ _ is).0).1
+    go false is e = absurd cc
+
 block_as_stays : (order : Order) (bytes more : List ℕ) (len : ℕ) → Stays is_framed (block_as order bytes len) (block_as order (bytes ++ more) len)
 block_as_stays order bytes more len =
     stays_where_same is_framed (not (is_block_len len)) _ _ _ _ _ refl (λ _ _. refl) (λ (good : not (is_block_len len) ≡ false).

@@ -1,5 +1,5 @@
 -- Parts of bytes, and whole blocks.
-use Rattle.std.proofs.Common.{◌≡◌, ℕ, ◌-◌, ◌≤◌, false, not, List, ◌++◌, length, take, drop, Option, Some, None, Result, ap, ◌∙◌, arith, length-drop, min}
+use Rattle.std.proofs.Common.{◌≡◌, ℕ, ◌-◌, ◌≤◌, false, not, List, ◌++◌, length, take, drop, Option, Some, None, Result, ap, ◌∙◌, arith, length-drop, min, lit≤}
 use Rattle.std.specs.Prelude.{slice_range, nat_lt, ◌==◌, IfOk}
 use Rattle.std.proofs.lemmas.Bool.{ltb-false, ltb-true}
 use Rattle.std.proofs.lemmas.List.{take-append-le, drop-append-le, length-take}
@@ -13,7 +13,7 @@ use Rattle.captures.specs.Numbers.{word}
 use Rattle.captures.specs.Blocks.{order_of, is_block_len, block_at, block_in, framing_at, body_of}
 use Rattle.captures.specs.BlockLengths.{IsFramed}
 use Rattle.captures.proofs.Choices.{either_has}
-use Rattle.captures.proofs.Grown.{twelve}
+use Rattle.captures.proofs.Grown.{twelve, no_more}
 
 pub same_part : (bytes more : List ℕ) (from to : ℕ) → from ≤ to → to ≤ length bytes → slice_range (bytes ++ more) from to ≡ slice_range bytes from to
 same_part bytes more from to order le =
@@ -29,7 +29,7 @@ block_at_there : (order : Order) (bytes : List ℕ) → IfOk (block_at order byt
 block_at_there order bytes =
     let P : Result Framing CaptureError → Type 0 = λ r. IfOk r (IsFramed bytes) in
     either_has P (not (is_block_len (word order bytes 4))) _ _ (λ _. tt) (λ (good : not (is_block_len (word order bytes 4)) ≡ false).
-    either_has P (nat_lt (length bytes) (word order bytes 4)) _ _ (λ few. ltb-true (length bytes) (word order bytes 4) few) (λ (enough : nat_lt (length bytes) (word order bytes 4) ≡ false).
+    either_has P (nat_lt (length bytes) (word order bytes 4)) _ _ (λ few. (ltb-true (length bytes) (word order bytes 4) few, no_more (word order bytes 4) good)) (λ (enough : nat_lt (length bytes) (word order bytes 4) ≡ false).
     either_has P (not (word order bytes (word order bytes 4 - 4) == word order bytes 4)) _ _ (λ _. tt) (λ _.
     (twelve (word order bytes 4) good, ltb-false (length bytes) (word order bytes 4) enough))))
 
@@ -40,9 +40,9 @@ block_in_there bytes (Some order) = block_at_there order bytes
 pub framing_there : (order : Order) (bytes : List ℕ) → IfOk (framing_at order bytes) (IsFramed bytes)
 framing_there order bytes =
     let P : Result Framing CaptureError → Type 0 = λ r. IfOk r (IsFramed bytes) in
-    either_has P (nat_lt (length bytes) 8) _ _ (λ few. ltb-true (length bytes) 8 few) (λ _.
+    either_has P (nat_lt (length bytes) 8) _ _ (λ few. (ltb-true (length bytes) 8 few, lit≤ tt)) (λ _.
     either_has P (not (word Big bytes 0 == SECTION)) _ _ (λ _. block_at_there order bytes) (λ _.
-    either_has P (nat_lt (length bytes) 12) _ _ (λ few. ltb-true (length bytes) 12 few) (λ _.
+    either_has P (nat_lt (length bytes) 12) _ _ (λ few. (ltb-true (length bytes) 12 few, lit≤ tt)) (λ _.
     block_in_there bytes (order_of (word Big bytes 8)))))
 
 -- ---- bodies

@@ -1,5 +1,5 @@
 -- A step lies within the bytes.
-use Rattle.std.proofs.Common.{◌≡◌, ℕ, ◌+◌, ◌-◌, ◌<◌, ◌≤◌, false, List, length, Option, Some, None, Result, Ok, Err, arith, subst}
+use Rattle.std.proofs.Common.{◌≡◌, ℕ, ◌+◌, ◌-◌, ◌<◌, ◌≤◌, false, List, length, Option, Some, None, Result, Ok, Err, arith, subst, lit≤}
 use Rattle.std.specs.Prelude.{nat_lt, ◌==◌, IfOk, slice_get}
 use Rattle.std.proofs.lemmas.Bool.{ltb-true, ltb-false}
 use Rattle.captures.specs.declared.order.Order.{Order}
@@ -49,9 +49,10 @@ heading_within bytes len after (Some fault) some le = tt
 record_within : (order : Order) (unit : TimeUnit) (bytes : List ℕ) → StepWithin bytes (record_at order unit bytes)
 record_within order unit bytes =
     let P = StepWithin bytes in
-    either_has P (nat_lt (length bytes) 16) _ _ (λ few. ltb-true (length bytes) 16 few) (λ _.
-    either_has P (nat_lt 134217728 (captured_len order bytes)) _ _ (λ _. tt) (λ _.
-    either_has P (nat_lt (length bytes) (16 + captured_len order bytes)) _ _ (λ few. ltb-true (length bytes) (16 + captured_len order bytes) few) (λ (enough : nat_lt (length bytes) (16 + captured_len order bytes) ≡ false).
+    either_has P (nat_lt (length bytes) 16) _ _ (λ few. (ltb-true (length bytes) 16 few, lit≤ tt)) (λ _.
+    either_has P (nat_lt 134217728 (captured_len order bytes)) _ _ (λ _. tt) (λ (small : nat_lt 134217728 (captured_len order bytes) ≡ false).
+    let most : captured_len order bytes ≤ 134217728 = ltb-false 134217728 (captured_len order bytes) small in
+    either_has P (nat_lt (length bytes) (16 + captured_len order bytes)) _ _ (λ few. (ltb-true (length bytes) (16 + captured_len order bytes) few, let fits : 16 + captured_len order bytes ≤ 268435456 = omega arith in fits)) (λ (enough : nat_lt (length bytes) (16 + captured_len order bytes) ≡ false).
     let le : 16 + captured_len order bytes ≤ length bytes = ltb-false (length bytes) (16 + captured_len order bytes) enough in
     (let a : 0 < 16 + captured_len order bytes = omega arith in a, let b : 16 ≤ 16 + captured_len order bytes = omega arith in b, let c : 16 + captured_len order bytes ≤ 16 + captured_len order bytes = omega arith in c, le))))
 
@@ -110,7 +111,7 @@ block_within reading bytes (Ok (Whole block)) there =
 
 header_within : (reading : Reading) (order : Order) (unit : TimeUnit) (bytes : List ℕ) → AllWithin bytes (header_step reading order unit bytes)
 header_within reading order unit bytes =
-    either_has (AllWithin bytes) (nat_lt (length bytes) 24) _ _ (λ few. ltb-true (length bytes) 24 few) (λ (enough : nat_lt (length bytes) 24 ≡ false).
+    either_has (AllWithin bytes) (nat_lt (length bytes) 24) _ _ (λ few. (ltb-true (length bytes) 24 few, lit≤ tt)) (λ (enough : nat_lt (length bytes) 24 ≡ false).
     heading_within bytes 24 _ (header_fault order bytes) (omega arith) (ltb-false (length bytes) 24 enough))
 
 first_of_within : (reading : Reading) (bytes : List ℕ) (magic : Option Magic) → AllWithin bytes (first_of reading bytes magic)
@@ -120,7 +121,7 @@ first_of_within reading bytes (Some magics.Pcapng) = block_within reading bytes 
 
 step_in_within : (format : Format) (reading : Reading) (bytes : List ℕ) → AllWithin bytes (step_in format reading bytes)
 step_in_within formats.Unread reading bytes =
-    either_has (AllWithin bytes) (nat_lt (length bytes) 4) _ _ (λ few. ltb-true (length bytes) 4 few) (λ _. first_of_within reading bytes (magic_of (word Big bytes 0)))
+    either_has (AllWithin bytes) (nat_lt (length bytes) 4) _ _ (λ few. (ltb-true (length bytes) 4 few, lit≤ tt)) (λ _. first_of_within reading bytes (magic_of (word Big bytes 0)))
 step_in_within (formats.Pcap order unit) reading bytes = staying_within reading bytes (record_at order unit bytes) (record_within order unit bytes)
 step_in_within (formats.Pcapng order) reading bytes = block_within reading bytes (framing_at order bytes) (framing_there order bytes)
 

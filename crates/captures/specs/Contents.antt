@@ -5,6 +5,7 @@ use Rattle.captures.specs.declared.error.CaptureError.TheVariants as faults
 use Rattle.captures.specs.declared.step.Packet.{Packet}
 use Rattle.captures.specs.declared.step.Step.{Step}
 use Rattle.captures.specs.declared.step.Step.TheVariants.{Message, Other, Skip, More}
+use Rattle.captures.specs.declared.block.TheConstants.{MAX_BLOCK_LEN}
 use Rattle.captures.specs.Reading.{Reading, Progress, start, step_at, end_of}
 
 -- a message, when it was seen, and whether it is only the beginning of one
@@ -33,12 +34,13 @@ abbrev pub takes : Step → Bool
 takes (More len) = false
 takes _ = true
 
--- A step lies within the bytes, and takes at least one of them; or more of them are needed.
+-- A step lies within the bytes, and takes at least one of them; or more of them are needed, and never more than the
+-- longest block has.
 abbrev pub IsWithin : List ℕ → Step → Type 0
 IsWithin bytes (Message packet) = (0 < packet.len) × (packet.start ≤ packet.end) × (packet.end ≤ packet.len) × (packet.len ≤ length bytes)
 IsWithin bytes (Other len link_type) = (0 < len) × (len ≤ length bytes)
 IsWithin bytes (Skip len) = (0 < len) × (len ≤ length bytes)
-IsWithin bytes (More len) = length bytes < len
+IsWithin bytes (More len) = (length bytes < len) × (len ≤ MAX_BLOCK_LEN)
 
 -- what a step adds in front of the contents after it
 abbrev pub ahead : Step → List ℕ → Contents → Contents

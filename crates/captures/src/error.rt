@@ -23,7 +23,7 @@ pub enum CaptureError {
     RecordLength,
     /// An option reaches beyond its block.
     OptionLength,
-    /// The resolution of an interface's times isn't one byte, or finer than 10^-19 or 2^-63 seconds.
+    /// The resolution of an interface's times isn't one byte.
     Resolution,
     /// A packet is of an interface that its section doesn't describe.
     Interface,

@@ -19,7 +19,6 @@ mod writing;
 pub use block::MAX_BLOCK_LEN;
 pub use error::CaptureError;
 pub use laws::{ends_as_said, faults_stay, given_come_first, what_is_written_is_read};
-pub use order::Order;
 pub use packets::{MAX_INTERFACES, Packets};
 pub use pcap::{FILE_HEADER_LEN, RECORD_HEADER_LEN, TimeUnit};
 pub use step::{LINKTYPE_DBUS, MAX_PACKET_LEN, Packet, Step};

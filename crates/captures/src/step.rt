@@ -16,8 +16,8 @@ pub struct Packet {
     /// Where the message begins, and where it ends.
     pub start: usize,
     pub end: usize,
-    /// When it was seen, in nanoseconds since 1970. A Simple Packet Block doesn't say, nor is it told where the
-    /// interface's times have an offset, or after the year 2554.
+    /// When it was seen, in nanoseconds since 1970. A Simple Packet Block doesn't say; nor is a time given that 64 bits
+    /// don't hold, or of an interface whose times have an offset or are finer than 10^-19 or 2^-63 seconds.
     pub time: Option<u64>,
     /// Whether the message was longer than what the file has of it.
     pub is_cut: bool,
