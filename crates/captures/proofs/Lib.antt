@@ -1,0 +1,8 @@
+pub mod Choices
+pub mod FileContents
+pub mod Grown
+pub mod OptionLists
+pub mod Parts
+pub mod StepsStay
+pub mod StepsWithin
+pub mod WrittenFiles

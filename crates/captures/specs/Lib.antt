@@ -1,0 +1,11 @@
+pub mod BlockLengths
+pub mod BlockPackets
+pub mod Blocks
+pub mod Contents
+pub mod Errors
+pub mod Interfaces
+pub mod Options
+pub mod Pcap
+pub mod Reading
+pub mod Numbers
+pub mod Writing
