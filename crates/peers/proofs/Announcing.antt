@@ -58,12 +58,12 @@ module _ {M : Type 0} where
   -- a signal to one connection was built with the next serial, and sent
   pub has_told : (outbox_of : M → OutboxId) (member name : List ℕ) (n m serial : ℕ) (to : List ℕ) (v u w : PeerState M) (built : Result (List ℕ) BuildError) (result : Result (Unit {0}) AnswerError) → u ≡ after_serial v → serial ≡ v.serial → m ≡ n → to ≡ unique_name m
       → Builds (signal_asked serial (Some to) member (name ∷ [])) built → ((asked : Asked) → Builds asked built → IsTold outbox_of asked (unique_name m) u.pass result w.pass) → w ≡ with_pass u w.pass → HasTold outbox_of (told_asked v.serial member name n) (unique_name n) v result w
-  has_told outbox_of member name n m serial to v u w built result is s e t b told same =
+  has_told outbox_of member name n m serial to v u w built result is s e t b sent_as same =
       let B : ℕ → List ℕ → Type 0 = λ k y. Builds (signal_asked k (Some y) member (name ∷ [])) built in
       let N : ℕ → Type 0 = λ k. IsTold outbox_of (told_asked v.serial member name k) (unique_name k) u.pass result w.pass in
       let P : PeerState M → Type 0 = λ x. IsTold outbox_of (told_asked v.serial member name n) (unique_name n) x.pass result w.pass in (
         same ∙ ap (λ (x : PeerState M). with_pass x w.pass) is,
-        subst P is (subst N e (told (told_asked v.serial member name m) (told_built v.serial member name m built (subst (B v.serial) t (subst (λ k. B k to) s b))))),
+        subst P is (subst N e (sent_as (told_asked v.serial member name m) (told_built v.serial member name m built (subst (B v.serial) t (subst (λ k. B k to) s b))))),
       )
 
   pub announced : (outbox_of : M → OutboxId) (change : Change) (name : List ℕ) (v mid next w : PeerState M) (lost changed acquired first result : Result (Unit {0}) AnswerError) → name ≡ change.name → TellsOwner outbox_of (codes "NameLost") name change.old v lost mid

@@ -6,7 +6,6 @@ use Rattle.message_view.specs.declared.kind.Kind.{Kind}
 use Rattle.message_view.specs.declared.kind.Kind.TheVariants.{MethodCall}
 use Rattle.message_view.specs.Message.{Message}
 use Rattle.message_view.specs.Valid.{Valid}
-use Rattle.message_build.specs.declared.stamping.StampError.{StampError}
 use Rattle.message_build.specs.Building.{IsTooLarge}
 use Rattle.message_build.specs.Stamped.{with_sender}
 use Rattle.bus_messages.specs.Sent.{no_reply_expected}
@@ -28,10 +27,6 @@ use Rattle.peers.specs.declared.refused.Refused.TheVariants.{Error, Ended}
 use Rattle.peers.specs.Answers.{IsRefused}
 use Rattle.peers.specs.PeerState.{PeerState, name_of}
 use Rattle.peers.specs.Refusals.{refusal_of}
-
--- the bytes of a result
-abbrev pub listed_bytes : Result (List ℕ) StampError → Result (List ℕ) StampError
-listed_bytes result = result
 
 -- the message of some bytes, stamped with this sender, has these bytes
 abbrev pub IsStamped : List ℕ → List ℕ → List ℕ → Type 0

@@ -5,7 +5,7 @@ ghost use Rattle.message_view.specs.Message.{Message};
 ghost use Rattle.message_view.specs.Valid.{Valid};
 ghost use Rattle.message_build.specs.Stamped.{Stamps};
 ghost use Rattle.unique_name.specs.UniqueNames.{unique_name};
-ghost use Rattle.peers.specs.Passing.{HasBroadcast, HasSent, SendsStamped, GivesUp, listed_bytes};
+ghost use Rattle.peers.specs.Passing.{HasBroadcast, HasSent, SendsStamped, GivesUp};
 ghost use Rattle.peers.specs.PeerState.{name_of};
 
 use crate::context::Context;
@@ -115,7 +115,7 @@ impl<B: Naming, M: Mailbox + Carrier> Peer<B, M> {
 
 /// The message as it is passed on, with its sender.
 fn stamp_message(alloc: Global, view: &View<'_>, sender: &UniqueName) -> Result<Bytes, StampError>
-    ensures stamps { (m : Message) → Valid view.now m → Stamps m (unique_name sender.now) (listed_bytes result) }
+    ensures stamps { (m : Message) → Valid view.now m → Stamps m (unique_name sender.now) result }
     ensures valid { IfOk result (λ bytes. (m : Message) × Valid bytes m) }
 {
     match stamp(alloc, view, sender.as_str()) {
