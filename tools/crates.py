@@ -8,6 +8,7 @@ import copy
 import importlib.machinery
 import importlib.util
 import os
+import re
 import shutil
 import sys
 import tempfile
@@ -30,6 +31,18 @@ def once(method):
     return answer
 
 
+def judges_parts(checked):
+    """The check of an edited crate, so that of some functions alone it says as of all that they aren't proved."""
+
+    def check(crate, texts, flags, kept):
+        ran = checked(crate, texts, flags, kept)
+        if "--only" in flags and ran.returncode == 1:
+            ran.stdout = re.sub(r"^only=.*\n\Z", "logic=not-proved\n", ran.stdout, flags=re.MULTILINE)
+        return ran
+
+    return check
+
+
 def load_rt(keeps=True):
     """The program `rt` as a module, None if there is no toolchain on the path. It keeps sums and graph, unless it is to
     be measured as it is."""
@@ -42,6 +55,8 @@ def load_rt(keeps=True):
     crate = made.rtlib.Crate
     if keeps:
         crate.stamp, crate.below = once(crate.stamp), once(crate.below)
+    if hasattr(made, "checked"):
+        made.checked = judges_parts(made.checked)
     # libraries are built with their statements alone: a sixth of the room, and quicker to load
     crate.cuts_libraries = True
     made.rtlib.stop = made.stop

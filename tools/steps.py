@@ -1,6 +1,7 @@
 """What the gate asks of a crate, over libraries that are kept: its proof, its tests, its program's run, its edits."""
 import hashlib
 import shutil
+import tempfile
 from pathlib import Path
 
 import crates as tree
@@ -25,16 +26,43 @@ def sum_of_run(crate):
     return crate.stamp() + hashlib.sha256(repr(read).encode()).hexdigest()
 
 
-def try_over(rt, crate, edit, room):
-    """Whether the prover refuses an edit, and what is said of it: over what a check of the crate proved, and from nothing
-    where that says nothing."""
-    over = f"{room}/edit"
-    rt.linked(f"{room}/seed", over)
-    kind, text = rt.must_fail(crate, edit, ["--jobs", "1"], over)
-    shutil.rmtree(over)
-    if kind not in rt.SETTLED:
-        kind, text = rt.must_fail(crate, edit, ["--jobs", "1"])
-    return kind in (rt.REFUSED, rt.AT_LIMIT), text
+def modules_of(edit):
+    """The modules whose code an edit touches, none where it touches the root, or what isn't code."""
+    files = [Path(it[len("file:"):].strip()) for it in Path(edit).read_text(encoding="utf-8").splitlines() if it.startswith("file:")]
+    if any(it.parts[0] != "src" or it.stem in ("lib", "main") for it in files):
+        return []
+    return ["::".join(it.with_suffix("").parts[1:]) for it in files]
+
+
+class Tries:
+    """Tries edits of a crate: first on the functions of the files that an edit touches, and on those that they call. Where
+    one of them is refused, so is the crate; for other edits the whole is checked."""
+
+    def __init__(self, rt, crate, kept):
+        self.rt, self.crate, self.kept, self.seed = rt, crate, kept, None
+
+    def __call__(self, edit):
+        """Whether the prover refuses an edit, and what is said of it."""
+        words = [word for it in modules_of(edit) for word in ("--only", it)]
+        kind, text = self.rt.must_fail(self.crate, edit, ["--jobs", "1", *words], self.kept) if words else (None, "")
+        return (True, text) if kind == self.rt.REFUSED else self.over_seed(edit)
+
+    def over_seed(self, edit):
+        """Over what a check of the whole crate proved, and from nothing where that says nothing."""
+        self.seed = self.seed or self.rt.seeded(self.crate, ["--jobs", "1"])
+        if not self.seed:
+            return False, f"{self.crate.name} is not proved, so its edits say nothing"
+        over = f"{self.seed}/edit"
+        self.rt.linked(f"{self.seed}/seed", over)
+        kind, text = self.rt.must_fail(self.crate, edit, ["--jobs", "1"], over)
+        shutil.rmtree(over)
+        if kind not in self.rt.SETTLED:
+            kind, text = self.rt.must_fail(self.crate, edit, ["--jobs", "1"])
+        return kind in (self.rt.REFUSED, self.rt.AT_LIMIT), text
+
+    def end(self):
+        if self.seed:
+            shutil.rmtree(self.seed)
 
 
 def tries(rt, crate, edits):
@@ -42,13 +70,12 @@ def tries(rt, crate, edits):
     if hasattr(rt, "must_fail_all"):
         return rt.must_fail_all(crate, edits, ["--jobs", "1"])
     # (newer kits try one edit at a call)
-    room = rt.seeded(crate, ["--jobs", "1"])
-    if not room:
-        return [(False, f"{crate.name} is not proved, so its edits say nothing")]
-    try:
-        return [try_over(rt, crate, edit, room) for edit in edits]
-    finally:
-        shutil.rmtree(room)
+    with tempfile.TemporaryDirectory(prefix="edits-") as kept:
+        tried = Tries(rt, crate, kept)
+        try:
+            return [tried(edit) for edit in edits]
+        finally:
+            tried.end()
 
 
 def try_edits(rt, crate, say):

@@ -1,10 +1,10 @@
 // What a rule is made of.
 
-use crate::matches::program_of;
+use crate::matches::SLOT;
 use crate::texts::read;
 use case_files::{Fields, Judge, LineError};
 use match_rule::{Field, Key, Relation, Rule, Source};
-use rule_compile::CompileError;
+use rule_compile::{CompileError, compile};
 use std::alloc::{AllocError, Global};
 use std::fmt::Write;
 
@@ -86,7 +86,8 @@ fn suffix(relation: Relation) -> &'static str {
 }
 
 fn program(alloc: Global, rule: &Rule) -> Result<&'static str, LineError> {
-    match program_of(alloc, rule) {
+    let slot = rule.sender_name().map(|_| SLOT);
+    match compile(alloc, rule, slot) {
         Ok(_) => Ok("ok"),
         Err(CompileError::TooLong) => Ok("TooLong"),
         Err(CompileError::NoMemory) => Err(LineError::NoMemory),

@@ -1,17 +1,15 @@
-// Of which messages rules hold: by the plain test and by the rule's program.
+// Of which messages rules hold: by the plain test and by the verdict of the text's program.
 
 use crate::verdict::Verdict;
-use bpf_machine::run;
-use bpf_verify::Verified;
 use case_files::{Fields, Judge, LineError, digits};
 use match_rule::{Rule, RuleError};
 use message_view::View;
-use rule_compile::{CompileError, compile};
+use rule_compile::{CompileError, VerdictError, verdict_of_text};
 use std::alloc::Global;
-use summary::{Edition, Image, Slots};
+use summary::Slots;
 
 /// The slot of the well-known name that a rule asks for as the sender.
-const SLOT: u16 = 33;
+pub(crate) const SLOT: u16 = 33;
 
 /// The text of a rule, a message, or several divided by bars, and whether the sender owns the name that the rule asks
 /// for: `yes`, `no`, or `either` where it doesn't matter. `match`, `no match` or why the text is no rule.
@@ -23,8 +21,9 @@ impl Judge for Matches {
     fn came(&self, alloc: Global, inputs: &Fields) -> Result<String, LineError> {
         let messages = inputs.text(1)?;
         let owner = inputs.text(2)?;
-        let said = match Rule::read(alloc, inputs.text(0)?) {
-            Ok(rule) => verdict_words(alloc, &rule, messages, owner),
+        let text = inputs.text(0)?;
+        let said = match Rule::read(alloc, text) {
+            Ok(rule) => verdict_words(alloc, text, &rule, messages, owner),
             Err(RuleError::NoMemory) => Err(LineError::NoMemory),
             Err(fault) => Ok(fault.name()),
         };
@@ -32,9 +31,10 @@ impl Judge for Matches {
     }
 }
 
-/// What is said of a rule and messages.
+/// What is said of a rule, of this text, and messages.
 fn verdict_words(
     alloc: Global,
+    text: &str,
     rule: &Rule,
     messages: &str,
     owner: &str,
@@ -42,7 +42,7 @@ fn verdict_words(
     let mut said: Option<Verdict> = None;
     for message in messages.split('|') {
         let bytes = digits(alloc, message)?;
-        let verdict = verdict(alloc, rule, bytes.as_slice(), owner)?;
+        let verdict = verdict(alloc, text, rule, bytes.as_slice(), owner)?;
         said = match said {
             None => Some(verdict),
             Some(before) => Some(verdict.and(before)),
@@ -54,16 +54,22 @@ fn verdict_words(
     }
 }
 
-fn verdict(alloc: Global, rule: &Rule, bytes: &[u8], owner: &str) -> Result<Verdict, LineError> {
+fn verdict(
+    alloc: Global,
+    text: &str,
+    rule: &Rule,
+    bytes: &[u8],
+    owner: &str,
+) -> Result<Verdict, LineError> {
     let Ok(view) = View::read(bytes) else {
         return Err(LineError::Unreadable);
     };
     match owner {
-        "yes" => verdict_of(alloc, rule, &view, true),
-        "no" => verdict_of(alloc, rule, &view, false),
+        "yes" => verdict_of(alloc, text, rule, &view, true),
+        "no" => verdict_of(alloc, text, rule, &view, false),
         "either" => {
-            let of_owner = verdict_of(alloc, rule, &view, true)?;
-            Ok(of_owner.and(verdict_of(alloc, rule, &view, false)?))
+            let of_owner = verdict_of(alloc, text, rule, &view, true)?;
+            Ok(of_owner.and(verdict_of(alloc, text, rule, &view, false)?))
         }
         _ => Err(LineError::Unreadable),
     }
@@ -71,29 +77,18 @@ fn verdict(alloc: Global, rule: &Rule, bytes: &[u8], owner: &str) -> Result<Verd
 
 fn verdict_of(
     alloc: Global,
+    text: &str,
     rule: &Rule,
     view: &View<'_>,
     owns: bool,
 ) -> Result<Verdict, LineError> {
-    let program = match program_of(alloc, rule) {
-        Ok(program) => program,
-        Err(CompileError::TooLong) => return Ok(Verdict::NoProgram),
-        Err(CompileError::NoMemory) => return Err(LineError::NoMemory),
-    };
     let mut owned = Slots::empty();
     if owns {
         owned.insert(SLOT);
     }
-    let image = Image::new(view, &owned, Edition::Two);
-    let matches = run(&program, &image).verdict != 0;
-    Ok(Verdict::of(rule.holds(view, owns), matches))
-}
-
-/// The program of a rule.
-pub(crate) fn program_of(alloc: Global, rule: &Rule) -> Result<Verified, CompileError> {
-    let slot = match rule.sender_name() {
-        Some(_) => Some(SLOT),
-        None => None,
-    };
-    compile(alloc, rule, slot)
+    match verdict_of_text(alloc, text, SLOT, view, &owned) {
+        Ok(outcome) => Ok(Verdict::of(rule.holds(view, owns), outcome.verdict != 0)),
+        Err(VerdictError::Program(CompileError::TooLong)) => Ok(Verdict::NoProgram),
+        Err(_) => Err(LineError::NoMemory),
+    }
 }

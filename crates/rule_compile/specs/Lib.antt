@@ -6,4 +6,5 @@ pub mod Compiled
 pub mod Rest
 pub mod Tested
 pub mod Headline
+pub mod RuleVerdict
 pub mod Numbers

@@ -11,7 +11,9 @@ mod piece;
 mod ranking;
 mod rest;
 mod text;
+mod verdict;
 
 pub use compiling::{compile, compile_rest};
 pub use error::CompileError;
 pub use headline::outcome_on;
+pub use verdict::{VerdictError, verdict_of_text};
