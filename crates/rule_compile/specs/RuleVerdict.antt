@@ -1,5 +1,5 @@
 -- What is promised of a rule's text and a message's bytes (own).
-use Rattle.std.specs.Prelude.{◌≡◌, ◌↔◌, ◌×◌, ◌⊎◌, ℕ, ◌<◌, ◌≤◌, Bool, List, Option, Some, None, is_some, Err}
+use Rattle.std.specs.Prelude.{◌≡◌, ◌↔◌, ◌⊎◌, ℕ, ◌<◌, ◌≤◌, Bool, List, Option, Some, None, Err}
 use Rattle.message_view.specs.Message.{Message}
 use Rattle.message_view.specs.Valid.{Valid}
 use Rattle.match_key.specs.declared.error.RuleError.TheVariants.{NoMemory}
@@ -7,6 +7,7 @@ use Rattle.match_rule.specs.RuleTree.{RuleTree, sender_name_of}
 use Rattle.match_rule.specs.Grammar.{ReadsAs}
 use Rattle.match_rule.specs.Reading.{rule_at}
 use Rattle.match_rule.specs.Holds.{Holds}
+use Rattle.summary.specs.Sets.{IsSet}
 use Rattle.rule_compile.specs.Compiled.{AgreeOn, IsRefusal}
 use Rattle.rule_compile.specs.declared.verdict.VerdictError.{VerdictError}
 use Rattle.rule_compile.specs.declared.verdict.VerdictError.TheVariants.{Rule, Program}
@@ -24,7 +25,7 @@ pub record DecidesText (text : List ℕ) (slot : ℕ) (bytes slots : List ℕ) (
   pub message : Message
   pub valid : Valid bytes message
   pub within : steps ≤ 4096
-  pub decides : (owned : List ℕ → Bool) → AgreeOn rule (slot_if_asked (sender_name_of rule) slot) owned slots → (0 < verdict) ↔ Holds rule message owned
+  pub decides : (owned : List ℕ → Bool) → IsSet slots → AgreeOn rule (slot_if_asked (sender_name_of rule) slot) owned slots → (0 < verdict) ↔ Holds rule message owned
 
 -- why a text has no verdict: its first fault, or what its rule isn't compiled for, or memory ran out
 abbrev pub IsUndecided : List ℕ → VerdictError → Type 0
