@@ -1,7 +1,7 @@
 -- The steps on kept claims and slots are those on names.
-use Rattle.std.specs.Prelude.{◌≡◌, ◌≤◌, ◌+◌, ◌-◌, ℕ, Bool, true, false, not, List, [], ◌∷◌, Option, Some, None, Result, Ok, Err, map, find, filter, length, option_map, slice_get, is_none, is_some, is_ok, nat_lt, ◌&&◌, ◌==◌, ◌⊎◌, if◌then◌else◌}
+use Rattle.std.specs.Prelude.{◌≡◌, ◌≤◌, ◌+◌, ◌-◌, ℕ, Bool, true, false, not, List, [], ◌∷◌, ◌++◌, Option, Some, None, Result, Ok, Err, map, find, filter, length, option_map, slice_get, is_none, is_some, is_ok, nat_lt, ◌&&◌, ◌==◌, ◌⊎◌, if◌then◌else◌}
 use Rattle.std.specs.List.{list_any}
-use Rattle.std.proofs.Common.{refl, sym, ap, ◌∙◌, arith, inl, inr}
+use Rattle.std.proofs.Common.{refl, sym, ap, subst, ◌∙◌, arith, inl, inr}
 use Rattle.std.proofs.lemmas.Bool.{eqb-true}
 use Rattle.owners.specs.declared.holding.Holding.{Holding}
 use Rattle.owners.specs.declared.claim.SlotClaim.{SlotClaim}
@@ -14,7 +14,9 @@ use Rattle.owners.specs.declared.answer.NameReply.{NameReply}
 use Rattle.owners.specs.declared.answer.NameReply.TheVariants.{Released, NonExistent, NotOwner}
 use Rattle.owners.specs.Queues.{Claim, is_on, is_of, is_claim, owner_of, after_requesting, request_reply, release_reply, first_claim, without, has_claim}
 use Rattle.owners.specs.Registry.{Registry, settle_slots, slot_next, with_rules, put_at, rules_of, rules_at, is_unused, max_claims, request_answer, after_request, release_answer, after_release, after_drop_all, after_slot_for, after_slot_free, change_of, change_between}
-use Rattle.owners.specs.Kept.{name_at, named_claim, registry, is_name, is_on_slot, is_by, is_slot_claim, slot_without, without_owner, step_done, is_over, reply_of, change_for, slot_owner, slot_release_answer, AreUsed, IsKept}
+use Rattle.owners.specs.Kept.{name_at, named_claim, registry, is_name, is_on_slot, is_by, is_slot_claim, slot_without, slot_with_flags, without_owner, step_done, is_over, reply_of, change_for, slot_owner, slot_release_answer, AreUsed, IsKept}
+use Rattle.owners.specs.Plan.{IsPlan, claim_at}
+use Rattle.owners.specs.declared.plan.Plan.{Plan}
 use Rattle.owners.proofs.Lists.{Each, Each-weaker, Each-always, Each-filter, Each-append, Each-map, all-from_Each, filter-map, find-map, any-map, length-map, length-filter-le, slice_get-set_same}
 use Rattle.owners.proofs.Placed.{Tells, tells_own, next_tells, HeldAt, each_held, on_agrees, claim_agrees, held_slots, read_held}
 use Rattle.owners.proofs.HeldSlots.{placed_still, each_held_still, shown_still}
@@ -33,11 +35,14 @@ left_held : (slots : List (Option Holding)) (slot : ℕ) (claims : List SlotClai
 left_held slots slot claims None e = e
 left_held slots slot claims (Some owner) e = Each-filter (HeldAt slots) (λ (c : SlotClaim). not (is_slot_claim slot owner c)) claims e
 
-done_held : (slots : List (Option Holding)) (step : Step) (claim : SlotClaim) (claims : List SlotClaim) → HeldAt slots claim → Each (HeldAt slots) claims → Each (HeldAt slots) (step_done step claim claims)
-done_held slots steps.PutLast claim claims h e = Each-append (HeldAt slots) claims (claim ∷ []) e (h, tt)
-done_held slots steps.SetFlags claim claims h e =
+put_held : (slots : List (Option Holding)) (claim : SlotClaim) (claims : List SlotClaim) (waits : Bool) → HeldAt slots claim → Each (HeldAt slots) claims → Each (HeldAt slots) (if waits then slot_with_flags claim.slot claim.connection claim.flags claims else claims ++ claim ∷ [])
+put_held slots claim claims true h e =
     Each-map (HeldAt slots) (λ (c : SlotClaim). if is_slot_claim claim.slot claim.connection c then record c { flags = claim.flags } else c) claims
     (Each-weaker (HeldAt slots) (λ (c : SlotClaim). HeldAt slots (if is_slot_claim claim.slot claim.connection c then record c { flags = claim.flags } else c)) (λ (c : SlotClaim) (k : HeldAt slots c). flagged_held slots claim.flags c (is_slot_claim claim.slot claim.connection c) k) claims e)
+put_held slots claim claims false h e = Each-append (HeldAt slots) claims (claim ∷ []) e (h, tt)
+
+done_held : (slots : List (Option Holding)) (step : Step) (claim : SlotClaim) (claims : List SlotClaim) → HeldAt slots claim → Each (HeldAt slots) claims → Each (HeldAt slots) (step_done step claim claims)
+done_held slots steps.Put claim claims h e = put_held slots claim claims (list_any (is_slot_claim claim.slot claim.connection) claims) h e
 done_held slots steps.Remove claim claims h e = Each-filter (HeldAt slots) (λ (c : SlotClaim). not (is_slot_claim claim.slot claim.connection c)) claims e
 done_held slots (steps.Replace leaving) claim claims h e =
     (h, Each-filter (HeldAt slots) (λ (c : SlotClaim). not (is_slot_claim claim.slot claim.connection c)) (without_owner leaving claim.slot claims) (left_held slots claim.slot claims leaving e))
@@ -125,6 +130,21 @@ request_after name connection flags names named e = by (request_answer name conn
     by : (r : Result Named ClaimError) → r ≡ Ok named → (if is_ok r then (let x : Registry = record { claims = after_requesting name connection flags names.claims; slots = with_rules name (rules_of name names.slots) names.slots } in x) else names) ≡ record { claims = after_requesting name connection flags names.claims; slots = with_rules name (rules_of name names.slots) names.slots }
     by (Ok n) f = refl
     by (Err n) f = absurd cc
+
+-- what a planned request leaves
+pub request_planned : (claims : List SlotClaim) (slots : List (Option Holding)) → IsKept claims slots → (name : List ℕ) (connection flags : ℕ) (plan : Plan) → IsPlan claims slots name connection flags plan → (rules : ℕ) → rules ≡ rules_at (slice_get slots plan.slot) →
+    (claims_after : List SlotClaim) → claims_after ≡ step_done plan.step (claim_at plan.slot connection flags) claims → (slots_after : List (Option Holding)) → slots_after ≡ held_slots slots plan.slot name rules →
+    IsKept claims_after slots_after × (registry claims_after slots_after ≡ after_request name connection flags (registry claims slots))
+request_planned claims slots kept name connection flags plan p rules r claims_after a slots_after b =
+    let claim = claim_at plan.slot connection flags in
+    let evidence = next_tells claims slots kept.placed name plan.slot p.slot_is in
+    let step : claims_after ≡ step_done (step_for claim claims) claim claims = a ∙ ap (λ (s : Step). step_done s claim claims) p.step_is in
+    let held : slots_after ≡ held_slots slots plan.slot name (rules_of name slots) = b ∙ ap (held_slots slots plan.slot name) (r ∙ sym evidence.2) in
+    let done = request_done claims slots kept claim name (rules_of name slots) p.slot_is (subst (λ (s : Step). length (step_done s claim claims) ≤ max_claims) p.step_is p.fits) in (
+      subst (λ l. IsKept l slots_after) (sym step) (subst (IsKept (step_done (step_for claim claims) claim claims)) (sym held) done.0),
+      ap (λ l. registry l slots_after) step ∙ ap (registry (step_done (step_for claim claims) claim claims)) held ∙ done.1
+          ∙ sym (request_after name connection flags (registry claims slots) plan.named p.answer),
+    )
 
 pub refused_after : (name : List ℕ) (connection flags : ℕ) (names : Registry) (error : ClaimError) → request_answer name connection flags names ≡ Err error → after_request name connection flags names ≡ names
 refused_after name connection flags names error e = by (request_answer name connection flags names) e

@@ -14,59 +14,59 @@ use Rattle.owners.proofs.claims.Claims.drop_all.Goals as goal
 
 pub claimed_slots-claimed-requires : goal.claimed_slots-claimed-requires
 claimed_slots-claimed-requires c =
-    let cs = c.self.inside.claims.items in
+    let cs = c.self.inside.claims in
     let ss = c.self.inside.slots.items in
-    let kept_slot = c.self.invariant.0 in
+    let kept_slot = c.self.invariant in
     let connection = c.args.connection in
     let left = filter (λ (x : SlotClaim). not (is_by connection x)) cs in
     let held = Each-filter (HeldAt ss) (λ (x : SlotClaim). not (is_by connection x)) cs (each_held cs ss kept_slot.placed.held) in
-    let left_is : c.as_slice.result.now ≡ left = c.as_slice.ensures.value ∙ c.remove_all.ensures.claims in
+    let left_is : c.as_slice.result.now ≡ left = c.as_slice.ensures.value ∙ c.remove.ensures in
     ap are_slots left_is ∙ slots_fit ss kept_slot.placed.count left held
 
 pub invariant_of-self : goal.invariant_of-self
 invariant_of-self c =
-    let cs = c.self.inside.claims.items in
+    let cs = c.self.inside.claims in
     let ss = c.self.inside.slots.items in
-    let kept_slot = c.self.invariant.0 in
+    let kept_slot = c.self.invariant in
     let connection = c.args.connection in
     let left = filter (λ (x : SlotClaim). not (is_by connection x)) cs in
     let held = Each-filter (HeldAt ss) (λ (x : SlotClaim). not (is_by connection x)) cs (each_held cs ss kept_slot.placed.held) in
-    let left_is : c.as_slice.result.now ≡ left = c.as_slice.ensures.value ∙ c.remove_all.ensures.claims in
+    let left_is : c.as_slice.result.now ≡ left = c.as_slice.ensures.value ∙ c.remove.ensures in
     let gone : AreLetGo left ss c.let_go.new.slots.items = let_go_by left ss c.let_go.new.slots.items (has_slot c.claimed_slots-claimed.result)
     (c.let_go.ensures.size)
     (λ k. c.claimed_slots-claimed.ensures k ∙ ap (list_any (is_on_slot k)) left_is)
     (λ k. c.let_go.ensures.kept_slot k) in
     let done = drop_all_done cs ss c.let_go.new.slots.items kept_slot connection gone in
-    (subst (λ l. IsKept l c.let_go.new.slots.items) (sym c.remove_all.ensures.claims) done.0, omega (arith, c.self.invariant.1, c.remove_all.ensures.room))
+    subst (λ l. IsKept l c.let_go.new.slots.items) (sym c.remove.ensures) done.0
 
 pub returns-clause-after : goal.returns-clause-after
 returns-clause-after c =
-    let cs = c.self.inside.claims.items in
+    let cs = c.self.inside.claims in
     let ss = c.self.inside.slots.items in
-    let kept_slot = c.self.invariant.0 in
+    let kept_slot = c.self.invariant in
     let connection = c.args.connection in
     let left = filter (λ (x : SlotClaim). not (is_by connection x)) cs in
     let held = Each-filter (HeldAt ss) (λ (x : SlotClaim). not (is_by connection x)) cs (each_held cs ss kept_slot.placed.held) in
-    let left_is : c.as_slice.result.now ≡ left = c.as_slice.ensures.value ∙ c.remove_all.ensures.claims in
+    let left_is : c.as_slice.result.now ≡ left = c.as_slice.ensures.value ∙ c.remove.ensures in
     let gone : AreLetGo left ss c.let_go.new.slots.items = let_go_by left ss c.let_go.new.slots.items (has_slot c.claimed_slots-claimed.result)
     (c.let_go.ensures.size)
     (λ k. c.claimed_slots-claimed.ensures k ∙ ap (list_any (is_on_slot k)) left_is)
     (λ k. c.let_go.ensures.kept_slot k) in
     let done = drop_all_done cs ss c.let_go.new.slots.items kept_slot connection gone in
-    ap (λ l. registry l c.let_go.new.slots.items) c.remove_all.ensures.claims ∙ done.1 ∙ ap (after_drop_all connection) c.self.view_is
+    ap (λ l. registry l c.let_go.new.slots.items) c.remove.ensures ∙ done.1 ∙ ap (after_drop_all connection) c.self.view_is
 
 pub returns-clause-registry : goal.returns-clause-registry
 returns-clause-registry c =
-    let cs = c.self.inside.claims.items in
+    let cs = c.self.inside.claims in
     let ss = c.self.inside.slots.items in
-    let kept_slot = c.self.invariant.0 in
+    let kept_slot = c.self.invariant in
     let connection = c.args.connection in
     let left = filter (λ (x : SlotClaim). not (is_by connection x)) cs in
     let held = Each-filter (HeldAt ss) (λ (x : SlotClaim). not (is_by connection x)) cs (each_held cs ss kept_slot.placed.held) in
-    let left_is : c.as_slice.result.now ≡ left = c.as_slice.ensures.value ∙ c.remove_all.ensures.claims in
+    let left_is : c.as_slice.result.now ≡ left = c.as_slice.ensures.value ∙ c.remove.ensures in
     let gone : AreLetGo left ss c.let_go.new.slots.items = let_go_by left ss c.let_go.new.slots.items (has_slot c.claimed_slots-claimed.result)
     (c.let_go.ensures.size)
     (λ k. c.claimed_slots-claimed.ensures k ∙ ap (list_any (is_on_slot k)) left_is)
     (λ k. c.let_go.ensures.kept_slot k) in
     let done = drop_all_done cs ss c.let_go.new.slots.items kept_slot connection gone in
-    kept_is_registry c.remove_all.new.claims.items c.let_go.new.slots.items (subst (λ l. IsKept l c.let_go.new.slots.items) (sym c.remove_all.ensures.claims) done.0)
+    kept_is_registry c.remove.new.self c.let_go.new.slots.items (subst (λ l. IsKept l c.let_go.new.slots.items) (sym c.remove.ensures) done.0)

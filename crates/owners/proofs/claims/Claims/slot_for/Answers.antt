@@ -8,14 +8,14 @@ use Rattle.owners.proofs.Steps.{slot_for_done}
 use Rattle.owners.proofs.claims.Claims.slot_for.Goals as goal
 
 pub returns-in_default-clause-registry : goal.returns-in_default-clause-registry
-returns-in_default-clause-registry c = subst IsRegistry c.self.view_is (kept_is_registry c.self.inside.claims.items c.self.inside.slots.items c.self.invariant.0)
+returns-in_default-clause-registry c = subst IsRegistry c.self.view_is (kept_is_registry c.self.inside.claims c.self.inside.slots.items c.self.invariant)
 
 pub overflow_add-rules : goal.overflow_add-rules
 overflow_add-rules c =
-    let cs = c.self.inside.claims.items in
+    let cs = c.self.inside.claims in
     let ss = c.self.inside.slots.items in
     let name = c.args.name.now in
-    let kept_slot = c.self.invariant.0 in
+    let kept_slot = c.self.invariant in
     let slot = c.in-Some.slot in
     let next : slot_next name ss ≡ Some slot = sym (c.in-Some.ensures ∙ ap (λ t. slot_next t c.as_slice.result.now) c.as_str.ensures ∙ ap (slot_next name) c.as_slice.ensures.value) in
     let evidence = next_tells cs ss kept_slot.placed name slot next in
@@ -25,10 +25,10 @@ overflow_add-rules c =
 
 pub hold-requires : goal.hold-requires
 hold-requires c =
-    let cs = c.self.inside.claims.items in
+    let cs = c.self.inside.claims in
     let ss = c.self.inside.slots.items in
     let name = c.args.name.now in
-    let kept_slot = c.self.invariant.0 in
+    let kept_slot = c.self.invariant in
     let slot = c.in-Some.slot in
     let next : slot_next name ss ≡ Some slot = sym (c.in-Some.ensures ∙ ap (λ t. slot_next t c.as_slice.result.now) c.as_str.ensures ∙ ap (slot_next name) c.as_slice.ensures.value) in
     let evidence = next_tells cs ss kept_slot.placed name slot next in
@@ -36,10 +36,10 @@ hold-requires c =
 
 pub invariant_of-self : goal.invariant_of-self
 invariant_of-self c =
-    let cs = c.self.inside.claims.items in
+    let cs = c.self.inside.claims in
     let ss = c.self.inside.slots.items in
     let name = c.args.name.now in
-    let kept_slot = c.self.invariant.0 in
+    let kept_slot = c.self.invariant in
     let slot = c.in-Some.slot in
     let next : slot_next name ss ≡ Some slot = sym (c.in-Some.ensures ∙ ap (λ t. slot_next t c.as_slice.result.now) c.as_str.ensures ∙ ap (slot_next name) c.as_slice.ensures.value) in
     let evidence = next_tells cs ss kept_slot.placed name slot next in
@@ -47,14 +47,14 @@ invariant_of-self c =
     let rules_is : c.rules_at-rules.result ≡ rules = c.rules_at-rules.ensures ∙ ap (λ l. rules_at (slice_get l slot)) c.as_slice-2.ensures.value in
     let after : c.hold.new.slots.items ≡ held_slots ss slot name (rules + 1) = c.hold.ensures.slots ∙ ap (λ n. held_slots ss slot name (n + 1)) rules_is in
     let done = slot_for_done cs ss kept_slot slot name next in
-    (subst (IsKept cs) (sym after) done.0, c.self.invariant.1)
+    subst (IsKept cs) (sym after) done.0
 
 pub returns-clause-after : goal.returns-clause-after
 returns-clause-after c =
-    let cs = c.self.inside.claims.items in
+    let cs = c.self.inside.claims in
     let ss = c.self.inside.slots.items in
     let name = c.args.name.now in
-    let kept_slot = c.self.invariant.0 in
+    let kept_slot = c.self.invariant in
     let slot = c.in-Some.slot in
     let next : slot_next name ss ≡ Some slot = sym (c.in-Some.ensures ∙ ap (λ t. slot_next t c.as_slice.result.now) c.as_str.ensures ∙ ap (slot_next name) c.as_slice.ensures.value) in
     let evidence = next_tells cs ss kept_slot.placed name slot next in
@@ -66,10 +66,10 @@ returns-clause-after c =
 
 pub returns-clause-registry : goal.returns-clause-registry
 returns-clause-registry c =
-    let cs = c.self.inside.claims.items in
+    let cs = c.self.inside.claims in
     let ss = c.self.inside.slots.items in
     let name = c.args.name.now in
-    let kept_slot = c.self.invariant.0 in
+    let kept_slot = c.self.invariant in
     let slot = c.in-Some.slot in
     let next : slot_next name ss ≡ Some slot = sym (c.in-Some.ensures ∙ ap (λ t. slot_next t c.as_slice.result.now) c.as_str.ensures ∙ ap (slot_next name) c.as_slice.ensures.value) in
     let evidence = next_tells cs ss kept_slot.placed name slot next in

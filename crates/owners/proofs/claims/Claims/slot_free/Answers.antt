@@ -12,10 +12,10 @@ use Rattle.owners.proofs.claims.Claims.slot_free.Goals as goal
 
 pub overflow_sub-rules : goal.overflow_sub-rules
 overflow_sub-rules c =
-    let cs = c.self.inside.claims.items in
+    let cs = c.self.inside.claims in
     let ss = c.self.inside.slots.items in
     let name = c.args.name.now in
-    let kept_slot = c.self.invariant.0 in
+    let kept_slot = c.self.invariant in
     let slot = c.known_slot-slot.result in
     let slot_is : slot ≡ unwrap_or (slot_of name ss) no_slot_number = c.known_slot-slot.ensures ∙ ap (λ t. unwrap_or (slot_of t c.as_slice.result.now) no_slot_number) c.as_str.ensures ∙ ap (λ l. unwrap_or (slot_of name l) no_slot_number) c.as_slice.ensures.value in
     let asked : rules_of name c.args.self.now.slots ≡ rules_of name ss = ap (λ (r : Registry). rules_of name r.slots) (sym c.self.view_is) in
@@ -28,10 +28,10 @@ overflow_sub-rules c =
 
 pub hold-requires : goal.hold-requires
 hold-requires c =
-    let cs = c.self.inside.claims.items in
+    let cs = c.self.inside.claims in
     let ss = c.self.inside.slots.items in
     let name = c.args.name.now in
-    let kept_slot = c.self.invariant.0 in
+    let kept_slot = c.self.invariant in
     let slot = c.known_slot-slot.result in
     let slot_is : slot ≡ unwrap_or (slot_of name ss) no_slot_number = c.known_slot-slot.ensures ∙ ap (λ t. unwrap_or (slot_of t c.as_slice.result.now) no_slot_number) c.as_str.ensures ∙ ap (λ l. unwrap_or (slot_of name l) no_slot_number) c.as_slice.ensures.value in
     let asked : rules_of name c.args.self.now.slots ≡ rules_of name ss = ap (λ (r : Registry). rules_of name r.slots) (sym c.self.view_is) in
@@ -44,17 +44,17 @@ hold-requires c =
 
 pub claimed_slots-claimed-requires : goal.claimed_slots-claimed-requires
 claimed_slots-claimed-requires c =
-    let cs = c.self.inside.claims.items in
+    let cs = c.self.inside.claims in
     let ss = c.self.inside.slots.items in
-    let kept_slot = c.self.invariant.0 in
+    let kept_slot = c.self.invariant in
     ap are_slots c.as_slice-3.ensures.value ∙ slots_fit ss kept_slot.placed.count cs (each_held cs ss kept_slot.placed.held)
 
 pub invariant_of-self : goal.invariant_of-self
 invariant_of-self c =
-    let cs = c.self.inside.claims.items in
+    let cs = c.self.inside.claims in
     let ss = c.self.inside.slots.items in
     let name = c.args.name.now in
-    let kept_slot = c.self.invariant.0 in
+    let kept_slot = c.self.invariant in
     let slot = c.known_slot-slot.result in
     let slot_is : slot ≡ unwrap_or (slot_of name ss) no_slot_number = c.known_slot-slot.ensures ∙ ap (λ t. unwrap_or (slot_of t c.as_slice.result.now) no_slot_number) c.as_str.ensures ∙ ap (λ l. unwrap_or (slot_of name l) no_slot_number) c.as_slice.ensures.value in
     let asked : rules_of name c.args.self.now.slots ≡ rules_of name ss = ap (λ (r : Registry). rules_of name r.slots) (sym c.self.view_is) in
@@ -71,14 +71,14 @@ invariant_of-self c =
     (λ k. c.claimed_slots-claimed.ensures k ∙ ap (list_any (is_on_slot k)) c.as_slice-3.ensures.value)
     (λ k. c.let_go.ensures.kept_slot k ∙ ap (λ l. kept_at (has_slot c.claimed_slots-claimed.result k) (slice_get l k)) slots_is) in
     let done = slot_free_done cs ss c.let_go.new.slots.items kept_slot slot name next gone in
-    (done.0, c.self.invariant.1)
+    done.0
 
 pub returns-clause-after : goal.returns-clause-after
 returns-clause-after c =
-    let cs = c.self.inside.claims.items in
+    let cs = c.self.inside.claims in
     let ss = c.self.inside.slots.items in
     let name = c.args.name.now in
-    let kept_slot = c.self.invariant.0 in
+    let kept_slot = c.self.invariant in
     let slot = c.known_slot-slot.result in
     let slot_is : slot ≡ unwrap_or (slot_of name ss) no_slot_number = c.known_slot-slot.ensures ∙ ap (λ t. unwrap_or (slot_of t c.as_slice.result.now) no_slot_number) c.as_str.ensures ∙ ap (λ l. unwrap_or (slot_of name l) no_slot_number) c.as_slice.ensures.value in
     let asked : rules_of name c.args.self.now.slots ≡ rules_of name ss = ap (λ (r : Registry). rules_of name r.slots) (sym c.self.view_is) in
@@ -99,10 +99,10 @@ returns-clause-after c =
 
 pub returns-clause-registry : goal.returns-clause-registry
 returns-clause-registry c =
-    let cs = c.self.inside.claims.items in
+    let cs = c.self.inside.claims in
     let ss = c.self.inside.slots.items in
     let name = c.args.name.now in
-    let kept_slot = c.self.invariant.0 in
+    let kept_slot = c.self.invariant in
     let slot = c.known_slot-slot.result in
     let slot_is : slot ≡ unwrap_or (slot_of name ss) no_slot_number = c.known_slot-slot.ensures ∙ ap (λ t. unwrap_or (slot_of t c.as_slice.result.now) no_slot_number) c.as_str.ensures ∙ ap (λ l. unwrap_or (slot_of name l) no_slot_number) c.as_slice.ensures.value in
     let asked : rules_of name c.args.self.now.slots ≡ rules_of name ss = ap (λ (r : Registry). rules_of name r.slots) (sym c.self.view_is) in
