@@ -188,6 +188,14 @@ length-without p [] h = absurd (false≢true h)
 length-without p (x ∷ xs) h =
     length_less (p x) (list_any p xs) x (filter (λ y. not (p y)) xs) (length xs) (length-filter-le (λ y. not (p y)) xs) (length-without p xs) h
 
+pub any-without : {X : Type 0} (p : X → Bool) (xs : List X) → list_any p (filter (λ x. not (p x)) xs) ≡ false
+any-without p [] = refl
+any-without p (x ∷ xs) = by (p x) refl (any-without p xs)
+  where
+    by : (b : Bool) → p x ≡ b → list_any p (filter (λ y. not (p y)) xs) ≡ false → list_any p (cond (not b) (x ∷ filter (λ y. not (p y)) xs) (filter (λ y. not (p y)) xs)) ≡ false
+    by true e ih = ih
+    by false e ih = rw e ih
+
 all_stay : {X : Type 0} (b a : Bool) (x : X) (xs ys : List X) → (a ≡ false → xs ≡ ys) → (b || a) ≡ false → cond (not b) (x ∷ xs) xs ≡ x ∷ ys
 all_stay true a x xs ys ih h = absurd (false≢true (sym h))
 all_stay false a x xs ys ih h = ap (λ l. x ∷ l) (ih h)
