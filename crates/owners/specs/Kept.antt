@@ -106,6 +106,11 @@ kept_if claimed slot = if is_unused claimed slot then None else slot
 abbrev pub kept_at : Bool → Option (Option Holding) → Option (Option Holding)
 kept_at claimed place = option_map (kept_if claimed) place
 
+-- the slots after those without a claim or a rule were let go
+pub record AreLetGo (claims : List SlotClaim) (slots after : List (Option Holding)) : Type 0 where
+  pub size : length after ≡ length slots
+  pub at : (k : ℕ) → slice_get after k ≡ kept_at (list_any (is_on_slot k) claims) (slice_get slots k)
+
 -- each claim's slot is that of a name
 abbrev pub are_held : List SlotClaim → List (Option Holding) → Bool
 are_held claims slots = list_all (λ (c : SlotClaim). is_name (slice_get slots c.slot)) claims

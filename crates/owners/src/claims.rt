@@ -8,7 +8,7 @@ use crate::claim_list::ClaimList;
 use crate::error::ClaimError;
 use crate::holding::{Holding, hold, known_slot, let_go, rules_at, slot_next, slot_of};
 use crate::least::{copy_of, least_after, least_of};
-use crate::marks::{claimed_slots, owned_slots};
+use crate::marks::owned_slots;
 use crate::plan::plan_of;
 use crate::queue::Queue;
 use crate::release::{dropped_by, release_answer};
@@ -133,8 +133,7 @@ impl Claims {
         let slot = known_slot(self.slots.as_slice(), name.as_str());
         let named = release_answer(&self.claims, slot, name, connection);
         self.claims.remove(Some(slot), connection);
-        let claimed = claimed_slots(self.claims.as_slice());
-        let_go(&mut self.slots, &claimed);
+        let_go(&mut self.slots, self.claims.as_slice());
         named
     }
 
@@ -175,8 +174,7 @@ impl Claims {
         ensures registry { IsRegistry self.new }
     {
         self.claims.remove(None, connection);
-        let claimed = claimed_slots(self.claims.as_slice());
-        let_go(&mut self.slots, &claimed);
+        let_go(&mut self.slots, self.claims.as_slice());
     }
 
     /// The primary owner of a name, if it has one.
@@ -268,7 +266,6 @@ impl Claims {
         let slot = known_slot(self.slots.as_slice(), name.as_str());
         let rules = rules_at(self.slots.as_slice(), slot);
         hold(&mut self.slots, slot, name, rules - 1);
-        let claimed = claimed_slots(self.claims.as_slice());
-        let_go(&mut self.slots, &claimed);
+        let_go(&mut self.slots, self.claims.as_slice());
     }
 }

@@ -4,8 +4,8 @@ use Rattle.std.specs.Option.{option_eq}
 use Rattle.owners.specs.Registry.{Registry, IsRegistry, is_owned_slot}
 use Rattle.owners.specs.Kept.{slot_owner, are_slots}
 use Rattle.owners.proofs.Placed.{each_held}
-use Rattle.owners.proofs.Settled.{kept_is_registry}
-use Rattle.owners.proofs.Questions.{owned_slot, slots_fit}
+use Rattle.owners.proofs.Settled.{kept_is_registry, slots_fit}
+use Rattle.owners.proofs.Questions.{owned_slot}
 use Rattle.owners.proofs.claims.Claims.slots_of.Goals as goal
 
 pub owned_slots-requires : goal.owned_slots-requires
