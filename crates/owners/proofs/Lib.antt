@@ -2,6 +2,7 @@ mod QueueOfOneName
 mod LeavesWhenReplaced
 mod TakeoverAndClose
 pub mod Lists
+pub mod Distinct
 pub mod Placed
 pub mod HeldSlots
 pub mod OwnerChanges

@@ -1,5 +1,5 @@
 -- Lists through a map, where two tests agree, and what a filter keeps.
-use Rattle.std.specs.Prelude.{◌≡◌, ◌<◌, ◌≤◌, ◌+◌, ℕ, zero, suc, Bool, true, false, not, cond, List, [], ◌∷◌, ◌++◌, Option, Some, None, map, filter, find, length, option_map, take, drop, set, get_or, slice_get, ◌||◌}
+use Rattle.std.specs.Prelude.{◌≡◌, ◌<◌, ◌≤◌, ◌+◌, ℕ, zero, suc, Bool, true, false, not, cond, List, [], ◌∷◌, ◌++◌, Option, Some, None, map, filter, find, length, option_map, take, drop, set, get_or, slice_get, ◌||◌, ◌&&◌}
 use Rattle.std.specs.List.{list_any, list_all, position_from}
 use Rattle.std.proofs.Common.{refl, sym, ap, subst, ◌∙◌, arith}
 use Rattle.std.proofs.lemmas.Bool.{false≢true, and_parts, and_from, or_left, or_right}
@@ -112,6 +112,15 @@ pub any-from_none : {X : Type 0} (p : X → Bool) (xs : List X) → find p xs �
 any-from_none p [] h = refl
 any-from_none p (x ∷ xs) h = no_first (p x) (list_any p xs) x (find p xs) (any-from_none p xs) h
 
+-- where none passes one test, none passes both
+pub any-both : {X : Type 0} (p q : X → Bool) (xs : List X) → list_any p xs ≡ false → list_any (λ x. p x && q x) xs ≡ false
+any-both p q [] h = refl
+any-both p q (x ∷ xs) h = by (p x) (any-both p q xs) h
+  where
+    by : (b : Bool) → (list_any p xs ≡ false → list_any (λ y. p y && q y) xs ≡ false) → (b || list_any p xs) ≡ false → ((b && q x) || list_any (λ y. p y && q y) xs) ≡ false
+    by true ih k = absurd (false≢true (sym k))
+    by false ih k = ih k
+
 append_first : {X : Type 0} (b : Bool) (x : X) (r s t : Option X) → (r ≡ None → s ≡ t) → cond b (Some x) r ≡ None → cond b (Some x) s ≡ t
 append_first true x r s t ih h = absurd cc
 append_first false x r s t ih h = ih h
@@ -179,6 +188,14 @@ length-without p [] h = absurd (false≢true h)
 length-without p (x ∷ xs) h =
     length_less (p x) (list_any p xs) x (filter (λ y. not (p y)) xs) (length xs) (length-filter-le (λ y. not (p y)) xs) (length-without p xs) h
 
+pub any-without : {X : Type 0} (p : X → Bool) (xs : List X) → list_any p (filter (λ x. not (p x)) xs) ≡ false
+any-without p [] = refl
+any-without p (x ∷ xs) = by (p x) refl (any-without p xs)
+  where
+    by : (b : Bool) → p x ≡ b → list_any p (filter (λ y. not (p y)) xs) ≡ false → list_any p (cond (not b) (x ∷ filter (λ y. not (p y)) xs) (filter (λ y. not (p y)) xs)) ≡ false
+    by true e ih = ih
+    by false e ih = rw e ih
+
 all_stay : {X : Type 0} (b a : Bool) (x : X) (xs ys : List X) → (a ≡ false → xs ≡ ys) → (b || a) ≡ false → cond (not b) (x ∷ xs) xs ≡ x ∷ ys
 all_stay true a x xs ys ih h = absurd (false≢true (sym h))
 all_stay false a x xs ys ih h = ap (λ l. x ∷ l) (ih h)
@@ -190,12 +207,6 @@ without_none p (x ∷ xs) h = all_stay (p x) (list_any p xs) x (filter (λ y. no
 pub length-map : {X Y : Type 0} (f : X → Y) (xs : List X) → length (map f xs) ≡ length xs
 length-map f [] = refl
 length-map f (x ∷ xs) = ap suc (length-map f xs)
-
--- one more element is changed in its place
-pub map_in_place : {X : Type 0} (g : X → X) (xs : List X) (i : ℕ) (d : X) → i < length xs → set (map g (take i xs) ++ drop i xs) i (g (get_or (map g (take i xs) ++ drop i xs) i d)) ≡ map g (take (suc i) xs) ++ drop (suc i) xs
-map_in_place g [] i d h = absurd (omega arith)
-map_in_place g (x ∷ xs) zero d h = refl
-map_in_place g (x ∷ xs) (suc i) d h = ap (λ l. g x ∷ l) (map_in_place g xs i d (omega arith))
 
 -- the first place where a test passes
 abbrev pub Found : {X : Type 0} → (X → Bool) → ℕ → ℕ → List X → Type 0

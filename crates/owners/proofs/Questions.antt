@@ -44,18 +44,6 @@ owned_by claims slots p connection k (Some (Some h)) e =
 pub owned_slot : (claims : List SlotClaim) (slots : List (Option Holding)) → IsKept claims slots → (connection k : ℕ) → is_owned_slot connection (registry claims slots) k ≡ option_eq nat_eq (slot_owner k claims) (Some connection)
 owned_slot claims slots p connection k = owned_by claims slots p connection k (slice_get slots k) refl
 
--- each claim's slot is a slot
-slot_fits : (slots : List (Option Holding)) → length slots ≡ max_names → (c : SlotClaim) → HeldAt slots c → nat_lt c.slot max_names ≡ true
-slot_fits slots size c h = by (slice_get slots c.slot) refl h
-  where
-    by : (o : Option (Option Holding)) → slice_get slots c.slot ≡ o → is_name o ≡ true → nat_lt c.slot max_names ≡ true
-    by None e n = absurd (false≢true n)
-    by (Some x) e n = let inside = slice_get_within slots c.slot x e in (Decides-ltb c.slot max_names).1 (omega arith)
-
-pub slots_fit : (slots : List (Option Holding)) → length slots ≡ max_names → (claims : List SlotClaim) → Each (HeldAt slots) claims → are_slots claims ≡ true
-slots_fit slots size claims e =
-    all-from_Each (λ (c : SlotClaim). nat_lt c.slot max_names) claims (Each-weaker (HeldAt slots) (λ (c : SlotClaim). nat_lt c.slot max_names ≡ true) (slot_fits slots size) claims e)
-
 -- ---- the queue of a name
 
 pub queue_shown : (slots : List (Option Holding)) (slot : ℕ) (name : List ℕ) → Tells slots slot name → (claims : List SlotClaim) → Each (HeldAt slots) claims → slot_queue slot claims ≡ queue_of name (map (named_claim slots) claims)

@@ -1,9 +1,9 @@
 -- What a request does to kept claims is what it does to claims on names.
 use Rattle.std.specs.Prelude.{◌≡◌, ◌≤◌, ◌+◌, ℕ, suc, Bool, true, false, not, List, [], ◌∷◌, ◌++◌, Option, Some, None, map, find, length, option_map, slice_get, nat_lt, nat_le, ◌&&◌, ◌==◌, if◌then◌else◌}
 use Rattle.std.specs.List.{list_any}
-use Rattle.std.proofs.Common.{refl, sym, ap, ◌∙◌, arith, length-append}
+use Rattle.std.proofs.Common.{refl, sym, ap, subst, ◌∙◌, arith, length-append}
 use Rattle.std.proofs.lemmas.List.{map-append}
-use Rattle.std.proofs.lemmas.Bool.{eq-eqb, leb-true, le-leb, or_right}
+use Rattle.std.proofs.lemmas.Bool.{eqb-true, eq-eqb, leb-true, le-leb, or_right}
 use Rattle.std.proofs.lemmas.Bool.Decides.{same_from_decides, Decides-ltb}
 use Rattle.owners.specs.declared.holding.Holding.{Holding}
 use Rattle.owners.specs.declared.claim.SlotClaim.{SlotClaim}
@@ -11,8 +11,8 @@ use Rattle.owners.specs.declared.step.Step.{Step}
 use Rattle.owners.specs.declared.step.Step.TheVariants as steps
 use Rattle.owners.specs.Queues.{Claim, is_on, is_claim, has_flag, may_replace, do_not_queue, with_flags, with_last, without, after_requesting, requested_by}
 use Rattle.owners.specs.Registry.{max_claims}
-use Rattle.owners.specs.Kept.{named_claim, name_at, is_on_slot, is_slot_claim, slot_without, slot_with_flags, without_owner, step_of, step_done, is_over}
-use Rattle.owners.proofs.Lists.{Each, Each-weaker, Each-filter, filter-map, find-map, any-map, map-map_same, length-filter-le, length-without, without_none, length-map}
+use Rattle.owners.specs.Kept.{named_claim, name_at, is_on_slot, is_by, is_slot_claim, slot_without, slot_with_flags, claim_put, without_owner, step_of, step_done, is_over}
+use Rattle.owners.proofs.Lists.{Each, Each-weaker, Each-filter, filter-map, find-map, any-map, any-from_none, any-both, map-map_same, length-filter-le, length-without, without_none, length-map}
 use Rattle.owners.proofs.Placed.{Tells, HeldAt, on_agrees, claim_agrees}
 
 -- ---- each change, before and after the names are shown
@@ -53,37 +53,62 @@ last_shown : (slots : List (Option Holding)) (claim : SlotClaim) (name : List �
 last_shown slots claim name s claims =
     map-append (named_claim slots) claims (claim ∷ []) ∙ ap (λ (c : Claim). map (named_claim slots) claims ++ c ∷ []) (claim_shown slots claim name s)
 
-by_tests : (slots : List (Option Holding)) (claim : SlotClaim) (name : List ℕ) → Tells slots claim.slot name → IsShownAs slots claim name → (claims : List SlotClaim) → Each (HeldAt slots) claims → (owner : ℕ) → (same replaces leaves quits waits : Bool) →
-    map (named_claim slots) (step_done (if same then steps.SetFlags else if replaces then steps.Replace (if quits then Some owner else None) else if leaves then steps.Remove else if waits then steps.SetFlags else steps.PutLast) claim claims)
+-- the owner has a claim
+owner_claims : (slot : ℕ) (claims : List SlotClaim) (owner : SlotClaim) → find (is_on_slot slot) claims ≡ Some owner → list_any (is_slot_claim slot owner.connection) claims ≡ true
+owner_claims slot claims owner e = first_claims claims e
+  where
+    at_first : (b : Bool) (x : SlotClaim) (xs : List SlotClaim) (r : Option SlotClaim) → is_on_slot slot x ≡ b → (r ≡ Some owner → list_any (is_slot_claim slot owner.connection) xs ≡ true) → (if b then Some x else r) ≡ Some owner → list_any (is_slot_claim slot owner.connection) (x ∷ xs) ≡ true
+    at_first true x xs r q ih f =
+        let s : x ≡ owner = cc in
+        let c : (x.connection == owner.connection) ≡ true = eq-eqb x.connection owner.connection (ap (λ (y : SlotClaim). y.connection) s) in
+        rw (q, c) refl
+    at_first false x xs r q ih f = or_right (is_slot_claim slot owner.connection x) (list_any (is_slot_claim slot owner.connection) xs) (ih f)
+
+    first_claims : (xs : List SlotClaim) → find (is_on_slot slot) xs ≡ Some owner → list_any (is_slot_claim slot owner.connection) xs ≡ true
+    first_claims [] f = absurd cc
+    first_claims (x ∷ xs) f = at_first (is_on_slot slot x) x xs (find (is_on_slot slot) xs) refl (first_claims xs) f
+
+-- so has the caller, where it is the owner
+owner_waits : (claim : SlotClaim) (claims : List SlotClaim) (owner : SlotClaim) → find (is_on_slot claim.slot) claims ≡ Some owner → (owner.connection == claim.connection) ≡ true → list_any (is_slot_claim claim.slot claim.connection) claims ≡ true
+owner_waits claim claims owner f q =
+    subst (λ (n : ℕ). list_any (is_slot_claim claim.slot n) claims ≡ true) (eqb-true owner.connection claim.connection q) (owner_claims claim.slot claims owner f)
+
+put_shown : (slots : List (Option Holding)) (claim : SlotClaim) (name : List ℕ) → Tells slots claim.slot name → IsShownAs slots claim name → (claims : List SlotClaim) → Each (HeldAt slots) claims → (waits : Bool) → list_any (is_slot_claim claim.slot claim.connection) claims ≡ waits →
+    map (named_claim slots) (claim_put claim claims) ≡ (if waits then with_flags name claim.connection claim.flags (map (named_claim slots) claims) else with_last name claim.connection claim.flags (map (named_claim slots) claims))
+put_shown slots claim name t s claims e true w = rw w (flags_shown slots claim.slot claim.connection claim.flags name t claims e)
+put_shown slots claim name t s claims e false w = rw w (last_shown slots claim name s claims)
+
+by_tests : (slots : List (Option Holding)) (claim : SlotClaim) (name : List ℕ) → Tells slots claim.slot name → IsShownAs slots claim name → (claims : List SlotClaim) → Each (HeldAt slots) claims → (owner : ℕ) (waits : Bool) → list_any (is_slot_claim claim.slot claim.connection) claims ≡ waits → (same replaces leaves quits : Bool) → (same ≡ true → waits ≡ true) →
+    map (named_claim slots) (step_done (if same then steps.Put else if replaces then steps.Replace (if quits then Some owner else None) else if leaves then steps.Remove else steps.Put) claim claims)
     ≡ (if same then with_flags name claim.connection claim.flags (map (named_claim slots) claims)
     else if replaces then claim_on name claim ∷ without name claim.connection (if quits then without name owner (map (named_claim slots) claims) else map (named_claim slots) claims)
     else if leaves then without name claim.connection (map (named_claim slots) claims)
     else if waits then with_flags name claim.connection claim.flags (map (named_claim slots) claims)
     else with_last name claim.connection claim.flags (map (named_claim slots) claims))
-by_tests slots claim name t s claims e owner true replaces leaves quits waits = flags_shown slots claim.slot claim.connection claim.flags name t claims e
-by_tests slots claim name t s claims e owner false true leaves quits waits =
+by_tests slots claim name t s claims e owner waits w true replaces leaves quits k = put_shown slots claim name t s claims e true (w ∙ k refl)
+by_tests slots claim name t s claims e owner waits w false true leaves quits k =
     let left = without_owner (if quits then Some owner else None) claim.slot claims in
     ap (λ (c : Claim). c ∷ map (named_claim slots) (slot_without claim.slot claim.connection left)) (claim_shown slots claim name s)
     ∙ ap (λ (l : List Claim). claim_on name claim ∷ l) (without_shown slots claim.slot claim.connection name t left (leaving_held slots claim.slot owner claims e quits) ∙ ap (without name claim.connection) (leaving_shown slots claim.slot owner name t claims e quits))
-by_tests slots claim name t s claims e owner false false true quits waits = without_shown slots claim.slot claim.connection name t claims e
-by_tests slots claim name t s claims e owner false false false quits true = flags_shown slots claim.slot claim.connection claim.flags name t claims e
-by_tests slots claim name t s claims e owner false false false quits false = last_shown slots claim name s claims
+by_tests slots claim name t s claims e owner waits w false false true quits k = without_shown slots claim.slot claim.connection name t claims e
+by_tests slots claim name t s claims e owner waits w false false false quits k = put_shown slots claim name t s claims e waits w
 
-by_first : (slots : List (Option Holding)) (claim : SlotClaim) (name : List ℕ) → Tells slots claim.slot name → IsShownAs slots claim name → (claims : List SlotClaim) → Each (HeldAt slots) claims → (o : Option SlotClaim) →
-    map (named_claim slots) (step_done (step_of o (list_any (is_slot_claim claim.slot claim.connection) claims) claim.connection claim.flags) claim claims) ≡ requested_by (option_map (named_claim slots) o) name claim.connection claim.flags (map (named_claim slots) claims)
-by_first slots claim name t s claims e None = last_shown slots claim name s claims
-by_first slots claim name t s claims e (Some owner) =
+by_first : (slots : List (Option Holding)) (claim : SlotClaim) (name : List ℕ) → Tells slots claim.slot name → IsShownAs slots claim name → (claims : List SlotClaim) → Each (HeldAt slots) claims → (o : Option SlotClaim) → find (is_on_slot claim.slot) claims ≡ o →
+    map (named_claim slots) (step_done (step_of o claim.connection claim.flags) claim claims) ≡ requested_by (option_map (named_claim slots) o) name claim.connection claim.flags (map (named_claim slots) claims)
+by_first slots claim name t s claims e None f =
+    put_shown slots claim name t s claims e false (any-both (is_on_slot claim.slot) (is_by claim.connection) claims (any-from_none (is_on_slot claim.slot) claims f))
+by_first slots claim name t s claims e (Some owner) f =
     rw (any-map (is_claim name claim.connection) (is_slot_claim claim.slot claim.connection) (named_claim slots) claims (claim_agrees slots claim.slot claim.connection name t claims e))
-    (by_tests slots claim name t s claims e owner.connection (owner.connection == claim.connection) (may_replace (named_claim slots owner) claim.flags) (has_flag claim.flags do_not_queue) (has_flag owner.flags do_not_queue) (list_any (is_slot_claim claim.slot claim.connection) claims))
+    (by_tests slots claim name t s claims e owner.connection (list_any (is_slot_claim claim.slot claim.connection) claims) refl (owner.connection == claim.connection) (may_replace (named_claim slots owner) claim.flags) (has_flag claim.flags do_not_queue) (has_flag owner.flags do_not_queue) (owner_waits claim claims owner f))
 
 -- the step that is done for a claim on the slot
 abbrev pub step_for : SlotClaim → List SlotClaim → Step
 step_for claim claims =
-    step_of (find (is_on_slot claim.slot) claims) (list_any (is_slot_claim claim.slot claim.connection) claims) claim.connection claim.flags
+    step_of (find (is_on_slot claim.slot) claims) claim.connection claim.flags
 
 pub step_shown : (slots : List (Option Holding)) (claim : SlotClaim) (name : List ℕ) → Tells slots claim.slot name → IsShownAs slots claim name → (claims : List SlotClaim) → Each (HeldAt slots) claims → map (named_claim slots) (step_done (step_for claim claims) claim claims) ≡ after_requesting name claim.connection claim.flags (map (named_claim slots) claims)
 step_shown slots claim name t s claims e =
-    by_first slots claim name t s claims e (find (is_on_slot claim.slot) claims)
+    by_first slots claim name t s claims e (find (is_on_slot claim.slot) claims) refl
     ∙ ap (λ o. requested_by o name claim.connection claim.flags (map (named_claim slots) claims)) (sym (find-map (is_on name) (is_on_slot claim.slot) (named_claim slots) claims (on_agrees slots claim.slot name t claims e)))
 
 -- ---- how many claims there are after it
@@ -139,34 +164,22 @@ remove_fits claim claims h =
     let fewer = length-filter-le (λ (c : SlotClaim). not (is_slot_claim claim.slot claim.connection c)) claims in
     not_above (length (slot_without claim.slot claim.connection claims)) (omega arith)
 
+put_fits : (claim : SlotClaim) (claims : List SlotClaim) → length claims ≤ max_claims → (waits : Bool) → list_any (is_slot_claim claim.slot claim.connection) claims ≡ waits → nat_lt max_claims (length (claim_put claim claims)) ≡ is_over steps.Put waits (length claims)
+put_fits claim claims h true w = rw w (set_flags_fits claim claims h)
+put_fits claim claims h false w = rw w (put_last_fits claim claims)
+
 fits_by_tests : (claim : SlotClaim) (claims : List SlotClaim) → length claims ≤ max_claims → (owner : ℕ) → list_any (is_slot_claim claim.slot owner) claims ≡ true → (waits : Bool) → list_any (is_slot_claim claim.slot claim.connection) claims ≡ waits → (same replaces leaves quits : Bool) →
-    nat_lt max_claims (length (step_done (if same then steps.SetFlags else if replaces then steps.Replace (if quits then Some owner else None) else if leaves then steps.Remove else if waits then steps.SetFlags else steps.PutLast) claim claims))
-    ≡ is_over (if same then steps.SetFlags else if replaces then steps.Replace (if quits then Some owner else None) else if leaves then steps.Remove else if waits then steps.SetFlags else steps.PutLast) waits (length claims)
-fits_by_tests claim claims h owner o waits w true replaces leaves quits = set_flags_fits claim claims h
+    nat_lt max_claims (length (step_done (if same then steps.Put else if replaces then steps.Replace (if quits then Some owner else None) else if leaves then steps.Remove else steps.Put) claim claims))
+    ≡ is_over (if same then steps.Put else if replaces then steps.Replace (if quits then Some owner else None) else if leaves then steps.Remove else steps.Put) waits (length claims)
+fits_by_tests claim claims h owner o waits w true replaces leaves quits = put_fits claim claims h waits w
 fits_by_tests claim claims h owner o waits w false true leaves true = replace_some claim.slot claim.connection owner claims h o waits
 fits_by_tests claim claims h owner o waits w false true leaves false = replace_none claim.slot claim.connection claims h waits w
-fits_by_tests claim claims h owner o waits w false false true quits = remove_fits claim claims h
-fits_by_tests claim claims h owner o true w false false false quits = set_flags_fits claim claims h
-fits_by_tests claim claims h owner o false w false false false quits = put_last_fits claim claims
-
--- the owner has a claim
-owner_claims : (slot : ℕ) (claims : List SlotClaim) (owner : SlotClaim) → find (is_on_slot slot) claims ≡ Some owner → list_any (is_slot_claim slot owner.connection) claims ≡ true
-owner_claims slot claims owner e = first_claims claims e
-  where
-    at_first : (b : Bool) (x : SlotClaim) (xs : List SlotClaim) (r : Option SlotClaim) → is_on_slot slot x ≡ b → (r ≡ Some owner → list_any (is_slot_claim slot owner.connection) xs ≡ true) → (if b then Some x else r) ≡ Some owner → list_any (is_slot_claim slot owner.connection) (x ∷ xs) ≡ true
-    at_first true x xs r q ih f =
-        let s : x ≡ owner = cc in
-        let c : (x.connection == owner.connection) ≡ true = eq-eqb x.connection owner.connection (ap (λ (y : SlotClaim). y.connection) s) in
-        rw (q, c) refl
-    at_first false x xs r q ih f = or_right (is_slot_claim slot owner.connection x) (list_any (is_slot_claim slot owner.connection) xs) (ih f)
-
-    first_claims : (xs : List SlotClaim) → find (is_on_slot slot) xs ≡ Some owner → list_any (is_slot_claim slot owner.connection) xs ≡ true
-    first_claims [] f = absurd cc
-    first_claims (x ∷ xs) f = at_first (is_on_slot slot x) x xs (find (is_on_slot slot) xs) refl (first_claims xs) f
+fits_by_tests claim claims h owner o waits w false false true quits = remove_fits claim claims h ∙ sym (not_added waits (nat_le max_claims (length claims)))
+fits_by_tests claim claims h owner o waits w false false false quits = put_fits claim claims h waits w
 
 fits_by_first : (claim : SlotClaim) (claims : List SlotClaim) → length claims ≤ max_claims → (o : Option SlotClaim) → find (is_on_slot claim.slot) claims ≡ o →
-    nat_lt max_claims (length (step_done (step_of o (list_any (is_slot_claim claim.slot claim.connection) claims) claim.connection claim.flags) claim claims)) ≡ is_over (step_of o (list_any (is_slot_claim claim.slot claim.connection) claims) claim.connection claim.flags) (list_any (is_slot_claim claim.slot claim.connection) claims) (length claims)
-fits_by_first claim claims h None e = put_last_fits claim claims
+    nat_lt max_claims (length (step_done (step_of o claim.connection claim.flags) claim claims)) ≡ is_over (step_of o claim.connection claim.flags) (list_any (is_slot_claim claim.slot claim.connection) claims) (length claims)
+fits_by_first claim claims h None e = put_fits claim claims h (list_any (is_slot_claim claim.slot claim.connection) claims) refl
 fits_by_first claim claims h (Some owner) e =
     fits_by_tests claim claims h owner.connection (owner_claims claim.slot claims owner e) (list_any (is_slot_claim claim.slot claim.connection) claims) refl (owner.connection == claim.connection) (has_flag owner.flags 1 && has_flag claim.flags 2) (has_flag claim.flags do_not_queue) (has_flag owner.flags do_not_queue)
 

@@ -1,27 +1,17 @@
 -- Slots that are let go when nobody needs them.
-use Rattle.std.specs.Prelude.{◌≡◌, ◌≤◌, ℕ, Bool, true, false, List, Option, Some, None, map, length, option_map, slice_get, is_some, ◌==◌, if◌then◌else◌}
+use Rattle.std.specs.Prelude.{◌≡◌, ◌≤◌, ℕ, Bool, true, false, List, Option, Some, None, map, length, option_map, slice_get, is_some, nat_lt, ◌==◌, if◌then◌else◌}
 use Rattle.std.specs.List.{list_any}
 use Rattle.std.proofs.Common.{refl, sym, ap, ◌∙◌, arith}
-use Rattle.std.proofs.lemmas.Bool.{eq-eqb, and_right}
-use Rattle.std.proofs.lemmas.Option.{slice_get-map}
+use Rattle.std.proofs.lemmas.Bool.{false≢true, eq-eqb, and_right}
+use Rattle.std.proofs.lemmas.Bool.Decides.{Decides-ltb}
+use Rattle.std.proofs.lemmas.Option.{slice_get-map, slice_get_within}
 use Rattle.owners.specs.declared.holding.Holding.{Holding}
 use Rattle.owners.specs.declared.claim.SlotClaim.{SlotClaim}
 use Rattle.owners.specs.Queues.{Claim, is_on}
-use Rattle.owners.specs.Registry.{Registry, IsRegistry, is_held_by, is_unused, kept_slot, settle_slots, slot_of, max_claims}
-use Rattle.owners.specs.Kept.{name_at, named_claim, registry, is_name, is_on_slot, kept_at, IsPlaced, IsKept}
+use Rattle.owners.specs.Registry.{Registry, IsRegistry, is_held_by, is_unused, kept_slot, settle_slots, slot_of, max_names, max_claims}
+use Rattle.owners.specs.Kept.{name_at, named_claim, registry, is_name, is_on_slot, kept_at, are_slots, IsPlaced, IsKept, AreLetGo}
 use Rattle.owners.proofs.Lists.{Each, Each-weaker, Each-both, Each-any, Each-map, all-from_Each, any-map, map-same, finds, length-map, same_elements}
 use Rattle.owners.proofs.Placed.{tells_own, HeldAt, each_held, holds_name, name_same, slot_holds, on_agrees}
-
--- the slots after those without a claim or a rule were let go
-pub record AreLetGo (claims : List SlotClaim) (slots after : List (Option Holding)) : Type 0 where
-  pub size : length after ≡ length slots
-  pub at : (k : ℕ) → slice_get after k ≡ kept_at (list_any (is_on_slot k) claims) (slice_get slots k)
-
-pub let_go_by : (claims : List SlotClaim) (slots after : List (Option Holding)) (claimed : ℕ → Bool) → length after ≡ length slots → ((k : ℕ) → claimed k ≡ list_any (is_on_slot k) claims) → ((k : ℕ) → slice_get after k ≡ kept_at (claimed k) (slice_get slots k)) → AreLetGo claims slots after
-let_go_by claims slots after claimed size marks at = record {
-  size = size;
-  at = λ k. at k ∙ ap (λ (b : Bool). kept_at b (slice_get slots k)) (marks k);
-}
 
 -- a claim on a name is one on its slot
 claimed_as : (placed claims : List SlotClaim) (slots : List (Option Holding)) → IsPlaced placed slots → Each (HeldAt slots) claims → (k : ℕ) (h : Holding) → slice_get slots k ≡ Some (Some h) → list_any (is_on h.name) (map (named_claim slots) claims) ≡ list_any (is_on_slot k) claims
@@ -116,3 +106,15 @@ kept_is_registry claims slots p =
       claimed = all-from_Each (λ (c : Claim). is_some (slot_of c.name slots)) (map (named_claim slots) claims) (Each-map (λ (c : Claim). is_some (slot_of c.name slots) ≡ true) (named_claim slots) claims (Each-weaker (HeldAt slots) (λ (c : SlotClaim). is_some (slot_of (name_at (slice_get slots c.slot)) slots) ≡ true) (has_slot_of claims slots p.placed) claims held));
       used = same_elements (map (kept_slot (map (named_claim slots) claims)) slots) slots (λ k. slice_get-map (kept_slot (map (named_claim slots) claims)) slots k ∙ used_by claims slots p k (slice_get slots k) refl);
     }
+
+-- each claim's slot is a slot
+slot_fits : (slots : List (Option Holding)) → length slots ≡ max_names → (c : SlotClaim) → HeldAt slots c → nat_lt c.slot max_names ≡ true
+slot_fits slots size c h = by (slice_get slots c.slot) refl h
+  where
+    by : (o : Option (Option Holding)) → slice_get slots c.slot ≡ o → is_name o ≡ true → nat_lt c.slot max_names ≡ true
+    by None e n = absurd (false≢true n)
+    by (Some x) e n = let inside = slice_get_within slots c.slot x e in (Decides-ltb c.slot max_names).1 (omega arith)
+
+pub slots_fit : (slots : List (Option Holding)) → length slots ≡ max_names → (claims : List SlotClaim) → Each (HeldAt slots) claims → are_slots claims ≡ true
+slots_fit slots size claims e =
+    all-from_Each (λ (c : SlotClaim). nat_lt c.slot max_names) claims (Each-weaker (HeldAt slots) (λ (c : SlotClaim). nat_lt c.slot max_names ≡ true) (slot_fits slots size) claims e)

@@ -1,7 +1,7 @@
 -- The steps on kept claims and slots are those on names.
-use Rattle.std.specs.Prelude.{◌≡◌, ◌≤◌, ◌+◌, ◌-◌, ℕ, Bool, true, false, not, List, [], ◌∷◌, Option, Some, None, Result, Ok, Err, map, find, filter, length, option_map, slice_get, is_none, is_some, is_ok, nat_lt, ◌&&◌, ◌==◌, ◌⊎◌, if◌then◌else◌}
+use Rattle.std.specs.Prelude.{◌≡◌, ◌≤◌, ◌+◌, ◌-◌, ℕ, Bool, true, false, not, List, [], ◌∷◌, ◌++◌, Option, Some, None, Result, Ok, Err, map, find, filter, length, option_map, slice_get, is_none, is_some, is_ok, nat_lt, unwrap_or, ◌&&◌, ◌==◌, ◌⊎◌, if◌then◌else◌}
 use Rattle.std.specs.List.{list_any}
-use Rattle.std.proofs.Common.{refl, sym, ap, ◌∙◌, arith, inl, inr}
+use Rattle.std.proofs.Common.{refl, sym, ap, subst, ◌∙◌, arith, inl, inr}
 use Rattle.std.proofs.lemmas.Bool.{eqb-true}
 use Rattle.owners.specs.declared.holding.Holding.{Holding}
 use Rattle.owners.specs.declared.claim.SlotClaim.{SlotClaim}
@@ -13,15 +13,17 @@ use Rattle.owners.specs.declared.answer.Named.{Named}
 use Rattle.owners.specs.declared.answer.NameReply.{NameReply}
 use Rattle.owners.specs.declared.answer.NameReply.TheVariants.{Released, NonExistent, NotOwner}
 use Rattle.owners.specs.Queues.{Claim, is_on, is_of, is_claim, owner_of, after_requesting, request_reply, release_reply, first_claim, without, has_claim}
-use Rattle.owners.specs.Registry.{Registry, settle_slots, slot_next, with_rules, put_at, rules_of, rules_at, is_unused, max_claims, request_answer, after_request, release_answer, after_release, after_drop_all, after_slot_for, after_slot_free, change_of, change_between}
-use Rattle.owners.specs.Kept.{name_at, named_claim, registry, is_name, is_on_slot, is_by, is_slot_claim, slot_without, without_owner, step_done, is_over, reply_of, change_for, slot_owner, slot_release_answer, AreUsed, IsKept}
+use Rattle.owners.specs.Registry.{Registry, settle_slots, slot_of, slot_next, with_rules, put_at, rules_of, rules_at, is_unused, max_claims, request_answer, after_request, release_answer, after_release, after_drop_all, after_slot_for, after_slot_free, change_of, change_between}
+use Rattle.owners.specs.Kept.{name_at, named_claim, registry, is_name, is_on_slot, is_by, is_slot_claim, slot_without, slot_with_flags, without_owner, step_done, is_over, reply_of, change_for, slot_owner, slot_release_answer, are_slots, AreUsed, IsKept, AreLetGo}
+use Rattle.owners.specs.Plan.{IsPlan, claim_at}
+use Rattle.owners.specs.declared.plan.Plan.{Plan}
 use Rattle.owners.proofs.Lists.{Each, Each-weaker, Each-always, Each-filter, Each-append, Each-map, all-from_Each, filter-map, find-map, any-map, length-map, length-filter-le, slice_get-set_same}
-use Rattle.owners.proofs.Placed.{Tells, tells_own, next_tells, HeldAt, each_held, on_agrees, claim_agrees, held_slots, read_held}
+use Rattle.owners.proofs.Placed.{Tells, tells_own, known_tells, no_slot_number, next_tells, HeldAt, each_held, on_agrees, claim_agrees, held_slots, read_held}
 use Rattle.owners.proofs.HeldSlots.{placed_still, each_held_still, shown_still}
 use Rattle.owners.proofs.Requested.{step_for, step_shown, step_fits, without_shown}
 use Rattle.owners.proofs.OwnerChanges.{request_changes}
 use Rattle.owners.proofs.UsedSlots.{used_after}
-use Rattle.owners.proofs.Settled.{AreLetGo, let_go_is_kept, let_go_registry}
+use Rattle.owners.proofs.Settled.{slots_fit, let_go_is_kept, let_go_registry}
 
 -- ---- a request
 
@@ -33,11 +35,14 @@ left_held : (slots : List (Option Holding)) (slot : ℕ) (claims : List SlotClai
 left_held slots slot claims None e = e
 left_held slots slot claims (Some owner) e = Each-filter (HeldAt slots) (λ (c : SlotClaim). not (is_slot_claim slot owner c)) claims e
 
-done_held : (slots : List (Option Holding)) (step : Step) (claim : SlotClaim) (claims : List SlotClaim) → HeldAt slots claim → Each (HeldAt slots) claims → Each (HeldAt slots) (step_done step claim claims)
-done_held slots steps.PutLast claim claims h e = Each-append (HeldAt slots) claims (claim ∷ []) e (h, tt)
-done_held slots steps.SetFlags claim claims h e =
+put_held : (slots : List (Option Holding)) (claim : SlotClaim) (claims : List SlotClaim) (waits : Bool) → HeldAt slots claim → Each (HeldAt slots) claims → Each (HeldAt slots) (if waits then slot_with_flags claim.slot claim.connection claim.flags claims else claims ++ claim ∷ [])
+put_held slots claim claims true h e =
     Each-map (HeldAt slots) (λ (c : SlotClaim). if is_slot_claim claim.slot claim.connection c then record c { flags = claim.flags } else c) claims
     (Each-weaker (HeldAt slots) (λ (c : SlotClaim). HeldAt slots (if is_slot_claim claim.slot claim.connection c then record c { flags = claim.flags } else c)) (λ (c : SlotClaim) (k : HeldAt slots c). flagged_held slots claim.flags c (is_slot_claim claim.slot claim.connection c) k) claims e)
+put_held slots claim claims false h e = Each-append (HeldAt slots) claims (claim ∷ []) e (h, tt)
+
+done_held : (slots : List (Option Holding)) (step : Step) (claim : SlotClaim) (claims : List SlotClaim) → HeldAt slots claim → Each (HeldAt slots) claims → Each (HeldAt slots) (step_done step claim claims)
+done_held slots steps.Put claim claims h e = put_held slots claim claims (list_any (is_slot_claim claim.slot claim.connection) claims) h e
 done_held slots steps.Remove claim claims h e = Each-filter (HeldAt slots) (λ (c : SlotClaim). not (is_slot_claim claim.slot claim.connection c)) claims e
 done_held slots (steps.Replace leaving) claim claims h e =
     (h, Each-filter (HeldAt slots) (λ (c : SlotClaim). not (is_slot_claim claim.slot claim.connection c)) (without_owner leaving claim.slot claims) (left_held slots claim.slot claims leaving e))
@@ -126,6 +131,21 @@ request_after name connection flags names named e = by (request_answer name conn
     by (Ok n) f = refl
     by (Err n) f = absurd cc
 
+-- what a planned request leaves
+pub request_planned : (claims : List SlotClaim) (slots : List (Option Holding)) → IsKept claims slots → (name : List ℕ) (connection flags : ℕ) (plan : Plan) → IsPlan claims slots name connection flags plan → (rules : ℕ) → rules ≡ rules_at (slice_get slots plan.slot) →
+    (claims_after : List SlotClaim) → claims_after ≡ step_done plan.step (claim_at plan.slot connection flags) claims → (slots_after : List (Option Holding)) → slots_after ≡ held_slots slots plan.slot name rules →
+    IsKept claims_after slots_after × (registry claims_after slots_after ≡ after_request name connection flags (registry claims slots))
+request_planned claims slots kept name connection flags plan p rules r claims_after a slots_after b =
+    let claim = claim_at plan.slot connection flags in
+    let evidence = next_tells claims slots kept.placed name plan.slot p.slot_is in
+    let step : claims_after ≡ step_done (step_for claim claims) claim claims = a ∙ ap (λ (s : Step). step_done s claim claims) p.step_is in
+    let held : slots_after ≡ held_slots slots plan.slot name (rules_of name slots) = b ∙ ap (held_slots slots plan.slot name) (r ∙ sym evidence.2) in
+    let done = request_done claims slots kept claim name (rules_of name slots) p.slot_is (subst (λ (s : Step). length (step_done s claim claims) ≤ max_claims) p.step_is p.fits) in (
+      subst (λ l. IsKept l slots_after) (sym step) (subst (IsKept (step_done (step_for claim claims) claim claims)) (sym held) done.0),
+      ap (λ l. registry l slots_after) step ∙ ap (registry (step_done (step_for claim claims) claim claims)) held ∙ done.1
+          ∙ sym (request_after name connection flags (registry claims slots) plan.named p.answer),
+    )
+
 pub refused_after : (name : List ℕ) (connection flags : ℕ) (names : Registry) (error : ClaimError) → request_answer name connection flags names ≡ Err error → after_request name connection flags names ≡ names
 refused_after name connection flags names error e = by (request_answer name connection flags names) e
   where
@@ -154,27 +174,37 @@ release_shown claims slots p slot connection name t =
     some_map None = refl
     some_map (Some c) = refl
 
-pub release_done : (claims : List SlotClaim) (slots after : List (Option Holding)) → IsKept claims slots → (slot connection : ℕ) (name : List ℕ) → Tells slots slot name → AreLetGo (slot_without slot connection claims) slots after →
-    IsKept (slot_without slot connection claims) after × (registry (slot_without slot connection claims) after ≡ after_release name connection (registry claims slots))
-release_done claims slots after p slot connection name t g =
-    let held = each_held claims slots p.placed.held in
-    let left = Each-filter (HeldAt slots) (λ (c : SlotClaim). not (is_slot_claim slot connection c)) claims held in
-    let fewer = length-filter-le (λ (c : SlotClaim). not (is_slot_claim slot connection c)) claims in (
-      let_go_is_kept claims (slot_without slot connection claims) slots after p.placed (omega (arith, fewer, p.placed.fits)) left g,
-      let_go_registry claims (slot_without slot connection claims) slots after p.placed left g
-          ∙ ap (λ (l : List Claim). settle_slots l slots) (without_shown slots slot connection name t claims held),
+-- the claims that are left are on slots
+pub slots_left : (claims : List SlotClaim) (slots : List (Option Holding)) → IsKept claims slots → (r : SlotClaim → Bool) → are_slots (filter r claims) ≡ true
+slots_left claims slots p r = slots_fit slots p.placed.count (filter r claims) (Each-filter (HeldAt slots) r claims (each_held claims slots p.placed.held))
+
+-- some claims go, and then the slots that nothing needs
+left_settled : (claims : List SlotClaim) (slots after : List (Option Holding)) → IsKept claims slots → (r : SlotClaim → Bool) → AreLetGo (filter r claims) slots after →
+    IsKept (filter r claims) after × (registry (filter r claims) after ≡ settle_slots (map (named_claim slots) (filter r claims)) slots)
+left_settled claims slots after p r g =
+    let left = Each-filter (HeldAt slots) r claims (each_held claims slots p.placed.held) in
+    let fewer = length-filter-le r claims in (
+      let_go_is_kept claims (filter r claims) slots after p.placed (omega (arith, fewer, p.placed.fits)) left g,
+      let_go_registry claims (filter r claims) slots after p.placed left g,
     )
 
-pub drop_all_done : (claims : List SlotClaim) (slots after : List (Option Holding)) → IsKept claims slots → (connection : ℕ) → AreLetGo (filter (λ c. not (is_by connection c)) claims) slots after →
-    IsKept (filter (λ c. not (is_by connection c)) claims) after × (registry (filter (λ c. not (is_by connection c)) claims) after ≡ after_drop_all connection (registry claims slots))
-drop_all_done claims slots after p connection g =
-    let held = each_held claims slots p.placed.held in
-    let left = Each-filter (HeldAt slots) (λ (c : SlotClaim). not (is_by connection c)) claims held in
-    let fewer = length-filter-le (λ (c : SlotClaim). not (is_by connection c)) claims in
+pub release_done : (claims : List SlotClaim) (slots : List (Option Holding)) → IsKept claims slots → (slot connection : ℕ) (name : List ℕ) → slot ≡ unwrap_or (slot_of name slots) no_slot_number → (left : List SlotClaim) → left ≡ slot_without slot connection claims → (after : List (Option Holding)) → AreLetGo left slots after →
+    IsKept left after × (registry left after ≡ after_release name connection (registry claims slots))
+release_done claims slots p slot connection name n left l after g =
+    let t : Tells slots slot name = subst (λ k. Tells slots k name) (sym n) (known_tells claims slots p.placed name) in
+    let done = left_settled claims slots after p (λ (c : SlotClaim). not (is_slot_claim slot connection c)) (subst (λ x. AreLetGo x slots after) l g) in
+    let shown = without_shown slots slot connection name t claims (each_held claims slots p.placed.held) in (
+      subst (λ x. IsKept x after) (sym l) done.0,
+      ap (λ x. registry x after) l ∙ done.1 ∙ ap (λ (x : List Claim). settle_slots x slots) shown,
+    )
+
+pub drop_all_done : (claims : List SlotClaim) (slots : List (Option Holding)) → IsKept claims slots → (connection : ℕ) (left : List SlotClaim) → left ≡ filter (λ c. not (is_by connection c)) claims → (after : List (Option Holding)) → AreLetGo left slots after →
+    IsKept left after × (registry left after ≡ after_drop_all connection (registry claims slots))
+drop_all_done claims slots p connection left l after g =
+    let done = left_settled claims slots after p (λ (c : SlotClaim). not (is_by connection c)) (subst (λ x. AreLetGo x slots after) l g) in
     let same = filter-map (λ (c : Claim). not (is_of connection c)) (λ (c : SlotClaim). not (is_by connection c)) (named_claim slots) claims (Each-always (λ (c : SlotClaim). not (is_of connection (named_claim slots c)) ≡ not (is_by connection c)) (λ c. refl) claims) in (
-      let_go_is_kept claims (filter (λ c. not (is_by connection c)) claims) slots after p.placed (omega (arith, fewer, p.placed.fits)) left g,
-      let_go_registry claims (filter (λ c. not (is_by connection c)) claims) slots after p.placed left g
-          ∙ ap (λ (l : List Claim). settle_slots l slots) (sym same),
+      subst (λ x. IsKept x after) (sym l) done.0,
+      ap (λ x. registry x after) l ∙ done.1 ∙ ap (λ (x : List Claim). settle_slots x slots) (sym same),
     )
 
 -- ---- rules
@@ -194,34 +224,33 @@ used_counted claims slots after u slot name rules k h (inl a) e =
     ap (λ (x : Holding). is_unused (list_any (is_on_slot k) claims) (Some x)) (sym same) ∙ ap (λ (b : Bool). b && not (list_any (is_on_slot k) claims)) (counted rules)
 used_counted claims slots after u slot name rules k h (inr b) e = u k h (sym b.1 ∙ e)
 
-pub slot_for_done : (claims : List SlotClaim) (slots : List (Option Holding)) → IsKept claims slots → (slot : ℕ) (name : List ℕ) → slot_next name slots ≡ Some slot →
-    IsKept claims (held_slots slots slot name (rules_at (slice_get slots slot) + 1)) × (registry claims (held_slots slots slot name (rules_at (slice_get slots slot) + 1)) ≡ after_slot_for name (registry claims slots))
-slot_for_done claims slots p slot name n =
+pub slot_for_done : (claims : List SlotClaim) (slots : List (Option Holding)) → IsKept claims slots → (slot : ℕ) (name : List ℕ) → slot_next name slots ≡ Some slot → (rules : ℕ) → rules ≡ rules_at (slice_get slots slot) → (after : List (Option Holding)) → after ≡ held_slots slots slot name (rules + 1) →
+    IsKept claims after × (registry claims after ≡ after_slot_for name (registry claims slots))
+slot_for_done claims slots p slot name n rules r after a =
     let evidence = next_tells claims slots p.placed name slot n in
-    let rules = rules_at (slice_get slots slot) in
-    let after = held_slots slots slot name (rules + 1) in
     let held = each_held claims slots p.placed.held in
-    let same_slots : after ≡ with_rules name (rules_of name slots + 1) slots = ap (λ (r : ℕ). held_slots slots slot name (r + 1)) (sym evidence.2) ∙ ap (λ (o : Option ℕ). put_at o name (rules_of name slots + 1) slots) (sym n) in (
-      record {
+    let same_slots : held_slots slots slot name (rules + 1) ≡ with_rules name (rules_of name slots + 1) slots = ap (λ (k : ℕ). held_slots slots slot name (k + 1)) (r ∙ sym evidence.2) ∙ ap (λ (o : Option ℕ). put_at o name (rules_of name slots + 1) slots) (sym n) in (
+      subst (IsKept claims) (sym a) (record {
         placed = placed_still claims slots p.placed slot name (rules + 1) evidence.1 evidence.0;
-        used = λ k h e. used_counted claims slots after p.used slot name rules k h (read_held slots slot name (rules + 1) evidence.1 k) e;
-      },
-      ap (λ (l : List Claim). let r : Registry = record { claims = l; slots = after } in r) (shown_still slots slot name (rules + 1) evidence.1 evidence.0 claims held)
-          ∙ ap (λ (l : List (Option Holding)). let r : Registry = record { claims = map (named_claim slots) claims; slots = l } in r) same_slots,
+        used = λ k h e. used_counted claims slots (held_slots slots slot name (rules + 1)) p.used slot name rules k h (read_held slots slot name (rules + 1) evidence.1 k) e;
+      }),
+      ap (registry claims) a
+          ∙ ap (λ (l : List Claim). let x : Registry = record { claims = l; slots = held_slots slots slot name (rules + 1) } in x) (shown_still slots slot name (rules + 1) evidence.1 evidence.0 claims held)
+          ∙ ap (λ (l : List (Option Holding)). let x : Registry = record { claims = map (named_claim slots) claims; slots = l } in x) same_slots,
     )
 
-pub slot_free_done : (claims : List SlotClaim) (slots after : List (Option Holding)) → IsKept claims slots → (slot : ℕ) (name : List ℕ) → slot_next name slots ≡ Some slot → AreLetGo claims (held_slots slots slot name (rules_at (slice_get slots slot) - 1)) after →
+pub slot_free_done : (claims : List SlotClaim) (slots : List (Option Holding)) → IsKept claims slots → (slot : ℕ) (name : List ℕ) → slot_next name slots ≡ Some slot → (rules : ℕ) → rules ≡ rules_at (slice_get slots slot) → (between : List (Option Holding)) → between ≡ held_slots slots slot name (rules - 1) → (after : List (Option Holding)) → AreLetGo claims between after →
     IsKept claims after × (registry claims after ≡ after_slot_free name (registry claims slots))
-slot_free_done claims slots after p slot name n g =
+slot_free_done claims slots p slot name n rules r between b after l =
     let evidence = next_tells claims slots p.placed name slot n in
-    let rules = rules_at (slice_get slots slot) in
-    let between = held_slots slots slot name (rules - 1) in
+    let held_now = held_slots slots slot name (rules - 1) in
+    let g : AreLetGo claims held_now after = subst (λ x. AreLetGo claims x after) b l in
     let held = each_held claims slots p.placed.held in
     let placed_between = placed_still claims slots p.placed slot name (rules - 1) evidence.1 evidence.0 in
     let held_between = each_held_still slots slot name (rules - 1) evidence.1 evidence.0 claims held in
-    let same_slots : between ≡ with_rules name (rules_of name slots - 1) slots = ap (λ (r : ℕ). held_slots slots slot name (r - 1)) (sym evidence.2) ∙ ap (λ (o : Option ℕ). put_at o name (rules_of name slots - 1) slots) (sym n) in (
-      let_go_is_kept claims claims between after placed_between p.placed.fits held_between g,
-      let_go_registry claims claims between after placed_between held_between g
-          ∙ ap (λ (l : List Claim). settle_slots l between) (shown_still slots slot name (rules - 1) evidence.1 evidence.0 claims held)
+    let same_slots : held_now ≡ with_rules name (rules_of name slots - 1) slots = ap (λ (k : ℕ). held_slots slots slot name (k - 1)) (r ∙ sym evidence.2) ∙ ap (λ (o : Option ℕ). put_at o name (rules_of name slots - 1) slots) (sym n) in (
+      let_go_is_kept claims claims held_now after placed_between p.placed.fits held_between g,
+      let_go_registry claims claims held_now after placed_between held_between g
+          ∙ ap (λ (x : List Claim). settle_slots x held_now) (shown_still slots slot name (rules - 1) evidence.1 evidence.0 claims held)
           ∙ ap (settle_slots (map (named_claim slots) claims)) same_slots,
     )

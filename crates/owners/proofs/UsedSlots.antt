@@ -9,8 +9,8 @@ use Rattle.owners.specs.declared.step.Step.{Step}
 use Rattle.owners.specs.declared.step.Step.TheVariants as steps
 use Rattle.owners.specs.Queues.{has_flag, do_not_queue}
 use Rattle.owners.specs.Registry.{is_unused}
-use Rattle.owners.specs.Kept.{is_on_slot, is_slot_claim, slot_without, slot_with_flags, without_owner, step_of, step_done, AreUsed}
-use Rattle.owners.proofs.Lists.{Each-always, any-map, find-filter, any-from_find, any-filter, any-append, any-append_last}
+use Rattle.owners.specs.Kept.{is_on_slot, is_by, is_slot_claim, slot_without, slot_with_flags, claim_put, without_owner, step_of, step_done, AreUsed}
+use Rattle.owners.proofs.Lists.{Each-always, any-map, find-filter, any-from_find, any-from_none, any-both, any-filter, any-append, any-append_last}
 use Rattle.owners.proofs.Placed.{held_slots, read_held}
 use Rattle.owners.proofs.Requested.{step_for}
 
@@ -39,41 +39,42 @@ any_leaving : (k slot : ℕ) → (k ≡ slot → ⊥) → (claims : List SlotCla
 any_leaving k slot n claims None h = h
 any_leaving k slot n claims (Some owner) h = any_without k slot owner n claims h
 
+put_stays : (claim : SlotClaim) (claims : List SlotClaim) (k : ℕ) (waits : Bool) → list_any (is_on_slot k) claims ≡ true → list_any (is_on_slot k) (if waits then slot_with_flags claim.slot claim.connection claim.flags claims else claims ++ claim ∷ []) ≡ true
+put_stays claim claims k true h = any_flagged k claim.slot claim.connection claim.flags claims ∙ h
+put_stays claim claims k false h = any-append (is_on_slot k) claims (claim ∷ []) h
+
 -- another slot stays claimed
 any_stays : (step : Step) (claim : SlotClaim) (claims : List SlotClaim) (k : ℕ) → (k ≡ claim.slot → ⊥) → list_any (is_on_slot k) claims ≡ true → list_any (is_on_slot k) (step_done step claim claims) ≡ true
-any_stays steps.PutLast claim claims k n h = any-append (is_on_slot k) claims (claim ∷ []) h
-any_stays steps.SetFlags claim claims k n h = any_flagged k claim.slot claim.connection claim.flags claims ∙ h
+any_stays steps.Put claim claims k n h = put_stays claim claims k (list_any (is_slot_claim claim.slot claim.connection) claims) h
 any_stays steps.Remove claim claims k n h = any_without k claim.slot claim.connection n claims h
 any_stays (steps.Replace leaving) claim claims k n h =
     or_right (is_on_slot k claim) (list_any (is_on_slot k) (slot_without claim.slot claim.connection (without_owner leaving claim.slot claims)))
     (any_without k claim.slot claim.connection n (without_owner leaving claim.slot claims) (any_leaving k claim.slot n claims leaving h))
 
 -- the slot itself is claimed
-put_claimed : (claim : SlotClaim) (claims : List SlotClaim) → list_any (is_on_slot claim.slot) (claims ++ claim ∷ []) ≡ true
-put_claimed claim claims =
-    any-append_last (is_on_slot claim.slot) claims (claim ∷ []) (or_left (claim.slot == claim.slot) false (eq-eqb claim.slot claim.slot refl))
+put_claimed : (claim : SlotClaim) (claims : List SlotClaim) → list_any (is_slot_claim claim.slot claim.connection) claims ≡ false → list_any (is_on_slot claim.slot) (claim_put claim claims) ≡ true
+put_claimed claim claims h =
+    rw h (any-append_last (is_on_slot claim.slot) claims (claim ∷ []) (or_left (claim.slot == claim.slot) false (eq-eqb claim.slot claim.slot refl)))
 
-by_tests : (claim : SlotClaim) (claims : List SlotClaim) (owner : SlotClaim) → find (is_on_slot claim.slot) claims ≡ Some owner → (leaving : Option ℕ) → (same replaces leaves waits : Bool) → (owner.connection == claim.connection) ≡ same →
-    list_any (is_on_slot claim.slot) (step_done (if same then steps.SetFlags else if replaces then steps.Replace leaving else if leaves then steps.Remove else if waits then steps.SetFlags else steps.PutLast) claim claims) ≡ true
-by_tests claim claims owner e leaving true replaces leaves waits q =
-    any_flagged claim.slot claim.slot claim.connection claim.flags claims ∙ any-from_find (is_on_slot claim.slot) claims owner e
-by_tests claim claims owner e leaving false true leaves waits q =
+by_tests : (claim : SlotClaim) (claims : List SlotClaim) (owner : SlotClaim) → find (is_on_slot claim.slot) claims ≡ Some owner → (leaving : Option ℕ) → (same replaces leaves : Bool) → (owner.connection == claim.connection) ≡ same →
+    list_any (is_on_slot claim.slot) (step_done (if same then steps.Put else if replaces then steps.Replace leaving else if leaves then steps.Remove else steps.Put) claim claims) ≡ true
+by_tests claim claims owner e leaving true replaces leaves q =
+    put_stays claim claims claim.slot (list_any (is_slot_claim claim.slot claim.connection) claims) (any-from_find (is_on_slot claim.slot) claims owner e)
+by_tests claim claims owner e leaving false true leaves q =
     or_left (claim.slot == claim.slot) (list_any (is_on_slot claim.slot) (slot_without claim.slot claim.connection (without_owner leaving claim.slot claims))) (eq-eqb claim.slot claim.slot refl)
-by_tests claim claims owner e leaving false false true waits q =
+by_tests claim claims owner e leaving false false true q =
     any-from_find (is_on_slot claim.slot) (slot_without claim.slot claim.connection claims) owner
     (find-filter (is_on_slot claim.slot) (λ (c : SlotClaim). not (is_slot_claim claim.slot claim.connection c)) claims owner (ap not (and_right (owner.slot == claim.slot) (owner.connection == claim.connection) q)) e)
-by_tests claim claims owner e leaving false false false true q =
-    any_flagged claim.slot claim.slot claim.connection claim.flags claims ∙ any-from_find (is_on_slot claim.slot) claims owner e
-by_tests claim claims owner e leaving false false false false q = put_claimed claim claims
+by_tests claim claims owner e leaving false false false q =
+    put_stays claim claims claim.slot (list_any (is_slot_claim claim.slot claim.connection) claims) (any-from_find (is_on_slot claim.slot) claims owner e)
 
-by_first : (claim : SlotClaim) (claims : List SlotClaim) (waits : Bool) (o : Option SlotClaim) → find (is_on_slot claim.slot) claims ≡ o → list_any (is_on_slot claim.slot) (step_done (step_of o waits claim.connection claim.flags) claim claims) ≡ true
-by_first claim claims waits None e = put_claimed claim claims
-by_first claim claims waits (Some owner) e =
-    by_tests claim claims owner e (if has_flag owner.flags do_not_queue then Some owner.connection else None) (owner.connection == claim.connection) (has_flag owner.flags 1 && has_flag claim.flags 2) (has_flag claim.flags do_not_queue) waits refl
+by_first : (claim : SlotClaim) (claims : List SlotClaim) (o : Option SlotClaim) → find (is_on_slot claim.slot) claims ≡ o → list_any (is_on_slot claim.slot) (step_done (step_of o claim.connection claim.flags) claim claims) ≡ true
+by_first claim claims None e = put_claimed claim claims (any-both (is_on_slot claim.slot) (is_by claim.connection) claims (any-from_none (is_on_slot claim.slot) claims e))
+by_first claim claims (Some owner) e =
+    by_tests claim claims owner e (if has_flag owner.flags do_not_queue then Some owner.connection else None) (owner.connection == claim.connection) (has_flag owner.flags 1 && has_flag claim.flags 2) (has_flag claim.flags do_not_queue) refl
 
 pub step_claims : (claim : SlotClaim) (claims : List SlotClaim) → list_any (is_on_slot claim.slot) (step_done (step_for claim claims) claim claims) ≡ true
-step_claims claim claims =
-    by_first claim claims (list_any (is_slot_claim claim.slot claim.connection) claims) (find (is_on_slot claim.slot) claims) refl
+step_claims claim claims = by_first claim claims (find (is_on_slot claim.slot) claims) refl
 
 -- ---- the slots are used
 

@@ -36,6 +36,11 @@ is_by connection claim = claim.connection == connection
 abbrev pub is_slot_claim : ℕ → ℕ → SlotClaim → Bool
 is_slot_claim slot connection claim = is_on_slot slot claim && is_by connection claim
 
+-- a claim of the connection, and on the name that has the slot, if one is given
+abbrev pub is_leaving : Option ℕ → ℕ → SlotClaim → Bool
+is_leaving (Some slot) connection claim = is_slot_claim slot connection claim
+is_leaving None connection claim = is_by connection claim
+
 abbrev pub slot_without : ℕ → ℕ → List SlotClaim → List SlotClaim
 slot_without slot connection claims = filter (λ c. not (is_slot_claim slot connection c)) claims
 
@@ -43,14 +48,19 @@ abbrev pub slot_with_flags : ℕ → ℕ → ℕ → List SlotClaim → List Slo
 slot_with_flags slot connection flags claims =
     map (λ (c : SlotClaim). if is_slot_claim slot connection c then record c { flags = flags } else c) claims
 
+-- the claim takes the place of the connection's on the name, or is put last
+abbrev pub claim_put : SlotClaim → List SlotClaim → List SlotClaim
+claim_put claim claims =
+    if list_any (is_slot_claim claim.slot claim.connection) claims then slot_with_flags claim.slot claim.connection claim.flags claims
+    else claims ++ claim ∷ []
+
 -- the owner's claim stays, or leaves
 abbrev pub without_owner : Option ℕ → ℕ → List SlotClaim → List SlotClaim
 without_owner None slot claims = claims
 without_owner (Some owner) slot claims = slot_without slot owner claims
 
 abbrev pub step_done : Step → SlotClaim → List SlotClaim → List SlotClaim
-step_done steps.PutLast claim claims = claims ++ claim ∷ []
-step_done steps.SetFlags claim claims = slot_with_flags claim.slot claim.connection claim.flags claims
+step_done steps.Put claim claims = claim_put claim claims
 step_done steps.Remove claim claims = slot_without claim.slot claim.connection claims
 step_done (steps.Replace leaving) claim claims =
     claim ∷ slot_without claim.slot claim.connection (without_owner leaving claim.slot claims)
@@ -58,15 +68,14 @@ step_done (steps.Replace leaving) claim claims =
 abbrev pub leaving_owner : SlotClaim → Option ℕ
 leaving_owner owner = if has_flag owner.flags do_not_queue then Some owner.connection else None
 
--- what is done to the claims, by the first on the name, and whether the caller has a claim on it
-abbrev pub step_of : Option SlotClaim → Bool → ℕ → ℕ → Step
-step_of None waits connection flags = steps.PutLast
-step_of (Some owner) waits connection flags =
-    if owner.connection == connection then steps.SetFlags
+-- what is done to the claims, by the first on the name
+abbrev pub step_of : Option SlotClaim → ℕ → ℕ → Step
+step_of None connection flags = steps.Put
+step_of (Some owner) connection flags =
+    if owner.connection == connection then steps.Put
     else if has_flag owner.flags allow_replacement && has_flag flags replace_existing then steps.Replace (leaving_owner owner)
     else if has_flag flags do_not_queue then steps.Remove
-    else if waits then steps.SetFlags
-    else steps.PutLast
+    else steps.Put
 
 -- what a request is answered, by the first claim on the name
 abbrev pub reply_of : Option SlotClaim → ℕ → ℕ → NameReply
@@ -77,14 +86,14 @@ reply_of (Some owner) connection flags =
     else if has_flag flags do_not_queue then Exists
     else InQueue
 
--- whether the step makes one more claim, where the caller has a claim already or not
-abbrev pub adds : Step → Bool → Bool
-adds steps.PutLast waits = true
-adds (steps.Replace leaving) waits = not waits && is_none leaving
-adds _ waits = false
+-- whether the step makes one more claim, where the caller has none
+abbrev pub adds : Step → Bool
+adds steps.Put = true
+adds steps.Remove = false
+adds (steps.Replace leaving) = is_none leaving
 
 abbrev pub is_over : Step → Bool → ℕ → Bool
-is_over step waits len = adds step waits && nat_le max_claims len
+is_over step waits len = not waits && adds step && nat_le max_claims len
 
 -- the owner of the name that has the slot
 abbrev pub slot_owner : ℕ → List SlotClaim → Option ℕ
@@ -96,6 +105,11 @@ kept_if claimed slot = if is_unused claimed slot then None else slot
 
 abbrev pub kept_at : Bool → Option (Option Holding) → Option (Option Holding)
 kept_at claimed place = option_map (kept_if claimed) place
+
+-- the slots after those without a claim or a rule were let go
+pub record AreLetGo (claims : List SlotClaim) (slots after : List (Option Holding)) : Type 0 where
+  pub size : length after ≡ length slots
+  pub at : (k : ℕ) → slice_get after k ≡ kept_at (list_any (is_on_slot k) claims) (slice_get slots k)
 
 -- each claim's slot is that of a name
 abbrev pub are_held : List SlotClaim → List (Option Holding) → Bool

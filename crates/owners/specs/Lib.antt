@@ -4,4 +4,6 @@ pub mod Claimable
 pub mod Queues
 pub mod Registry
 pub mod Kept
+pub mod SameClaim
+pub mod Rooms
 pub mod Plan

@@ -12,6 +12,6 @@ claim_at slot connection flags = record { connection = connection; flags = flags
 
 pub record IsPlan (claims : List SlotClaim) (slots : List (Option Holding)) (name : List ℕ) (connection flags : ℕ) (plan : Plan) : Type 0 where
   pub slot_is : slot_next name slots ≡ Some plan.slot
-  pub step_is : plan.step ≡ step_of (find (is_on_slot plan.slot) claims) (list_any (is_slot_claim plan.slot connection) claims) connection flags
+  pub step_is : plan.step ≡ step_of (find (is_on_slot plan.slot) claims) connection flags
   pub fits : length (step_done plan.step (claim_at plan.slot connection flags) claims) ≤ max_claims
   pub answer : request_answer name connection flags (registry claims slots) ≡ Ok plan.named

@@ -1,11 +1,15 @@
 // Claims as they are kept: each with the slot of its name.
 
-ghost use Rattle.std.specs.Prelude.{◌≡◌, ◌+◌, ◌≤◌, ◌<◌, ℕ, filter, find, length, map, vec_capacity, ◌==◌, not, option_map, if◌then◌else◌};
-ghost use Rattle.std.specs.List.{list_any, list_all};
-ghost use Rattle.std.specs.Option.{option_eq};
-ghost use Rattle.owners.specs.Kept.{is_on_slot, is_by, is_slot_claim, slot_without, slot_with_flags};
+ghost use Rattle.std.specs.Prelude.{◌≡◌, ◌++◌, find, option_map, if◌then◌else◌};
+ghost use Rattle.std.specs.Cmp.{partial_equiv_from_equiv};
+ghost use Rattle.std.specs.Hash as fed;
+ghost use Rattle.owners.specs.Kept.{is_on_slot, is_slot_claim, slot_without, is_leaving};
+ghost use Rattle.owners.specs.SameClaim.{same_claim, same_claim_equiv, same_claim_alike};
 
-/// A connection's claim on the name that has the slot, with the flags of its last request.
+use std::hash::{Hash, Hasher};
+
+/// A connection's claim on the name that has the slot, with the flags of its last request. Claims are compared by
+/// the connection and the slot: a connection has one on a name at most.
 #[derive(Clone, Copy)]
 pub(crate) struct SlotClaim {
     pub(crate) connection: u64,
@@ -14,15 +18,47 @@ pub(crate) struct SlotClaim {
 }
 
 impl SlotClaim {
-    /// The claim, with these flags if it is the connection's on the name that has the slot.
-    fn with_flags(self, slot: u16, connection: u64, flags: u32) -> SlotClaim
-        ensures { result ≡ (if is_slot_claim slot connection self then record self { flags = flags } else self) }
+    /// The claim, with the other one's flags if both are the same connection's on the same name.
+    pub(crate) fn flagged_as(self, other: SlotClaim) -> SlotClaim
+        ensures { result ≡ (if is_slot_claim other.slot other.connection self then record self { flags = other.flags } else self) }
     {
-        if self.slot == slot && self.connection == connection {
-            SlotClaim { flags, ..self }
-        } else {
-            self
-        }
+        if self == other { other } else { self }
+    }
+
+    /// Whether it is the connection's, and on the name that has the slot, if one is given.
+    pub(crate) fn is_leaving(&self, slot: Option<u16>, connection: u64) -> bool
+        ensures { result ≡ is_leaving slot connection self.now }
+    {
+        let is_on_slot = match slot {
+            Some(slot) => self.slot == slot,
+            None => true,
+        };
+        is_on_slot && self.connection == connection
+    }
+}
+
+impl PartialEq for SlotClaim {
+    ghost eq = { same_claim };
+
+    ghost laws = { partial_equiv_from_equiv same_claim_equiv };
+
+    fn eq(&self, other: &SlotClaim) -> bool {
+        other.slot == self.slot && other.connection == self.connection
+    }
+}
+
+impl Eq for SlotClaim {
+    ghost laws = { same_claim_equiv };
+}
+
+impl Hash for SlotClaim {
+    ghost hash_input = { λ claim. fed.u16 claim.slot ++ fed.u64 claim.connection };
+
+    ghost respects_eq = { same_claim_alike };
+
+    fn hash<H: Hasher>(&self, state: &mut H) {
+        state.write_u16(self.slot);
+        state.write_u64(self.connection);
     }
 }
 
@@ -58,37 +94,4 @@ pub(crate) fn first_other(claims: &[SlotClaim], slot: u16, connection: u64) -> O
         }
     }
     None
-}
-
-/// Whether the connection has a claim on the name that has the slot.
-pub(crate) fn has_claim(claims: &[SlotClaim], slot: u16, connection: u64) -> bool
-    ensures { result ≡ list_any (is_slot_claim slot connection) claims.now }
-{
-    claims.iter().any(|claim| claim.slot == slot && claim.connection == connection)
-}
-
-/// Takes away the connection's claim on the name that has the slot.
-pub(crate) fn remove(claims: &mut Vec<SlotClaim>, slot: u16, connection: u64)
-    ensures claims { claims.new.items ≡ slot_without slot connection claims.old.items }
-    ensures room { vec_capacity claims.new ≡ vec_capacity claims.old }
-{
-    claims.retain(|claim| !(claim.slot == slot && claim.connection == connection));
-}
-
-/// Takes away all claims of the connection.
-pub(crate) fn remove_all(claims: &mut Vec<SlotClaim>, connection: u64)
-    ensures claims { claims.new.items ≡ filter (λ c. not (is_by connection c)) claims.old.items }
-    ensures room { vec_capacity claims.new ≡ vec_capacity claims.old }
-{
-    claims.retain(|claim| !(claim.connection == connection));
-}
-
-/// Gives these flags to the connection's claim on the name that has the slot.
-pub(crate) fn set_flags(claims: &mut Vec<SlotClaim>, slot: u16, connection: u64, flags: u32)
-    ensures claims { claims.new.items ≡ slot_with_flags slot connection flags claims.old.items }
-    ensures room { vec_capacity claims.new ≡ vec_capacity claims.old }
-{
-    for i in 0..claims.len() {
-        claims[i] = claims[i].with_flags(slot, connection, flags);
-    }
 }

@@ -3,11 +3,12 @@
 ghost use Rattle.std.specs.Prelude.{◌≡◌, None, replicate, IfOk};
 
 use crate::answer::{Dropped, Named};
-use crate::claim::{SlotClaim, connection_of, first_on, remove, remove_all};
+use crate::claim::{SlotClaim, connection_of, first_on};
+use crate::claim_list::ClaimList;
 use crate::error::ClaimError;
 use crate::holding::{Holding, hold, known_slot, let_go, rules_at, slot_next, slot_of};
 use crate::least::{copy_of, least_after, least_of};
-use crate::marks::{claimed_slots, owned_slots};
+use crate::marks::owned_slots;
 use crate::plan::plan_of;
 use crate::queue::Queue;
 use crate::release::{dropped_by, release_answer};
@@ -29,21 +30,20 @@ pub const MAX_RULES: u32 = 16384;
 /// The claims of connections on well-known names, and the slots of the names. All its room is taken by `new`.
 #[derive(Drop)]
 pub struct Claims {
-    claims: Vec<SlotClaim>,
+    claims: ClaimList,
     slots: Vec<Option<Holding>>,
 }
 
 impl Model for Claims {
-    ghost use Rattle.std.specs.Prelude.{◌≤◌, vec_capacity};
     ghost use Rattle.owners.specs.Registry.{Registry};
 
     ghost Value = { Registry };
 
     ghost use Rattle.owners.specs.Kept.{registry, IsKept};
 
-    ghost view = { λ c. registry c.claims.items c.slots.items };
+    ghost view = { λ c. registry c.claims c.slots.items };
 
-    ghost invariant = { λ c. IsKept c.claims.items c.slots.items × (4096 ≤ vec_capacity c.claims) };
+    ghost invariant = { λ c. IsKept c.claims c.slots.items };
 }
 
 /// As many free slots as there can be names.
@@ -68,7 +68,7 @@ impl Claims {
         ensures opening { IfOk result (λ names. names ≡ opening) }
         ensures registry { IfOk result (λ names. IsRegistry names) }
     {
-        let claims = Vec::with_capacity(alloc, MAX_CLAIMS)?;
+        let claims = ClaimList::new(alloc)?;
         let slots = free_slots(alloc)?;
         Ok(Claims { claims, slots })
     }
@@ -83,13 +83,7 @@ impl Claims {
         ensures answer { result ≡ request_answer name.now connection flags self.now }
         ensures registry { IsRegistry self.now }
     {
-        let plan = plan_of(
-            self.claims.as_slice(),
-            self.slots.as_slice(),
-            name,
-            connection,
-            flags,
-        )?;
+        let plan = plan_of(&self.claims, self.slots.as_slice(), name, connection, flags)?;
         Ok(plan.named)
     }
 
@@ -109,13 +103,7 @@ impl Claims {
         ensures after { self.new ≡ after_request name.now connection flags self.old }
         ensures registry { IsRegistry self.new }
     {
-        let plan = plan_of(
-            self.claims.as_slice(),
-            self.slots.as_slice(),
-            name,
-            connection,
-            flags,
-        )?;
+        let plan = plan_of(&self.claims, self.slots.as_slice(), name, connection, flags)?;
         let claim = SlotClaim {
             connection,
             flags,
@@ -133,7 +121,7 @@ impl Claims {
         ensures registry { IsRegistry self.now }
     {
         let slot = known_slot(self.slots.as_slice(), name.as_str());
-        release_answer(self.claims.as_slice(), slot, name, connection)
+        release_answer(&self.claims, slot, name, connection)
     }
 
     /// A connection gives up its claim on a name, whether it owns it or waits for it (ReleaseName).
@@ -143,10 +131,9 @@ impl Claims {
         ensures registry { IsRegistry self.new }
     {
         let slot = known_slot(self.slots.as_slice(), name.as_str());
-        let named = release_answer(self.claims.as_slice(), slot, name, connection);
-        remove(&mut self.claims, slot, connection);
-        let claimed = claimed_slots(self.claims.as_slice());
-        let_go(&mut self.slots, &claimed);
+        let named = release_answer(&self.claims, slot, name, connection);
+        self.claims.remove(Some(slot), connection);
+        let_go(&mut self.slots, self.claims.as_slice());
         named
     }
 
@@ -186,9 +173,8 @@ impl Claims {
         ensures after { self.new ≡ after_drop_all connection self.old }
         ensures registry { IsRegistry self.new }
     {
-        remove_all(&mut self.claims, connection);
-        let claimed = claimed_slots(self.claims.as_slice());
-        let_go(&mut self.slots, &claimed);
+        self.claims.remove(None, connection);
+        let_go(&mut self.slots, self.claims.as_slice());
     }
 
     /// The primary owner of a name, if it has one.
@@ -280,7 +266,6 @@ impl Claims {
         let slot = known_slot(self.slots.as_slice(), name.as_str());
         let rules = rules_at(self.slots.as_slice(), slot);
         hold(&mut self.slots, slot, name, rules - 1);
-        let claimed = claimed_slots(self.claims.as_slice());
-        let_go(&mut self.slots, &claimed);
+        let_go(&mut self.slots, self.claims.as_slice());
     }
 }

@@ -1,12 +1,12 @@
 // The slots of names.
 
 ghost use Rattle.std.specs.Prelude.{◌≡◌, ◌+◌, ◌≤◌, ◌<◌, ℕ, Some, option_map, length, slice_get, slice_set, unwrap_or, true};
-ghost use Rattle.summary.specs.Sets.{has_slot};
 ghost use Rattle.owners.specs.Registry.{is_unused, is_held_by, slot_of, slot_next, first_free, rules_at};
-ghost use Rattle.owners.specs.Kept.{kept_at, is_name, name_at};
+ghost use Rattle.owners.specs.Kept.{are_slots, is_name, name_at, AreLetGo};
 
+use crate::claim::SlotClaim;
+use crate::marks::claimed_slots;
 use crate::well_known::WellKnown;
-use summary::Slots;
 
 /// A number that is no slot's.
 const NO_SLOT: u16 = u16::MAX;
@@ -120,11 +120,12 @@ fn is_unused(slot: &Option<Holding>, claimed: bool) -> bool
 }
 
 /// Lets go each slot whose name has neither a claim nor a rule.
-pub(crate) fn let_go(slots: &mut Vec<Option<Holding>>, claimed: &Slots)
-    requires { length slots.old.items ≤ 1024 }
-    ensures size { length slots.new.items ≡ length slots.old.items }
-    ensures kept_slot { (slot : ℕ) → slice_get slots.new.items slot ≡ kept_at (has_slot claimed.now slot) (slice_get slots.old.items slot) }
+pub(crate) fn let_go(slots: &mut Vec<Option<Holding>>, claims: &[SlotClaim])
+    requires size { length slots.old.items ≤ 1024 }
+    requires inside { are_slots claims.now ≡ true }
+    ensures { AreLetGo claims.now slots.old.items slots.new.items }
 {
+    let claimed = claimed_slots(claims);
     for i in 0..slots.len() {
         if is_unused(&slots[i], claimed.contains(i as u16)) {
             slots[i] = None;

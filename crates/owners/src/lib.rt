@@ -5,6 +5,7 @@
 
 mod answer;
 mod claim;
+mod claim_list;
 mod claims;
 mod error;
 mod holding;

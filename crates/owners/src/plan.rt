@@ -6,7 +6,8 @@ ghost use Rattle.owners.specs.Kept.{registry, change_for, IsKept};
 ghost use Rattle.owners.specs.Plan.{IsPlan};
 
 use crate::answer::{Change, NameReply, Named};
-use crate::claim::{SlotClaim, connection_of, first_on, has_claim};
+use crate::claim::{connection_of, first_on};
+use crate::claim_list::ClaimList;
 use crate::error::ClaimError;
 use crate::holding::{Holding, slot_next};
 use crate::step::{Step, is_over, reply_of, step_of};
@@ -56,7 +57,7 @@ fn change_for(
 
 /// The answer to a request, and the step that it makes.
 pub(crate) fn plan_of(
-    claims: &[SlotClaim],
+    claims: &ClaimList,
     slots: &[Option<Holding>],
     name: &WellKnown,
     connection: u64,
@@ -68,9 +69,9 @@ pub(crate) fn plan_of(
     let Some(slot) = slot_next(slots, name.as_str()) else {
         return Err(ClaimError::NamesFull);
     };
-    let owner = first_on(claims, slot);
-    let waits = has_claim(claims, slot, connection);
-    let step = step_of(owner, waits, connection, flags);
+    let owner = first_on(claims.as_slice(), slot);
+    let waits = claims.has(slot, connection);
+    let step = step_of(owner, connection, flags);
     if is_over(step, waits, claims.len()) {
         return Err(ClaimError::QueueFull);
     }

@@ -1,11 +1,12 @@
 // What a request does to the claims.
 
-ghost use Rattle.std.specs.Prelude.{◌≡◌, ◌≤◌, ◌<◌, ℕ, [], ◌∷◌, ◌++◌, ◌&&◌, length, vec_capacity};
+ghost use Rattle.std.specs.Prelude.{◌≡◌, ◌≤◌, ◌&&◌, length};
 ghost use Rattle.owners.specs.Queues.{has_flag};
-ghost use Rattle.owners.specs.Kept.{leaving_owner, reply_of, step_of, step_done, is_over, without_owner};
+ghost use Rattle.owners.specs.Kept.{leaving_owner, reply_of, step_of, step_done, adds, is_over, without_owner};
 
 use crate::answer::NameReply;
-use crate::claim::{SlotClaim, remove, set_flags};
+use crate::claim::SlotClaim;
+use crate::claim_list::ClaimList;
 use crate::claims::MAX_CLAIMS;
 
 /// The claim may be replaced (DBUS_NAME_FLAG_ALLOW_REPLACEMENT).
@@ -20,10 +21,8 @@ const DO_NOT_QUEUE: u32 = 4;
 /// What a request does to the claims.
 #[derive(Clone, Copy)]
 pub(crate) enum Step {
-    /// The caller's claim is put last.
-    PutLast,
-    /// The caller's claim keeps its place and gets the flags.
-    SetFlags,
+    /// The caller's claim keeps its place and gets the flags, or is put last.
+    Put,
     /// The caller doesn't wait any more.
     Remove,
     /// The caller's claim comes first, and the owner leaves, if it is named.
@@ -53,24 +52,24 @@ fn may_replace(owner: SlotClaim, flags: u32) -> bool
     has_flag(owner.flags, ALLOW_REPLACEMENT) && has_flag(flags, REPLACE_EXISTING)
 }
 
-/// What a request of the connection does, where `owner` is the first claim on the name and `waits` says whether
-/// the connection has one.
-pub(crate) fn step_of(owner: Option<SlotClaim>, waits: bool, connection: u64, flags: u32) -> Step
-    ensures { result ≡ step_of owner waits connection flags }
+/// What a request of the connection does, where `owner` is the first claim on the name.
+pub(crate) fn step_of(owner: Option<SlotClaim>, connection: u64, flags: u32) -> Step
+    ensures { result ≡ step_of owner connection flags }
 {
     let Some(owner) = owner else {
-        return Step::PutLast;
+        return Step::Put;
     };
     if owner.connection == connection {
-        return Step::SetFlags;
+        return Step::Put;
     }
     if may_replace(owner, flags) {
         return Step::Replace(leaving_owner(owner));
     }
     if has_flag(flags, DO_NOT_QUEUE) {
-        return Step::Remove;
+        Step::Remove
+    } else {
+        Step::Put
     }
-    if waits { Step::SetFlags } else { Step::PutLast }
 }
 
 /// What the request is answered.
@@ -93,67 +92,46 @@ pub(crate) fn reply_of(owner: Option<SlotClaim>, connection: u64, flags: u32) ->
     }
 }
 
-/// Whether the step makes one claim more than there may be, where there are `len` claims.
+/// Whether the step makes one more claim, where the connection has none on the name.
+fn adds(step: Step) -> bool
+    ensures { result ≡ adds step }
+{
+    match step {
+        Step::Put => true,
+        Step::Remove => false,
+        Step::Replace(leaving) => leaving.is_none(),
+    }
+}
+
+/// Whether the step makes one claim more than there may be, where there are `len` claims and `waits` says whether
+/// the connection has one on the name.
 pub(crate) fn is_over(step: Step, waits: bool, len: usize) -> bool
     ensures { result ≡ is_over step waits len }
 {
-    let adds = match step {
-        Step::PutLast => true,
-        Step::Replace(leaving) => !waits && leaving.is_none(),
-        Step::SetFlags | Step::Remove => false,
-    };
-    adds && len >= MAX_CLAIMS
-}
-
-/// Puts a claim after all others.
-fn put_last(claims: &mut Vec<SlotClaim>, claim: SlotClaim)
-    requires { length claims.old.items < vec_capacity claims.old }
-    ensures claims { claims.new.items ≡ claims.old.items ++ claim ∷ [] }
-    ensures room { vec_capacity claims.old ≤ vec_capacity claims.new }
-{
-    match claims.push(claim) {
-        Ok(()) => {}
-        Err(_) => unreachable!(),
-    }
-}
-
-/// Puts a claim before all others.
-fn put_first(claims: &mut Vec<SlotClaim>, claim: SlotClaim)
-    requires { length claims.old.items < vec_capacity claims.old }
-    ensures claims { claims.new.items ≡ claim ∷ claims.old.items }
-    ensures room { vec_capacity claims.old ≤ vec_capacity claims.new }
-{
-    match claims.insert(0, claim) {
-        Ok(()) => {}
-        Err(_) => unreachable!(),
-    }
+    !waits && adds(step) && len >= MAX_CLAIMS
 }
 
 /// The owner's claim goes, if it leaves.
-fn remove_leaving(claims: &mut Vec<SlotClaim>, slot: u16, leaving: Option<u64>)
-    ensures claims { claims.new.items ≡ without_owner leaving slot claims.old.items }
-    ensures room { vec_capacity claims.new ≡ vec_capacity claims.old }
+fn remove_leaving(claims: &mut ClaimList, slot: u16, leaving: Option<u64>)
+    ensures { claims.new ≡ without_owner leaving slot claims.old }
 {
     if let Some(owner) = leaving {
-        remove(claims, slot, owner);
+        claims.remove(Some(slot), owner);
     }
 }
 
 /// Does the step of a request.
-pub(crate) fn do_step(claims: &mut Vec<SlotClaim>, step: Step, claim: SlotClaim)
-    requires fits { length (step_done step claim claims.old.items) ≤ 4096 }
-    requires room { 4096 ≤ vec_capacity claims.old }
-    ensures claims { claims.new.items ≡ step_done step claim claims.old.items }
-    ensures room { 4096 ≤ vec_capacity claims.new }
+pub(crate) fn do_step(claims: &mut ClaimList, step: Step, claim: SlotClaim)
+    requires { length (step_done step claim claims.old) ≤ 4096 }
+    ensures { claims.new ≡ step_done step claim claims.old }
 {
     match step {
-        Step::PutLast => put_last(claims, claim),
-        Step::SetFlags => set_flags(claims, claim.slot, claim.connection, claim.flags),
-        Step::Remove => remove(claims, claim.slot, claim.connection),
+        Step::Put => claims.put(claim),
+        Step::Remove => claims.remove(Some(claim.slot), claim.connection),
         Step::Replace(leaving) => {
             remove_leaving(claims, claim.slot, leaving);
-            remove(claims, claim.slot, claim.connection);
-            put_first(claims, claim);
+            claims.remove(Some(claim.slot), claim.connection);
+            claims.put_first(claim);
         }
     }
 }

@@ -22,10 +22,9 @@ returns-then-is_over c =
     let flags = c.args.flags in
     let claim = claim_at slot connection flags in
     let next : slot_next name ss ≡ Some slot = sym (c.in-Some.ensures ∙ ap (λ t. slot_next t ss) c.as_str.ensures) in
-    let waits_is : c.has_claim-waits.result ≡ list_any (is_slot_claim slot connection) cs = c.has_claim-waits.ensures in
-    let owner_is : c.first_on-owner.result ≡ find (is_on_slot slot) cs = c.first_on-owner.ensures in
-    let step_is : c.step_of-step.result ≡ step_for claim cs = c.step_of-step.ensures ∙ ap (λ o. step_of o c.has_claim-waits.result connection flags) owner_is ∙ ap (λ w. step_of (find (is_on_slot slot) cs) w connection flags) waits_is in
-    let over_is : c.is_over.result ≡ is_over (step_for claim cs) (list_any (is_slot_claim slot connection) cs) (length cs) = c.is_over.ensures ∙ ap (λ (s : Step). is_over s c.has_claim-waits.result (length cs)) step_is ∙ ap (λ w. is_over (step_for claim cs) w (length cs)) waits_is in
+    let owner_is : c.first_on-owner.result ≡ find (is_on_slot slot) cs = c.first_on-owner.ensures ∙ ap (find (is_on_slot slot)) c.as_slice.ensures.value in
+    let step_is : c.step_of-step.result ≡ step_for claim cs = c.step_of-step.ensures ∙ ap (λ o. step_of o connection flags) owner_is in
+    let over_is : c.is_over.result ≡ is_over (step_for claim cs) (list_any (is_slot_claim slot connection) cs) (length cs) = c.is_over.ensures ∙ ap (λ (s : Step). is_over s c.has-waits.result c.len.result) step_is ∙ ap (λ w. is_over (step_for claim cs) w c.len.result) c.has-waits.ensures ∙ ap (is_over (step_for claim cs) (list_any (is_slot_claim slot connection) cs)) c.len.ensures in
     request_answered cs ss c.requires claim name next true (sym over_is ∙ c.if-is_over.true)
 
 below : (n : ℕ) → nat_lt max_claims n ≡ false → n ≤ max_claims
@@ -41,10 +40,9 @@ returns c =
     let flags = c.args.flags in
     let claim = claim_at slot connection flags in
     let next : slot_next name ss ≡ Some slot = sym (c.in-Some.ensures ∙ ap (λ t. slot_next t ss) c.as_str.ensures) in
-    let waits_is : c.has_claim-waits.result ≡ list_any (is_slot_claim slot connection) cs = c.has_claim-waits.ensures in
-    let owner_is : c.first_on-owner.result ≡ find (is_on_slot slot) cs = c.first_on-owner.ensures in
-    let step_is : c.step_of-step.result ≡ step_for claim cs = c.step_of-step.ensures ∙ ap (λ o. step_of o c.has_claim-waits.result connection flags) owner_is ∙ ap (λ w. step_of (find (is_on_slot slot) cs) w connection flags) waits_is in
-    let over_is : c.is_over.result ≡ is_over (step_for claim cs) (list_any (is_slot_claim slot connection) cs) (length cs) = c.is_over.ensures ∙ ap (λ (s : Step). is_over s c.has_claim-waits.result (length cs)) step_is ∙ ap (λ w. is_over (step_for claim cs) w (length cs)) waits_is in
+    let owner_is : c.first_on-owner.result ≡ find (is_on_slot slot) cs = c.first_on-owner.ensures ∙ ap (find (is_on_slot slot)) c.as_slice.ensures.value in
+    let step_is : c.step_of-step.result ≡ step_for claim cs = c.step_of-step.ensures ∙ ap (λ o. step_of o connection flags) owner_is in
+    let over_is : c.is_over.result ≡ is_over (step_for claim cs) (list_any (is_slot_claim slot connection) cs) (length cs) = c.is_over.ensures ∙ ap (λ (s : Step). is_over s c.has-waits.result c.len.result) step_is ∙ ap (λ w. is_over (step_for claim cs) w c.len.result) c.has-waits.ensures ∙ ap (is_over (step_for claim cs) (list_any (is_slot_claim slot connection) cs)) c.len.ensures in
     let not_over = sym over_is ∙ c.if-is_over.false in
     let fits = below (length (step_done (step_for claim cs) claim cs)) (step_fits claim cs c.requires.placed.fits ∙ not_over) in
     let old_is : c.connection_of.result ≡ slot_owner slot cs = c.connection_of.ensures ∙ ap (option_map (λ (x : SlotClaim). x.connection)) owner_is in

@@ -8,7 +8,7 @@ use Rattle.owners.proofs.claims.Claims.next_name.Goals as goal
 
 pub returns-clause-name : goal.returns-clause-name
 returns-clause-name c =
-    let cs = c.self.inside.claims.items in
+    let cs = c.self.inside.claims in
     let ss = c.self.inside.slots.items in
     let other = option_map (λ (n : Bor (List ℕ)). n.now) c.args.after in
     c.least_after.ensures
@@ -19,4 +19,4 @@ returns-clause-name c =
     ∙ ap (λ (r : Registry). next_name other r.claims) c.self.view_is
 
 pub returns-clause-registry : goal.returns-clause-registry
-returns-clause-registry c = subst IsRegistry c.self.view_is (kept_is_registry c.self.inside.claims.items c.self.inside.slots.items c.self.invariant.0)
+returns-clause-registry c = subst IsRegistry c.self.view_is (kept_is_registry c.self.inside.claims c.self.inside.slots.items c.self.invariant)
