@@ -1,6 +1,6 @@
 -- The entries of a slab by falling id: where each stands, and what an insert and a removal do.
 use Rattle.std.proofs.Common.{◌≡◌, ◌≢◌, ℕ, zero, suc, ◌<◌, ◌≤◌, ◌+◌, Bool, true, false, not, ◌||◌, cond, List, [], ◌∷◌, length, get_or, refl, sym, ap, ◌∙◌, subst, eqb, ltb, inl, inr, arith, count_by}
-use Rattle.std.proofs.lemmas.Bool.{eqb-true, eq-eqb, ne_eqb, or_parts, or_from, lt-ltb, le-ltb, ltb-true, ltb-false, cases_Bool, false≢true, cond-true, cond-false, not_from_true, not_from_false}
+use Rattle.std.proofs.lemmas.Bool.{eq-eqb, ne_eqb, or_parts, lt-ltb, le-ltb, ltb-true, ltb-false, cases_Bool, false≢true, cond-true, cond-false, not_from_true, not_from_false}
 use Rattle.std.proofs.lemmas.List.Sums.{sum_by-cons}
 use Rattle.std.specs.Prelude.{Option, Some, None, is_some, option_map, find}
 use Rattle.place_lists.specs.PlaceLists.{has_place, AreOnce}
@@ -12,8 +12,8 @@ use Rattle.entry_table.proofs.Finding.{but_at-out, AreGiven-but}
 -- ---- one more entry
 
 module _ (x : Placed) where
-  goes-behind : (y : Placed) (ys : List Placed) → x.1.id < y.1.id → by_id x (y ∷ ys) ≡ y ∷ by_id x ys
-  goes-behind y ys low = cond-true (ltb x.1.id y.1.id) (y ∷ by_id x ys) (x ∷ y ∷ ys) (lt-ltb x.1.id y.1.id low)
+  goes-after : (y : Placed) (ys : List Placed) → x.1.id < y.1.id → by_id x (y ∷ ys) ≡ y ∷ by_id x ys
+  goes-after y ys low = cond-true (ltb x.1.id y.1.id) (y ∷ by_id x ys) (x ∷ y ∷ ys) (lt-ltb x.1.id y.1.id low)
 
   goes-before : (y : Placed) (ys : List Placed) → y.1.id ≤ x.1.id → by_id x (y ∷ ys) ≡ x ∷ y ∷ ys
   goes-before y ys high = cond-false (ltb x.1.id y.1.id) (y ∷ by_id x ys) (x ∷ y ∷ ys) (le-ltb x.1.id y.1.id high)
@@ -37,8 +37,8 @@ entry_at-own x (y ∷ ys) none =
     elim (cases_Bool (eqb x.0 y.0)) [
       | inl here ↦ absurd (some_none y.1 (entry_at x.0 (y ∷ ys)) (at-first x.0 y ys here) none)
       | inr there ↦ (elim (cases_Bool (ltb x.1.id y.1.id)) [
-        | inl behind ↦ ap (entry_at x.0) (goes-behind x y ys (ltb-true x.1.id y.1.id behind)) ∙ at-later x.0 y (by_id x ys) there ∙ entry_at-own x ys (sym (at-later x.0 y ys there) ∙ none)
-        | inr before ↦ ap (entry_at x.0) (goes-before x y ys (ltb-false x.1.id y.1.id before)) ∙ at-first x.0 x (y ∷ ys) (eq-eqb x.0 x.0 refl)
+        | inl lower ↦ ap (entry_at x.0) (goes-after x y ys (ltb-true x.1.id y.1.id lower)) ∙ at-later x.0 y (by_id x ys) there ∙ entry_at-own x ys (sym (at-later x.0 y ys there) ∙ none)
+        | inr higher ↦ ap (entry_at x.0) (goes-before x y ys (ltb-false x.1.id y.1.id higher)) ∙ at-first x.0 x (y ∷ ys) (eq-eqb x.0 x.0 refl)
       ])
     ]
 
@@ -46,11 +46,11 @@ entry_at-other : (place : ℕ) (x : Placed) (xs : List Placed) → place ≢ x.0
 entry_at-other place x [] other = at-later place x [] (ne_eqb place x.0 other)
 entry_at-other place x (y ∷ ys) other =
     elim (cases_Bool (ltb x.1.id y.1.id)) [
-      | inl behind ↦ ap (entry_at place) (goes-behind x y ys (ltb-true x.1.id y.1.id behind)) ∙ (elim (cases_Bool (eqb place y.0)) [
+      | inl lower ↦ ap (entry_at place) (goes-after x y ys (ltb-true x.1.id y.1.id lower)) ∙ (elim (cases_Bool (eqb place y.0)) [
         | inl here ↦ at-first place y (by_id x ys) here ∙ sym (at-first place y ys here)
         | inr there ↦ at-later place y (by_id x ys) there ∙ entry_at-other place x ys other ∙ sym (at-later place y ys there)
       ])
-      | inr before ↦ ap (entry_at place) (goes-before x y ys (ltb-false x.1.id y.1.id before)) ∙ at-later place x (y ∷ ys) (ne_eqb place x.0 other)
+      | inr higher ↦ ap (entry_at place) (goes-before x y ys (ltb-false x.1.id y.1.id higher)) ∙ at-later place x (y ∷ ys) (ne_eqb place x.0 other)
     ]
 
 -- a place is one of theirs where an entry stands there
@@ -70,16 +70,16 @@ AreOnce-by_id x (y ∷ ys) out once =
     let still : has_place y.0 (places_of (by_id x ys)) ≡ false =
     has_place-entry_at y.0 (by_id x ys) ∙ ap (λ (o : Option Entry). is_some o) (entry_at-other y.0 x ys apart) ∙ sym (has_place-entry_at y.0 ys) ∙ once.0 in
     elim (cases_Bool (ltb x.1.id y.1.id)) [
-      | inl behind ↦ subst (λ (zs : List Placed). AreOnce (places_of zs)) (sym (goes-behind x y ys (ltb-true x.1.id y.1.id behind))) (still, AreOnce-by_id x ys parts.1 once.1)
-      | inr before ↦ subst (λ (zs : List Placed). AreOnce (places_of zs)) (sym (goes-before x y ys (ltb-false x.1.id y.1.id before))) (out, once)
+      | inl lower ↦ subst (λ (zs : List Placed). AreOnce (places_of zs)) (sym (goes-after x y ys (ltb-true x.1.id y.1.id lower))) (still, AreOnce-by_id x ys parts.1 once.1)
+      | inr higher ↦ subst (λ (zs : List Placed). AreOnce (places_of zs)) (sym (goes-before x y ys (ltb-false x.1.id y.1.id higher))) (out, once)
     ]
 
 length-by_id : (x : Placed) (xs : List Placed) → length (by_id x xs) ≡ suc (length xs)
 length-by_id x [] = refl
 length-by_id x (y ∷ ys) =
     elim (cases_Bool (ltb x.1.id y.1.id)) [
-      | inl behind ↦ ap (λ (zs : List Placed). length zs) (goes-behind x y ys (ltb-true x.1.id y.1.id behind)) ∙ ap suc (length-by_id x ys)
-      | inr before ↦ ap (λ (zs : List Placed). length zs) (goes-before x y ys (ltb-false x.1.id y.1.id before))
+      | inl lower ↦ ap (λ (zs : List Placed). length zs) (goes-after x y ys (ltb-true x.1.id y.1.id lower)) ∙ ap suc (length-by_id x ys)
+      | inr higher ↦ ap (λ (zs : List Placed). length zs) (goes-before x y ys (ltb-false x.1.id y.1.id higher))
     ]
 
 -- ---- ids that don't rise
@@ -96,8 +96,8 @@ AreGiven-by_id : (last : ℕ) (x : Placed) (xs : List Placed) → x.1.id ≤ las
 AreGiven-by_id last x [] le given = (le, tt)
 AreGiven-by_id last x (y ∷ ys) le given =
     elim (cases_Bool (ltb x.1.id y.1.id)) [
-      | inl behind ↦ subst (AreGiven last) (sym (goes-behind x y ys (ltb-true x.1.id y.1.id behind))) (given.0, AreGiven-by_id last x ys le given.1)
-      | inr before ↦ subst (AreGiven last) (sym (goes-before x y ys (ltb-false x.1.id y.1.id before))) (le, given)
+      | inl lower ↦ subst (AreGiven last) (sym (goes-after x y ys (ltb-true x.1.id y.1.id lower))) (given.0, AreGiven-by_id last x ys le given.1)
+      | inr higher ↦ subst (AreGiven last) (sym (goes-before x y ys (ltb-false x.1.id y.1.id higher))) (le, given)
     ]
 
 -- no id is above one before it
@@ -109,8 +109,8 @@ DontRise-by_id : (x : Placed) (xs : List Placed) → DontRise xs → DontRise (b
 DontRise-by_id x [] fall = (tt, tt)
 DontRise-by_id x (y ∷ ys) fall =
     elim (cases_Bool (ltb x.1.id y.1.id)) [
-      | inl behind ↦ (let low = ltb-true x.1.id y.1.id behind in subst DontRise (sym (goes-behind x y ys low)) (AreGiven-by_id y.1.id x ys (omega (arith, low)) fall.0, DontRise-by_id x ys fall.1))
-      | inr before ↦ (let high = ltb-false x.1.id y.1.id before in subst DontRise (sym (goes-before x y ys high)) ((high, AreGiven-raised y.1.id x.1.id ys high fall.0), fall))
+      | inl lower ↦ (let low = ltb-true x.1.id y.1.id behind in subst DontRise (sym (goes-after x y ys low)) (AreGiven-by_id y.1.id x ys (omega (arith, low)) fall.0, DontRise-by_id x ys fall.1))
+      | inr higher ↦ (let high = ltb-false x.1.id y.1.id before in subst DontRise (sym (goes-before x y ys high)) ((high, AreGiven-raised y.1.id x.1.id ys high fall.0), fall))
     ]
 
 -- ---- the entries of slots
@@ -195,10 +195,10 @@ AreBelow-parts : (id : ℕ) (x : Placed) (xs : List Placed) → AreBelow id (by_
 AreBelow-parts id x [] below = below
 AreBelow-parts id x (y ∷ ys) below =
     elim (cases_Bool (ltb x.1.id y.1.id)) [
-      | inl behind ↦ (
-          let h : AreBelow id (y ∷ by_id x ys) = subst (AreBelow id) (goes-behind x y ys (ltb-true x.1.id y.1.id behind)) below in
+      | inl lower ↦ (
+          let h : AreBelow id (y ∷ by_id x ys) = subst (AreBelow id) (goes-after x y ys (ltb-true x.1.id y.1.id lower)) below in
           let parts = AreBelow-parts id x ys h.1 in (parts.0, (h.0, parts.1)))
-      | inr before ↦ subst (AreBelow id) (goes-before x y ys (ltb-false x.1.id y.1.id before)) below
+      | inr higher ↦ subst (AreBelow id) (goes-before x y ys (ltb-false x.1.id y.1.id higher)) below
     ]
 
 below-later : (id first : ℕ) (slot : Option Entry) (held : List Placed) → AreBelow id (with_slot first slot held) → AreBelow id held
@@ -207,7 +207,7 @@ below-later id first (Some e) held below = (AreBelow-parts id (first, e) held be
 
 newest-first : (first : ℕ) (slot : Option Entry) (x : Placed) (held : List Placed) → AreBelow x.1.id (with_slot first slot held) → with_slot first slot (x ∷ held) ≡ x ∷ with_slot first slot held
 newest-first first None x held below = refl
-newest-first first (Some e) x held below = goes-behind (first, e) x held (AreBelow-parts x.1.id (first, e) held below).0
+newest-first first (Some e) x held below = goes-after (first, e) x held (AreBelow-parts x.1.id (first, e) held below).0
 
 -- the newest entry is put into a free slot
 newest-put : (place first k : ℕ) (e : Entry) (old new : List (Option Entry)) → place ≡ first + k → get_or old k None ≡ None → get_or new k None ≡ Some e → DifferAt k old new → AreBelow e.id (placed_from first old)
@@ -247,22 +247,22 @@ but_at-own : (x : Placed) (xs : List Placed) → but_at x.0 (by_id x xs) ≡ but
 but_at-own x [] = drops x.0 x [] (eq-eqb x.0 x.0 refl)
 but_at-own x (y ∷ ys) =
     elim (cases_Bool (ltb x.1.id y.1.id)) [
-      | inl behind ↦ ap (but_at x.0) (goes-behind x y ys (ltb-true x.1.id y.1.id behind)) ∙ ap (λ (zs : List Placed). cond (not (eqb x.0 y.0)) (y ∷ zs) zs) (but_at-own x ys)
-      | inr before ↦ ap (but_at x.0) (goes-before x y ys (ltb-false x.1.id y.1.id before)) ∙ drops x.0 x (y ∷ ys) (eq-eqb x.0 x.0 refl)
+      | inl lower ↦ ap (but_at x.0) (goes-after x y ys (ltb-true x.1.id y.1.id lower)) ∙ ap (λ (zs : List Placed). cond (not (eqb x.0 y.0)) (y ∷ zs) zs) (but_at-own x ys)
+      | inr higher ↦ ap (but_at x.0) (goes-before x y ys (ltb-false x.1.id y.1.id higher)) ∙ drops x.0 x (y ∷ ys) (eq-eqb x.0 x.0 refl)
     ]
 
 but_at-other : (place : ℕ) (x : Placed) (xs : List Placed) → eqb place x.0 ≡ false → DontRise xs → but_at place (by_id x xs) ≡ by_id x (but_at place xs)
 but_at-other place x [] other fall = keeps place x [] other
 but_at-other place x (y ∷ ys) other fall =
     elim (cases_Bool (ltb x.1.id y.1.id)) [
-      | inl behind ↦ (
+      | inl lower ↦ (
           let low = ltb-true x.1.id y.1.id behind in
           let rest = but_at-other place x ys other fall.1 in
-          ap (but_at place) (goes-behind x y ys low) ∙ (elim (cases_Bool (eqb place y.0)) [
+          ap (but_at place) (goes-after x y ys low) ∙ (elim (cases_Bool (eqb place y.0)) [
             | inl here ↦ drops place y (by_id x ys) here ∙ rest ∙ ap (by_id x) (sym (drops place y ys here))
-            | inr there ↦ keeps place y (by_id x ys) there ∙ ap (λ (zs : List Placed). y ∷ zs) rest ∙ sym (goes-behind x y (but_at place ys) low) ∙ ap (by_id x) (sym (keeps place y ys there))
+            | inr there ↦ keeps place y (by_id x ys) there ∙ ap (λ (zs : List Placed). y ∷ zs) rest ∙ sym (goes-after x y (but_at place ys) low) ∙ ap (by_id x) (sym (keeps place y ys there))
           ]))
-      | inr before ↦ (
+      | inr higher ↦ (
           let high = ltb-false x.1.id y.1.id before in
           let given : AreGiven x.1.id (y ∷ ys) = (high, AreGiven-raised y.1.id x.1.id ys high fall.0) in
           ap (but_at place) (goes-before x y ys high) ∙ keeps place x (y ∷ ys) other ∙ sym (goes-first x (but_at place (y ∷ ys)) (AreGiven-but x.1.id place (y ∷ ys) given)))

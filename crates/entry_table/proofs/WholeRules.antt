@@ -1,11 +1,9 @@
 -- The whole program of a rule decides whether it holds.
-use Rattle.std.proofs.Common.{◌≡◌, ◌↔◌, ℕ, ◌<◌, Bool, true, List, Option, sym, subst}
+use Rattle.std.proofs.Common.{◌≡◌, ◌↔◌, ℕ, ◌<◌, true, List, Option, sym, subst}
 use Rattle.std.specs.Prelude.{All, unwrap_or}
-use Rattle.bpf_code.specs.declared.instruction.Ins.{Ins}
 use Rattle.bpf_code.specs.Steps.{start}
 use Rattle.bpf_machine.proofs.OneEnd.{ends_one}
 use Rattle.message_value.specs.Bytes.{AreBytes}
-use Rattle.message_view.specs.Message.{Message}
 use Rattle.match_rule.specs.Condition.{value_of}
 use Rattle.match_rule.specs.Parts.{has_one_sender}
 use Rattle.match_rule.specs.RuleTree.{RuleTree}

@@ -11,7 +11,7 @@ Placed = ℕ × Entry
 abbrev pub room : ℕ
 room = 16384
 
--- one more entry, behind those of higher ids
+-- one more entry, after those of higher ids
 abbrev pub by_id : Placed → List Placed → List Placed
 by_id x [] = x ∷ []
 by_id x (y ∷ ys) = if nat_lt x.1.id y.1.id then y ∷ by_id x ys else x ∷ y ∷ ys

@@ -78,8 +78,8 @@ fn is_outside(path: Option<&str>, rule: &Rule) -> bool
     }
 }
 
-/// Refuses a rule whose program would be too long. That program isn't run, so a rule is compiled to it only where its
-/// weight leaves the length open.
+/// Refuses a rule whose program would be too long. That program isn't run, so a rule is compiled to it only if its weight
+/// leaves the length open.
 fn check_length(alloc: Global, rule: &Rule, slot: Option<u16>) -> Result<(), CompileError>
     requires { IsSlotOf slot rule.now }
     ensures { IfErr result (IsRefusal rule.now) }
@@ -116,11 +116,7 @@ impl RuleProgram {
         let _ = rule.conditions();
         let shape = shape_of(&rule.fixed_texts());
         let namespace_end = end_asked(rule.path_namespace());
-        let parts = Parts {
-            rule,
-            slot,
-            rest,
-        };
+        let parts = Parts { rule, slot, rest };
         Ok(RuleProgram {
             parts: Arc::new(alloc, parts)?,
             shape,
