@@ -109,8 +109,8 @@ DontRise-by_id : (x : Placed) (xs : List Placed) → DontRise xs → DontRise (b
 DontRise-by_id x [] fall = (tt, tt)
 DontRise-by_id x (y ∷ ys) fall =
     elim (cases_Bool (ltb x.1.id y.1.id)) [
-      | inl lower ↦ (let low = ltb-true x.1.id y.1.id behind in subst DontRise (sym (goes-after x y ys low)) (AreGiven-by_id y.1.id x ys (omega (arith, low)) fall.0, DontRise-by_id x ys fall.1))
-      | inr higher ↦ (let high = ltb-false x.1.id y.1.id before in subst DontRise (sym (goes-before x y ys high)) ((high, AreGiven-raised y.1.id x.1.id ys high fall.0), fall))
+      | inl lower ↦ (let low = ltb-true x.1.id y.1.id lower in subst DontRise (sym (goes-after x y ys low)) (AreGiven-by_id y.1.id x ys (omega (arith, low)) fall.0, DontRise-by_id x ys fall.1))
+      | inr higher ↦ (let high = ltb-false x.1.id y.1.id higher in subst DontRise (sym (goes-before x y ys high)) ((high, AreGiven-raised y.1.id x.1.id ys high fall.0), fall))
     ]
 
 -- ---- the entries of slots
@@ -256,14 +256,14 @@ but_at-other place x [] other fall = keeps place x [] other
 but_at-other place x (y ∷ ys) other fall =
     elim (cases_Bool (ltb x.1.id y.1.id)) [
       | inl lower ↦ (
-          let low = ltb-true x.1.id y.1.id behind in
+          let low = ltb-true x.1.id y.1.id lower in
           let rest = but_at-other place x ys other fall.1 in
           ap (but_at place) (goes-after x y ys low) ∙ (elim (cases_Bool (eqb place y.0)) [
             | inl here ↦ drops place y (by_id x ys) here ∙ rest ∙ ap (by_id x) (sym (drops place y ys here))
             | inr there ↦ keeps place y (by_id x ys) there ∙ ap (λ (zs : List Placed). y ∷ zs) rest ∙ sym (goes-after x y (but_at place ys) low) ∙ ap (by_id x) (sym (keeps place y ys there))
           ]))
       | inr higher ↦ (
-          let high = ltb-false x.1.id y.1.id before in
+          let high = ltb-false x.1.id y.1.id higher in
           let given : AreGiven x.1.id (y ∷ ys) = (high, AreGiven-raised y.1.id x.1.id ys high fall.0) in
           ap (but_at place) (goes-before x y ys high) ∙ keeps place x (y ∷ ys) other ∙ sym (goes-first x (but_at place (y ∷ ys)) (AreGiven-but x.1.id place (y ∷ ys) given)))
     ]
