@@ -137,12 +137,13 @@ def read_cases(raw):
 
 
 def misses_of(case):
-    """The lines of a case whose answer isn't the wanted one: place, event, wanted, given."""
+    """The lines of a case whose answer isn't the wanted one: place, event, wanted, given. A case may want `toolong` of a rule
+    that needn't compile."""
     world = bus.World()
     misses = []
     for place, line, wanted in case[1]:
         try:
-            given = world.play(read_event(line))
+            given = world.play(read_event(line), wanted)
         except _Form:
             raise Unreadable(place) from None
         if given != wanted:

@@ -125,7 +125,7 @@ has_place-entry place e (x ∷ xs) at =
       | inr there ↦ or_right (eqb place x.0) (has_place place (places_of xs)) (has_place-entry place e xs (sym (ap (seen_first place x xs) there) ∙ at))
     ]
 
-but_at-out : (place : ℕ) (xs : List Placed) → has_place place (places_of xs) ≡ false → but_at place xs ≡ xs
+pub but_at-out : (place : ℕ) (xs : List Placed) → has_place place (places_of xs) ≡ false → but_at place xs ≡ xs
 but_at-out place [] out = refl
 but_at-out place (x ∷ xs) out =
     let parts = or_parts (eqb place x.0) (has_place place (places_of xs)) out in
@@ -195,7 +195,7 @@ AreBelow-but id place (x ∷ xs) h =
       | inr drops ↦ subst (AreBelow id) (sym (cond-false (not (eqb place x.0)) (x ∷ but_at place xs) (but_at place xs) drops)) (AreBelow-but id place xs h.1)
     ]
 
-AreGiven-but : (last place : ℕ) (held : List Placed) → AreGiven last held → AreGiven last (but_at place held)
+pub AreGiven-but : (last place : ℕ) (held : List Placed) → AreGiven last held → AreGiven last (but_at place held)
 AreGiven-but last place [] h = tt
 AreGiven-but last place (x ∷ xs) h =
     elim (cases_Bool (not (eqb place x.0))) [
@@ -228,7 +228,7 @@ IsTable-but place e held last count count' once h at less = record {
   counted = omega (arith, length-but place e held once at, h.counted, less);
 }
 
-AreBelow-last : (last : ℕ) (held : List Placed) → AreGiven last held → AreBelow (last + 1) held
+pub AreBelow-last : (last : ℕ) (held : List Placed) → AreGiven last held → AreBelow (last + 1) held
 AreBelow-last last [] h = tt
 AreBelow-last last (x ∷ xs) h = (omega (arith, h.0), AreBelow-last last xs h.1)
 

@@ -15,8 +15,7 @@ use Rattle.entry_table.specs.PlacedEntries.{Placed, places_of, entry_at, but_at,
 use Rattle.entry_table.specs.ShapeCounts.{shape_count, is_in_use, AreShapes}
 use Rattle.entry_table.specs.TextKeys.{joined_hash, shape_of, hash_lists}
 use Rattle.entry_table.specs.IndexLists.{places_with_key, AreCounted, IsIndexed, CanStand, Stands, connection_key, connection_lists, texts_key, shape_key, standing_of, empty_index, with_place, without_place, taken_from}
-use Rattle.entry_table.proofs.Shelving.{has_place-kept}
-use Rattle.entry_table.proofs.Placing.{has_place-gone, places_of-but}
+use Rattle.entry_table.proofs.Placing.{has_place-gone, has_place-kept, places_of-but}
 use Rattle.entry_table.proofs.Keying.{keyed-few, keyed-grown, keyed-same, keyed-shrunk, keyed-kept, IsKeyed-empty, IsKeyed-free, IsKeyed-stands, IsKeyed-put, IsKeyed-take}
 use Rattle.entry_table.proofs.Offering.{shape-below}
 use Rattle.entry_table.proofs.Lookups.{list_of-low}

@@ -1,3 +1,4 @@
+pub mod WholeRules
 pub mod Placing
 pub mod Keying
 pub mod Shelving

@@ -1,194 +1,297 @@
--- What a shelf keeps when an entry is put or taken.
-use Rattle.std.proofs.Common.{◌≡◌, ◌≢◌, ℕ, ◌<◌, ◌+◌, Bool, true, false, not, ◌||◌, List, [], ◌∷◌, ◌++◌, length, get_or, refl, sym, ap, ◌∙◌, subst, eqb, inl, inr, arith, get_or-set_same, get_or-set_other}
-use Rattle.std.proofs.Math.ListN.{set}
-use Rattle.std.proofs.lemmas.List.{length-set, length-map, length_push, get_or_append_left, get_or_push, get_or_past}
-use Rattle.std.proofs.lemmas.Bool.{eqb-true, ne_eqb, eq-eqb, or_left, or_cases, cases_eq, cases_lt, cases_Bool, false≢true, cond-true, cond-false, not_from_true, not_from_false}
-use Rattle.std.specs.Prelude.{Option, Some, None, is_some}
-use Rattle.place_lists.specs.PlaceLists.{PlaceLists, places_in, has_place, without, AreOnce, AreApart, IsFree}
-use Rattle.place_lists.proofs.Places.{Out-from_test, AreOnce-without, without-here, without-cons}
+-- The entries of a slab by falling id: where each stands, and what an insert and a removal do.
+use Rattle.std.proofs.Common.{◌≡◌, ◌≢◌, ℕ, zero, suc, ◌<◌, ◌≤◌, ◌+◌, Bool, true, false, not, ◌||◌, cond, List, [], ◌∷◌, length, get_or, refl, sym, ap, ◌∙◌, subst, eqb, ltb, inl, inr, arith, count_by}
+use Rattle.std.proofs.lemmas.Bool.{eq-eqb, ne_eqb, or_parts, lt-ltb, le-ltb, ltb-true, ltb-false, cases_Bool, false≢true, cond-true, cond-false, not_from_true, not_from_false}
+use Rattle.std.proofs.lemmas.List.Sums.{sum_by-cons}
+use Rattle.std.specs.Prelude.{Option, Some, None, is_some, option_map, find}
+use Rattle.place_lists.specs.PlaceLists.{has_place, AreOnce}
 use Rattle.entry_table.specs.declared.entry.Entry.{Entry}
-use Rattle.entry_table.specs.PlacedEntries.{Placed, placed_at, places_of, entry_at, but_at, room, IsShelf}
-use Rattle.entry_table.proofs.Placing.{AreFilled, has_place-gone, placed_at-put, placed_at-take, places_of-placed, entry_at-placed}
+use Rattle.entry_table.specs.PlacedEntries.{Placed, by_id, with_slot, placed_from, places_of, entry_at, but_at}
+use Rattle.entry_table.specs.Searching.{AreGiven, AreBelow}
+use Rattle.entry_table.proofs.Finding.{but_at-out, AreGiven-but}
 
-module _ (cells : List (Option Entry)) (ages : PlaceLists) (h : IsShelf cells ages) where
-  used : List ℕ
-  used = places_in ages 0
+-- ---- one more entry
 
-  pub filled : AreFilled cells (places_in ages 0)
-  filled p stands = h.same p ∙ stands
+module _ (x : Placed) where
+  goes-after : (y : Placed) (ys : List Placed) → x.1.id < y.1.id → by_id x (y ∷ ys) ≡ y ∷ by_id x ys
+  goes-after y ys low = cond-true (ltb x.1.id y.1.id) (y ∷ by_id x ys) (x ∷ y ∷ ys) (lt-ltb x.1.id y.1.id low)
 
-  pub places-held : places_of (placed_at cells (places_in ages 0)) ≡ places_in ages 0
-  places-held = places_of-placed cells (places_in ages 0) filled
+  goes-before : (y : Placed) (ys : List Placed) → y.1.id ≤ x.1.id → by_id x (y ∷ ys) ≡ x ∷ y ∷ ys
+  goes-before y ys high = cond-false (ltb x.1.id y.1.id) (y ∷ by_id x ys) (x ∷ y ∷ ys) (le-ltb x.1.id y.1.id high)
 
-  pub length-held : length (placed_at cells (places_in ages 0)) ≡ length (places_in ages 0)
-  length-held = sym (length-map (placed_at cells (places_in ages 0)) (λ (x : Placed). x.0)) ∙ ap length places-held
+  goes-first : (xs : List Placed) → AreGiven x.1.id xs → by_id x xs ≡ x ∷ xs
+  goes-first [] given = refl
+  goes-first (y ∷ ys) given = goes-before y ys given.0
 
-  pub once-held : AreOnce (places_of (placed_at cells (places_in ages 0)))
-  once-held = subst AreOnce (sym places-held) h.once
+at-first : (place : ℕ) (x : Placed) (xs : List Placed) → eqb place x.0 ≡ true → entry_at place (x ∷ xs) ≡ Some x.1
+at-first place x xs here = ap (option_map {T = Placed} {U = Entry} (λ (y : Placed). y.1)) (cond-true (eqb place x.0) (Some x) (find (λ (y : Placed). eqb place y.0) xs) here)
 
-  pub entry-held : (place : ℕ) → entry_at place (placed_at cells (places_in ages 0)) ≡ get_or cells place None
-  entry-held place = entry_at-placed cells place (places_in ages 0) (h.same place)
+at-later : (place : ℕ) (x : Placed) (xs : List Placed) → eqb place x.0 ≡ false → entry_at place (x ∷ xs) ≡ entry_at place xs
+at-later place x xs there = ap (option_map {T = Placed} {U = Entry} (λ (y : Placed). y.1)) (cond-false (eqb place x.0) (Some x) (find (λ (y : Placed). eqb place y.0) xs) there)
 
-  -- there is a place left
-  pub some_vacant : length (placed_at cells (places_in ages 0)) < room → places_in ages 1 ≡ [] → ⊥
-  some_vacant few none = omega (arith, h.all, length-held, ap (λ (xs : List ℕ). length xs) none, few)
+some_none : (e : Entry) (o : Option Entry) → o ≡ Some e → o ≡ None → ⊥
+some_none e o is none = absurd cc
 
--- a write of one of two lists
-lists_at : (ages : PlaceLists) (i : ℕ) (v : List ℕ) → i < length ages.lists → places_in (record ages { lists = set ages.lists i v }) i ≡ v
-lists_at ages i v low = get_or-set_same ages.lists i v [] low
-
-lists_other : (ages : PlaceLists) (i j : ℕ) (v : List ℕ) → j ≢ i → places_in (record ages { lists = set ages.lists i v }) j ≡ places_in ages j
-lists_other ages i j v ne = get_or-set_other ages.lists i j v [] ne
-
--- a place moves from a list to another
-abbrev pub move_place : PlaceLists → ℕ → ℕ → ℕ → PlaceLists
-move_place ages place from to =
-    let between : PlaceLists = record ages { lists = set ages.lists from (without place (places_in ages from)) } in
-    record between { lists = set between.lists to (place ∷ places_in between to) }
-
-pub IsFree-between : (ages : PlaceLists) (place from : ℕ) → from < length ages.lists → has_place place (places_in ages from) ≡ true → AreApart ages → IsFree (record ages { lists = set ages.lists from (without place (places_in ages from)) }) place
-IsFree-between ages place from low stands apart list within =
-    let under : list < length ages.lists = omega (arith, length-set ages.lists from (without place (places_in ages from)), within) in
-    elim (cases_eq list from) [
-      | inl e ↦ ap (λ (k : ℕ). has_place place (places_in (record ages { lists = set ages.lists from (without place (places_in ages from)) }) k)) e ∙ ap (has_place place) (lists_at ages from (without place (places_in ages from)) low) ∙ has_place-gone place (places_in ages from)
-      | inr ne ↦ ap (has_place place) (lists_other ages from list (without place (places_in ages from)) ne) ∙ elsewhere list under ne (has_place place (places_in ages list)) refl
-    ]
-  where
-    elsewhere : (list : ℕ) → list < length ages.lists → list ≢ from → (b : Bool) → has_place place (places_in ages list) ≡ b → has_place place (places_in ages list) ≡ false
-    elsewhere list under ne false is = is
-    elsewhere list under ne true is = absurd (ne (apart.apart list from place under low is stands))
-
-length-without : (place : ℕ) (xs : List ℕ) → AreOnce xs → has_place place xs ≡ true → length (without place xs) + 1 ≡ length xs
-length-without place [] once stands = absurd (false≢true stands)
-length-without place (x ∷ xs) once stands =
-    elim (cases_eq place x) [
-      | inl e ↦ subst (λ (k : ℕ). length (without k (x ∷ xs)) + 1 ≡ length (x ∷ xs)) (sym e) (omega (arith, ap (λ (ys : List ℕ). length ys) (without-here x xs (Out-from_test x xs once.0))))
-      | inr ne ↦ (elim (or_cases (eqb place x) (has_place place xs) stands) [
-        | inl first ↦ absurd (ne (eqb-true place x first))
-        | inr later ↦ omega (arith, ap (λ (ys : List ℕ). length ys) (without-cons place x xs ne), length-without place xs once.1 later)
+entry_at-own : (x : Placed) (xs : List Placed) → entry_at x.0 xs ≡ None → entry_at x.0 (by_id x xs) ≡ Some x.1
+entry_at-own x [] none = at-first x.0 x [] (eq-eqb x.0 x.0 refl)
+entry_at-own x (y ∷ ys) none =
+    elim (cases_Bool (eqb x.0 y.0)) [
+      | inl here ↦ absurd (some_none y.1 (entry_at x.0 (y ∷ ys)) (at-first x.0 y ys here) none)
+      | inr there ↦ (elim (cases_Bool (ltb x.1.id y.1.id)) [
+        | inl lower ↦ ap (entry_at x.0) (goes-after x y ys (ltb-true x.1.id y.1.id lower)) ∙ at-later x.0 y (by_id x ys) there ∙ entry_at-own x ys (sym (at-later x.0 y ys there) ∙ none)
+        | inr higher ↦ ap (entry_at x.0) (goes-before x y ys (ltb-false x.1.id y.1.id higher)) ∙ at-first x.0 x (y ∷ ys) (eq-eqb x.0 x.0 refl)
       ])
     ]
 
-pub has_place-kept : (p q : ℕ) → p ≢ q → (xs : List ℕ) → has_place p (without q xs) ≡ has_place p xs
-has_place-kept p q ne [] = refl
-has_place-kept p q ne (x ∷ xs) =
-    elim (cases_Bool (eqb q x)) [
-      | inl here ↦ ap (has_place p) (cond-false (not (eqb q x)) (x ∷ without q xs) (without q xs) (not_from_true (eqb q x) here)) ∙ has_place-kept p q ne xs ∙ sym (ap (λ (b : Bool). b || has_place p xs) (ne_eqb p x (λ e. ne (e ∙ sym (eqb-true q x here)))))
-      | inr there ↦ ap (has_place p) (cond-true (not (eqb q x)) (x ∷ without q xs) (without q xs) (not_from_false (eqb q x) there)) ∙ ap (λ (b : Bool). eqb p x || b) (has_place-kept p q ne xs)
+entry_at-other : (place : ℕ) (x : Placed) (xs : List Placed) → place ≢ x.0 → entry_at place (by_id x xs) ≡ entry_at place xs
+entry_at-other place x [] other = at-later place x [] (ne_eqb place x.0 other)
+entry_at-other place x (y ∷ ys) other =
+    elim (cases_Bool (ltb x.1.id y.1.id)) [
+      | inl lower ↦ ap (entry_at place) (goes-after x y ys (ltb-true x.1.id y.1.id lower)) ∙ (elim (cases_Bool (eqb place y.0)) [
+        | inl here ↦ at-first place y (by_id x ys) here ∙ sym (at-first place y ys here)
+        | inr there ↦ at-later place y (by_id x ys) there ∙ entry_at-other place x ys other ∙ sym (at-later place y ys there)
+      ])
+      | inr higher ↦ ap (entry_at place) (goes-before x y ys (ltb-false x.1.id y.1.id higher)) ∙ at-later place x (y ∷ ys) (ne_eqb place x.0 other)
     ]
 
--- an entry is put at a vacant place
-pub IsShelf-put : (cells : List (Option Entry)) (ages : PlaceLists) (place : ℕ) (e : Entry) → IsShelf cells ages → AreApart ages → has_place place (places_in ages 1) ≡ true → has_place place (places_in ages 0) ≡ false → IsShelf (set cells place (Some e)) (move_place ages place 1 0)
-IsShelf-put cells ages place e h apart stands out =
-    let vacant : List ℕ = without place (places_in ages 1) in
-    let between : PlaceLists = record ages { lists = set ages.lists 1 vacant } in
-    let wide : length between.lists ≡ 2 = length-set ages.lists 1 vacant ∙ h.two_lists in
-    let first : places_in (move_place ages place 1 0) 0 ≡ place ∷ places_in ages 0 =
-    lists_at between 0 (place ∷ places_in between 0) (omega (arith, wide)) ∙ ap (λ (xs : List ℕ). place ∷ xs) (lists_other ages 1 0 vacant (λ e. omega arith)) in
-    let second : places_in (move_place ages place 1 0) 1 ≡ vacant =
-    lists_other between 0 1 (place ∷ places_in between 0) (λ e. omega arith) ∙ lists_at ages 1 vacant (omega (arith, h.two_lists)) in
-    let low : place < room = omega (arith, apart.below 1 place (omega (arith, h.two_lists)) stands, h.places) in
-    record {
-      long = length-set cells place (Some e) ∙ h.long;
-      places = h.places;
-      two_lists = length-set between.lists 0 (place ∷ places_in between 0) ∙ wide;
-      once = subst AreOnce (sym first) (out, h.once);
-      same = λ p. elim (cases_eq p place) [
-        | inl is ↦ ap (λ (c : Option Entry). is_some c) (ap (λ (k : ℕ). get_or (set cells place (Some e)) k None) is ∙ get_or-set_same cells place (Some e) None (omega (arith, low, h.long))) ∙ sym (ap (has_place p) first ∙ or_left (eqb p place) (has_place p (places_in ages 0)) (eq-eqb p place is))
-        | inr ne ↦ ap (λ (c : Option Entry). is_some c) (get_or-set_other cells place p (Some e) None ne) ∙ h.same p ∙ sym (ap (has_place p) first ∙ ap (λ (b : Bool). b || has_place p (places_in ages 0)) (ne_eqb p place ne))
-      ];
-      all = omega (arith, h.all, ap (λ (xs : List ℕ). length xs) first, ap (λ (xs : List ℕ). length xs) second, length-without place (places_in ages 1) (apart.once 1 (omega (arith, h.two_lists))) stands);
-    }
+-- a place is one of theirs where an entry stands there
+pub has_place-entry_at : (place : ℕ) (xs : List Placed) → has_place place (places_of xs) ≡ is_some (entry_at place xs)
+has_place-entry_at place [] = refl
+has_place-entry_at place (x ∷ xs) =
+    elim (cases_Bool (eqb place x.0)) [
+      | inl here ↦ ap (λ (b : Bool). b || has_place place (places_of xs)) here ∙ ap (λ (o : Option Entry). is_some o) (sym (at-first place x xs here))
+      | inr there ↦ ap (λ (b : Bool). b || has_place place (places_of xs)) there ∙ has_place-entry_at place xs ∙ ap (λ (o : Option Entry). is_some o) (sym (at-later place x xs there))
+    ]
 
-pub held-put : (cells : List (Option Entry)) (ages : PlaceLists) (place : ℕ) (e : Entry) → IsShelf cells ages → AreApart ages → has_place place (places_in ages 1) ≡ true → has_place place (places_in ages 0) ≡ false
-    → placed_at (set cells place (Some e)) (places_in (move_place ages place 1 0) 0) ≡ (place, e) ∷ placed_at cells (places_in ages 0)
-held-put cells ages place e h apart stands out =
-    let vacant : List ℕ = without place (places_in ages 1) in
-    let between : PlaceLists = record ages { lists = set ages.lists 1 vacant } in
-    let first : places_in (move_place ages place 1 0) 0 ≡ place ∷ places_in ages 0 =
-    lists_at between 0 (place ∷ places_in between 0) (omega (arith, length-set ages.lists 1 vacant, h.two_lists)) ∙ ap (λ (xs : List ℕ). place ∷ xs) (lists_other ages 1 0 vacant (λ e. omega arith)) in
-    ap (placed_at (set cells place (Some e))) first ∙ placed_at-put cells place e (places_in ages 0) (omega (arith, apart.below 1 place (omega (arith, h.two_lists)) stands, h.places, h.long)) out
+AreOnce-by_id : (x : Placed) (xs : List Placed) → has_place x.0 (places_of xs) ≡ false → AreOnce (places_of xs) → AreOnce (places_of (by_id x xs))
+AreOnce-by_id x [] out once = (refl, tt)
+AreOnce-by_id x (y ∷ ys) out once =
+    let parts = or_parts (eqb x.0 y.0) (has_place x.0 (places_of ys)) out in
+    let apart : y.0 ≢ x.0 = (λ e. false≢true (sym parts.0 ∙ eq-eqb x.0 y.0 (sym e))) in
+    let still : has_place y.0 (places_of (by_id x ys)) ≡ false =
+    has_place-entry_at y.0 (by_id x ys) ∙ ap (λ (o : Option Entry). is_some o) (entry_at-other y.0 x ys apart) ∙ sym (has_place-entry_at y.0 ys) ∙ once.0 in
+    elim (cases_Bool (ltb x.1.id y.1.id)) [
+      | inl lower ↦ subst (λ (zs : List Placed). AreOnce (places_of zs)) (sym (goes-after x y ys (ltb-true x.1.id y.1.id lower))) (still, AreOnce-by_id x ys parts.1 once.1)
+      | inr higher ↦ subst (λ (zs : List Placed). AreOnce (places_of zs)) (sym (goes-before x y ys (ltb-false x.1.id y.1.id higher))) (out, once)
+    ]
 
--- an entry is taken from its place
-pub IsShelf-take : (cells : List (Option Entry)) (ages : PlaceLists) (place : ℕ) → IsShelf cells ages → AreApart ages → has_place place (places_in ages 0) ≡ true → IsShelf (set cells place None) (move_place ages place 0 1)
-IsShelf-take cells ages place h apart stands =
-    let used : List ℕ = without place (places_in ages 0) in
-    let between : PlaceLists = record ages { lists = set ages.lists 0 used } in
-    let wide : length between.lists ≡ 2 = length-set ages.lists 0 used ∙ h.two_lists in
-    let first : places_in (move_place ages place 0 1) 0 ≡ used =
-    lists_other between 1 0 (place ∷ places_in between 1) (λ e. omega arith) ∙ lists_at ages 0 used (omega (arith, h.two_lists)) in
-    let second : places_in (move_place ages place 0 1) 1 ≡ place ∷ places_in ages 1 =
-    lists_at between 1 (place ∷ places_in between 1) (omega (arith, wide)) ∙ ap (λ (xs : List ℕ). place ∷ xs) (lists_other ages 0 1 used (λ e. omega arith)) in
-    let low : place < room = omega (arith, apart.below 0 place (omega (arith, h.two_lists)) stands, h.places) in
-    record {
-      long = length-set cells place None ∙ h.long;
-      places = h.places;
-      two_lists = length-set between.lists 1 (place ∷ places_in between 1) ∙ wide;
-      once = subst AreOnce (sym first) (AreOnce-without place (places_in ages 0) h.once);
-      same = λ p. elim (cases_eq p place) [
-        | inl is ↦ ap (λ (c : Option Entry). is_some c) (ap (λ (k : ℕ). get_or (set cells place None) k None) is ∙ get_or-set_same cells place None None (omega (arith, low, h.long))) ∙ sym (ap (has_place p) first ∙ ap (λ (k : ℕ). has_place p (without k (places_in ages 0))) (sym is) ∙ has_place-gone p (places_in ages 0))
-        | inr ne ↦ ap (λ (c : Option Entry). is_some c) (get_or-set_other cells place p None None ne) ∙ h.same p ∙ sym (ap (has_place p) first ∙ has_place-kept p place ne (places_in ages 0))
-      ];
-      all = omega (arith, h.all, ap (λ (xs : List ℕ). length xs) first, ap (λ (xs : List ℕ). length xs) second, length-without place (places_in ages 0) h.once stands);
-    }
+length-by_id : (x : Placed) (xs : List Placed) → length (by_id x xs) ≡ suc (length xs)
+length-by_id x [] = refl
+length-by_id x (y ∷ ys) =
+    elim (cases_Bool (ltb x.1.id y.1.id)) [
+      | inl lower ↦ ap (λ (zs : List Placed). length zs) (goes-after x y ys (ltb-true x.1.id y.1.id lower)) ∙ ap suc (length-by_id x ys)
+      | inr higher ↦ ap (λ (zs : List Placed). length zs) (goes-before x y ys (ltb-false x.1.id y.1.id higher))
+    ]
 
-pub held-take : (cells : List (Option Entry)) (ages : PlaceLists) (place : ℕ) → IsShelf cells ages → placed_at (set cells place None) (places_in (move_place ages place 0 1) 0) ≡ but_at place (placed_at cells (places_in ages 0))
-held-take cells ages place h =
-    let used : List ℕ = without place (places_in ages 0) in
-    let between : PlaceLists = record ages { lists = set ages.lists 0 used } in
-    let first : places_in (move_place ages place 0 1) 0 ≡ used =
-    lists_other between 1 0 (place ∷ places_in between 1) (λ e. omega arith) ∙ lists_at ages 0 used (omega (arith, h.two_lists)) in
-    ap (placed_at (set cells place None)) first ∙ placed_at-take cells place (places_in ages 0)
+-- ---- ids that don't rise
 
--- a vacant place isn't used
-pub unused : (cells : List (Option Entry)) (ages : PlaceLists) (place : ℕ) → IsShelf cells ages → AreApart ages → has_place place (places_in ages 1) ≡ true → (b : Bool) → has_place place (places_in ages 0) ≡ b → has_place place (places_in ages 0) ≡ false
-unused cells ages place h apart stands false is = is
-unused cells ages place h apart stands true is = absurd (zero-one (apart.apart 0 1 place (omega (arith, h.two_lists)) (omega (arith, h.two_lists)) is stands))
-  where
-    zero-one : ◌≡◌ {A = ℕ} 0 1 → ⊥
-    zero-one e = omega arith
+AreGiven-raised : (low high : ℕ) (xs : List Placed) → low ≤ high → AreGiven low xs → AreGiven high xs
+AreGiven-raised low high [] le given = tt
+AreGiven-raised low high (x ∷ xs) le given = (omega (arith, given.0), AreGiven-raised low high xs le given.1)
 
--- a removal and a push
-pub move_place-by : (ages between after : PlaceLists) (place from to : ℕ) → between ≡ record ages { lists = set ages.lists from (without place (places_in ages from)) } → after ≡ record between { lists = set between.lists to (place ∷ places_in between to) } → after ≡ move_place ages place from to
-move_place-by ages between after place from to first second = second ∙ ap (λ (b : PlaceLists). record b { lists = set b.lists to (place ∷ places_in b to) }) first
+AreGiven-below : (id : ℕ) (xs : List Placed) → AreBelow id xs → AreGiven id xs
+AreGiven-below id [] below = tt
+AreGiven-below id (x ∷ xs) below = (omega (arith, below.0), AreGiven-below id xs below.1)
 
--- the front of a list
-pub has_place-front : (place : ℕ) (xs rest : List ℕ) → xs ≡ place ∷ rest → has_place place xs ≡ true
-has_place-front place xs rest e = ap (has_place place) e ∙ or_left (eqb place place) (has_place place rest) (eq-eqb place place refl)
+AreGiven-by_id : (last : ℕ) (x : Placed) (xs : List Placed) → x.1.id ≤ last → AreGiven last xs → AreGiven last (by_id x xs)
+AreGiven-by_id last x [] le given = (le, tt)
+AreGiven-by_id last x (y ∷ ys) le given =
+    elim (cases_Bool (ltb x.1.id y.1.id)) [
+      | inl lower ↦ subst (AreGiven last) (sym (goes-after x y ys (ltb-true x.1.id y.1.id lower))) (given.0, AreGiven-by_id last x ys le given.1)
+      | inr higher ↦ subst (AreGiven last) (sym (goes-before x y ys (ltb-false x.1.id y.1.id higher))) (le, given)
+    ]
 
--- a shelf in the making: the places below a number are vacant
-pub record IsMade (cells : List (Option Entry)) (ages : PlaceLists) (n : ℕ) : Type 0 where
-  pub long : length cells ≡ n
-  pub empty : (p : ℕ) → get_or cells p None ≡ None
-  pub places : ages.places ≡ room
-  pub two_lists : length ages.lists ≡ 2
-  pub none : places_in ages 0 ≡ []
-  pub many : length (places_in ages 1) ≡ n
-  pub below : (p : ℕ) → has_place p (places_in ages 1) ≡ true → p < n
+-- no id is above one before it
+abbrev DontRise : List Placed → Type 0
+DontRise [] = Unit {0}
+DontRise (x ∷ xs) = AreGiven x.1.id xs × DontRise xs
 
-pub IsMade-more : (cells cells' : List (Option Entry)) (ages ages' : PlaceLists) (n : ℕ) → IsMade cells ages n → cells' ≡ cells ++ None ∷ [] → ages' ≡ record ages { lists = set ages.lists 1 (n ∷ places_in ages 1) } → IsMade cells' ages' (n + 1)
-IsMade-more cells cells' ages ages' n h grown pushed =
-    let first : places_in ages' 0 ≡ [] = ap (λ (s : PlaceLists). places_in s 0) pushed ∙ lists_other ages 1 0 (n ∷ places_in ages 1) (λ e. omega arith) ∙ h.none in
-    let second : places_in ages' 1 ≡ n ∷ places_in ages 1 = ap (λ (s : PlaceLists). places_in s 1) pushed ∙ lists_at ages 1 (n ∷ places_in ages 1) (omega (arith, h.two_lists)) in
-    record {
-      long = ap (λ (xs : List (Option Entry)). length xs) grown ∙ length_push cells None ∙ ap (λ (k : ℕ). k + 1) h.long;
-      empty = λ p. ap (λ (xs : List (Option Entry)). get_or xs p None) grown ∙ empty_at p;
-      places = ap (λ (s : PlaceLists). s.places) pushed ∙ h.places;
-      two_lists = ap (λ (s : PlaceLists). length s.lists) pushed ∙ length-set ages.lists 1 (n ∷ places_in ages 1) ∙ h.two_lists;
-      none = first;
-      many = omega (arith, ap (λ (xs : List ℕ). length xs) second, h.many);
-      below = λ p stands. elim (or_cases (eqb p n) (has_place p (places_in ages 1)) (sym (ap (has_place p) second) ∙ stands)) [
-        | inl e ↦ omega (arith, eqb-true p n e)
-        | inr later ↦ omega (arith, h.below p later)
-      ];
-    }
-  where
-    empty_at : (p : ℕ) → get_or (cells ++ None ∷ []) p None ≡ None
-    empty_at p =
-        elim (cases_lt p (length cells)) [
-          | inl low ↦ get_or_append_left cells (None ∷ []) None p low ∙ h.empty p
-          | inr above ↦ (elim (cases_eq p (length cells)) [
-            | inl e ↦ get_or_push cells None None p (sym e)
-            | inr ne ↦ get_or_past (cells ++ None ∷ []) p None (omega (arith, length_push cells None))
-          ])
-        ]
+DontRise-by_id : (x : Placed) (xs : List Placed) → DontRise xs → DontRise (by_id x xs)
+DontRise-by_id x [] fall = (tt, tt)
+DontRise-by_id x (y ∷ ys) fall =
+    elim (cases_Bool (ltb x.1.id y.1.id)) [
+      | inl lower ↦ (let low = ltb-true x.1.id y.1.id lower in subst DontRise (sym (goes-after x y ys low)) (AreGiven-by_id y.1.id x ys (omega (arith, low)) fall.0, DontRise-by_id x ys fall.1))
+      | inr higher ↦ (let high = ltb-false x.1.id y.1.id higher in subst DontRise (sym (goes-before x y ys high)) ((high, AreGiven-raised y.1.id x.1.id ys high fall.0), fall))
+    ]
+
+-- ---- the entries of slots
+
+pub entry_at-below : (place first : ℕ) (slots : List (Option Entry)) → place < first → entry_at place (placed_from first slots) ≡ None
+entry_at-below place first [] low = refl
+entry_at-below place first (None ∷ slots) low = entry_at-below place (first + 1) slots (omega (arith, low))
+entry_at-below place first (Some e ∷ slots) low = entry_at-other place (first, e) (placed_from (first + 1) slots) (λ same. omega (arith, same, low)) ∙ entry_at-below place (first + 1) slots (omega (arith, low))
+
+-- what stands at a place is what the slot has
+entry_at-slot : (place first k : ℕ) (slots : List (Option Entry)) → place ≡ first + k → entry_at place (placed_from first slots) ≡ get_or slots k None
+entry_at-slot place first zero [] is = refl
+entry_at-slot place first (suc k) [] is = refl
+entry_at-slot place first zero (None ∷ slots) is = entry_at-below place (first + 1) slots (omega (arith, is))
+entry_at-slot place first (suc k) (None ∷ slots) is = entry_at-slot place (first + 1) k slots (omega (arith, is))
+entry_at-slot place first zero (Some e ∷ slots) is =
+    let here : place ≡ first = omega (arith, is) in
+    ap (λ (p : ℕ). entry_at p (by_id (first, e) (placed_from (first + 1) slots))) here ∙ entry_at-own (first, e) (placed_from (first + 1) slots) (entry_at-below first (first + 1) slots (omega arith))
+entry_at-slot place first (suc k) (Some e ∷ slots) is =
+    entry_at-other place (first, e) (placed_from (first + 1) slots) (λ same. omega (arith, same, is)) ∙ entry_at-slot place (first + 1) k slots (omega (arith, is))
+
+pub entry_at-placed : (place : ℕ) (slots : List (Option Entry)) → entry_at place (placed_from 0 slots) ≡ get_or slots place None
+entry_at-placed place slots = entry_at-slot place 0 place slots (omega arith)
+
+out-below : (place first : ℕ) (slots : List (Option Entry)) → place < first → has_place place (places_of (placed_from first slots)) ≡ false
+out-below place first slots low = has_place-entry_at place (placed_from first slots) ∙ ap (λ (o : Option Entry). is_some o) (entry_at-below place first slots low)
+
+pub AreOnce-placed : (first : ℕ) (slots : List (Option Entry)) → AreOnce (places_of (placed_from first slots))
+AreOnce-placed first [] = tt
+AreOnce-placed first (None ∷ slots) = AreOnce-placed (first + 1) slots
+AreOnce-placed first (Some e ∷ slots) = AreOnce-by_id (first, e) (placed_from (first + 1) slots) (out-below first (first + 1) slots (omega arith)) (AreOnce-placed (first + 1) slots)
+
+pub length-placed : (first : ℕ) (slots : List (Option Entry)) → length (placed_from first slots) ≡ count_by is_some slots
+length-placed first [] = refl
+length-placed first (None ∷ slots) = omega (arith, length-placed (first + 1) slots, sum_by-cons (λ (o : Option Entry). cond (is_some o) 1 0) None slots)
+length-placed first (Some e ∷ slots) = omega (arith, length-by_id (first, e) (placed_from (first + 1) slots), length-placed (first + 1) slots, sum_by-cons (λ (o : Option Entry). cond (is_some o) 1 0) (Some e) slots)
+
+DontRise-placed : (first : ℕ) (slots : List (Option Entry)) → DontRise (placed_from first slots)
+DontRise-placed first [] = tt
+DontRise-placed first (None ∷ slots) = DontRise-placed (first + 1) slots
+DontRise-placed first (Some e ∷ slots) = DontRise-by_id (first, e) (placed_from (first + 1) slots) (DontRise-placed (first + 1) slots)
+
+-- all slots but the first
+abbrev later : List (Option Entry) → List (Option Entry)
+later [] = []
+later (slot ∷ slots) = slots
+
+placed-parts : (first : ℕ) (slots : List (Option Entry)) → placed_from first slots ≡ with_slot first (get_or slots 0 None) (placed_from (first + 1) (later slots))
+placed-parts first [] = refl
+placed-parts first (slot ∷ slots) = refl
+
+get_or-later : (slots : List (Option Entry)) (k : ℕ) → get_or (later slots) k None ≡ get_or slots (suc k) None
+get_or-later [] zero = refl
+get_or-later [] (suc k) = refl
+get_or-later (slot ∷ slots) k = refl
+
+-- slots that have the same at each place
+placed-same : (first : ℕ) (old new : List (Option Entry)) → ((k : ℕ) → get_or new k None ≡ get_or old k None) → placed_from first new ≡ placed_from first old
+placed-same first [] [] same = refl
+placed-same first [] (n ∷ ns) same =
+    ap (λ (slot : Option Entry). with_slot first slot (placed_from (first + 1) ns)) (same 0) ∙ placed-same (first + 1) [] ns (λ k. same (suc k) ∙ sym (get_or-later [] k))
+placed-same first (o ∷ os) [] same =
+    placed-same (first + 1) os [] (λ k. get_or-later [] k ∙ same (suc k)) ∙ ap (λ (slot : Option Entry). with_slot first slot (placed_from (first + 1) os)) (same 0)
+placed-same first (o ∷ os) (n ∷ ns) same =
+    ap (λ (slot : Option Entry). with_slot first slot (placed_from (first + 1) ns)) (same 0) ∙ ap (with_slot first o) (placed-same (first + 1) os ns (λ k. same (suc k)))
+
+-- the slots differ at one place alone
+abbrev DifferAt : ℕ → List (Option Entry) → List (Option Entry) → Type 0
+DifferAt k old new = (j : ℕ) → j ≢ k → get_or new j None ≡ get_or old j None
+
+later-same : (old new : List (Option Entry)) → DifferAt 0 old new → (k : ℕ) → get_or (later new) k None ≡ get_or (later old) k None
+later-same old new others k = get_or-later new k ∙ others (suc k) (λ e. omega (arith, e)) ∙ sym (get_or-later old k)
+
+later-differ : (k : ℕ) (old new : List (Option Entry)) → DifferAt (suc k) old new → DifferAt k (later old) (later new)
+later-differ k old new others = λ j other. get_or-later new j ∙ others (suc j) (λ e. other (omega (arith, e))) ∙ sym (get_or-later old j)
+
+first-same : (k first : ℕ) (old new : List (Option Entry)) → DifferAt (suc k) old new → placed_from first new ≡ with_slot first (get_or old 0 None) (placed_from (first + 1) (later new))
+first-same k first old new others =
+    placed-parts first new ∙ ap (λ (slot : Option Entry). with_slot first slot (placed_from (first + 1) (later new))) (others 0 (λ e. omega (arith, e)))
+
+AreBelow-parts : (id : ℕ) (x : Placed) (xs : List Placed) → AreBelow id (by_id x xs) → (x.1.id < id) × AreBelow id xs
+AreBelow-parts id x [] below = below
+AreBelow-parts id x (y ∷ ys) below =
+    elim (cases_Bool (ltb x.1.id y.1.id)) [
+      | inl lower ↦ (
+          let h : AreBelow id (y ∷ by_id x ys) = subst (AreBelow id) (goes-after x y ys (ltb-true x.1.id y.1.id lower)) below in
+          let parts = AreBelow-parts id x ys h.1 in (parts.0, (h.0, parts.1)))
+      | inr higher ↦ subst (AreBelow id) (goes-before x y ys (ltb-false x.1.id y.1.id higher)) below
+    ]
+
+below-later : (id first : ℕ) (slot : Option Entry) (held : List Placed) → AreBelow id (with_slot first slot held) → AreBelow id held
+below-later id first None held below = below
+below-later id first (Some e) held below = (AreBelow-parts id (first, e) held below).1
+
+newest-first : (first : ℕ) (slot : Option Entry) (x : Placed) (held : List Placed) → AreBelow x.1.id (with_slot first slot held) → with_slot first slot (x ∷ held) ≡ x ∷ with_slot first slot held
+newest-first first None x held below = refl
+newest-first first (Some e) x held below = goes-after (first, e) x held (AreBelow-parts x.1.id (first, e) held below).0
+
+-- the newest entry is put into a free slot
+newest-put : (place first k : ℕ) (e : Entry) (old new : List (Option Entry)) → place ≡ first + k → get_or old k None ≡ None → get_or new k None ≡ Some e → DifferAt k old new → AreBelow e.id (placed_from first old)
+    → placed_from first new ≡ (place, e) ∷ placed_from first old
+newest-put place first zero e old new is was now others below =
+    let here : first ≡ place = omega (arith, is) in
+    let old_is : placed_from first old ≡ placed_from (first + 1) (later old) = placed-parts first old ∙ ap (λ (slot : Option Entry). with_slot first slot (placed_from (first + 1) (later old))) was in
+    placed-parts first new
+    ∙ ap (λ (slot : Option Entry). with_slot first slot (placed_from (first + 1) (later new))) now
+    ∙ ap (by_id (first, e)) (placed-same (first + 1) (later old) (later new) (later-same old new others) ∙ sym old_is)
+    ∙ goes-first (first, e) (placed_from first old) (AreGiven-below e.id (placed_from first old) below)
+    ∙ ap (λ (p : ℕ). (p, e) ∷ placed_from first old) here
+newest-put place first (suc k) e old new is was now others below =
+    let slot : Option Entry = get_or old 0 None in
+    let rest : List Placed = placed_from (first + 1) (later old) in
+    let old_is : placed_from first old ≡ with_slot first slot rest = placed-parts first old in
+    let below_now : AreBelow e.id (with_slot first slot rest) = subst (AreBelow e.id) old_is below in
+    let one_more = newest-put place (first + 1) k e (later old) (later new) (omega (arith, is)) (get_or-later old k ∙ was) (get_or-later new k ∙ now) (later-differ k old new others) (below-later e.id first slot rest below_now) in
+    first-same k first old new others
+    ∙ ap (with_slot first slot) one_more
+    ∙ newest-first first slot (place, e) rest below_now
+    ∙ ap (λ (ys : List Placed). (place, e) ∷ ys) (sym old_is)
+
+pub placed-put : (place : ℕ) (e : Entry) (old new : List (Option Entry)) → get_or old place None ≡ None → get_or new place None ≡ Some e → ((other : ℕ) → other ≢ place → get_or new other None ≡ get_or old other None) → AreBelow e.id (placed_from 0 old)
+    → placed_from 0 new ≡ (place, e) ∷ placed_from 0 old
+placed-put place e old new was now others below = newest-put place 0 place e old new (omega arith) was now others below
+
+-- ---- an entry less
+
+drops : (place : ℕ) (x : Placed) (xs : List Placed) → eqb place x.0 ≡ true → but_at place (x ∷ xs) ≡ but_at place xs
+drops place x xs here = cond-false (not (eqb place x.0)) (x ∷ but_at place xs) (but_at place xs) (not_from_true (eqb place x.0) here)
+
+keeps : (place : ℕ) (x : Placed) (xs : List Placed) → eqb place x.0 ≡ false → but_at place (x ∷ xs) ≡ x ∷ but_at place xs
+keeps place x xs there = cond-true (not (eqb place x.0)) (x ∷ but_at place xs) (but_at place xs) (not_from_false (eqb place x.0) there)
+
+but_at-own : (x : Placed) (xs : List Placed) → but_at x.0 (by_id x xs) ≡ but_at x.0 xs
+but_at-own x [] = drops x.0 x [] (eq-eqb x.0 x.0 refl)
+but_at-own x (y ∷ ys) =
+    elim (cases_Bool (ltb x.1.id y.1.id)) [
+      | inl lower ↦ ap (but_at x.0) (goes-after x y ys (ltb-true x.1.id y.1.id lower)) ∙ ap (λ (zs : List Placed). cond (not (eqb x.0 y.0)) (y ∷ zs) zs) (but_at-own x ys)
+      | inr higher ↦ ap (but_at x.0) (goes-before x y ys (ltb-false x.1.id y.1.id higher)) ∙ drops x.0 x (y ∷ ys) (eq-eqb x.0 x.0 refl)
+    ]
+
+but_at-other : (place : ℕ) (x : Placed) (xs : List Placed) → eqb place x.0 ≡ false → DontRise xs → but_at place (by_id x xs) ≡ by_id x (but_at place xs)
+but_at-other place x [] other fall = keeps place x [] other
+but_at-other place x (y ∷ ys) other fall =
+    elim (cases_Bool (ltb x.1.id y.1.id)) [
+      | inl lower ↦ (
+          let low = ltb-true x.1.id y.1.id lower in
+          let rest = but_at-other place x ys other fall.1 in
+          ap (but_at place) (goes-after x y ys low) ∙ (elim (cases_Bool (eqb place y.0)) [
+            | inl here ↦ drops place y (by_id x ys) here ∙ rest ∙ ap (by_id x) (sym (drops place y ys here))
+            | inr there ↦ keeps place y (by_id x ys) there ∙ ap (λ (zs : List Placed). y ∷ zs) rest ∙ sym (goes-after x y (but_at place ys) low) ∙ ap (by_id x) (sym (keeps place y ys there))
+          ]))
+      | inr higher ↦ (
+          let high = ltb-false x.1.id y.1.id higher in
+          let given : AreGiven x.1.id (y ∷ ys) = (high, AreGiven-raised y.1.id x.1.id ys high fall.0) in
+          ap (but_at place) (goes-before x y ys high) ∙ keeps place x (y ∷ ys) other ∙ sym (goes-first x (but_at place (y ∷ ys)) (AreGiven-but x.1.id place (y ∷ ys) given)))
+    ]
+
+own-slot : (place : ℕ) (slot : Option Entry) (held : List Placed) → has_place place (places_of held) ≡ false → but_at place (with_slot place slot held) ≡ held
+own-slot place None held out = but_at-out place held out
+own-slot place (Some e) held out = but_at-own (place, e) held ∙ but_at-out place held out
+
+other-slot : (place first : ℕ) (slot : Option Entry) (held : List Placed) → place ≢ first → DontRise held → but_at place (with_slot first slot held) ≡ with_slot first slot (but_at place held)
+other-slot place first None held other fall = refl
+other-slot place first (Some e) held other fall = but_at-other place (first, e) held (ne_eqb place first other) fall
+
+slot-emptied : (place first k : ℕ) (old new : List (Option Entry)) → place ≡ first + k → get_or new k None ≡ None → DifferAt k old new → placed_from first new ≡ but_at place (placed_from first old)
+slot-emptied place first zero old new is now others =
+    let here : place ≡ first = omega (arith, is) in
+    let rest : List Placed = placed_from (first + 1) (later old) in
+    placed-parts first new
+    ∙ ap (λ (slot : Option Entry). with_slot first slot (placed_from (first + 1) (later new))) now
+    ∙ placed-same (first + 1) (later old) (later new) (later-same old new others)
+    ∙ sym (own-slot first (get_or old 0 None) rest (out-below first (first + 1) (later old) (omega arith)))
+    ∙ ap (but_at first) (sym (placed-parts first old))
+    ∙ ap (λ (p : ℕ). but_at p (placed_from first old)) (sym here)
+slot-emptied place first (suc k) old new is now others =
+    let rest : List Placed = placed_from (first + 1) (later old) in
+    first-same k first old new others
+    ∙ ap (with_slot first (get_or old 0 None)) (slot-emptied place (first + 1) k (later old) (later new) (omega (arith, is)) (get_or-later new k ∙ now) (later-differ k old new others))
+    ∙ sym (other-slot place first (get_or old 0 None) rest (λ same. omega (arith, same, is)) (DontRise-placed (first + 1) (later old)))
+    ∙ ap (but_at place) (sym (placed-parts first old))
+
+pub placed-take : (place : ℕ) (old new : List (Option Entry)) → get_or new place None ≡ None → ((other : ℕ) → other ≢ place → get_or new other None ≡ get_or old other None) → placed_from 0 new ≡ but_at place (placed_from 0 old)
+placed-take place old new now others = slot-emptied place 0 place old new (omega arith) now others

@@ -1,4 +1,5 @@
 pub mod CompiledRule
+pub mod WholeProgram
 pub mod AttachedProgram
 pub mod Entries
 pub mod OfferedEntries

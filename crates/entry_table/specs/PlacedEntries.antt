@@ -1,7 +1,6 @@
 -- Inner: entries at their places.
-use Rattle.std.specs.Prelude.{◌≡◌, ℕ, ◌+◌, not, List, map, filter, find, length, Option, None, is_some, option_map, ◌==◌, slice_index_or}
-use Rattle.std.specs.List.{filter_map}
-use Rattle.place_lists.specs.PlaceLists.{PlaceLists, places_in, has_place, AreOnce}
+use Rattle.std.specs.Prelude.{◌≡◌, ℕ, ◌+◌, not, List, [], ◌∷◌, map, filter, find, Option, Some, None, option_map, ◌==◌, nat_lt, if◌then◌else◌}
+use Rattle.slab.specs.Slab.{Slab}
 use Rattle.entry_table.specs.declared.entry.Entry.{Entry}
 
 -- an entry and its place
@@ -12,13 +11,24 @@ Placed = ℕ × Entry
 abbrev pub room : ℕ
 room = 16384
 
--- what stands at a place
-abbrev pub cell_at : List (Option Entry) → ℕ → Option Placed
-cell_at cells place = option_map (λ (e : Entry). (place, e)) (slice_index_or cells place None)
+-- one more entry, after those of higher ids
+abbrev pub by_id : Placed → List Placed → List Placed
+by_id x [] = x ∷ []
+by_id x (y ∷ ys) = if nat_lt x.1.id y.1.id then y ∷ by_id x ys else x ∷ y ∷ ys
 
--- the entries at these places
-abbrev pub placed_at : List (Option Entry) → List ℕ → List Placed
-placed_at cells places = filter_map (cell_at cells) places
+-- the entry of a slot, if it has one, among others
+abbrev pub with_slot : ℕ → Option Entry → List Placed → List Placed
+with_slot place None held = held
+with_slot place (Some e) held = by_id (place, e) held
+
+-- the entries of slots, of which the first is that of this place, by falling id
+abbrev pub placed_from : ℕ → List (Option Entry) → List Placed
+placed_from place [] = []
+placed_from place (slot ∷ slots) = with_slot place slot (placed_from (place + 1) slots)
+
+-- the entries of a slab, the entry that was put last first: its id is the highest
+abbrev pub placed_in : Slab Entry → List Placed
+placed_in slab = placed_from 0 slab.slots
 
 -- the places of entries
 abbrev pub places_of : List Placed → List ℕ
@@ -32,11 +42,6 @@ entry_at place held = option_map (λ (x : Placed). x.1) (find (λ (x : Placed). 
 abbrev pub but_at : ℕ → List Placed → List Placed
 but_at place held = filter (λ (x : Placed). not (place == x.0)) held
 
--- The first list has the places that are used, the entry that was put last first; the second has the others.
-pub record IsShelf (cells : List (Option Entry)) (ages : PlaceLists) : Type 0 where
-  pub long : length cells ≡ room
-  pub places : ages.places ≡ room
-  pub two_lists : length ages.lists ≡ 2
-  pub once : AreOnce (places_in ages 0)
-  pub same : (place : ℕ) → is_some (slice_index_or cells place None) ≡ has_place place (places_in ages 0)
-  pub all : length (places_in ages 0) + length (places_in ages 1) ≡ room
+-- there is room for each entry, and no place beyond it
+pub record IsShelf (slab : Slab Entry) : Type 0 where
+  pub capacity : slab.capacity ≡ room

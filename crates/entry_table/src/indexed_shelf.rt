@@ -38,7 +38,7 @@ impl IndexedShelf {
     ghost use Rattle.entry_table.specs.OfferedEntries.{AreOffered};
     ghost use Rattle.entry_table.specs.PlacedEntries.{places_of, entry_at, but_at};
     ghost use Rattle.entry_table.specs.IndexLists.{places_with_key, connection_key, connection_lists};
-    ghost use Rattle.entry_table.specs.Searching.{entries_of, IdsFall};
+    ghost use Rattle.entry_table.specs.Searching.{entries_of, AreBelow, IdsFall};
 
     /// A shelf without entries. Only this call takes memory.
     pub(crate) fn new(alloc: Global, key: IndexKey) -> Result<IndexedShelf, AllocError>
@@ -50,9 +50,10 @@ impl IndexedShelf {
         })
     }
 
-    /// Puts an entry at a place that none has.
+    /// Puts an entry, newer than all others, at a place that none has.
     pub(crate) fn put(&mut self, entry: Entry) -> u16
-        requires { length self.old < 16384 }
+        requires few { length self.old < 16384 }
+        requires newest { AreBelow entry.id self.old }
         ensures { self.new ≡ (result, entry) ∷ self.old }
     {
         let standing = self.index.standing_of(&entry);

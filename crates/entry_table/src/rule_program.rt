@@ -1,11 +1,12 @@
 // Rules with their programs.
 
-ghost use Rattle.std.specs.Prelude.{◌≡◌, ◌↔◌, IsTrue, option_map};
+ghost use Rattle.std.specs.Prelude.{◌≡◌, ◌↔◌, IfErr, IsTrue, option_map};
 ghost use Rattle.message_view.specs.Message.{Message};
 ghost use Rattle.message_view.specs.Valid.{Valid};
 ghost use Rattle.match_rule.specs.Envelope.{EnvelopeFits};
 ghost use Rattle.match_rule.specs.FixedTexts.{fixed_texts};
 ghost use Rattle.match_rule.specs.PathNamespaces.{end_of, IsElsewhere};
+ghost use Rattle.rule_compile.specs.Compiled.{IsSlotOf, IsRefusal};
 ghost use Rattle.entry_table.specs.TextKeys.{shape_of};
 
 use crate::texts::shape_of;
@@ -17,21 +18,24 @@ use std::alloc::{AllocError, Global};
 use std::marker::Model;
 use std::sync::Arc;
 
-/// A rule, its slot, its program, and the program of what is left of it beside the texts that it fixes and what it asks
-/// of the envelope.
+/// The weight up to which a rule is never too long: it bounds the length of the rule's program in instructions.
+const MAX_SURE_WEIGHT: u64 = 4096;
+
+/// A rule, its slot, and the program of what is left of it beside the texts that it fixes and what it asks of the
+/// envelope.
 #[derive(Drop)]
 struct Parts {
     rule: Rule,
     slot: Option<u16>,
-    program: Verified,
     rest: Verified,
 }
 
-/// A rule with the program that it was compiled to, for images of edition 2. Shares are of one value. A message that
-/// was looked up has the texts which the rule fixes, and its envelope is seen without an image, so a second program
-/// tests only what is left of the rule: nothing, where the rule asks for such texts and for the envelope alone. Which
-/// texts the rule fixes and how its path namespace ends are asked of each entry of a list that a message is looked up
-/// in, so they are kept here, where no share has to be followed.
+/// A rule and what runs of it, for images of edition 2. Shares are of one value. A message that was looked up has the
+/// texts which the rule fixes, and its envelope is seen without an image, so that the program tests only what is left of
+/// the rule: nothing, where the rule asks for such texts and for the envelope alone. The program of the whole rule isn't
+/// kept: contracts see the one that `compile` lowers. Which texts the rule fixes and how its path namespace ends are
+/// asked of each entry of a list that a message is looked up in, so they are kept here, where no share has to be
+/// followed.
 #[derive(Drop)]
 pub struct RuleProgram {
     parts: Arc<Parts>,
@@ -42,13 +46,14 @@ pub struct RuleProgram {
 impl Model for RuleProgram {
     ghost use Rattle.entry_table.specs.CompiledRule.{CompiledRule, IsFit};
     ghost use Rattle.entry_table.specs.RuleHints.{AreHints};
+    ghost use Rattle.entry_table.specs.WholeProgram.{whole_program};
     ghost use Rattle.rule_compile.specs.Rest.{IsRest};
 
     ghost Value = { CompiledRule };
 
-    ghost view = { λ p. record { rule = p.parts.value.rule; slot = p.parts.value.slot; program = p.parts.value.program } };
+    ghost view = { λ p. record { rule = p.parts.value.rule; slot = p.parts.value.slot; program = whole_program p.parts.value.rule p.parts.value.slot } };
 
-    ghost invariant = { λ p. IsFit (record { rule = p.parts.value.rule; slot = p.parts.value.slot; program = p.parts.value.program }) × IsRest p.parts.value.rule p.parts.value.slot p.parts.value.rest × AreHints p.parts.value.rule p.shape p.namespace_end };
+    ghost invariant = { λ p. IsFit (record { rule = p.parts.value.rule; slot = p.parts.value.slot; program = whole_program p.parts.value.rule p.parts.value.slot }) × IsRest p.parts.value.rule p.parts.value.slot p.parts.value.rest × AreHints p.parts.value.rule p.shape p.namespace_end };
 }
 
 /// How the namespace ends that is asked for.
@@ -73,13 +78,24 @@ fn is_outside(path: Option<&str>, rule: &Rule) -> bool
     }
 }
 
+/// Refuses a rule whose program would be too long. That program isn't run, so a rule is compiled to it only if its weight
+/// leaves the length open.
+fn check_length(alloc: Global, rule: &Rule, slot: Option<u16>) -> Result<(), CompileError>
+    requires { IsSlotOf slot rule.now }
+    ensures { IfErr result (IsRefusal rule.now) }
+{
+    if rule.weight() > MAX_SURE_WEIGHT {
+        compile(alloc, rule, slot)?;
+    }
+    Ok(())
+}
+
 impl RuleProgram {
-    ghost use Rattle.std.specs.Prelude.{IfOk, IfErr};
-    ghost use Rattle.rule_compile.specs.Compiled.{IsSlotOf, IsRefusal};
+    ghost use Rattle.std.specs.Prelude.{IfOk};
     ghost use Rattle.rule_compile.specs.Rest.{IsRest};
     ghost use Rattle.entry_table.specs.CompiledRule.{IsFit};
 
-    /// Compiles a rule. A slot is given exactly where the rule asks for an owned name as the sender.
+    /// Compiles what runs of a rule. A slot is given exactly where the rule asks for an owned name as the sender.
     ///
     /// # Errors
     ///
@@ -94,16 +110,13 @@ impl RuleProgram {
         ensures slot { IfOk result (λ compiled. compiled.slot ≡ slot) }
         ensures refused { IfErr result (IsRefusal rule) }
     {
-        let program = compile(alloc, &rule, slot)?;
+        check_length(alloc, &rule, slot)?;
         let rest = compile_rest(alloc, &rule, slot)?;
+        // What its contract says of conditions makes the rule's program fit.
+        let _ = rule.conditions();
         let shape = shape_of(&rule.fixed_texts());
         let namespace_end = end_asked(rule.path_namespace());
-        let parts = Parts {
-            rule,
-            slot,
-            program,
-            rest,
-        };
+        let parts = Parts { rule, slot, rest };
         Ok(RuleProgram {
             parts: Arc::new(alloc, parts)?,
             shape,
@@ -111,7 +124,7 @@ impl RuleProgram {
         })
     }
 
-    /// The same rule and program once more, without a copy.
+    /// The same rule once more, without a copy.
     pub fn share(&self) -> Result<RuleProgram, AllocError>
         ensures { IfOk result (λ compiled. compiled ≡ self.now) }
     {
@@ -164,15 +177,6 @@ impl RuleProgram {
         ensures { (m : Message) → Valid view.now m → (IsTrue result ↔ EnvelopeFits self.now.rule m) }
     {
         self.parts.rule.fits_envelope(view)
-    }
-
-    /// The program.
-    pub fn program(&self) -> &Verified
-        ensures value { result.now ≡ self.now.program }
-        // Its verdict on a message's image is nonzero exactly where the rule holds of the message.
-        ensures fit { IsFit self.now }
-    {
-        &self.parts.program
     }
 
     /// The program of what is left of the rule where a message has the texts that the rule fixes and its envelope fits.

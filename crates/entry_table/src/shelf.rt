@@ -2,66 +2,56 @@
 
 use crate::entry::Entry;
 use crate::table::MAX_ENTRIES;
-use place_lists::Lists;
+use slab::Slab;
 use std::alloc::{AllocError, Global};
 use std::marker::Model;
 
-/// The list of the places that are used, and that of the others.
-const USED: usize = 0;
-
-const VACANT: usize = 1;
-
-/// Room for each entry, at a place of its own. Contracts see places and entries, what was put last first.
+/// Room for each entry, at a place of its own: its key in a slab. Contracts see places and entries by falling id, so that
+/// what was put last is the first.
 #[derive(Drop)]
 pub(crate) struct Shelf {
-    cells: Vec<Option<Entry>>,
-    ages: Lists,
+    entries: Slab<Entry>,
 }
 
 impl Model for Shelf {
     ghost use Rattle.std.specs.Prelude.{List};
-    ghost use Rattle.place_lists.specs.PlaceLists.{places_in};
-    ghost use Rattle.entry_table.specs.PlacedEntries.{Placed, placed_at, IsShelf};
+    ghost use Rattle.entry_table.specs.PlacedEntries.{Placed, placed_in, IsShelf};
 
     ghost Value = { List Placed };
 
-    ghost view = { λ s. placed_at s.cells.items (places_in s.ages 0) };
+    ghost view = { λ s. placed_in s.entries };
 
-    ghost invariant = { λ s. IsShelf s.cells.items s.ages };
+    ghost invariant = { λ s. IsShelf s.entries };
 }
 
 impl Shelf {
     ghost use Rattle.std.specs.Prelude.{◌≡◌, ◌<◌, ◌∷◌, [], true, false, length, IfOk, option_map};
     ghost use Rattle.place_lists.specs.PlaceLists.{has_place, AreOnce};
     ghost use Rattle.entry_table.specs.PlacedEntries.{places_of, entry_at, but_at};
+    ghost use Rattle.entry_table.specs.Searching.{AreBelow};
 
     /// A shelf without entries. Only this call takes memory.
     pub(crate) fn new(alloc: Global) -> Result<Shelf, AllocError>
         ensures { IfOk result (λ shelf. shelf ≡ []) }
     {
-        let mut cells = Vec::new(alloc);
-        let mut ages = Lists::new(alloc, 2, MAX_ENTRIES as u16)?;
-        for place in 0..MAX_ENTRIES as u16 {
-            cells.push(None)?;
-            ages.push(VACANT, place);
+        let entries = Slab::with_capacity(alloc, MAX_ENTRIES)?;
+        // Keys are below the capacity, and the lists of the index have no more places than entries. A slab has just the
+        // capacity that it was asked for, but promises no more than that it isn't lower.
+        if entries.capacity() != MAX_ENTRIES {
+            return Err(AllocError);
         }
-        Ok(Shelf { cells, ages })
+        Ok(Shelf { entries })
     }
 
-    /// Puts an entry at a place that none has.
+    /// Puts an entry, newer than all others, at a place that none has.
     pub(crate) fn put(&mut self, entry: Entry) -> u16
-        requires { length self.old < 16384 }
+        requires few { length self.old < 16384 }
+        requires newest { AreBelow entry.id self.old }
         ensures put { self.new ≡ (result, entry) ∷ self.old }
         ensures fresh { has_place result (places_of self.old) ≡ false }
         ensures below { result < 16384 }
     {
-        let Some(place) = self.ages.walk(VACANT).next() else {
-            unreachable!()
-        };
-        self.ages.remove(VACANT, place);
-        self.ages.push(USED, place);
-        self.cells[usize::from(place)] = Some(entry);
-        place
+        self.entries.insert_reserved(entry) as u16
     }
 
     /// The entry at a place.
@@ -70,10 +60,7 @@ impl Shelf {
         // No place has two entries.
         ensures once { AreOnce (places_of self.now) }
     {
-        match self.cells.get(usize::from(place)) {
-            Some(cell) => cell.as_ref(),
-            None => None,
-        }
+        self.entries.get(usize::from(place))
     }
 
     /// Takes the entry at a place.
@@ -82,12 +69,6 @@ impl Shelf {
         ensures entry { entry_at place self.old ≡ Some result }
         ensures rest { self.new ≡ but_at place self.old }
     {
-        self.ages.remove(USED, place);
-        self.ages.push(VACANT, place);
-        let cell = self.cells[usize::from(place)].take();
-        match cell {
-            Some(entry) => entry,
-            None => unreachable!(),
-        }
+        self.entries.remove(usize::from(place))
     }
 }

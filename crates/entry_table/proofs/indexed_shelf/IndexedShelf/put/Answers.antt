@@ -10,7 +10,7 @@ pub add-requires : goal.add-requires
 add-requires c =
     let i = c.self.inside in
     subst (CanStand i.index c.put-place.result) (sym c.standing_of-standing.ensures)
-    (CanStand-put i.index i.shelf c.put-place.result c.args.entry c.self.invariant c.put-place.ensures.fresh c.put-place.ensures.below (omega (arith, c.requires, ap (λ (held : List Placed). length held) c.self.view_is)))
+    (CanStand-put i.index i.shelf c.put-place.result c.args.entry c.self.invariant c.put-place.ensures.fresh c.put-place.ensures.below (omega (arith, c.requires.few, ap (λ (held : List Placed). length held) c.self.view_is)))
 
 pub invariant_of-self : goal.invariant_of-self
 invariant_of-self c =

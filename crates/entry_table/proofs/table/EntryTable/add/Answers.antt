@@ -5,8 +5,11 @@ use Rattle.entry_table.specs.declared.entry.Entry.{Entry}
 use Rattle.entry_table.specs.Entries.{Entries, max_id}
 use Rattle.entry_table.specs.PlacedEntries.{Placed}
 use Rattle.entry_table.specs.Searching.{IsTable}
-use Rattle.entry_table.proofs.Finding.{IsTable-more, length-entries_of}
+use Rattle.entry_table.proofs.Finding.{AreBelow-last, IsTable-more, length-entries_of}
 use Rattle.entry_table.proofs.table.EntryTable.add.Goals as goal
+
+pub put-requires-clause-newest : goal.put-requires-clause-newest
+put-requires-clause-newest c = AreBelow-last c.self.inside.last c.self.inside.shelf c.self.invariant.below_last
 
 pub invariant_of-self : goal.invariant_of-self
 invariant_of-self c =
