@@ -1,3 +1,4 @@
 pub mod CalledMethods
 pub mod TextArguments
 pub mod NumberArguments
+pub mod Introspecting

@@ -3,6 +3,7 @@ pub use Rattle.passes.specs.declared.error.BusError
 pub use Rattle.passes.specs.declared.reading.Source
 pub use Rattle.passes.specs.Connections
 pub use Rattle.passes.specs.History
+pub use Rattle.passes.specs.Names
 pub use Rattle.passes.specs.Recipients
 pub use Rattle.passes.specs.State
 pub use Rattle.passes.specs.Command
