@@ -172,9 +172,11 @@ where
     R: Files + Net + Threads + Wait + Clock + RandomSource + Sync + Alloc,
 {
     let key = index_key(rt)?;
+    let digits = guid.digits;
+    let machine = machine_id(rt);
     let identity = Identity {
-        guid: guid.digits,
-        machine: machine_id(rt),
+        guid: digits,
+        machine,
     };
     let workers = thread::available_parallelism(rt)
         .map(|count| count.get())
