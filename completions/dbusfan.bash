@@ -4,7 +4,7 @@ _dbusfan_options() {
     match) echo --owns --help ;;
     run) echo --edition --help ;;
     asm | check | compile) echo --help ;;
-    serve) echo --listen --guid --connections --help ;;
+    serve) echo --listen --guid --connections --print-address --session --nofork --help ;;
     watch) echo --program --edition --hex --count --help ;;
     esac
 }
@@ -20,7 +20,7 @@ _dbusfan() {
     local word=${COMP_WORDS[COMP_CWORD]} command=${COMP_WORDS[1]} names
     case ${COMP_WORDS[COMP_CWORD - 1]} in
     --edition) names='1 2' ;;
-    --listen) names='unix:path= tcp:host=' ;;
+    --listen) names='unix:path= unix:dir= unix:tmpdir= unix:abstract= unix:runtime=yes tcp:host=' ;;
     --guid | --connections | --count) return ;;
     --program | = | :) names= ;;
     *)

@@ -4,13 +4,13 @@ use Rattle.std.specs.Prelude.{Option, None, Some, MatchOption}
 use Rattle.std.specs.List.{list_any}
 use Rattle.std.specs.Option.{option_map}
 use Rattle.std.proofs.lemmas.List.Folds.{list_any_at}
-use Rattle.endpoints.specs.Address.{comma, is_special}
+use Rattle.endpoints.specs.Address.{comma, ends_value}
 use Rattle.endpoints.specs.AddressParts.{parts_of}
 
--- a value without special bytes has no comma
-pub no_comma : (value : List ℕ) → list_any is_special value ≡ false → (i : ℕ) → i < length value → get_or value i 0 ≢ comma
+-- a value that nothing ends has no comma
+pub no_comma : (value : List ℕ) → list_any ends_value value ≡ false → (i : ℕ) → i < length value → get_or value i 0 ≢ comma
 no_comma value plain i within is_comma =
-    let found : list_any is_special value ≡ true = list_any_at is_special value i 0 within (ap is_special is_comma) in
+    let found : list_any ends_value value ≡ true = list_any_at ends_value value i 0 within (ap ends_value is_comma) in
     cc
 
 -- two texts that are known are the parts that are given

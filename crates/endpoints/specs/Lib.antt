@@ -1,3 +1,4 @@
 pub mod Address
 pub mod AddressParts
+pub mod Escapes
 pub mod Transports

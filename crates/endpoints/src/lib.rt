@@ -3,10 +3,12 @@
 #![tactic(auto)]
 
 mod address;
+mod escapes;
 mod link;
 mod listener;
 mod socket_file;
 
 pub use address::Address;
+pub use escapes::{escaped, respelled, unescaped};
 pub use link::Link;
 pub use listener::Listener;

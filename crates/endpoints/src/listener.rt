@@ -5,12 +5,15 @@ ghost use Rattle.endpoints.specs.Address.{place_of};
 ghost use Rattle.endpoints.specs.Transports.{IsTakenFor, transport_of_place, transport_of_listener, transport_of_link};
 
 use crate::address::Address;
+use crate::escapes::{unescaped, unescaped_bytes};
 use crate::link::Link;
 use crate::socket_file;
+use std::alloc::Global;
 use std::fs::Files;
 use std::io;
+use std::io::ErrorKind;
 use std::net::{Net, TcpListener, TcpStream};
-use std::os::unix::net::UnixListener;
+use std::os::unix::net::{SocketAddr, SocketAddrExt, UnixListener};
 
 /// A socket that accepts.
 #[derive(Drop)]
@@ -20,17 +23,33 @@ pub enum Listener {
 }
 
 impl Listener {
-    /// Listens at an address.
-    pub fn bind<R>(rt: &R, address: Address<'_>) -> io::Result<Listener>
+    /// Listens at an address that names a socket: in a folder, or at the user's place, whoever calls chooses a path first.
+    ///
+    /// # Errors
+    ///
+    /// `Unsupported` where the address names no socket, and what the system refuses.
+    pub fn bind<R>(rt: &R, alloc: Global, address: Address<'_>) -> io::Result<Listener>
     where
         R: Files + Net<Listener = TcpListener, Stream = TcpStream>,
         ensures { IfOk result (λ listener. transport_of_listener listener ≡ transport_of_place (place_of address.entry)) }
     {
         match address {
             Address::Tcp { host, port } => {
-                Ok(Listener::Tcp(TcpListener::bind(rt, (host, port))?))
+                let host = unescaped(alloc, host)?;
+                Ok(Listener::Tcp(TcpListener::bind(rt, (host.as_str(), port))?))
             }
-            Address::Unix { path } => Ok(Listener::Unix(socket_file::bind(rt, path)?)),
+            Address::Unix { path } => {
+                let path = unescaped(alloc, path)?;
+                Ok(Listener::Unix(socket_file::bind(rt, path.as_str())?))
+            }
+            Address::Abstract { name } => {
+                let name = unescaped_bytes(alloc, name)?;
+                let place = SocketAddr::from_abstract_name(name.as_slice())?;
+                Ok(Listener::Unix(UnixListener::bind_addr(rt, &place)?))
+            }
+            Address::Folder { .. } | Address::Runtime => {
+                Err(io::Error::from(ErrorKind::Unsupported))
+            }
         }
     }
 
@@ -62,10 +81,12 @@ impl Listener {
     }
 
     /// Stops listening, and removes the file of a Unix socket.
-    pub fn close<R: Files>(self, rt: &R, address: Address<'_>) {
+    pub fn close<R: Files>(self, rt: &R, alloc: Global, address: Address<'_>) {
         drop(self);
-        if let Address::Unix { path } = address {
-            socket_file::remove(rt, path);
+        if let Address::Unix { path } = address
+            && let Ok(path) = unescaped(alloc, path)
+        {
+            socket_file::remove(rt, path.as_str());
         }
     }
 }

@@ -2,9 +2,12 @@
 
 ghost use Rattle.serve_command.specs.Status.{IsStatus};
 
-use crate::error::Fault;
+use crate::error::Refusal;
+use crate::guid::Guid;
+use crate::listening::{announce, bind, say};
 use crate::machine::machine_id;
 use crate::options::Options;
+use crate::place::Place;
 use command_line::{Output, Writer, text_for};
 use endpoints::{Address, Listener};
 use server::{Identity, IndexKey, Limits};
@@ -12,6 +15,7 @@ use std::alloc::Global;
 use std::fs::Files;
 use std::net::{Net, TcpListener, TcpStream};
 use std::random::RandomSource;
+use std::rt::Env;
 use std::sync::Wait;
 use std::thread;
 use std::thread::Threads;
@@ -22,8 +26,8 @@ const HELP: [&str; 2] = ["serve", "--help"];
 
 /// Serves a bus as the words after `serve` ask for, and answers the status that the program ends with: 0 once as many
 /// connections as they name were accepted and have ended, 3 for words that are no such options, 4 where the address
-/// can't be listened at or `out` can't be written, 5 for want of memory. The line `listening ADDRESS` is written and
-/// flushed before the first accept.
+/// can't be listened at or `out` can't be written, 5 for want of memory. The line that says where it listens is written
+/// and flushed before the first accept.
 pub fn serve<R, O: Writer, E: Writer>(
     rt: &R,
     alloc: Global,
@@ -33,6 +37,7 @@ pub fn serve<R, O: Writer, E: Writer>(
 ) -> u8
 where
     R: Files
+        + Env
         + Net<Listener = TcpListener, Stream = TcpStream>
         + Threads
         + Wait
@@ -42,18 +47,35 @@ where
         + Alloc,
     ensures { IsStatus result }
 {
-    if asks_for_help(words) {
-        return match help(alloc, out) {
-            Ok(()) => 0,
-            Err(fault) => fault.tell(err),
-        };
-    }
-    let Some(options) = Options::read(words) else {
-        return Fault::Usage.tell(err);
-    };
-    match listen_and_serve(rt, alloc, options, out) {
+    match serve_words(rt, alloc, words, out) {
         Ok(()) => 0,
-        Err(fault) => fault.tell(err),
+        Err(refusal) => refusal.tell(alloc, err),
+    }
+}
+
+fn serve_words<R, O: Writer>(
+    rt: &R,
+    alloc: Global,
+    words: &[&str],
+    out: &mut Output<O>,
+) -> Result<(), Refusal>
+where
+    R: Files
+        + Env
+        + Net<Listener = TcpListener, Stream = TcpStream>
+        + Threads
+        + Wait
+        + Clock
+        + RandomSource
+        + Sync
+        + Alloc,
+{
+    if asks_for_help(words) {
+        return help(alloc, out);
+    }
+    match Options::read(words) {
+        Ok(options) => serve_as_asked(rt, alloc, options, out),
+        Err(fault) => Err(Refusal::of_words(alloc, fault)),
     }
 }
 
@@ -61,28 +83,53 @@ fn asks_for_help(words: &[&str]) -> bool {
     words.iter().any(|word| *word == "--help" || *word == "-h")
 }
 
-fn help<O: Writer>(alloc: Global, out: &mut Output<O>) -> Result<(), Fault> {
+fn help<O: Writer>(alloc: Global, out: &mut Output<O>) -> Result<(), Refusal> {
     match text_for(alloc, &HELP) {
         Ok(Some(text)) => say(text.as_bytes(), out),
-        Ok(None) => Err(Fault::Usage),
-        Err(_) => Err(Fault::Memory),
+        Ok(None) => Err(Refusal::no_help()),
+        Err(_) => Err(Refusal::memory()),
     }
 }
 
-fn say<O: Writer>(text: &[u8], out: &mut Output<O>) -> Result<(), Fault> {
-    out.put(text);
-    if out.has_failed {
-        return Err(Fault::File);
-    }
-    Ok(())
+/// Serves at the address that is asked for, or at the usual place.
+fn serve_as_asked<R, O: Writer>(
+    rt: &R,
+    alloc: Global,
+    options: Options<'_>,
+    out: &mut Output<O>,
+) -> Result<(), Refusal>
+where
+    R: Files
+        + Env
+        + Net<Listener = TcpListener, Stream = TcpStream>
+        + Threads
+        + Wait
+        + Clock
+        + RandomSource
+        + Sync
+        + Alloc,
+{
+    let place = match options.address {
+        Some(Address::Folder { path }) => Place::new_in(rt, alloc, path)?,
+        Some(Address::Runtime) => Place::of_runtime(rt, alloc)?,
+        Some(address) => return listen_and_serve(rt, alloc, options, address, out),
+        None => Place::usual(rt, alloc, options.usual_place)?,
+    };
+    let address = Address::Unix {
+        path: place.value.as_str(),
+    };
+    let served = listen_and_serve(rt, alloc, options, address, out);
+    place.remove(rt);
+    served
 }
 
 fn listen_and_serve<R, O: Writer>(
     rt: &R,
     alloc: Global,
     options: Options<'_>,
+    asked: Address<'_>,
     out: &mut Output<O>,
-) -> Result<(), Fault>
+) -> Result<(), Refusal>
 where
     R: Files
         + Net<Listener = TcpListener, Stream = TcpStream>
@@ -93,62 +140,61 @@ where
         + Sync
         + Alloc,
 {
-    let listener = match Listener::bind(rt, options.address) {
-        Ok(listener) => listener,
-        Err(error) => return Err(Fault::of_bind(&error)),
+    let guid = guid_of(rt, options)?;
+    let listener = bind(rt, alloc, asked)?;
+    let served = match listener.address(asked) {
+        Ok(taken) => match announce(rt, alloc, options.announcement, taken, guid, out) {
+            Ok(()) => serve_at(rt, alloc, options.connections, guid, &listener),
+            Err(refusal) => Err(refusal),
+        },
+        Err(error) => Err(Refusal::of_place(alloc, &asked, &error, None)),
     };
-    let served = match announce(alloc, &listener, options.address, out) {
-        Ok(()) => serve_at(rt, alloc, options, &listener),
-        Err(fault) => Err(fault),
-    };
-    listener.close(rt, options.address);
+    listener.close(rt, alloc, asked);
     served
 }
 
-/// Writes where clients find the bus.
-fn announce<O: Writer>(
-    alloc: Global,
-    listener: &Listener,
-    asked: Address<'_>,
-    out: &mut Output<O>,
-) -> Result<(), Fault> {
-    let Ok(taken) = listener.address(asked) else {
-        return Err(Fault::Socket);
-    };
-    match format!(in alloc; "listening {taken}\n") {
-        Ok(line) => say(line.as_str().as_bytes(), out),
-        Err(_) => Err(Fault::Memory),
+/// The id that is asked for, or a new one.
+fn guid_of<R: RandomSource>(rt: &R, options: Options<'_>) -> Result<Guid, Refusal> {
+    match options.guid {
+        Some(guid) => Ok(guid),
+        None => Guid::random(rt).map_err(|_| Refusal::no_random()),
     }
 }
 
 fn serve_at<R>(
     rt: &R,
     alloc: Global,
-    options: Options<'_>,
+    connections: Option<u32>,
+    guid: Guid,
     listener: &Listener,
-) -> Result<(), Fault>
+) -> Result<(), Refusal>
 where
     R: Files + Net + Threads + Wait + Clock + RandomSource + Sync + Alloc,
 {
     let key = index_key(rt)?;
+    let digits = guid.digits;
+    let machine = machine_id(rt);
     let identity = Identity {
-        guid: options.guid,
-        machine: machine_id(rt),
+        guid: digits,
+        machine,
     };
     let workers = thread::available_parallelism(rt)
         .map(|count| count.get())
         .unwrap_or(1);
     let limits = Limits::with_workers(workers);
-    let count = options.connections.map(u64::from);
-    server::serve(rt, alloc, key, identity, limits, listener, count).map_err(|_| Fault::Memory)
+    let count = connections.map(u64::from);
+    match server::serve(rt, alloc, key, identity, limits, listener, count) {
+        Ok(()) => Ok(()),
+        Err(_) => Err(Refusal::no_thread()),
+    }
 }
 
 /// A key that clients don't know, so that none can have many entries stand in one place of the index.
-fn index_key<R: RandomSource>(rt: &R) -> Result<IndexKey, Fault> {
+fn index_key<R: RandomSource>(rt: &R) -> Result<IndexKey, Refusal> {
     let mut first = [0; 8];
     let mut second = [0; 8];
     if rt.fill_bytes(&mut first).is_err() || rt.fill_bytes(&mut second).is_err() {
-        return Err(Fault::File);
+        return Err(Refusal::no_random());
     }
     Ok(IndexKey {
         first: u64::from_ne_bytes(first),

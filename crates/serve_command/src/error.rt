@@ -4,9 +4,11 @@ ghost use Rattle.std.specs.Prelude.{◌≡◌};
 ghost use Rattle.serve_command.specs.Faults.{status_of};
 ghost use Rattle.serve_command.specs.Status.{IsStatus};
 
+use crate::words::WordFault;
 use command_line::{Output, Writer};
-use std::io;
+use std::alloc::{AllocError, Global};
 use std::io::ErrorKind;
+use std::{fmt, io};
 
 /// What the command is refused for.
 #[derive(Clone, Copy, Debug, PartialEq, Eq)]
@@ -34,30 +36,125 @@ impl Fault {
         }
     }
 
-    /// The fault as a line for standard error.
-    fn line(self) -> &'static [u8] {
+    /// The fault as a line for standard error, which programs read.
+    fn line(self) -> &'static str {
         match self {
-            Fault::Usage => b"dbusfan: usage\n",
-            Fault::File => b"dbusfan: file\n",
-            Fault::Socket => b"dbusfan: socket\n",
-            Fault::Memory => b"dbusfan: memory\n",
+            Fault::Usage => "dbusfan: usage\n",
+            Fault::File => "dbusfan: file\n",
+            Fault::Socket => "dbusfan: socket\n",
+            Fault::Memory => "dbusfan: memory\n",
+        }
+    }
+}
+
+/// The sentence of a fault.
+#[derive(Debug, Drop)]
+enum Sentence {
+    Fixed(&'static str),
+    Made(String),
+    /// There is no memory for it.
+    Missing,
+}
+
+/// A fault, and the sentence that says it to people.
+#[derive(Debug, Drop)]
+pub(crate) struct Refusal {
+    fault: Fault,
+    sentence: Sentence,
+}
+
+impl Refusal {
+    fn fixed(fault: Fault, sentence: &'static str) -> Refusal {
+        Refusal {
+            fault,
+            sentence: Sentence::Fixed(sentence),
         }
     }
 
-    /// Writes the fault's line to standard error, and answers the status.
-    pub(crate) fn tell<E: Writer>(self, err: &mut Output<E>) -> u8
-        ensures value { result ≡ status_of self }
+    fn made(fault: Fault, sentence: Result<String, AllocError>) -> Refusal {
+        Refusal {
+            fault,
+            sentence: sentence.map_or(Sentence::Missing, Sentence::Made),
+        }
+    }
+
+    /// The words are no row of the command line.
+    pub(crate) fn of_words(alloc: Global, fault: WordFault<'_>) -> Refusal {
+        Refusal::made(
+            Fault::Usage,
+            format!(in alloc; "{fault}; see dbusfan serve --help"),
+        )
+    }
+
+    pub(crate) fn no_help() -> Refusal {
+        Refusal::fixed(Fault::Usage, "there is no help on this")
+    }
+
+    pub(crate) fn memory() -> Refusal {
+        Refusal::fixed(Fault::Memory, "memory is refused")
+    }
+
+    pub(crate) fn no_thread() -> Refusal {
+        Refusal::fixed(
+            Fault::Memory,
+            "memory is refused, or no thread can be started",
+        )
+    }
+
+    pub(crate) fn no_random() -> Refusal {
+        Refusal::fixed(Fault::File, "the system gives no random numbers")
+    }
+
+    pub(crate) fn no_runtime_folder() -> Refusal {
+        Refusal::fixed(
+            Fault::Socket,
+            "unix:runtime=yes: XDG_RUNTIME_DIR names no folder",
+        )
+    }
+
+    pub(crate) fn closed_output() -> Refusal {
+        Refusal::fixed(Fault::File, "standard output can't be written")
+    }
+
+    pub(crate) fn of_descriptor(alloc: Global, number: u16, error: &io::Error) -> Refusal {
+        Refusal::made(
+            Fault::File,
+            format!(in alloc; "descriptor {number} can't be written: {error}"),
+        )
+    }
+
+    /// A place can't be listened at, or its folder can't be made.
+    pub(crate) fn of_place<D: fmt::Display>(
+        alloc: Global,
+        place: &D,
+        error: &io::Error,
+        reason: Option<&str>,
+    ) -> Refusal {
+        if error.kind() == ErrorKind::OutOfMemory {
+            return Refusal::memory();
+        }
+        let sentence = match reason {
+            Some(reason) => format!(in alloc; "{place}: {reason}"),
+            None => format!(in alloc; "{place}: {error}"),
+        };
+        Refusal::made(Fault::Socket, sentence)
+    }
+
+    /// Writes the fault's line and its sentence to standard error, as a whole, and answers the status.
+    pub(crate) fn tell<E: Writer>(&self, alloc: Global, err: &mut Output<E>) -> u8
+        ensures value { result ≡ status_of self.now.fault }
         ensures row { IsStatus result }
     {
-        err.put(self.line());
-        self.status()
-    }
-
-    /// What it means that an address can't be bound.
-    pub(crate) fn of_bind(error: &io::Error) -> Fault {
-        match error.kind() {
-            ErrorKind::OutOfMemory => Fault::Memory,
-            _ => Fault::Socket,
+        let line = self.fault.line();
+        let sentence = match &self.sentence {
+            Sentence::Fixed(sentence) => *sentence,
+            Sentence::Made(sentence) => sentence.as_str(),
+            Sentence::Missing => "",
+        };
+        match format!(in alloc; "{line}  {sentence}\n") {
+            Ok(text) if !sentence.is_empty() => err.put(text.as_bytes()),
+            _ => err.put(line.as_bytes()),
         }
+        self.fault.status()
     }
 }

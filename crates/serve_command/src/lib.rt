@@ -2,9 +2,15 @@
 //! serves.
 #![tactic(auto)]
 
+mod address_fault;
 mod entry;
 mod error;
+mod guid;
+mod listening;
 mod machine;
 mod options;
+mod place;
+mod reasons;
+mod words;
 
 pub use entry::serve;

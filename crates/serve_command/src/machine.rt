@@ -1,6 +1,6 @@
 // The machine's id.
 
-use crate::options::digits_of;
+use crate::guid::Guid;
 use std::fs;
 use std::rt::Files;
 
@@ -12,9 +12,8 @@ const PLACES: [&str; 2] = ["/etc/machine-id", "/var/lib/dbus/machine-id"];
 pub(crate) fn machine_id<R: Files + Alloc>(rt: &R) -> Option<[u8; 32]> {
     for place in PLACES {
         if let Ok(text) = fs::read_to_string(rt, place) {
-            let id = digits_of(text.as_str().trim_end());
-            if id.is_some() {
-                return id;
+            if let Some(id) = Guid::read(text.as_str().trim_end()) {
+                return Some(id.digits);
             }
         }
     }

@@ -29,13 +29,30 @@ impl Announced {
             .wait_while(rt, self.text.lock(rt), |text| text.last() != Some(&b'\n'));
     }
 
-    /// The number after the last `=` of the line.
+    /// The number of the port that the line says.
     pub fn port<R: Wait>(&self, rt: &R) -> Option<u16> {
         self.wait(rt);
         let text = self.text.lock(rt);
         let line = str::from_utf8(text.as_slice()).ok()?;
-        let (_, port) = line.trim_end().rsplit_once('=')?;
+        let (_, port) = line.split_once(",port=")?;
+        let (port, _) = port.split_once(',')?;
         port.parse::<u16>().ok()
+    }
+
+    /// The path of the socket that the line says.
+    pub fn path<R: Wait>(&self, rt: &R, alloc: Global) -> Option<String> {
+        self.wait(rt);
+        let text = self.text.lock(rt);
+        let line = str::from_utf8(text.as_slice()).ok()?;
+        let (_, path) = line.split_once("unix:path=")?;
+        let (path, _) = path.split_once(",guid=")?;
+        String::from_str(alloc, path).ok()
+    }
+
+    /// Whether this is what was written.
+    pub fn is<R: Wait>(&self, rt: &R, line: &str) -> bool {
+        let text = self.text.lock(rt);
+        text.as_slice() == line.as_bytes()
     }
 
     fn add<R: Wait>(&self, rt: &R, bytes: &[u8]) -> io::Result<()> {

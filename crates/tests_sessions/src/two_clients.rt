@@ -5,11 +5,13 @@ use crate::client::{S1_STAMPED, talk};
 use command_line::Output;
 use serve_command::serve;
 use std::alloc::Global;
+use std::fs;
 use std::fs::Files;
 use std::net::{Net, TcpListener, TcpStream};
 use std::os::unix::net::UnixStream;
 use std::process::Abort;
 use std::random::RandomSource;
+use std::rt::Env;
 use std::sync::Wait;
 use std::thread::{Threads, join};
 use std::time::{Clock, Duration};
@@ -49,10 +51,11 @@ fn over_unix<R: Net + Wait + Abort>(rt: &R, announced: &Announced, path: &str) -
     talk(rt, &mut first, &mut second)
 }
 
-/// A server of two connections, and its two clients: over TCP, unless a path is given.
-fn serve_two<R>(rt: &R, alloc: Global, listen: &str, path: Option<&str>)
+/// A server of two connections, which may have to write this line, and its two clients: over TCP, unless a path is given.
+fn serve_two<R>(rt: &R, alloc: Global, listen: &str, path: Option<&str>, line: Option<&str>)
 where
     R: Files
+        + Env
         + Net<Listener = TcpListener, Stream = TcpStream>
         + Threads
         + Wait
@@ -76,15 +79,60 @@ where
     );
     assert_eq!(rt; got, *S1_STAMPED);
     assert_eq!(rt; status, 0);
+    if let Some(line) = line {
+        assert!(rt; announced.is(rt, line));
+    }
 }
 
 #[test]
 fn two_clients_over_tcp(rt: HostRuntime) {
-    serve_two(&rt, rt.alloc(), "tcp:host=127.0.0.1,port=0", None);
+    serve_two(&rt, rt.alloc(), "tcp:host=127.0.0.1,port=0", None, None);
+}
+
+#[test]
+fn a_port_before_its_host(rt: HostRuntime) {
+    serve_two(&rt, rt.alloc(), "tcp:port=0,host=127%2e0.0.1", None, None);
 }
 
 #[test]
 fn two_clients_over_unix(rt: HostRuntime) {
-    let path = "two_clients.sock";
-    serve_two(&rt, rt.alloc(), "unix:path=two_clients.sock", Some(path));
+    let path = "two clients.sock";
+    let line = "listening unix:path=two%20clients.sock,guid=0123456789abcdef0123456789abcdef\n";
+    serve_two(
+        &rt,
+        rt.alloc(),
+        "unix:path=two clients%2esock",
+        Some(path),
+        Some(line),
+    );
+}
+
+#[test]
+fn a_bus_of_no_address(rt: HostRuntime) {
+    let announced = Announced::new(rt.alloc());
+    let mut out = Output::new(Announcer {
+        rt: &rt,
+        to: &announced,
+    });
+    let mut err = Output::new(Vec::new(rt.alloc()));
+    let words = [
+        "--nofork",
+        "--print-address",
+        "--session",
+        "--connections",
+        "2",
+    ];
+    let (got, status) = join(
+        &rt,
+        || {
+            let path = announced.path(&rt, rt.alloc()).expect(&rt, "a path");
+            over_unix(&rt, &announced, path.as_str())
+        },
+        || serve(&rt, rt.alloc(), words.as_slice(), &mut out, &mut err),
+    );
+    assert_eq!(rt; got, *S1_STAMPED);
+    assert_eq!(rt; status, 0);
+    let path = announced.path(&rt, rt.alloc()).expect(&rt, "a path");
+    let folder = path.as_str().trim_end_matches("/bus");
+    assert!(rt; fs::metadata(&rt, folder).is_err());
 }

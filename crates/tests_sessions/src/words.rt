@@ -3,20 +3,24 @@
 use command_line::Output;
 use serve_command::serve;
 use std::alloc::Global;
+use std::fs;
 use std::fs::Files;
 use std::net::{Net, TcpListener, TcpStream};
+use std::os::unix::net::UnixListener;
 use std::process::Abort;
 use std::random::RandomSource;
+use std::rt::Env;
 use std::sync::Wait;
 use std::thread::Threads;
 use std::time::Clock;
 
 const GUID: &str = "0123456789abcdef0123456789abcdef";
 
-// The words end at once with this status, and with this line as the error.
-fn expect_error<R>(rt: &R, alloc: Global, words: &[&str], status: u8, line: &[u8])
+// The words end at once with this status, with this first line of the error and with this sentence below it.
+fn expect_error<R>(rt: &R, alloc: Global, words: &[&str], status: u8, line: &str, sentence: &str)
 where
     R: Files
+        + Env
         + Net<Listener = TcpListener, Stream = TcpStream>
         + Threads
         + Wait
@@ -30,39 +34,120 @@ where
     let mut err = Output::new(Vec::new(alloc));
     assert_eq!(rt; serve(rt, alloc, words, &mut out, &mut err), status);
     assert!(rt; out.writer.is_empty());
-    assert_eq!(rt; err.writer.as_slice(), line);
+    let text = std::str::from_utf8(err.writer.as_slice()).expect(rt, "a text");
+    let (first, second) = text.split_once('\n').expect(rt, "two lines");
+    assert_eq!(rt; first, line);
+    assert_eq!(rt; second.trim_end(), sentence);
 }
 
 #[test]
 fn words_that_are_no_row(rt: HostRuntime) {
-    let listen = "unix:path=never.sock";
-    let rows: [&[&str]; 8] = [
-        &[],
-        &["--listen", listen],
-        &["--guid", GUID],
-        &["--listen", "unix:path=", "--guid", GUID],
-        &["--listen", "tcp:host=127.0.0.1,port=65536", "--guid", GUID],
-        &[
-            "--listen",
-            listen,
-            "--guid",
-            "0123456789abcdef0123456789abcdeg",
-        ],
-        &["--listen", listen, "--guid", GUID, "--connections", "0"],
-        &["--listen", listen, "--guid", GUID, "--listen", listen],
+    let rows: [(&[&str], &str); 14] = [
+        (&["--verbose"], "  unknown option --verbose"),
+        (&["--verbose=1"], "  unknown option --verbose"),
+        (&["bus"], "  bus is no option"),
+        (&["--listen"], "  --listen has no value"),
+        (&["--guid", GUID, "--guid", GUID], "  --guid is given twice"),
+        (&["--session=1"], "  --session takes no value"),
+        (
+            &["--guid", "0123456789abcdef0123456789abcdeg"],
+            "  --guid 0123456789abcdef0123456789abcdeg: 32 hexadecimal digits are wanted",
+        ),
+        (
+            &["--connections", "0"],
+            "  --connections 0: a number from 1 to 4294967295 is wanted",
+        ),
+        (
+            &["--print-address", "2"],
+            "  --print-address 2: the number of an open descriptor is wanted",
+        ),
+        (
+            &["--listen", "unix:path="],
+            "  --listen unix:path=, at 10: the value is empty",
+        ),
+        (
+            &["--listen", "unix:pth=/bus"],
+            "  --listen unix:pth=/bus, at 5: this transport has no such key",
+        ),
+        (
+            &["--listen", "unix:path=a%2"],
+            "  --listen unix:path=a%2, at 11: two hexadecimal digits are wanted after %",
+        ),
+        (
+            &["--listen", "tcp:port=1,host=;"],
+            "  --listen tcp:port=1,host=;, at 16: one address alone is taken",
+        ),
+        (
+            &["--listen=tcp:host=127.0.0.1,port=65536"],
+            "  --listen tcp:host=127.0.0.1,port=65536, at 4: host and port are wanted, once each, the port as a number up to 65535",
+        ),
     ];
-    for words in rows {
-        expect_error(&rt, rt.alloc(), words, 3, b"dbusfan: usage\n");
+    let alloc = rt.alloc();
+    for (words, sentence) in rows {
+        let sentence = format!(in alloc; "{sentence}; see dbusfan serve --help").expect(
+            &rt, "memory",
+        );
+        expect_error(&rt, alloc, words, 3, "dbusfan: usage", sentence.as_str());
     }
 }
 
+fn expect_refused<R>(rt: &R, alloc: Global, listen: &str, reason: &str)
+where
+    R: Files
+        + Env
+        + Net<Listener = TcpListener, Stream = TcpStream>
+        + Threads
+        + Wait
+        + Clock
+        + RandomSource
+        + Sync
+        + Alloc
+        + Abort,
+{
+    let sentence = format!(in alloc; "  {listen}: {reason}").expect(rt, "memory");
+    let words = ["--listen", listen];
+    expect_error(
+        rt,
+        alloc,
+        words.as_slice(),
+        4,
+        "dbusfan: socket",
+        sentence.as_str(),
+    );
+}
+
 #[test]
-fn a_place_that_cannot_be_bound(rt: HostRuntime) {
-    let words = [
-        "--listen",
+fn places_that_cannot_be_bound(rt: HostRuntime) {
+    let alloc = rt.alloc();
+    expect_refused(
+        &rt,
+        alloc,
         "unix:path=no/such/folder/bus.sock",
-        "--guid",
-        GUID,
-    ];
-    expect_error(&rt, rt.alloc(), words.as_slice(), 4, b"dbusfan: socket\n");
+        "the folder that it is to be in isn't there",
+    );
+    fs::write(&rt, "plain", "text").expect(&rt, "a file");
+    expect_refused(
+        &rt,
+        alloc,
+        "unix:path=plain",
+        "a file is there that is no socket",
+    );
+    expect_refused(
+        &rt,
+        alloc,
+        "unix:path=plain/bus",
+        "a file stands where a folder is wanted",
+    );
+    expect_refused(&rt, alloc, "unix:path=.", "a folder is there");
+    let _other = UnixListener::bind(&rt, "other.sock").expect(&rt, "a socket");
+    expect_refused(&rt, alloc, "unix:path=other.sock", "a bus answers there");
+    let other = TcpListener::bind(&rt, "127.0.0.1:0").expect(&rt, "a port");
+    let port = other.local_addr().expect(&rt, "an address").port();
+    let listen = format!(in alloc; "tcp:host=127.0.0.1,port={port}").expect(&rt, "memory");
+    expect_refused(
+        &rt,
+        alloc,
+        listen.as_str(),
+        "a program listens at that port",
+    );
 }

@@ -61,14 +61,32 @@ pub(crate) static COMMANDS: [CommandHelp; 7] = [
             ArgumentHelp {
                 name: "listen",
                 form: Form::Value("ADDRESS"),
-                is_required: true,
-                text: "Where to listen: unix:path=P or tcp:host=H,port=P",
+                is_required: false,
+                text: "Where to listen (unix:path=P, tcp:host=H,port=P); else the user's place",
             },
             ArgumentHelp {
                 name: "guid",
                 form: Form::Value("GUID"),
-                is_required: true,
-                text: "The bus's id, 32 hexadecimal digits",
+                is_required: false,
+                text: "The bus's id, 32 hexadecimal digits; else random ones",
+            },
+            ArgumentHelp {
+                name: "print-address",
+                form: Form::Flag,
+                is_required: false,
+                text: "Prints the address alone; a descriptor's number may follow",
+            },
+            ArgumentHelp {
+                name: "session",
+                form: Form::Flag,
+                is_required: false,
+                text: "Listens at a new place if no address is given",
+            },
+            ArgumentHelp {
+                name: "nofork",
+                form: Form::Flag,
+                is_required: false,
+                text: "Changes nothing; dbus-run-session gives it",
             },
             ArgumentHelp {
                 name: "connections",
