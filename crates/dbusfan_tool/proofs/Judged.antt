@@ -1,5 +1,5 @@
 -- What `match` finds, from what its steps answer.
-use Rattle.std.proofs.Common.{◌≡◌, ◌⊎◌, ◌↔◌, ℕ, ◌<◌, Bool, true, false, not, eqb, IsTrue, List, [], Some, None, Result, Ok, Err, refl, sym, ap, subst, inl, inr, arith}
+use Rattle.std.proofs.Common.{◌≡◌, ◌⊎◌, ◌↔◌, ℕ, ◌<◌, Bool, true, false, not, eqb, IsTrue, List, [], Some, None, Result, Ok, Err, refl, sym, ap, subst, inl, inr, ◌∙◌, arith}
 use Rattle.std.specs.Result.{IsErrAnd}
 use Rattle.std.proofs.lemmas.Bool.{cases_eq, eq-eqb, ne_eqb}
 use Rattle.std.specs.Global.{Vec}
@@ -31,6 +31,7 @@ use Rattle.command_line.specs.declared.hex_text.HexError.TheVariants as of_hex
 use Rattle.command_line.specs.Errors.{fault_of_rule, fault_of_file, fault_of_hex}
 use Rattle.command_line.specs.Files.{FileRead, ReadsFile, one_read}
 use Rattle.command_line.specs.HexText.{bytes_of_hex}
+use Rattle.dbusfan_tool.specs.Findings.{IsVerdict}
 use Rattle.dbusfan_tool.specs.Tool.{Judges, no_rule, too_long, no_file, no_hex, no_message, judged}
 
 -- a verdict that isn't 0
@@ -47,6 +48,19 @@ nonzero v =
 err_of : (found : Result Bool Fault) (fault : Fault) → IsErrAnd found (λ f. f ≡ fault) → Err fault ≡ found
 err_of (Ok matches) fault is = absurd is
 err_of (Err f) fault is = ap Err (sym is)
+
+module _ (tree : RuleTree) (owns : Bool) (bytes : List ℕ) where
+  -- bytes that are no message
+  pub of_no_message : (found : Result Bool MsgError) (error : MsgError) → IsErrAnd found (λ f. f ≡ error) → message_at bytes ≡ Err error → IsVerdict tree owns bytes found
+  of_no_message (Ok matches) error is fault = absurd is
+  of_no_message (Err f) error is fault = fault ∙ ap Err (sym is)
+
+  -- the verdict of the rule's program
+  pub of_verdict : (program : List Ins) (m : Message) (slots image : List ℕ) (v n : ℕ) → IsCompiled tree (slot_for tree) program → Valid bytes m → IsSet slots → has_slot slots 0 ≡ owns → image ≡ image_bytes Two m slots → Ends program image v n → IsVerdict tree owns bytes (Ok (not (eqb v 0)))
+  of_verdict program m slots image v n compiled valid set has is ends =
+      let ends : Ends program (image_bytes Two m slots) v n = subst (λ (bytes : List ℕ). Ends program bytes v n) is ends in
+      let holds = compiled bytes m slots (λ name. owns) v n valid set (agree tree (sender_name_of tree) owns slots refl has) ends in
+      (m, valid, (λ is. holds.0 ((nonzero v).0 is), λ is. (nonzero v).1 (holds.1 is)))
 
 module _ (made : List FileRead → Type 0) (rule file : List ℕ) (owns : Bool) where
   abbrev Finds : Result Bool Fault → Type 0
@@ -83,8 +97,5 @@ module _ (made : List FileRead → Type 0) (rule file : List ℕ) (owns : Bool) 
     pub of_message_fault : (found : Result Bool Fault) (error : MsgError) (text bytes : List ℕ) → IsErrAnd found (λ f. f ≡ BadMessage error) → made (one_read file (Some text)) → bytes_of_hex text ≡ Some bytes → message_at bytes ≡ Err error → Finds found
     of_message_fault found error text bytes is gives spells fault = fails found _ is (inl (no_message reads gives spells fault))
 
-    pub of_verdict : (program : List Ins) (text bytes : List ℕ) (m : Message) (slots image : List ℕ) (v n : ℕ) → IsCompiled tree (slot_for tree) program → made (one_read file (Some text)) → bytes_of_hex text ≡ Some bytes → Valid bytes m → IsSet slots → has_slot slots 0 ≡ owns → image ≡ image_bytes Two m slots → Ends program image v n → Finds (Ok (not (eqb v 0)))
-    of_verdict program text bytes m slots image v n compiled gives spells valid set has is ends =
-        let ends : Ends program (image_bytes Two m slots) v n = subst (λ (bytes : List ℕ). Ends program bytes v n) is ends in
-        let holds = compiled bytes m slots (λ name. owns) v n valid set (agree tree (sender_name_of tree) owns slots refl has) ends in
-        inl (judged reads gives spells valid (λ is. holds.0 ((nonzero v).0 is), λ is. (nonzero v).1 (holds.1 is)))
+    pub of_judged : (matches : Bool) (text bytes : List ℕ) → made (one_read file (Some text)) → bytes_of_hex text ≡ Some bytes → IsVerdict tree owns bytes (Ok matches) → Finds (Ok matches)
+    of_judged matches text bytes gives spells is = inl (judged reads gives spells is.1 is.2)

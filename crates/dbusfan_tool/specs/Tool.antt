@@ -19,7 +19,10 @@ use Rattle.dbusfan_tool.specs.Program.{Assembles, Checks}
 use Rattle.dbusfan_tool.specs.Running.{Runs}
 use Rattle.dbusfan_tool.specs.Compiling.{Compiles}
 use Rattle.command_line.specs.Files.{FileRead, one_read}
-use Rattle.command_line.specs.CommandRow.{Asked, to_match, to_asm, to_check, to_compile, to_run}
+use Rattle.command_line.specs.CommandRow.{Asked, to_match, to_match_each, to_asm, to_check, to_compile, to_run}
+use Rattle.dbusfan_tool.specs.Findings.{Report}
+use Rattle.dbusfan_tool.specs.Capturing.{JudgesEach}
+use Rattle.dbusfan_tool.specs.Reports.{said_of_each}
 use Rattle.dbusfan_tool.specs.Answer.{Said, said_of, said_of_match, said_of_asm, said_of_check, said_of_run, saying, failing}
 
 -- What `match` finds for a rule's text, what was read, and whether the sender owns the rule's name. The rule's fault
@@ -37,6 +40,7 @@ pub data Judges (reads : List FileRead → Type 0) (rule file : List ℕ) (owns 
 -- What is said to a row, where `reads` says of a list of reads that these were made, in this order, and no others.
 abbrev pub Tool : (List FileRead → Type 0) → Asked → Said → Type 0
 Tool reads (to_match rule file owns) said = (found : Result Bool Fault) × Judges reads rule file owns found × (said ≡ said_of said_of_match found)
+Tool reads (to_match_each rule file owns) said = (found : Result Report Fault) × JudgesEach reads rule file owns found × (said ≡ said_of said_of_each found)
 Tool reads (to_asm file) said = (found : Result (List Ins) Fault) × Assembles (λ content_read. reads (one_read file content_read)) found × (said ≡ said_of said_of_asm found)
 Tool reads (to_check file) said = (found : Result ℕ Fault) × Checks (λ content_read. reads (one_read file content_read)) found × (said ≡ said_of said_of_check found)
 Tool reads (to_compile rule) said = (found : Result (List ℕ) Fault) × Compiles rule found × reads [] × (said ≡ said_of saying found)

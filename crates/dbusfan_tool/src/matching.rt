@@ -1,18 +1,28 @@
-// `match RULE FILE [--owns]`.
+// `match RULE FILE [--owns] [--each]`.
 
 ghost use Rattle.std.specs.Prelude.{◌≡◌, ◌⊎◌, Err};
 ghost use Rattle.summary.specs.Sets.{has_slot, IsSet};
 ghost use Rattle.dbusfan_tool.specs.Tool.{Judges, Tool};
-ghost use Rattle.command_line.specs.CommandRow.{to_match};
+ghost use Rattle.match_rule.specs.RuleTree.{RuleTree};
+ghost use Rattle.rule_compile.specs.Compiled.{IsCompiled};
+ghost use Rattle.command_line.specs.CommandRow.{to_match, to_match_each};
+ghost use Rattle.dbusfan_tool.specs.Capturing.{JudgesEach};
+ghost use Rattle.dbusfan_tool.specs.Compiling.{slot_for};
+ghost use Rattle.dbusfan_tool.specs.Findings.{IsVerdict};
 ghost use Rattle.command_line.specs.Files.{MadeReads};
 ghost use Rattle.dbusfan_tool.specs.Answer.{failing};
-ghost use Rattle.dbusfan_tool.specs.Views.{said_by};
+ghost use Rattle.dbusfan_tool.specs.Views.{said_by, report_by};
+ghost use Rattle.std.specs.Result.{result_map};
 
 use crate::answer::Answer;
+use crate::capturing::judge_capture;
 use crate::compiling::{SENDER_SLOT, program_of};
+use crate::report::{CaptureReport, answer_of};
 use bpf_machine::run;
+use bpf_verify::Verified;
 use command_line::{Fault, Files, decode};
 use match_rule::Rule;
+use message_value::MsgError;
 use message_view::View;
 use std::alloc::Global;
 use summary::{Edition, Image, Slots};
@@ -47,10 +57,51 @@ fn verdict<F: Files>(
     let program = program_of(alloc, &rule)?;
     let text = files.read(alloc, file)?;
     let bytes = decode(alloc, &text)?;
-    let message = View::read(&bytes)?;
+    let matches = judge(&program, owns, &bytes)?;
+    Ok(matches)
+}
+
+/// What is said of each message of the capture in the file, or the first fault.
+pub(crate) fn each_answer<F: Files>(
+    alloc: Global,
+    rule: &str,
+    file: &str,
+    owns: bool,
+    files: &mut F,
+) -> Answer
+    ensures { Tool (MadeReads F.gives files.old files.new) (to_match_each rule.now file.now owns) (said_by result)
+        ⊎ (said_by result ≡ failing Fault.Memory) }
+{
+    match each_verdict(alloc, rule, file, owns, files) {
+        Ok(report) => answer_of(alloc, &report),
+        Err(fault) => Answer::Fault(fault),
+    }
+}
+
+fn each_verdict<F: Files>(
+    alloc: Global,
+    rule: &str,
+    file: &str,
+    owns: bool,
+    files: &mut F,
+) -> Result<CaptureReport, Fault>
+    ensures { JudgesEach (MadeReads F.gives files.old files.new) rule.now file.now owns (result_map report_by result) ⊎ (result ≡ Err Fault.Memory) }
+{
+    let rule = Rule::read(alloc, rule)?;
+    let program = program_of(alloc, &rule)?;
+    let bytes = files.read(alloc, file)?;
+    let report = judge_capture(alloc, &program, owns, &bytes)?;
+    Ok(report)
+}
+
+/// Whether the rule of a program matches the message that bytes are.
+pub(crate) fn judge(program: &Verified, owns: bool, bytes: &[u8]) -> Result<bool, MsgError>
+    ensures { (tree : RuleTree) → IsCompiled tree (slot_for tree) program.now → IsVerdict tree owns bytes.now result }
+{
+    let message = View::read(bytes)?;
     let owned = slots(owns);
     let image = Image::new(&message, &owned, Edition::Two);
-    Ok(run(&program, &image).verdict != 0)
+    Ok(run(program, &image).verdict != 0)
 }
 
 /// The slot of the rule's well-known sender, where the message's sender owns it.

@@ -1,6 +1,5 @@
-use Rattle.std.proofs.Common.{ℕ, List, refl, sym, subst}
-use Rattle.message_view.specs.Valid.{Valid}
-use Rattle.dbusfan_tool.proofs.Judged.{of_rule_fault, of_refusal, of_file_fault, of_hex_fault, of_message_fault, of_verdict}
+use Rattle.std.proofs.Common.{refl}
+use Rattle.dbusfan_tool.proofs.Judged.{of_rule_fault, of_refusal, of_file_fault, of_hex_fault, of_message_fault, of_judged}
 use Rattle.dbusfan_tool.proofs.matching.verdict.Goals as goal
 
 pub returns-in_err-rule : goal.returns-in_err-rule
@@ -22,17 +21,15 @@ returns-in_err-bytes g c =
     let reads = c.in_ok-rule.ensures.found in
     of_hex_fault _ _ _ _ _ reads _ c.in_err-bytes.field-0.0 c.in_ok-text.text.items c.from_residual-in_err-bytes.ensures.1 c.in_ok-text.ensures (rw c.deref.ensures.value at c.in_err-bytes.ensures.hex)
 
-pub returns-in_err-message : goal.returns-in_err-message
-returns-in_err-message g c =
+pub returns-in_err-matches : goal.returns-in_err-matches
+returns-in_err-matches g c =
     let reads = c.in_ok-rule.ensures.found in
     let spells = rw c.deref.ensures.value at c.in_ok-bytes.ensures.ok in
-    let fault = rw c.deref-2.ensures.value at c.in_err-message.ensures.fault in
-    of_message_fault _ _ _ _ _ reads _ c.in_err-message.field-0.0 _ _ c.from_residual-in_err-message.ensures.1 c.in_ok-text.ensures spells fault
+    let fault = rw c.deref-2.ensures.value at (c.in_err-matches.ensures _ c.in_ok-program.ensures.compiled) in
+    of_message_fault _ _ _ _ _ reads _ c.in_err-matches.field-0.0 _ _ c.from_residual-in_err-matches.ensures.1 c.in_ok-text.ensures spells fault
 
 pub returns : goal.returns
 returns g c =
     let spells = rw c.deref.ensures.value at c.in_ok-bytes.ensures.ok in
-    let found = rw c.deref-2.ensures.value at c.in_ok-message.ensures.found in
-    let valid = subst (λ (bytes : List ℕ). Valid bytes found.1.0) (sym found.0) found.1.1 in
-    let image = c.new-image.ensures found.1.0 valid in
-    of_verdict _ _ _ _ _ c.in_ok-rule.ensures.found _ _ _ found.1.0 _ _ _ _ c.in_ok-program.ensures.compiled c.in_ok-text.ensures spells found.1.1 c.slots-owned.ensures.set c.slots-owned.ensures.owned image c.run.ensures.ends
+    let found = rw c.deref-2.ensures.value at (c.in_ok-matches.ensures _ c.in_ok-program.ensures.compiled) in
+    of_judged _ _ _ _ _ c.in_ok-rule.ensures.found _ _ _ c.in_ok-text.ensures spells found
