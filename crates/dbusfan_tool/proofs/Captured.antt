@@ -1,5 +1,6 @@
 -- What is found of a capture, step by step.
 use Rattle.std.proofs.Common.{◌≡◌, ℕ, suc, ◌+◌, ◌-◌, Bool, true, List, [], ◌∷◌, ◌++◌, length, drop, Option, Some, None, Result, Ok, Err, refl, sym, ap, subst, ◌∙◌, arith, append_assoc, append-nil}
+use Rattle.std.specs.Result.{result_err}
 use Rattle.match_rule.specs.RuleTree.{RuleTree}
 use Rattle.captures.specs.declared.error.CaptureError.{CaptureError}
 use Rattle.captures.specs.declared.error.CaptureError.TheVariants as faults
@@ -8,16 +9,11 @@ use Rattle.captures.specs.declared.step.Step.{Step}
 use Rattle.captures.specs.declared.step.Step.TheVariants.{Message, Other, Skip, More}
 use Rattle.captures.specs.declared.packets.Format.{Format}
 use Rattle.captures.specs.declared.packets.Format.TheVariants as formats
-use Rattle.captures.specs.Reading.{Reading, Progress, step_at, end_in, end_of}
+use Rattle.captures.specs.Reading.{Reading, Progress, step_in, step_at, end_in, end_of}
 use Rattle.captures.specs.Contents.{Contents, message_in, len_of, takes, ahead, ending, by_progress, contents_past, contents_of}
 use Rattle.captures.proofs.FileContents.{one_call, fault_stays}
 use Rattle.dbusfan_tool.specs.declared.finding.Finding.{Finding}
 use Rattle.dbusfan_tool.specs.Findings.{IsFinding, AreFindings, Report, IsReport}
-
--- the first fault of an end
-abbrev pub fault_in : Result (Unit {0}) CaptureError → Option CaptureError
-fault_in (Ok _) = None
-fault_in (Err fault) = Some fault
 
 -- ---- the contents of what is left
 
@@ -35,11 +31,22 @@ short_of formats.Unread byte rest = refl
 short_of (formats.Pcap order unit) byte rest = refl
 short_of (formats.Pcapng order) byte rest = refl
 
-ends : (reading after : Reading) (bytes : List ℕ) (len : ℕ) → step_at reading bytes ≡ Ok (record { step = More len; after = after }) → contents_of reading bytes ≡ ending (end_of reading bytes)
-ends reading after [] len e = refl
+-- where a reading went on to
+abbrev after_of : Reading → Result Progress CaptureError → Reading
+after_of reading (Ok progress) = progress.after
+after_of reading (Err fault) = reading
+
+-- where no byte is left, nothing changes
+stays_there : (format : Format) (reading after : Reading) (len : ℕ) → step_in format reading [] ≡ Ok (record { step = More len; after = after }) → reading ≡ after
+stays_there formats.Unread reading after len e = ap (after_of reading) e
+stays_there (formats.Pcap order unit) reading after len e = ap (after_of reading) e
+stays_there (formats.Pcapng order) reading after len e = ap (after_of reading) e
+
+ends : (reading after : Reading) (bytes : List ℕ) (len : ℕ) → step_at reading bytes ≡ Ok (record { step = More len; after = after }) → contents_of reading bytes ≡ ending (end_of after bytes)
+ends reading after [] len e = ap (λ (r : Reading). ending (end_of r [])) (stays_there reading.format reading after len e)
 ends reading after (byte ∷ rest) len e =
     ap (λ (r : Result Progress CaptureError). by_progress r (byte ∷ rest) (λ after len. contents_past (len - 1) after rest)) e
-    ∙ ap ending (sym (short_of reading.format byte rest))
+    ∙ ap ending (sym (short_of after.format byte rest))
 
 -- ---- what is found so far
 
@@ -77,7 +84,7 @@ module _ (tree : RuleTree) (owns : Bool) (whole : Contents) (found : List Findin
   skips len e = subst (λ (c : Contents). Far found passed c) (goes_on reading (record { step = Skip len; after = after }) bytes e refl) far
 
   -- an end of the file, or a fault
-  ended : (end : Result (Unit {0}) CaptureError) → contents_of reading bytes ≡ ending end → IsReport tree owns whole (record { findings = found; passed_over = passed; fault = fault_in end })
+  ended : (end : Result (Unit {0}) CaptureError) → contents_of reading bytes ≡ ending end → IsReport tree owns whole (record { findings = found; passed_over = passed; fault = result_err end })
   ended (Ok _) e =
       let now : Far found passed (ending (Ok tt)) = subst (λ (c : Contents). Far found passed c) e far in
       record { findings = subst (λ (all : List Finding). AreFindings tree owns whole.messages all) (append-nil found) (now.findings [] tt); passed_over = omega (arith, now.passed_over); fault = now.fault }
@@ -85,8 +92,8 @@ module _ (tree : RuleTree) (owns : Bool) (whole : Contents) (found : List Findin
       let now : Far found passed (ending (Err fault)) = subst (λ (c : Contents). Far found passed c) e far in
       record { findings = subst (λ (all : List Finding). AreFindings tree owns whole.messages all) (append-nil found) (now.findings [] tt); passed_over = omega (arith, now.passed_over); fault = now.fault }
 
-  pub ends_so : (len : ℕ) → step_at reading bytes ≡ Ok (record { step = More len; after = after }) → IsReport tree owns whole (record { findings = found; passed_over = passed; fault = fault_in (end_of reading bytes) })
-  ends_so len e = ended (end_of reading bytes) (ends reading after bytes len e)
+  pub ends_so : (len : ℕ) → step_at reading bytes ≡ Ok (record { step = More len; after = after }) → IsReport tree owns whole (record { findings = found; passed_over = passed; fault = result_err (end_of after bytes) })
+  ends_so len e = ended (end_of after bytes) (ends reading after bytes len e)
 
   pub fails_so : (fault : CaptureError) → step_at reading bytes ≡ Err fault → IsReport tree owns whole (record { findings = found; passed_over = passed; fault = Some fault })
   fails_so fault e = ended (Err fault) (fails reading bytes fault e)

@@ -1,6 +1,6 @@
 -- What `match --each` finds, from what its steps answer.
-use Rattle.std.proofs.Common.{◌≡◌, ◌⊎◌, ℕ, Bool, List, Some, Result, Ok, Err, refl, sym, ap, subst, inl, inr, ◌∙◌}
-use Rattle.std.specs.Result.{IsErrAnd, result_map}
+use Rattle.std.proofs.Common.{◌≡◌, ◌⊎◌, ℕ, Bool, List, [], Some, Result, Ok, Err, refl, sym, subst, inl, inr}
+use Rattle.std.specs.Result.{IsErrAnd, IfErr}
 use Rattle.command_line.specs.declared.error.Fault.{Fault}
 use Rattle.command_line.specs.declared.error.Fault.TheVariants.{Rule, Memory}
 use Rattle.match_key.specs.declared.error.RuleError.{RuleError}
@@ -23,17 +23,13 @@ use Rattle.dbusfan_tool.specs.Capturing.{JudgesEach, no_rule, too_long, no_file,
 use Rattle.dbusfan_tool.specs.Views.{report_by}
 
 module _ (made : List FileRead → Type 0) (rule file : List ℕ) (owns : Bool) where
-  abbrev Finds : Result CaptureReport Fault → Type 0
-  Finds found = JudgesEach made rule file owns (result_map report_by found) ⊎ (found ≡ Err Memory)
-
   abbrev Fails : Fault → Type 0
   Fails fault = JudgesEach made rule file owns (Err fault) ⊎ (fault ≡ Memory)
 
   -- a step's fault is handed on
-  pub fails : (found : Result CaptureReport Fault) (fault : Fault) → IsErrAnd found (λ f. f ≡ fault) → Fails fault → Finds found
+  pub fails : (found : Result CaptureReport Fault) (fault : Fault) → IsErrAnd found (λ f. f ≡ fault) → Fails fault → IfErr found Fails
   fails (Ok report) fault is none = absurd is
-  fails (Err f) fault is (inl none) = inl (subst (λ (f : Fault). JudgesEach made rule file owns (Err f)) (sym is) none)
-  fails (Err f) fault is (inr short) = inr (ap Err (is ∙ short))
+  fails (Err f) fault is none = subst Fails (sym is) none
 
   pub of_rule_fault : (error : RuleError) → ((error ≡ NoMemory) ⊎ (rule_at rule ≡ Err error)) → made [] → Fails (fault_of_rule error)
   of_rule_fault error (inl short) unread = rw short (inr refl)
@@ -55,5 +51,5 @@ module _ (made : List FileRead → Type 0) (rule file : List ℕ) (owns : Bool) 
     of_file_fault of_file.File gives = inl (no_file reads gives)
     of_file_fault of_file.Memory gives = inr refl
 
-    pub of_report : (report : CaptureReport) (bytes : List ℕ) → made (one_read file (Some bytes)) → IsReport tree owns (contents bytes) (report_by report) → Finds (Ok report)
-    of_report report bytes gives is = inl (judged reads gives is)
+    pub of_report : (report : CaptureReport) (bytes : List ℕ) → made (one_read file (Some bytes)) → IsReport tree owns (contents bytes) (report_by report) → JudgesEach made rule file owns (Ok (report_by report))
+    of_report report bytes gives is = judged reads gives is

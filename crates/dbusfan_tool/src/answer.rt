@@ -15,9 +15,16 @@ pub(crate) enum Answer {
     /// A text for standard output.
     Text(String),
     /// A text for standard output, and whether it tells of a match.
-    Ran { text: String, matches: bool },
+    Ran {
+        text: String,
+        matches: bool,
+    },
     /// A text for standard output, one for standard error, and the status.
-    Report { output: String, notes: String, status: u8 },
+    Report {
+        output: String,
+        notes: String,
+        status: u8,
+    },
     Fault(Fault),
 }
 

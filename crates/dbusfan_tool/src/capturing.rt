@@ -1,6 +1,6 @@
 // What a rule says of each message of a capture.
 
-ghost use Rattle.std.specs.Prelude.{◌≤◌, length, IfOk};
+ghost use Rattle.std.specs.Prelude.{◌≡◌, ◌≤◌, length, drop, IfOk};
 ghost use Rattle.match_rule.specs.RuleTree.{RuleTree};
 ghost use Rattle.rule_compile.specs.Compiled.{IsCompiled};
 ghost use Rattle.captures.specs.Contents.{contents, message_in};
@@ -32,13 +32,13 @@ pub(crate) fn judge_capture(
         match packets.next(rest) {
             Ok(Step::Message(packet)) => {
                 findings.push(finding_of(program, owns, packet, rest))?;
-                rest = &rest[packet.len..];
+                rest = after(rest, packet.len);
             }
             Ok(Step::Other { len, .. }) => {
                 passed_over += 1;
-                rest = &rest[len..];
+                rest = after(rest, len);
             }
-            Ok(Step::Skip(len)) => rest = &rest[len..],
+            Ok(Step::Skip(len)) => rest = after(rest, len),
             Ok(Step::More(_)) => {
                 return Ok(CaptureReport {
                     findings,
@@ -70,4 +70,12 @@ fn finding_of(program: &Verified, owns: bool, packet: Packet, bytes: &[u8]) -> F
         Ok(matches) => Finding::Verdict(matches),
         Err(fault) => Finding::NoMessage(fault),
     }
+}
+
+/// The bytes after the first `len`.
+fn after(bytes: &[u8], len: usize) -> &[u8]
+    requires { len ≤ length bytes.now }
+    ensures { result.now ≡ drop len bytes.now }
+{
+    bytes.split_at(len).1
 }

@@ -1,6 +1,6 @@
 // `match RULE FILE [--owns] [--each]`.
 
-ghost use Rattle.std.specs.Prelude.{◌≡◌, ◌⊎◌, Err};
+ghost use Rattle.std.specs.Prelude.{◌≡◌, ◌⊎◌, Ok, Err, IfOk, IfErr};
 ghost use Rattle.summary.specs.Sets.{has_slot, IsSet};
 ghost use Rattle.dbusfan_tool.specs.Tool.{Judges, Tool};
 ghost use Rattle.match_rule.specs.RuleTree.{RuleTree};
@@ -12,7 +12,6 @@ ghost use Rattle.dbusfan_tool.specs.Findings.{IsVerdict};
 ghost use Rattle.command_line.specs.Files.{MadeReads};
 ghost use Rattle.dbusfan_tool.specs.Answer.{failing};
 ghost use Rattle.dbusfan_tool.specs.Views.{said_by, report_by};
-ghost use Rattle.std.specs.Result.{result_map};
 
 use crate::answer::Answer;
 use crate::capturing::judge_capture;
@@ -85,7 +84,8 @@ fn each_verdict<F: Files>(
     owns: bool,
     files: &mut F,
 ) -> Result<CaptureReport, Fault>
-    ensures { JudgesEach (MadeReads F.gives files.old files.new) rule.now file.now owns (result_map report_by result) ⊎ (result ≡ Err Fault.Memory) }
+    ensures found { IfOk result (λ report. JudgesEach (MadeReads F.gives files.old files.new) rule.now file.now owns (Ok (report_by report))) }
+    ensures fault { IfErr result (λ fault. JudgesEach (MadeReads F.gives files.old files.new) rule.now file.now owns (Err fault) ⊎ (fault ≡ Fault.Memory)) }
 {
     let rule = Rule::read(alloc, rule)?;
     let program = program_of(alloc, &rule)?;

@@ -129,10 +129,7 @@ fn put_note_line(text: &mut String, number: usize, finding: Finding) -> Result<(
     match finding {
         Finding::Verdict(_) => Ok(()),
         Finding::Cut => write!(text, "dbusfan: packet Cut at {number}\n"),
-        Finding::NoMessage(fault) => {
-            let name = fault.name();
-            write!(text, "dbusfan: message {name} at {number}\n")
-        }
+        Finding::NoMessage(fault) => write!(text, "dbusfan: message {fault} at {number}\n"),
     }
 }
 

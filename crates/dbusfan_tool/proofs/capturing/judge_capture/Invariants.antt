@@ -6,10 +6,10 @@ use Rattle.dbusfan_tool.specs.Compiling.{slot_for}
 use Rattle.dbusfan_tool.proofs.Captured.{IsFar}
 use Rattle.dbusfan_tool.proofs.capturing.judge_capture.Given as goal
 
-abbrev pub invariant-loop-rest : goal.invariant-loop-rest
-invariant-loop-rest l =
+abbrev pub invariant-loop-packet : goal.invariant-loop-packet
+invariant-loop-packet l =
     ((tree : RuleTree) → IsCompiled tree (slot_for tree) l.program → IsFar tree l.owns (contents l.file) l.findings.items l.passed_over (contents_of l.packets l.rest))
     × (l.passed_over + length l.rest ≤ length l.file)
 
-abbrev pub decreases-loop-rest : goal.decreases-loop-rest
-decreases-loop-rest l = length l.rest
+abbrev pub decreases-loop-packet : goal.decreases-loop-packet
+decreases-loop-packet l = length l.rest
