@@ -15,3 +15,4 @@ pub mod Reports
 pub mod Capturing
 pub mod Usage
 pub mod Tool
+pub mod FileVerdicts

@@ -52,7 +52,18 @@ notes_of report = note_lines 1 report.findings ++ passed_over_line report.passed
 abbrev pub report_status : Report → ℕ
 report_status report = if is_some report.fault then 2 else if matched report.findings == 0 then 1 else 0
 
+-- an output, and all else that a report says
+abbrev pub said_with : List ℕ → Report → Said
+said_with output report = record { output = output; error = notes_of report; status = report_status report }
+
 -- What `match --each` says: a line a message, whose number is its packet's among those of D-Bus, and last how many match.
 abbrev pub said_of_each : Report → Said
-said_of_each report =
-    record { output = verdict_lines 1 report.findings ++ count_line report.findings; error = notes_of report; status = report_status report }
+said_of_each report = said_with (verdict_lines 1 report.findings ++ count_line report.findings) report
+
+-- whether some message matches
+abbrev pub any_line : List Finding → List ℕ
+any_line findings = if matched findings == 0 then codes "no match" ++ line_end else codes "match" ++ line_end
+
+-- what `match` says of a capture
+abbrev pub said_of_any : Report → Said
+said_of_any report = said_with (any_line report.findings) report

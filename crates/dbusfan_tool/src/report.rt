@@ -2,7 +2,7 @@
 
 ghost use Rattle.std.specs.Prelude.{◌≡◌, ◌⊎◌, ◌++◌, IfOk, OnOk, string_bytes};
 ghost use Rattle.dbusfan_tool.specs.Findings.{judged, matched};
-ghost use Rattle.dbusfan_tool.specs.Reports.{verdict_line, note_line, verdict_lines, note_lines, count_line, passed_over_line, capture_line, notes_of, report_status, said_of_each};
+ghost use Rattle.dbusfan_tool.specs.Reports.{verdict_line, note_line, verdict_lines, note_lines, count_line, passed_over_line, capture_line, notes_of, report_status, any_line, said_with, said_of_each, said_of_any};
 ghost use Rattle.dbusfan_tool.specs.Answer.{failing};
 ghost use Rattle.dbusfan_tool.specs.Views.{said_by, report_by};
 
@@ -31,6 +31,33 @@ pub(crate) fn answer_of(alloc: Global, report: &CaptureReport) -> Answer
     let Ok(output) = output_of(alloc, &report.findings) else {
         return Answer::Fault(Fault::Memory);
     };
+    answer_with(alloc, output, report)
+}
+
+/// Whether some message of a capture matches, and what is said of the packets that are passed over.
+pub(crate) fn any_answer_of(alloc: Global, report: &CaptureReport) -> Answer
+    ensures { (said_by result ≡ said_of_any (report_by report.now)) ⊎ (said_by result ≡ failing Fault.Memory) }
+{
+    let Ok(output) = any_of(alloc, &report.findings) else {
+        return Answer::Fault(Fault::Memory);
+    };
+    answer_with(alloc, output, report)
+}
+
+fn any_of(alloc: Global, findings: &[Finding]) -> Result<String, AllocError>
+    ensures { IfOk result (λ text. string_bytes text ≡ any_line findings.now) }
+{
+    let text = if matched(findings) == 0 {
+        "no match\n"
+    } else {
+        "match\n"
+    };
+    String::from_str(alloc, text)
+}
+
+fn answer_with(alloc: Global, output: String, report: &CaptureReport) -> Answer
+    ensures { (said_by result ≡ said_with (string_bytes output) (report_by report.now)) ⊎ (said_by result ≡ failing Fault.Memory) }
+{
     match notes_of(alloc, report) {
         Ok(notes) => Answer::Report {
             output,

@@ -1,5 +1,6 @@
 use Rattle.std.proofs.Common.{refl, inr}
-use Rattle.dbusfan_tool.proofs.JudgedEach.{fails, of_rule_fault, of_refusal, of_file_fault, of_report}
+use Rattle.dbusfan_tool.specs.Capturing.{judged}
+use Rattle.dbusfan_tool.proofs.JudgedEach.{fails, of_rule_fault, of_refusal, of_file_fault}
 use Rattle.dbusfan_tool.proofs.matching.each_verdict.Goals as goal
 
 pub returns-in_err-rule-clause-fault : goal.returns-in_err-rule-clause-fault
@@ -20,4 +21,4 @@ returns-in_err-report-clause-fault g c = fails _ _ _ _ _ _ c.from_residual-in_er
 pub returns-clause-found : goal.returns-clause-found
 returns-clause-found g c =
     let report = rw c.deref.ensures.value at (c.in_ok-report.ensures _ c.in_ok-program.ensures.compiled) in
-    of_report _ _ _ _ _ c.in_ok-rule.ensures.found c.in_ok-report.report _ c.in_ok-bytes.ensures report
+    judged c.in_ok-rule.ensures.found c.in_ok-bytes.ensures report
