@@ -1,11 +1,10 @@
 -- What is found of a capture, step by step.
-use Rattle.std.proofs.Common.{◌≡◌, ℕ, suc, ◌+◌, ◌-◌, Bool, true, List, [], ◌∷◌, ◌++◌, length, drop, Option, Some, None, Result, Ok, Err, refl, sym, ap, subst, ◌∙◌, arith, append_assoc, append-nil}
+use Rattle.std.proofs.Common.{◌≡◌, ℕ, suc, ◌+◌, ◌-◌, Bool, true, List, [], ◌∷◌, ◌++◌, drop, Some, Result, Ok, Err, refl, sym, ap, subst, ◌∙◌, arith, append_assoc, append-nil}
 use Rattle.std.specs.Result.{result_err}
 use Rattle.match_rule.specs.RuleTree.{RuleTree}
 use Rattle.captures.specs.declared.error.CaptureError.{CaptureError}
 use Rattle.captures.specs.declared.error.CaptureError.TheVariants as faults
 use Rattle.captures.specs.declared.step.Packet.{Packet}
-use Rattle.captures.specs.declared.step.Step.{Step}
 use Rattle.captures.specs.declared.step.Step.TheVariants.{Message, Other, Skip, More}
 use Rattle.captures.specs.declared.packets.Format.{Format}
 use Rattle.captures.specs.declared.packets.Format.TheVariants as formats
@@ -13,7 +12,7 @@ use Rattle.captures.specs.Reading.{Reading, Progress, step_in, step_at, end_in, 
 use Rattle.captures.specs.Contents.{Contents, message_in, len_of, takes, ahead, ending, by_progress, contents_past, contents_of}
 use Rattle.captures.proofs.FileContents.{one_call, fault_stays}
 use Rattle.dbusfan_tool.specs.declared.finding.Finding.{Finding}
-use Rattle.dbusfan_tool.specs.Findings.{IsFinding, AreFindings, Report, IsReport}
+use Rattle.dbusfan_tool.specs.Findings.{IsFinding, AreFindings, IsReport}
 
 -- ---- the contents of what is left
 

@@ -1,5 +1,5 @@
 -- What `match --each` finds, from what its steps answer.
-use Rattle.std.proofs.Common.{◌≡◌, ◌⊎◌, ℕ, Bool, List, [], Some, Err, refl, inl, inr}
+use Rattle.std.proofs.Common.{◌≡◌, ◌⊎◌, ℕ, Bool, List, [], Err, refl, inl, inr}
 use Rattle.std.specs.Prelude.{Result}
 use Rattle.std.specs.Result.{IsErrAnd, IfErr}
 use Rattle.command_line.specs.declared.error.Fault.{Fault}

@@ -1,5 +1,5 @@
 -- What `match --each` finds (own).
-use Rattle.std.specs.Prelude.{◌≡◌, ◌<◌, ℕ, Bool, List, [], Option, Some, None, Result, Ok, Err}
+use Rattle.std.specs.Prelude.{◌≡◌, ◌<◌, ℕ, Bool, List, [], Some, None, Result, Ok, Err}
 use Rattle.match_key.specs.declared.error.RuleError.{RuleError}
 use Rattle.match_key.specs.declared.error.RuleError.TheVariants.{TooLong}
 use Rattle.match_rule.specs.RuleTree.{RuleTree, weight_of}

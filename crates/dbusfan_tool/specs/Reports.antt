@@ -1,5 +1,5 @@
 -- How it is said what is found of a capture (own).
-use Rattle.std.specs.Prelude.{ℕ, ◌+◌, Bool, true, false, List, [], ◌∷◌, ◌++◌, codes, decimal, Option, Some, None, is_some, ◌==◌, if◌then◌else◌}
+use Rattle.std.specs.Prelude.{ℕ, ◌+◌, true, false, List, [], ◌∷◌, ◌++◌, codes, decimal, Option, Some, None, is_some, ◌==◌, if◌then◌else◌}
 use Rattle.message_value.specs.Errors.{name_of as message_name}
 use Rattle.captures.specs.declared.error.CaptureError.{CaptureError}
 use Rattle.captures.specs.Errors.{text_of as capture_text}

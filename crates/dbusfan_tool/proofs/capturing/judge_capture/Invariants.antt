@@ -1,4 +1,4 @@
-use Rattle.std.proofs.Common.{◌≡◌, ℕ, ◌+◌, ◌≤◌, length}
+use Rattle.std.proofs.Common.{◌+◌, ◌≤◌, length}
 use Rattle.match_rule.specs.RuleTree.{RuleTree}
 use Rattle.rule_compile.specs.Compiled.{IsCompiled}
 use Rattle.captures.specs.Contents.{contents, contents_of}
