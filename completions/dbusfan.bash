@@ -1,7 +1,7 @@
 # Completion of dbusfan's words in bash.
 _dbusfan_options() {
     case $1 in
-    match) echo --owns --help ;;
+    match) echo --owns --each --help ;;
     run) echo --edition --help ;;
     asm | check | compile) echo --help ;;
     serve) echo --listen --guid --connections --print-address --session --nofork --help ;;

@@ -91,7 +91,7 @@ impl Block {
 }
 
 /// The byte order that a section's magic says.
-fn order_of(magic: u32) -> Option<Order>
+pub(crate) fn order_of(magic: u32) -> Option<Order>
     ensures { result ≡ order_of magic }
 {
     match magic {

@@ -1,6 +1,7 @@
 //! Captures of D-Bus messages, as Wireshark, `busctl capture` and `dbus-monitor --pcap` write them.
 #![tactic(auto)]
 
+mod beginning;
 mod block;
 mod block_packet;
 mod error;
@@ -16,6 +17,7 @@ mod step;
 mod times;
 mod writing;
 
+pub use beginning::is_capture;
 pub use block::MAX_BLOCK_LEN;
 pub use error::CaptureError;
 pub use laws::{ends_as_said, faults_stay, given_come_first, what_is_written_is_read};

@@ -33,6 +33,10 @@ compile_word = codes "compile"
 abbrev pub owns_word : List ℕ
 owns_word = codes "--owns"
 
+-- `--each`: the file is a capture, and each of its messages is judged
+abbrev pub each_word : List ℕ
+each_word = codes "--each"
+
 -- `--edition`: the next word says of which edition the image is
 abbrev pub edition_word : List ℕ
 edition_word = codes "--edition"
@@ -54,14 +58,15 @@ is_option word = nat_lt 1 (length word) && slice_index word 0 == 45
 abbrev pub is_input : List ℕ → Bool
 is_input word = bytes_eq word (codes "-")
 
--- the options of a row: `--owns`, and an edition
+-- the options of a row: `--owns`, `--each`, and an edition
 pub record Options : Type 0 where
   pub owns : Bool
+  pub each : Bool
   pub edition : Option Edition
 
 -- no option is given
 abbrev pub no_options : Options
-no_options = record { owns = false; edition = None }
+no_options = record { owns = false; each = false; edition = None }
 
 -- The options among the words after a command, and the words that are no options, in their order. An option may stand
 -- anywhere before `--`, and is given once at most.
@@ -70,21 +75,24 @@ pub data Spells : Options → List (List ℕ) → List (List ℕ) → Type 0 whe
   ended : {words : List (List ℕ)} → Spells no_options words (end_word ∷ words)
   named : {options : Options} {word : List ℕ} {names words : List (List ℕ)} → is_option word ≡ false → Spells options names words → Spells options (word ∷ names) (word ∷ words)
   owned : {options : Options} {names words : List (List ℕ)} → options.owns ≡ false → Spells options names words → Spells (record options { owns = true }) names (owns_word ∷ words)
+  eached : {options : Options} {names words : List (List ℕ)} → options.each ≡ false → Spells options names words → Spells (record options { each = true }) names (each_word ∷ words)
   in_edition : {options : Options} {edition : Edition} {names words : List (List ℕ)} → options.edition ≡ None → Spells options names words → Spells (record options { edition = Some edition }) names (edition_word ∷ word_of_edition edition ∷ words)
 
 -- what a row of the command line asks for
 pub data Asked : Type 0 where
   to_match : (rule file : List ℕ) (owns : Bool) → Asked
+  to_match_each : (rule file : List ℕ) (owns : Bool) → Asked
   to_asm : (file : List ℕ) → Asked
   to_check : (file : List ℕ) → Asked
   to_compile : (rule : List ℕ) → Asked
   to_run : (program file : List ℕ) (edition : Edition) → Asked
 
--- `match RULE FILE [--owns]`, `asm FILE`, `check FILE`, `compile RULE`, `run PROGRAM FILE [--edition 1|2]`, whose
--- edition is 1 where none is given, and one of whose files alone may be standard input
+-- `match RULE FILE [--owns]`, `match RULE FILE --each [--owns]`, `asm FILE`, `check FILE`, `compile RULE`, `run PROGRAM
+-- FILE [--edition 1|2]`, whose edition is 1 where none is given, and one of whose files alone may be standard input
 pub data IsRow : Asked → List (List ℕ) → Type 0 where
-  match_row : {rule file : List ℕ} {owns : Bool} {words : List (List ℕ)} → Spells (record { owns = owns; edition = None }) (rule ∷ file ∷ []) words → IsRow (to_match rule file owns) (match_word ∷ words)
+  match_row : {rule file : List ℕ} {owns : Bool} {words : List (List ℕ)} → Spells (record { owns = owns; each = false; edition = None }) (rule ∷ file ∷ []) words → IsRow (to_match rule file owns) (match_word ∷ words)
+  match_each_row : {rule file : List ℕ} {owns : Bool} {words : List (List ℕ)} → Spells (record { owns = owns; each = true; edition = None }) (rule ∷ file ∷ []) words → IsRow (to_match_each rule file owns) (match_word ∷ words)
   asm_row : {file : List ℕ} {words : List (List ℕ)} → Spells no_options (file ∷ []) words → IsRow (to_asm file) (asm_word ∷ words)
   check_row : {file : List ℕ} {words : List (List ℕ)} → Spells no_options (file ∷ []) words → IsRow (to_check file) (check_word ∷ words)
   compile_row : {rule : List ℕ} {words : List (List ℕ)} → Spells no_options (rule ∷ []) words → IsRow (to_compile rule) (compile_word ∷ words)
-  run_row : {program file : List ℕ} {option : Option Edition} {words : List (List ℕ)} → is_input program && is_input file ≡ false → Spells (record { owns = false; edition = option }) (program ∷ file ∷ []) words → IsRow (to_run program file (unwrap_or option One)) (run_word ∷ words)
+  run_row : {program file : List ℕ} {option : Option Edition} {words : List (List ℕ)} → is_input program && is_input file ≡ false → Spells (record { owns = false; each = false; edition = option }) (program ∷ file ∷ []) words → IsRow (to_run program file (unwrap_or option One)) (run_word ∷ words)

@@ -4,9 +4,9 @@ use Rattle.command_line.specs.declared.gathered.Names.{Names}
 use Rattle.command_line.specs.declared.gathered.Names.TheVariants.{Nothing, One, Two}
 use Rattle.command_line.specs.declared.gathered.Gathered.{Gathered}
 use Rattle.command_line.specs.declared.command_row.CommandRow.{CommandRow}
-use Rattle.command_line.specs.declared.command_row.CommandRow.TheVariants.{Match, Asm, Check, Run, Compile}
+use Rattle.command_line.specs.declared.command_row.CommandRow.TheVariants.{Match, MatchEach, Asm, Check, Run, Compile}
 use Rattle.command_line.specs.RowReading.{Gathering}
-use Rattle.command_line.specs.CommandRow.{Asked, to_match, to_asm, to_check, to_compile, to_run}
+use Rattle.command_line.specs.CommandRow.{Asked, to_match, to_match_each, to_asm, to_check, to_compile, to_run}
 
 abbrev pub names_of : Names → List (List ℕ)
 names_of Nothing = []
@@ -14,11 +14,12 @@ names_of (One first) = first.now ∷ []
 names_of (Two first second) = first.now ∷ second.now ∷ []
 
 abbrev pub gathering_of : Gathered → Gathering
-gathering_of all = record { names = names_of all.names; owns = all.owns; edition = all.edition; awaited = all.awaited }
+gathering_of all = record { names = names_of all.names; owns = all.owns; each = all.each; edition = all.edition; awaited = all.awaited }
 
 -- a row of the code as what it asks for
 abbrev pub asked_by : CommandRow → Asked
 asked_by (Match rule file owns) = to_match rule.now file.now owns
+asked_by (MatchEach rule file owns) = to_match_each rule.now file.now owns
 asked_by (Asm file) = to_asm file.now
 asked_by (Check file) = to_check file.now
 asked_by (Compile rule) = to_compile rule.now

@@ -12,6 +12,12 @@ pub enum CommandRow<'a> {
         file: &'a str,
         owns: bool,
     },
+    /// `match RULE FILE --each [--owns]`: which messages of the capture in the file does the rule match?
+    MatchEach {
+        rule: &'a str,
+        file: &'a str,
+        owns: bool,
+    },
     /// `asm FILE`: the byte form of the program in the file.
     Asm {
         file: &'a str,

@@ -30,6 +30,7 @@ pub(crate) enum Awaited {
 pub(crate) struct Gathered<'a> {
     names: Names<'a>,
     owns: bool,
+    each: bool,
     edition: Option<Edition>,
     awaited: Awaited,
 }
@@ -38,7 +39,7 @@ impl<'a> Gathered<'a> {
     ghost use Rattle.std.specs.Prelude.{◌≡◌, map};
     ghost use Rattle.std.specs.Option.{option_map};
     ghost use Rattle.command_line.specs.Views.{asked_by, names_of, gathering_of};
-    ghost use Rattle.command_line.specs.RowReading.{no_words, with_name, with_owns, with_edition, with_edition_word, with_any, with_word, gather, match_of, only_word, run_of};
+    ghost use Rattle.command_line.specs.RowReading.{no_words, with_name, with_owns, with_each, with_edition, with_edition_word, with_any, with_word, gather, match_of, only_word, run_of};
 
     fn nothing() -> Gathered<'a>
         ensures { gathering_of result ≡ no_words }
@@ -46,6 +47,7 @@ impl<'a> Gathered<'a> {
         Gathered {
             names: Names::Nothing,
             owns: false,
+            each: false,
             edition: None,
             awaited: Awaited::AnyWord,
         }
@@ -84,6 +86,7 @@ impl<'a> Gathered<'a> {
                 ..self
             }),
             "--owns" => self.with_owns(),
+            "--each" => self.with_each(),
             "--edition" => self.with_edition(),
             _ if is_option(word) => None,
             _ => self.with_name(word),
@@ -97,6 +100,15 @@ impl<'a> Gathered<'a> {
             return None;
         }
         Some(Gathered { owns: true, ..self })
+    }
+
+    fn with_each(self) -> Option<Gathered<'a>>
+        ensures { option_map gathering_of result ≡ with_each (gathering_of self.entry) }
+    {
+        if self.each {
+            return None;
+        }
+        Some(Gathered { each: true, ..self })
     }
 
     fn with_edition(self) -> Option<Gathered<'a>>
@@ -135,34 +147,34 @@ impl<'a> Gathered<'a> {
 
     /// What `match` and these words ask for.
     pub(crate) fn to_match(self) -> Option<CommandRow<'a>>
-        ensures { option_map asked_by result ≡ match_of (names_of self.entry.names) self.entry.owns self.entry.edition }
+        ensures { option_map asked_by result ≡ match_of (names_of self.entry.names) self.entry.owns self.entry.each self.entry.edition }
     {
+        let owns = self.owns;
         match (self.names, self.edition) {
-            (Names::Two(rule, file), None) => Some(CommandRow::Match {
-                rule,
-                file,
-                owns: self.owns,
-            }),
+            (Names::Two(rule, file), None) if self.each => {
+                Some(CommandRow::MatchEach { rule, file, owns })
+            }
+            (Names::Two(rule, file), None) => Some(CommandRow::Match { rule, file, owns }),
             _ => None,
         }
     }
 
     /// The one word that stands there, if there is no other and no option.
     pub(crate) fn only_word(self) -> Option<&'a str>
-        ensures { option_map (λ word. word.now) result ≡ only_word (names_of self.entry.names) self.entry.owns self.entry.edition }
+        ensures { option_map (λ word. word.now) result ≡ only_word (names_of self.entry.names) self.entry.owns self.entry.each self.entry.edition }
     {
         match (self.names, self.edition) {
-            (Names::One(word), None) if !self.owns => Some(word),
+            (Names::One(word), None) if !self.owns && !self.each => Some(word),
             _ => None,
         }
     }
 
     /// What `run` and these words ask for.
     pub(crate) fn to_run(self) -> Option<CommandRow<'a>>
-        ensures { option_map asked_by result ≡ run_of (names_of self.entry.names) self.entry.owns self.entry.edition }
+        ensures { option_map asked_by result ≡ run_of (names_of self.entry.names) self.entry.owns self.entry.each self.entry.edition }
     {
         match self.names {
-            Names::Two(program, file) if !self.owns => {
+            Names::Two(program, file) if !self.owns && !self.each => {
                 if program == "-" && file == "-" {
                     return None;
                 }

@@ -4,11 +4,15 @@ pub use Rattle.command_line.specs.HexText
 pub use Rattle.command_line.specs.Files
 pub use Rattle.command_line.specs.Output
 pub use Rattle.command_line.specs.Errors
+pub mod Findings
 pub mod Views
 pub mod Listing
 pub mod Program
 pub mod Running
 pub mod Compiling
 pub mod Answer
+pub mod Reports
+pub mod Capturing
 pub mod Usage
 pub mod Tool
+pub mod FileVerdicts

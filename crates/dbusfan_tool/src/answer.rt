@@ -15,7 +15,16 @@ pub(crate) enum Answer {
     /// A text for standard output.
     Text(String),
     /// A text for standard output, and whether it tells of a match.
-    Ran { text: String, matches: bool },
+    Ran {
+        text: String,
+        matches: bool,
+    },
+    /// A text for standard output, one for standard error, and the status.
+    Report {
+        output: String,
+        notes: String,
+        status: u8,
+    },
     Fault(Fault),
 }
 
@@ -27,6 +36,7 @@ impl Answer {
             Answer::Verdict(true) => b"match\n",
             Answer::Verdict(false) => b"no match\n",
             Answer::Text(text) | Answer::Ran { text, .. } => text.as_bytes(),
+            Answer::Report { output, .. } => output.as_bytes(),
             Answer::Fault(_) => b"",
         }
     }
@@ -37,6 +47,7 @@ impl Answer {
         match self {
             Answer::Verdict(true) | Answer::Text(_) | Answer::Ran { matches: true, .. } => 0,
             Answer::Verdict(false) | Answer::Ran { matches: false, .. } => 1,
+            Answer::Report { status, .. } => *status,
             Answer::Fault(fault) => fault.status(),
         }
     }
@@ -52,8 +63,10 @@ impl Answer {
             err.put_fault(Fault::File);
             return Fault::File.status();
         }
-        if let Answer::Fault(fault) = self {
-            err.put_fault(*fault);
+        match self {
+            Answer::Report { notes, .. } => err.put(notes.as_bytes()),
+            Answer::Fault(fault) => err.put_fault(*fault),
+            _ => {}
         }
         self.status()
     }

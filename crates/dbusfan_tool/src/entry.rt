@@ -50,6 +50,9 @@ fn answer<'a, F: Files>(alloc: Global, words: &'a [&'a str], files: &mut F) -> A
         Some(CommandRow::Match { rule, file, owns }) => matching::answer(
             alloc, rule, file, owns, files,
         ),
+        Some(CommandRow::MatchEach { rule, file, owns }) => matching::each_answer(
+            alloc, rule, file, owns, files,
+        ),
         Some(CommandRow::Asm { file }) => assembling::answer(alloc, file, files),
         Some(CommandRow::Check { file }) => checking::answer(alloc, file, files),
         Some(CommandRow::Compile { rule }) => compiling::answer(alloc, rule),

@@ -4,12 +4,15 @@
 
 mod answer;
 mod assembling;
+mod capturing;
 mod checking;
 mod compiling;
 mod entry;
+mod finding;
 mod help;
 mod matching;
 mod program;
+mod report;
 mod running;
 
 pub use command_line::{Fault, FileError, Files, Output, Writer};

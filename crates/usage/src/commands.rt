@@ -32,7 +32,7 @@ pub(crate) static COMMANDS: [CommandHelp; 7] = [
     CommandHelp {
         name: "match",
         about: "Says whether a rule matches a message",
-        arguments: &[RULE, MESSAGE, OWNS],
+        arguments: &[RULE, MESSAGE, OWNS, EACH],
     },
     CommandHelp {
         name: "asm",
@@ -154,6 +154,13 @@ const OWNS: ArgumentHelp = ArgumentHelp {
     form: Form::Flag,
     is_required: false,
     text: "The sender owns the rule's well-known name",
+};
+
+const EACH: ArgumentHelp = ArgumentHelp {
+    name: "each",
+    form: Form::Flag,
+    is_required: false,
+    text: "FILE is a pcap or pcapng capture, of which each message is judged",
 };
 
 const PROGRAM: ArgumentHelp = ArgumentHelp {

@@ -1,0 +1,14 @@
+// What is found of the packets of a capture.
+
+use message_value::MsgError;
+
+/// What is found of a packet of D-Bus.
+#[derive(Clone, Copy, Debug, PartialEq, Eq)]
+pub(crate) enum Finding {
+    /// Whether the rule matches its message.
+    Verdict(bool),
+    /// It is only the beginning of a message, and passed over.
+    Cut,
+    /// Its bytes are no message, and it is passed over.
+    NoMessage(MsgError),
+}
