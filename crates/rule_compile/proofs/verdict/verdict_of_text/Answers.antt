@@ -12,7 +12,7 @@ returns-clause-decided c =
     let rule : RuleTree = c.in_ok-rule.rule in
     let program : List Ins = c.in_ok-program.program in
     let compiled : IsCompiled rule (slot_if_asked (sender_name_of rule) c.args.slot) program =
-        subst (λ (slot : Option ℕ). IsCompiled rule slot program) c.slot_of-slot.ensures c.in_ok-program.ensures.compiled in
+    subst (λ (slot : Option ℕ). IsCompiled rule slot program) c.slot_of-slot.ensures c.in_ok-program.ensures.compiled in
     record {
       rule = rule;
       reads = c.in_ok-rule.ensures.found;
