@@ -1,16 +1,15 @@
 -- What is asked of kept claims and slots is told of names.
-use Rattle.std.specs.Prelude.{◌≡◌, ◌<◌, ◌≤◌, ℕ, zero, suc, Bool, true, false, cond, List, [], ◌∷◌, Option, Some, None, map, find, filter, length, option_map, slice_get, replicate, nat_lt, nat_eq, unwrap_or, if◌then◌else◌}
+use Rattle.std.specs.Prelude.{◌≡◌, ◌<◌, ◌≤◌, ℕ, zero, suc, Bool, true, false, cond, List, [], ◌∷◌, Option, Some, None, map, find, filter, length, option_map, slice_get, replicate, nat_eq, unwrap_or, if◌then◌else◌}
 use Rattle.std.specs.Option.{option_eq}
 use Rattle.std.proofs.Common.{refl, sym, ap, ◌∙◌, arith}
 use Rattle.std.proofs.lemmas.Bool.{false≢true, eqb-true}
-use Rattle.std.proofs.lemmas.Bool.Decides.{Decides-ltb}
-use Rattle.std.proofs.lemmas.Option.{slice_get_within, slice_get_past}
+use Rattle.std.proofs.lemmas.Option.{slice_get_past}
 use Rattle.owners.specs.declared.holding.Holding.{Holding}
 use Rattle.owners.specs.declared.claim.SlotClaim.{SlotClaim}
 use Rattle.owners.specs.Queues.{queue_of, is_on, Claim, is_of}
 use Rattle.owners.specs.Registry.{lesser, least, least_of, next_name, is_after, is_owned_slot, is_owned_holding, max_names, slot_of, rules_at, rules_in, rules_of, slot_next, first_free, or_else}
-use Rattle.owners.specs.Kept.{slot_queue, named_claim, registry, is_name, is_on_slot, is_by, slot_owner, claim_name, are_slots, IsKept}
-use Rattle.owners.proofs.Lists.{Each, Each-weaker, Each-always, all-from_Each, filter-map, map-map}
+use Rattle.owners.specs.Kept.{slot_queue, named_claim, registry, is_name, is_on_slot, is_by, slot_owner, claim_name, IsKept}
+use Rattle.owners.proofs.Lists.{Each, Each-weaker, Each-always, filter-map, map-map}
 use Rattle.owners.proofs.Placed.{Tells, on_agrees, tells_own, HeldAt, each_held, no_slot_number}
 use Rattle.owners.proofs.Steps.{owner_shown}
 

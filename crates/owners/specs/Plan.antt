@@ -1,11 +1,10 @@
 -- Inner: a request's answer with what is done for it.
 use Rattle.std.specs.Prelude.{◌≡◌, ◌≤◌, ℕ, List, Option, Some, Ok, find, length}
-use Rattle.std.specs.List.{list_any}
 use Rattle.owners.specs.declared.holding.Holding.{Holding}
 use Rattle.owners.specs.declared.claim.SlotClaim.{SlotClaim}
 use Rattle.owners.specs.declared.plan.Plan.{Plan}
 use Rattle.owners.specs.Registry.{slot_next, request_answer, max_claims}
-use Rattle.owners.specs.Kept.{registry, is_on_slot, is_slot_claim, step_of, step_done}
+use Rattle.owners.specs.Kept.{registry, is_on_slot, step_of, step_done}
 
 abbrev pub claim_at : ℕ → ℕ → ℕ → SlotClaim
 claim_at slot connection flags = record { connection = connection; flags = flags; slot = slot }

@@ -1,6 +1,5 @@
 -- Inner: claims of one connection on one name.
-use Rattle.std.specs.Prelude.{◌≡◌, ◌++◌, Bool, nat_eq, true}
-use Rattle.std.specs.Ordering.{on}
+use Rattle.std.specs.Prelude.{◌≡◌, ◌++◌, Bool, true}
 use Rattle.std.specs.Cmp.{IsEquivalence, and_equiv, on_equiv, back_equiv, nat_eq_equiv, unsigned_Decides}
 use Rattle.std.specs.Hash as fed
 use Rattle.std.specs.Hash.{on_Alike, same_Alike, and-Alike}

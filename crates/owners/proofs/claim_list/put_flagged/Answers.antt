@@ -1,4 +1,4 @@
-use Rattle.std.proofs.Common.{◌≡◌, arith, ap, sym, subst, ◌∙◌, get_or}
+use Rattle.std.proofs.Common.{arith, ap, sym, subst, ◌∙◌}
 use Rattle.std.specs.Prelude.{List}
 use Rattle.std.specs.List.{list_any, IsDistinct}
 use Rattle.owners.specs.declared.claim.SlotClaim.{SlotClaim}

@@ -1,6 +1,6 @@
-use Rattle.std.proofs.Common.{◌≡◌, ◌≤◌, ◌+◌, arith, ap, sym, subst, ◌∙◌, length, take, get_or}
+use Rattle.std.proofs.Common.{arith, ap, sym, subst, ◌∙◌, length, take, get_or}
 use Rattle.std.proofs.lemmas.List.{length-take-le}
-use Rattle.std.specs.Prelude.{filter, not, List}
+use Rattle.std.specs.Prelude.{not, List}
 use Rattle.std.specs.List.{list_any, IsDistinct}
 use Rattle.owners.specs.declared.claim.SlotClaim.{SlotClaim}
 use Rattle.owners.specs.Kept.{is_leaving}

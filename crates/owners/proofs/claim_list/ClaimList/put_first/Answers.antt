@@ -1,4 +1,4 @@
-use Rattle.std.proofs.Common.{◌≡◌, ◌∷◌, false, sym, ap, ◌∙◌}
+use Rattle.std.proofs.Common.{◌≡◌, ◌∷◌, false, ap, ◌∙◌}
 use Rattle.std.specs.List.{list_any}
 use Rattle.owners.specs.SameClaim.{same_claim}
 use Rattle.owners.proofs.Distinct.{put_first}

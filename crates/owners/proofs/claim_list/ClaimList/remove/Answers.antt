@@ -1,5 +1,5 @@
 use Rattle.std.proofs.Common.{◌≡◌, ◌≤◌, ◌+◌, sym, ap, subst, ◌∙◌, arith, length}
-use Rattle.std.specs.Prelude.{List, filter, not}
+use Rattle.std.specs.Prelude.{filter, not}
 use Rattle.std.specs.List.{IsDistinct}
 use Rattle.indexmap.specs.IndexSet.{spare}
 use Rattle.owners.specs.declared.claim.SlotClaim.{SlotClaim}

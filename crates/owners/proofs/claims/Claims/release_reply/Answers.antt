@@ -1,7 +1,6 @@
 use Rattle.std.proofs.Common.{◌≡◌, sym, ap, subst, ◌∙◌}
 use Rattle.std.specs.Prelude.{unwrap_or}
 use Rattle.owners.specs.Registry.{IsRegistry, slot_of, release_answer}
-use Rattle.owners.specs.Kept.{slot_release_answer}
 use Rattle.owners.proofs.Placed.{Tells, known_tells, no_slot_number}
 use Rattle.owners.proofs.Settled.{kept_is_registry}
 use Rattle.owners.proofs.Steps.{release_shown}

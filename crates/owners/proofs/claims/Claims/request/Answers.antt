@@ -1,4 +1,4 @@
-use Rattle.std.proofs.Common.{◌≡◌, ap, subst, ◌∙◌}
+use Rattle.std.proofs.Common.{ap, subst, ◌∙◌}
 use Rattle.std.specs.Prelude.{slice_get}
 use Rattle.owners.specs.Registry.{IsRegistry, rules_at, after_request}
 use Rattle.owners.specs.Plan.{IsPlan}
