@@ -19,8 +19,8 @@ module _ (x : Placed) where
   goes-before y ys high = cond-false (ltb x.1.id y.1.id) (y ∷ by_id x ys) (x ∷ y ∷ ys) (le-ltb x.1.id y.1.id high)
 
   goes-first : (xs : List Placed) → AreGiven x.1.id xs → by_id x xs ≡ x ∷ xs
-  goes-first [] given = refl
-  goes-first (y ∷ ys) given = goes-before y ys given.0
+  goes-first [] falls = refl
+  goes-first (y ∷ ys) falls = goes-before y ys falls.0
 
 at-first : (place : ℕ) (x : Placed) (xs : List Placed) → eqb place x.0 ≡ true → entry_at place (x ∷ xs) ≡ Some x.1
 at-first place x xs here = ap (option_map {T = Placed} {U = Entry} (λ (y : Placed). y.1)) (cond-true (eqb place x.0) (Some x) (find (λ (y : Placed). eqb place y.0) xs) here)
@@ -85,19 +85,19 @@ length-by_id x (y ∷ ys) =
 -- ---- ids that don't rise
 
 AreGiven-raised : (low high : ℕ) (xs : List Placed) → low ≤ high → AreGiven low xs → AreGiven high xs
-AreGiven-raised low high [] le given = tt
-AreGiven-raised low high (x ∷ xs) le given = (omega (arith, given.0), AreGiven-raised low high xs le given.1)
+AreGiven-raised low high [] le falls = tt
+AreGiven-raised low high (x ∷ xs) le falls = (omega (arith, falls.0), AreGiven-raised low high xs le falls.1)
 
 AreGiven-below : (id : ℕ) (xs : List Placed) → AreBelow id xs → AreGiven id xs
 AreGiven-below id [] below = tt
 AreGiven-below id (x ∷ xs) below = (omega (arith, below.0), AreGiven-below id xs below.1)
 
 AreGiven-by_id : (last : ℕ) (x : Placed) (xs : List Placed) → x.1.id ≤ last → AreGiven last xs → AreGiven last (by_id x xs)
-AreGiven-by_id last x [] le given = (le, tt)
-AreGiven-by_id last x (y ∷ ys) le given =
+AreGiven-by_id last x [] le falls = (le, tt)
+AreGiven-by_id last x (y ∷ ys) le falls =
     elim (cases_Bool (ltb x.1.id y.1.id)) [
-      | inl lower ↦ subst (AreGiven last) (sym (goes-after x y ys (ltb-true x.1.id y.1.id lower))) (given.0, AreGiven-by_id last x ys le given.1)
-      | inr higher ↦ subst (AreGiven last) (sym (goes-before x y ys (ltb-false x.1.id y.1.id higher))) (le, given)
+      | inl lower ↦ subst (AreGiven last) (sym (goes-after x y ys (ltb-true x.1.id y.1.id lower))) (falls.0, AreGiven-by_id last x ys le falls.1)
+      | inr higher ↦ subst (AreGiven last) (sym (goes-before x y ys (ltb-false x.1.id y.1.id higher))) (le, falls)
     ]
 
 -- no id is above one before it
@@ -264,8 +264,8 @@ but_at-other place x (y ∷ ys) other fall =
           ]))
       | inr higher ↦ (
           let high = ltb-false x.1.id y.1.id higher in
-          let given : AreGiven x.1.id (y ∷ ys) = (high, AreGiven-raised y.1.id x.1.id ys high fall.0) in
-          ap (but_at place) (goes-before x y ys high) ∙ keeps place x (y ∷ ys) other ∙ sym (goes-first x (but_at place (y ∷ ys)) (AreGiven-but x.1.id place (y ∷ ys) given)))
+          let falls : AreGiven x.1.id (y ∷ ys) = (high, AreGiven-raised y.1.id x.1.id ys high fall.0) in
+          ap (but_at place) (goes-before x y ys high) ∙ keeps place x (y ∷ ys) other ∙ sym (goes-first x (but_at place (y ∷ ys)) (AreGiven-but x.1.id place (y ∷ ys) falls)))
     ]
 
 own-slot : (place : ℕ) (slot : Option Entry) (held : List Placed) → has_place place (places_of held) ≡ false → but_at place (with_slot place slot held) ≡ held

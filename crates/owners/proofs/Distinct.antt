@@ -40,8 +40,8 @@ pub not_staying : (r : SlotClaim → Bool) (xs : List SlotClaim) (i : ℕ) (d : 
 not_staying r xs i d h a = none_kept (same_claim (get_or xs i d)) r (take i xs) (before xs i d h a)
 
 -- nor is it with flags of its own
-abbrev flagged : ℕ → ℕ → ℕ → SlotClaim → SlotClaim
-flagged slot connection flags c = if is_slot_claim slot connection c then record c { flags = flags } else c
+abbrev flagged_claim : ℕ → ℕ → ℕ → SlotClaim → SlotClaim
+flagged_claim slot connection flags c = if is_slot_claim slot connection c then record c { flags = flags } else c
 
 same_flagged : (slot connection flags : ℕ) (x y : SlotClaim) (b c : Bool) → is_slot_claim (if b then record x { flags = flags } else x).slot (if b then record x { flags = flags } else x).connection (if c then record y { flags = flags } else y) ≡ same_claim x y
 same_flagged slot connection flags x y true true = refl
@@ -49,11 +49,11 @@ same_flagged slot connection flags x y true false = refl
 same_flagged slot connection flags x y false true = refl
 same_flagged slot connection flags x y false false = refl
 
-pub not_flagged : (slot connection flags : ℕ) (xs : List SlotClaim) (i : ℕ) (d : SlotClaim) → i < length xs → IsDistinct same_claim xs → list_any (same_claim (flagged slot connection flags (get_or xs i d))) (slot_with_flags slot connection flags (take i xs)) ≡ false
+pub not_flagged : (slot connection flags : ℕ) (xs : List SlotClaim) (i : ℕ) (d : SlotClaim) → i < length xs → IsDistinct same_claim xs → list_any (same_claim (flagged_claim slot connection flags (get_or xs i d))) (slot_with_flags slot connection flags (take i xs)) ≡ false
 not_flagged slot connection flags xs i d h a =
     let x = get_or xs i d in
-    any-map (same_claim (flagged slot connection flags x)) (same_claim x) (flagged slot connection flags) (take i xs)
-    (Each-always (λ (y : SlotClaim). same_claim (flagged slot connection flags x) (flagged slot connection flags y) ≡ same_claim x y) (λ y. same_flagged slot connection flags x y (is_slot_claim slot connection x) (is_slot_claim slot connection y)) (take i xs))
+    any-map (same_claim (flagged_claim slot connection flags x)) (same_claim x) (flagged_claim slot connection flags) (take i xs)
+    (Each-always (λ (y : SlotClaim). same_claim (flagged_claim slot connection flags x) (flagged_claim slot connection flags y) ≡ same_claim x y) (λ y. same_flagged slot connection flags x y (is_slot_claim slot connection x) (is_slot_claim slot connection y)) (take i xs))
     ∙ before xs i d h a
 
 -- ---- a claim that is put last or first
