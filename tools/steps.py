@@ -66,27 +66,28 @@ class Tries:
 
 
 def tries(rt, crate, edits):
-    """Whether the prover refuses each edit, and what is said of it."""
+    """For each edit in turn whether the prover refuses it, and what is said of it."""
     if hasattr(rt, "must_fail_all"):
-        return rt.must_fail_all(crate, edits, ["--jobs", "1"])
+        yield from rt.must_fail_all(crate, edits, ["--jobs", "1"])
+        return
     # (newer kits try one edit at a call)
     with tempfile.TemporaryDirectory(prefix="edits-") as kept:
         tried = Tries(rt, crate, kept)
         try:
-            return [tried(edit) for edit in edits]
+            yield from map(tried, edits)
         finally:
             tried.end()
 
 
 def try_edits(rt, crate, say):
-    """Tries a crate's edits, and returns how many were refused, and how many there are."""
-    edits = edits_of(crate)
-    tried = tries(rt, crate, edits)
-    for refused, text in tried:
+    """Tries a crate's edits, and returns how many were refused, and how many there are. What is missing is said at once."""
+    edits, count = edits_of(crate), 0
+    for refused, text in tries(rt, crate, edits):
         # (a proof that names what the edit took away says little of the contract)
         if not refused or "names what the edit took away" in text:
             say(text)
-    return sum(refused for refused, _ in tried), len(edits)
+        count += refused
+    return count, len(edits)
 
 
 def run_checked(rt, crate, tests, jobs):
