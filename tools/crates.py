@@ -170,8 +170,28 @@ def work_of(crate):
     return lines[".rt"] + lines[".antt"] // 3
 
 
+def take_kept(rt, wanted):
+    """Takes the libraries of some crates, lowest first, that the gate has proved on this machine from the same files, as far
+    as what they stand on is taken too. Only newer kits keep them."""
+    libraries = [it for it in wanted if not it.is_program]
+    if not hasattr(rt, "Kept") or all(is_built(rt, it) for it in libraries):
+        return
+    kept, there = rt.Kept(libraries), set()
+    for crate in libraries:
+        if not there.issuperset(it.name for it in crate.below()):
+            continue
+        if not is_built(rt, crate):
+            if not kept.give(crate, False, kept.key(crate)):
+                continue
+            Path(crate.folder, "out/rlib/stamp").write_text(crate.stamp(), encoding="utf-8")
+        kept.is_built(crate)
+        there.add(crate.name)
+
+
 def to_build(rt, wanted):
-    """Those of some crates, lowest first, that aren't built from the sources as they are, or stand on one that isn't."""
+    """Those of some crates, lowest first, that aren't built from the sources as they are, or stand on one that isn't, and
+    that the gate hasn't proved either."""
+    take_kept(rt, wanted)
     names = set()
     for crate in wanted:
         if not is_built(rt, crate) or any(it.name in names for it in crate.below()):
