@@ -126,7 +126,7 @@ def pcapng_files():
     bad("pcapng.unknown_interface", with_word(data, last + 8, 7), "Interface")
     bad("pcapng.packet_beyond_its_block", with_word(data, last + 20, blocks[packet][2]), "RecordLength")
     ethernet = data[:interface + 8] + struct.pack("<H", 1) + data[interface + 10:]
-    case("pcapng.other_link_type", ["", "F", "--each"], ethernet, "0 of 0 match\n", "dbusfan: 1 packets of other link types\n", 1)
+    case("pcapng.other_link_type", ["", "F", "--each"], ethernet, "0 of 0 match\n", "dbusfan: packets of other link types: 1\n", 1)
 
 
 print(HEAD)

@@ -5,7 +5,7 @@ _dbusfan_options() {
     run) echo --edition --help ;;
     asm | check | compile) echo --help ;;
     serve) echo --listen --guid --connections --print-address --session --nofork --help ;;
-    watch) echo --program --edition --hex --count --help ;;
+    watch) echo --program --edition --hex --count --read --write --help ;;
     esac
 }
 
@@ -22,7 +22,7 @@ _dbusfan() {
     --edition) names='1 2' ;;
     --listen) names='unix:path= unix:dir= unix:tmpdir= unix:abstract= unix:runtime=yes tcp:host=' ;;
     --guid | --connections | --count) return ;;
-    --program | = | :) names= ;;
+    --program | --read | --write | = | :) names= ;;
     *)
         names=$(_dbusfan_names "$COMP_CWORD" "$command")
         [ "$command $COMP_CWORD" = 'watch 2' ] && names='session system unix:path='

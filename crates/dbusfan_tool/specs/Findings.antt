@@ -40,13 +40,13 @@ pub record IsReport (tree : RuleTree) (owns : Bool) (contents : Contents) (repor
   pub passed_over : report.passed_over ≡ contents.passed_over
   pub fault : report.fault ≡ contents.fault
 
--- how many messages were judged, and how many of them the rule matches
-abbrev pub judged : List Finding → ℕ
-judged [] = 0
-judged (Verdict matches ∷ later) = suc (judged later)
-judged (_ ∷ later) = judged later
+-- how many messages have a verdict, and how many of them the rule matches
+abbrev pub verdict_count : List Finding → ℕ
+verdict_count [] = 0
+verdict_count (Verdict matches ∷ later) = suc (verdict_count later)
+verdict_count (_ ∷ later) = verdict_count later
 
-abbrev pub matched : List Finding → ℕ
-matched [] = 0
-matched (Verdict true ∷ later) = suc (matched later)
-matched (_ ∷ later) = matched later
+abbrev pub match_count : List Finding → ℕ
+match_count [] = 0
+match_count (Verdict true ∷ later) = suc (match_count later)
+match_count (_ ∷ later) = match_count later

@@ -6,7 +6,7 @@ use Rattle.captures.specs.Errors.{text_of as capture_text}
 use Rattle.command_line.specs.Errors.{line_end}
 use Rattle.dbusfan_tool.specs.declared.finding.Finding.{Finding}
 use Rattle.dbusfan_tool.specs.declared.finding.Finding.TheVariants.{Verdict, Cut, NoMessage}
-use Rattle.dbusfan_tool.specs.Findings.{Report, judged, matched}
+use Rattle.dbusfan_tool.specs.Findings.{Report, verdict_count, match_count}
 use Rattle.dbusfan_tool.specs.Answer.{Said}
 
 -- on standard output: a message's number and its verdict
@@ -33,11 +33,11 @@ note_lines number (finding ∷ later) = note_line number finding ++ note_lines (
 
 -- how many messages match, of how many
 abbrev pub count_line : List Finding → List ℕ
-count_line findings = decimal (matched findings) ++ codes " of " ++ decimal (judged findings) ++ codes " match" ++ line_end
+count_line findings = decimal (match_count findings) ++ codes " of " ++ decimal (verdict_count findings) ++ codes " match" ++ line_end
 
 -- how many packets of other link types were passed over, where there are any
 abbrev pub passed_over_line : ℕ → List ℕ
-passed_over_line count = if count == 0 then [] else codes "dbusfan: " ++ decimal count ++ codes " packets of other link types" ++ line_end
+passed_over_line count = if count == 0 then [] else codes "dbusfan: packets of other link types: " ++ decimal count ++ line_end
 
 -- the fault of a file
 abbrev pub capture_line : Option CaptureError → List ℕ
@@ -50,7 +50,7 @@ notes_of report = note_lines 1 report.findings ++ passed_over_line report.passed
 
 -- 2 where the file has a fault, else 0 where a message matches, else 1
 abbrev pub report_status : Report → ℕ
-report_status report = if is_some report.fault then 2 else if matched report.findings == 0 then 1 else 0
+report_status report = if is_some report.fault then 2 else if match_count report.findings == 0 then 1 else 0
 
 -- an output, and all else that a report says
 abbrev pub said_with : List ℕ → Report → Said
@@ -62,7 +62,7 @@ said_of_each report = said_with (verdict_lines 1 report.findings ++ count_line r
 
 -- whether some message matches
 abbrev pub any_line : List Finding → List ℕ
-any_line findings = if matched findings == 0 then codes "no match" ++ line_end else codes "match" ++ line_end
+any_line findings = if match_count findings == 0 then codes "no match" ++ line_end else codes "match" ++ line_end
 
 -- what `match` says of a capture
 abbrev pub said_of_any : Report → Said

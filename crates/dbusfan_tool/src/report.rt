@@ -1,7 +1,7 @@
 // How it is said what is found of a capture.
 
 ghost use Rattle.std.specs.Prelude.{◌≡◌, ◌⊎◌, ◌++◌, IfOk, OnOk, string_bytes};
-ghost use Rattle.dbusfan_tool.specs.Findings.{judged, matched};
+ghost use Rattle.dbusfan_tool.specs.Findings.{verdict_count, match_count};
 ghost use Rattle.dbusfan_tool.specs.Reports.{verdict_line, note_line, verdict_lines, note_lines, count_line, passed_over_line, capture_line, notes_of, report_status, any_line, said_with, said_of_each, said_of_any};
 ghost use Rattle.dbusfan_tool.specs.Answer.{failing};
 ghost use Rattle.dbusfan_tool.specs.Views.{said_by, report_by};
@@ -47,7 +47,7 @@ pub(crate) fn any_answer_of(alloc: Global, report: &CaptureReport) -> Answer
 fn any_of(alloc: Global, findings: &[Finding]) -> Result<String, AllocError>
     ensures { IfOk result (λ text. string_bytes text ≡ any_line findings.now) }
 {
-    let text = if matched(findings) == 0 {
+    let text = if match_count(findings) == 0 {
         "no match\n"
     } else {
         "match\n"
@@ -74,11 +74,15 @@ fn status_of(report: &CaptureReport) -> u8
     if report.fault.is_some() {
         return 2;
     }
-    if matched(&report.findings) == 0 { 1 } else { 0 }
+    if match_count(&report.findings) == 0 {
+        1
+    } else {
+        0
+    }
 }
 
-fn matched(findings: &[Finding]) -> usize
-    ensures { result ≡ matched findings.now }
+fn match_count(findings: &[Finding]) -> usize
+    ensures { result ≡ match_count findings.now }
 {
     let mut count = 0;
     for finding in findings {
@@ -89,8 +93,8 @@ fn matched(findings: &[Finding]) -> usize
     count
 }
 
-fn judged(findings: &[Finding]) -> usize
-    ensures { result ≡ judged findings.now }
+fn verdict_count(findings: &[Finding]) -> usize
+    ensures { result ≡ verdict_count findings.now }
 {
     let mut count = 0;
     for finding in findings {
@@ -105,9 +109,9 @@ fn output_of(alloc: Global, findings: &[Finding]) -> Result<String, AllocError>
     ensures { IfOk result (λ text. string_bytes text ≡ verdict_lines 1 findings.now ++ count_line findings.now) }
 {
     let mut text = verdict_lines(alloc, findings)?;
-    let matches = matched(findings);
-    let judged = judged(findings);
-    write!(text, "{matches} of {judged} match\n")?;
+    let matches = match_count(findings);
+    let verdicts = verdict_count(findings);
+    write!(text, "{matches} of {verdicts} match\n")?;
     Ok(text)
 }
 
@@ -166,7 +170,7 @@ fn put_passed_over(text: &mut String, count: usize) -> Result<(), AllocError>
     if count == 0 {
         return Ok(());
     }
-    write!(text, "dbusfan: {count} packets of other link types\n")
+    write!(text, "dbusfan: packets of other link types: {count}\n")
 }
 
 fn put_fault(text: &mut String, fault: Option<CaptureError>) -> Result<(), AllocError>

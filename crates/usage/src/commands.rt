@@ -103,7 +103,7 @@ pub(crate) static COMMANDS: [CommandHelp; 7] = [
             ArgumentHelp {
                 name: "ADDRESS",
                 form: Form::Word,
-                is_required: true,
+                is_required: false,
                 text: "session, system, or a D-Bus address as unix:path=/run/bus",
             },
             ArgumentHelp {
@@ -130,6 +130,18 @@ pub(crate) static COMMANDS: [CommandHelp; 7] = [
                 form: Form::Value("N"),
                 is_required: false,
                 text: "Ends after N messages",
+            },
+            ArgumentHelp {
+                name: "write",
+                form: Form::Value("FILE"),
+                is_required: false,
+                text: "Writes a capture in place of lines",
+            },
+            ArgumentHelp {
+                name: "read",
+                form: Form::Value("FILE"),
+                is_required: false,
+                text: "Shows a capture in place of ADDRESS, of RULE or whole",
             },
         ],
     },

@@ -1,25 +1,31 @@
 // The command.
 
 use crate::error::Fault;
-use crate::options::{Options, Wanted};
-use crate::printing::print_messages;
+use crate::options::{CaptureOptions, Options, Wanted};
+use crate::printing::show_messages;
+use crate::reading::show_capture;
+use crate::selection::Selection;
+use crate::sink::{Lines, PcapFile, Sink};
 use bpf_code::encode;
 use bpf_text::assemble_bytes;
 use bus_client::{Address, Client, Timed, addresses_of, connect};
-use command_line::{Files, Output, Writer, text_for};
+use command_line::{Files, Output, Stream, Writer, text_for};
+use match_rule::Rule;
 use std::alloc::Global;
+use std::fs;
 use std::io::{Read, Write};
 use std::net::{Net, TcpListener, TcpStream};
-use std::rt::{Clock, Env};
+use std::rt::{Clock, Env, Files as FileSystem};
 
 /// The words that ask for this command's help.
 const HELP: [&str; 2] = ["watch", "--help"];
 
-/// Connects to a bus and writes each message of it that a rule holds of, or a program accepts, as a line. It answers
-/// the status that the program ends with: 0 after the count that is wanted, 2 where the rule or the program is refused
-/// or what comes is no message, 3 for words that are no row of the command line, 4 where the bus can't be reached, goes
-/// away or doesn't answer, or where a file fails, and 5 for want of memory. It waits for messages alone: an answer has
-/// to come in time.
+/// Connects to a bus and writes each message of it that a rule holds of, or a program accepts, as a line or as a record
+/// of a capture; or does so with the messages of a capture. It answers the status that the program ends with: 0 after the
+/// count that is wanted, and at the end of a capture, 2 where the rule or the program is refused, what comes is no message
+/// or the file no capture, 3 for words that are no row of the command line, 4 where the bus can't be reached, goes away or
+/// doesn't answer, or where a file fails, and 5 for want of memory. It waits for messages alone: an answer has to come in
+/// time.
 pub fn watch<R, F: Files, O: Writer, E: Writer>(
     rt: &R,
     words: &[&str],
@@ -28,9 +34,18 @@ pub fn watch<R, F: Files, O: Writer, E: Writer>(
     err: &mut Output<E>,
 ) -> u8
 where
-    R: AllocGlobal + Clock + Env + Net<Listener = TcpListener, Stream = TcpStream>,
+    R: AllocGlobal
+        + Clock
+        + Env
+        + FileSystem
+        + Input
+        + Net<Listener = TcpListener, Stream = TcpStream>,
 {
-    match watch_bus(rt, words, files, out) {
+    let watched = match CaptureOptions::read(words) {
+        Some(options) => watch_capture(rt, &options, out, err),
+        None => watch_bus(rt, words, files, out),
+    };
+    match watched {
         Ok(()) => 0,
         Err(fault) => fault.tell(rt.alloc(), err),
     }
@@ -43,7 +58,7 @@ fn watch_bus<R, F: Files, O: Writer>(
     out: &mut Output<O>,
 ) -> Result<(), Fault>
 where
-    R: AllocGlobal + Clock + Env + Net<Listener = TcpListener, Stream = TcpStream>,
+    R: AllocGlobal + Clock + Env + FileSystem + Net<Listener = TcpListener, Stream = TcpStream>,
 {
     if let Some(&("--help" | "-h")) = words.first() {
         return help(rt.alloc(), out);
@@ -57,7 +72,102 @@ where
         .stream_mut()
         .wait_for_ever()
         .map_err(|_| Fault::Socket)?;
-    print_messages(rt.alloc(), &mut client, &options, out)
+    show_bus(rt, &mut client, &options, out)
+}
+
+/// Shows what the bus sends: as lines, or in a capture.
+fn show_bus<R, S: Read + Write + Drop, O: Writer>(
+    rt: &R,
+    client: &mut Client<S>,
+    options: &Options<'_>,
+    out: &mut Output<O>,
+) -> Result<(), Fault>
+where
+    R: AllocGlobal + Clock + FileSystem,
+{
+    let count = options.count;
+    match options.write {
+        None => {
+            let is_hex = options.is_hex;
+            show_messages(rt, client, count, &mut Lines { out, is_hex })
+        }
+        Some("-") => show_messages(rt, client, count, &mut PcapFile::new(out)?),
+        Some(file) => {
+            let mut out = Output::new(Stream::new(create(rt, file)?));
+            show_messages(rt, client, count, &mut PcapFile::new(&mut out)?)
+        }
+    }
+}
+
+/// Shows what a capture has: as lines, or in another capture.
+fn watch_capture<R, O: Writer, E: Writer>(
+    rt: &R,
+    options: &CaptureOptions<'_>,
+    out: &mut Output<O>,
+    err: &mut Output<E>,
+) -> Result<(), Fault>
+where
+    R: AllocGlobal + FileSystem + Input,
+{
+    let rule = match options.rule {
+        Some(text) => Some(Rule::read(rt.alloc(), text).map_err(command_line::Fault::from)?),
+        None => None,
+    };
+    match options.write {
+        None => {
+            let is_hex = options.is_hex;
+            show_file(rt, options, rule.as_ref(), &mut Lines { out, is_hex }, err)
+        }
+        Some("-") => show_file(rt, options, rule.as_ref(), &mut PcapFile::new(out)?, err),
+        Some(file) => {
+            let mut out = Output::new(Stream::new(create(rt, file)?));
+            show_file(
+                rt,
+                options,
+                rule.as_ref(),
+                &mut PcapFile::new(&mut out)?,
+                err,
+            )
+        }
+    }
+}
+
+/// Hands on the messages of the capture in a file, or on standard input.
+fn show_file<R, K: Sink, E: Writer>(
+    rt: &R,
+    options: &CaptureOptions<'_>,
+    rule: Option<&Rule>,
+    sink: &mut K,
+    err: &mut Output<E>,
+) -> Result<(), Fault>
+where
+    R: AllocGlobal + FileSystem + Input,
+{
+    let mut selection = Selection {
+        sink,
+        err,
+        rule,
+        left: options.count.unwrap_or(u64::MAX),
+        number: 0,
+        passed_over: 0,
+    };
+    let shown = if options.file == "-" {
+        show_capture(rt.alloc(), &mut rt.reader(), &mut selection)
+    } else {
+        let mut file = fs::open(rt, options.file).map_err(|_| unreadable())?;
+        show_capture(rt.alloc(), &mut file, &mut selection)
+    };
+    selection.note_passed_over(rt.alloc())?;
+    shown
+}
+
+/// A new file in place of the one that may be there.
+fn create<R: FileSystem>(rt: &R, file: &str) -> Result<R::File, Fault> {
+    fs::create(rt, file).map_err(|_| unreadable())
+}
+
+fn unreadable() -> Fault {
+    Fault::Tool(command_line::Fault::File)
 }
 
 fn help<O: Writer>(alloc: Global, out: &mut Output<O>) -> Result<(), Fault> {

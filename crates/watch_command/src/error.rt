@@ -1,7 +1,9 @@
 // What `watch` is refused for.
 
 use bus_client::{AddressError, ClientError};
+use captures::CaptureError;
 use command_line::{Output, Writer};
+use message_value::MsgError;
 use std::alloc::{AllocError, Global};
 use value_text::TextError;
 
@@ -17,6 +19,8 @@ const NO_METHOD: [&str; 3] = [
 pub enum Fault {
     /// What any command is refused for.
     Tool(command_line::Fault),
+    /// The file is no capture of D-Bus messages.
+    Capture(CaptureError),
     /// No bus is at the address, it has gone, or it doesn't answer.
     Socket,
     /// The bus lets nobody in who doesn't say who it is.
@@ -33,7 +37,7 @@ impl Fault {
         match self {
             Fault::Tool(fault) => fault.status(),
             Fault::Socket | Fault::Auth => 4,
-            Fault::Refused(_) | Fault::NoPrograms(_) => 2,
+            Fault::Capture(_) | Fault::Refused(_) | Fault::NoPrograms(_) => 2,
         }
     }
 
@@ -58,6 +62,7 @@ impl Fault {
     pub(crate) fn tell<E: Writer>(&self, alloc: Global, err: &mut Output<E>) -> u8 {
         match self {
             Fault::Tool(fault) => err.put_fault(*fault),
+            Fault::Capture(fault) => put_capture(alloc, *fault, err),
             Fault::Socket => err.put(b"dbusfan: socket\n"),
             Fault::Auth => err.put(b"dbusfan: auth\n"),
             Fault::Refused(name) => put_named(alloc, name.as_str(), "", err),
@@ -84,6 +89,26 @@ fn put_named<E: Writer>(alloc: Global, name: &str, more: &str, err: &mut Output<
     match format!(in alloc; "dbusfan: error {name}{more}\n") {
         Ok(line) => err.put(line.as_bytes()),
         Err(_) => err.put_fault(command_line::Fault::Memory),
+    }
+}
+
+/// Writes the line of a capture's fault.
+fn put_capture<E: Writer>(alloc: Global, fault: CaptureError, err: &mut Output<E>) {
+    match format!(in alloc; "dbusfan: capture {fault}\n") {
+        Ok(line) => err.put(line.as_bytes()),
+        Err(_) => err.put_fault(command_line::Fault::Memory),
+    }
+}
+
+impl From<CaptureError> for Fault {
+    fn from(fault: CaptureError) -> Fault {
+        Fault::Capture(fault)
+    }
+}
+
+impl From<MsgError> for Fault {
+    fn from(fault: MsgError) -> Fault {
+        Fault::Tool(command_line::Fault::Message(fault))
     }
 }
 

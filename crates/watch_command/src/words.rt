@@ -11,6 +11,10 @@ enum Awaited {
     Edition,
     /// The number of `--count`.
     Count,
+    /// The file of `--read`.
+    ReadFile,
+    /// The file of `--write`.
+    WriteFile,
     /// A name, after `--`.
     NameAlone,
 }
@@ -24,6 +28,8 @@ pub(crate) struct Words<'a> {
     pub(crate) edition: Option<u32>,
     pub(crate) is_hex: bool,
     pub(crate) count: Option<u64>,
+    pub(crate) read: Option<&'a str>,
+    pub(crate) write: Option<&'a str>,
     awaited: Awaited,
 }
 
@@ -36,6 +42,8 @@ impl<'a> Words<'a> {
             edition: None,
             is_hex: false,
             count: None,
+            read: None,
+            write: None,
             awaited: Awaited::AnyWord,
         }
     }
@@ -48,7 +56,11 @@ impl<'a> Words<'a> {
         }
         match so_far.awaited {
             Awaited::AnyWord | Awaited::NameAlone => Some(so_far),
-            Awaited::File | Awaited::Edition | Awaited::Count => None,
+            Awaited::File
+            | Awaited::Edition
+            | Awaited::Count
+            | Awaited::ReadFile
+            | Awaited::WriteFile => None,
         }
     }
 
@@ -62,6 +74,16 @@ impl<'a> Words<'a> {
             }),
             Awaited::Edition => self.with_edition(word),
             Awaited::Count => self.with_count(word),
+            Awaited::ReadFile => Some(Words {
+                read: Some(word),
+                awaited: Awaited::AnyWord,
+                ..self
+            }),
+            Awaited::WriteFile => Some(Words {
+                write: Some(word),
+                awaited: Awaited::AnyWord,
+                ..self
+            }),
             Awaited::NameAlone => self.with_name(word),
         }
     }
@@ -76,6 +98,8 @@ impl<'a> Words<'a> {
             "--program" if self.program.is_none() => Some(self.awaiting(Awaited::File)),
             "--edition" if self.edition.is_none() => Some(self.awaiting(Awaited::Edition)),
             "--count" if self.count.is_none() => Some(self.awaiting(Awaited::Count)),
+            "--read" if self.read.is_none() => Some(self.awaiting(Awaited::ReadFile)),
+            "--write" if self.write.is_none() => Some(self.awaiting(Awaited::WriteFile)),
             _ if is_option(word) => None,
             _ => self.with_name(word),
         }
