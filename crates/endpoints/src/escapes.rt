@@ -62,7 +62,7 @@ const ESCAPED: AsciiSet = ascii_set!(
 );
 
 /// The value that stands for some bytes, as every client reads it.
-pub fn escaped(alloc: Global, bytes: &[u8]) -> Result<String, AllocError>
+pub fn escape(alloc: Global, bytes: &[u8]) -> Result<String, AllocError>
     ensures { IfOk result (λ value. percent_decode (string_bytes value) ≡ bytes.now) }
 {
     let mut value = String::new(alloc);
@@ -84,7 +84,7 @@ pub(crate) fn unescaped_bytes(alloc: Global, value: &str) -> Result<Vec<u8>, All
 /// # Errors
 ///
 /// `InvalidInput` where it isn't UTF-8, since paths and hosts are texts, and `OutOfMemory`.
-pub fn unescaped<'a>(alloc: Global, value: &'a str) -> io::Result<CowStr<'a>>
+pub fn unescape<'a>(alloc: Global, value: &'a str) -> io::Result<CowStr<'a>>
     ensures { IfOk result (λ text. cow_str_bytes text ≡ percent_decode value.entry.now) }
 {
     match percent_decode(value.as_bytes()).decode_utf8(alloc) {
@@ -95,9 +95,9 @@ pub fn unescaped<'a>(alloc: Global, value: &'a str) -> io::Result<CowStr<'a>>
 }
 
 /// A value that stands for the same bytes, spelled as every client reads it.
-pub fn respelled(alloc: Global, value: &str) -> Result<String, AllocError>
+pub fn respell(alloc: Global, value: &str) -> Result<String, AllocError>
     ensures { IfOk result (λ other. percent_decode (string_bytes other) ≡ percent_decode value.now) }
 {
     let bytes = unescaped_bytes(alloc, value)?;
-    escaped(alloc, &bytes)
+    escape(alloc, &bytes)
 }

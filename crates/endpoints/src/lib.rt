@@ -9,6 +9,6 @@ mod listener;
 mod socket_file;
 
 pub use address::Address;
-pub use escapes::{escaped, respelled, unescaped};
+pub use escapes::{escape, respell, unescape};
 pub use link::Link;
 pub use listener::Listener;

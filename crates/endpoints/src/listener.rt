@@ -5,7 +5,7 @@ ghost use Rattle.endpoints.specs.Address.{place_of};
 ghost use Rattle.endpoints.specs.Transports.{IsTakenFor, transport_of_place, transport_of_listener, transport_of_link};
 
 use crate::address::Address;
-use crate::escapes::{unescaped, unescaped_bytes};
+use crate::escapes::{unescape, unescaped_bytes};
 use crate::link::Link;
 use crate::socket_file;
 use std::alloc::Global;
@@ -35,11 +35,11 @@ impl Listener {
     {
         match address {
             Address::Tcp { host, port } => {
-                let host = unescaped(alloc, host)?;
+                let host = unescape(alloc, host)?;
                 Ok(Listener::Tcp(TcpListener::bind(rt, (host.as_str(), port))?))
             }
             Address::Unix { path } => {
-                let path = unescaped(alloc, path)?;
+                let path = unescape(alloc, path)?;
                 Ok(Listener::Unix(socket_file::bind(rt, path.as_str())?))
             }
             Address::Abstract { name } => {
@@ -84,7 +84,7 @@ impl Listener {
     pub fn close<R: Files>(self, rt: &R, alloc: Global, address: Address<'_>) {
         drop(self);
         if let Address::Unix { path } = address
-            && let Ok(path) = unescaped(alloc, path)
+            && let Ok(path) = unescape(alloc, path)
         {
             socket_file::remove(rt, path.as_str());
         }

@@ -64,14 +64,14 @@ pub(crate) struct Refusal {
 }
 
 impl Refusal {
-    fn fixed(fault: Fault, sentence: &'static str) -> Refusal {
+    fn of_sentence(fault: Fault, sentence: &'static str) -> Refusal {
         Refusal {
             fault,
             sentence: Sentence::Fixed(sentence),
         }
     }
 
-    fn made(fault: Fault, sentence: Result<String, AllocError>) -> Refusal {
+    fn of_text(fault: Fault, sentence: Result<String, AllocError>) -> Refusal {
         Refusal {
             fault,
             sentence: sentence.map_or(Sentence::Missing, Sentence::Made),
@@ -80,44 +80,44 @@ impl Refusal {
 
     /// The words are no row of the command line.
     pub(crate) fn of_words(alloc: Global, fault: WordFault<'_>) -> Refusal {
-        Refusal::made(
+        Refusal::of_text(
             Fault::Usage,
             format!(in alloc; "{fault}; see dbusfan serve --help"),
         )
     }
 
     pub(crate) fn no_help() -> Refusal {
-        Refusal::fixed(Fault::Usage, "there is no help on this")
+        Refusal::of_sentence(Fault::Usage, "there is no help on this")
     }
 
     pub(crate) fn memory() -> Refusal {
-        Refusal::fixed(Fault::Memory, "memory is refused")
+        Refusal::of_sentence(Fault::Memory, "memory is refused")
     }
 
     pub(crate) fn no_thread() -> Refusal {
-        Refusal::fixed(
+        Refusal::of_sentence(
             Fault::Memory,
             "memory is refused, or no thread can be started",
         )
     }
 
     pub(crate) fn no_random() -> Refusal {
-        Refusal::fixed(Fault::File, "the system gives no random numbers")
+        Refusal::of_sentence(Fault::File, "the system gives no random numbers")
     }
 
     pub(crate) fn no_runtime_folder() -> Refusal {
-        Refusal::fixed(
+        Refusal::of_sentence(
             Fault::Socket,
             "unix:runtime=yes: XDG_RUNTIME_DIR names no folder",
         )
     }
 
     pub(crate) fn closed_output() -> Refusal {
-        Refusal::fixed(Fault::File, "standard output can't be written")
+        Refusal::of_sentence(Fault::File, "standard output can't be written")
     }
 
     pub(crate) fn of_descriptor(alloc: Global, number: u16, error: &io::Error) -> Refusal {
-        Refusal::made(
+        Refusal::of_text(
             Fault::File,
             format!(in alloc; "descriptor {number} can't be written: {error}"),
         )
@@ -137,7 +137,7 @@ impl Refusal {
             Some(reason) => format!(in alloc; "{place}: {reason}"),
             None => format!(in alloc; "{place}: {error}"),
         };
-        Refusal::made(Fault::Socket, sentence)
+        Refusal::of_text(Fault::Socket, sentence)
     }
 
     /// Writes the fault's line and its sentence to standard error, as a whole, and answers the status.

@@ -5,7 +5,7 @@ use crate::guid::Guid;
 use crate::options::Announcement;
 use crate::reasons::reason_of_address;
 use command_line::{Output, Writer};
-use endpoints::{Address, Listener, respelled};
+use endpoints::{Address, Listener, respell};
 use os::FromRawFd;
 use std::alloc::Global;
 use std::fs::{Files, OpenOptions};
@@ -41,7 +41,7 @@ pub(crate) fn announce<R: Files, O: Writer>(
         Announcement::Listening => "listening ",
         Announcement::Address | Announcement::AddressAt(_) => "",
     };
-    let Ok(value) = respelled(alloc, address.value()) else {
+    let Ok(value) = respell(alloc, address.value()) else {
         return Err(Refusal::memory());
     };
     let address = address.with_value(value.as_str());

@@ -3,7 +3,7 @@
 use crate::error::Refusal;
 use crate::options::UsualPlace;
 use crate::reasons::reason_of_folder;
-use endpoints::{escaped, unescaped};
+use endpoints::{escape, unescape};
 use std::alloc::Global;
 use std::env::VarError;
 use std::fs::{DirBuilder, Files};
@@ -59,7 +59,7 @@ impl Place {
         R: RandomSource,
     {
         let name = new_name(rt, alloc)?;
-        let folder = unescaped(alloc, folder).map_err(|error| Refusal::of_place(
+        let folder = unescape(alloc, folder).map_err(|error| Refusal::of_place(
             alloc, &folder, &error, None,
         ))?;
         let folder = folder.as_str().trim_end_matches('/');
@@ -84,7 +84,7 @@ impl Place {
         made: Option<String>,
     ) -> Result<Place, Refusal> {
         let path = format!(in alloc; "{folder}/{name}").map_err(|_| Refusal::memory())?;
-        match escaped(alloc, path.as_bytes()) {
+        match escape(alloc, path.as_bytes()) {
             Ok(value) => Ok(Place { value, made }),
             Err(_) => Err(Refusal::memory()),
         }

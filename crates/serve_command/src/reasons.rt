@@ -1,6 +1,6 @@
 // Why a place can't be listened at, in words.
 
-use endpoints::{Address, unescaped};
+use endpoints::{Address, unescape};
 use std::alloc::Global;
 use std::fs::Files;
 use std::io::ErrorKind;
@@ -44,7 +44,7 @@ fn reason_of_port(kind: ErrorKind, error: &io::Error) -> Option<&'static str> {
 
 /// What is at the path of a socket, which is given as an address spells it.
 fn occupant<R: Files + Net>(rt: &R, alloc: Global, path: &str) -> &'static str {
-    match unescaped(alloc, path) {
+    match unescape(alloc, path) {
         Ok(path) => occupant_of(rt, path.as_str()),
         Err(_) => "something is there",
     }

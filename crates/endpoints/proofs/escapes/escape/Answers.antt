@@ -2,7 +2,7 @@
 use Rattle.std.proofs.Common.{arith, refl}
 use Rattle.std.proofs.lemmas.List.Elements.{All-from_get_or}
 use Rattle.percent_encoding.proofs.PercentLemmas.{round_trip, IsByte}
-use Rattle.endpoints.proofs.escapes.escaped.Goals as goal
+use Rattle.endpoints.proofs.escapes.escape.Goals as goal
 
 pub returns : goal.returns
 returns c =
