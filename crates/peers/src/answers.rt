@@ -2,9 +2,9 @@
 
 ghost use Rattle.std.specs.Prelude.{◌≡◌, Some, IfOk, option_map};
 ghost use Rattle.bus_messages.specs.Sent.{error_asked};
-ghost use Rattle.peers.specs.Answers.{IsRefused, IsPut, IsEither, NeverSlow, fault_with};
+ghost use Rattle.peers.specs.Answers.{IsRefused, IsPut, IsEither, NeverSlow, fault_with, lent_texts};
 ghost use Rattle.peers.specs.PeerState.{name_of};
-ghost use Rattle.peers.specs.Queries.{RepliesText};
+ghost use Rattle.peers.specs.Queries.{RepliesText, RepliesTexts};
 ghost use Rattle.peers.specs.Rows.{Replies};
 
 use crate::context::Context;
@@ -83,6 +83,23 @@ impl<B: Naming, M: Mailbox + Carrier> Peer<B, M> {
         ensures error { NeverSlow request.wants_answer result }
     {
         self.answer(context, request, Body::Text(text))
+    }
+
+    /// Answers a call with an array of texts, if its caller waits for an answer.
+    ///
+    /// # Errors
+    ///
+    /// As those of `answer`.
+    pub(crate) fn answer_texts<W: Wait, R: Wait + Drop>(
+        &mut self,
+        context: &Context<'_, B, M, W, R>,
+        request: Request,
+        texts: &[&str],
+    ) -> Result<(), AnswerError>
+        ensures answer { RepliesTexts request (lent_texts texts.now) self.old result self.new }
+        ensures error { NeverSlow request.wants_answer result }
+    {
+        self.answer(context, request, Body::Texts(texts))
     }
 
     // Puts an error with this serial, or the error NoMemory in its place.

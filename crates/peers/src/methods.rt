@@ -1,8 +1,9 @@
 // The methods of the bus.
 
 ghost use Rattle.std.specs.Prelude.{◌≡◌};
+ghost use Rattle.bus_messages.specs.Introspection.{introspection_text};
 ghost use Rattle.peers.specs.Answers.{NeverSlow};
-ghost use Rattle.peers.specs.Queries.{IsAnsweredOnce};
+ghost use Rattle.peers.specs.Queries.{RepliesText, RepliesDigits, RepliesMachineId, bus_id};
 ghost use Rattle.peers.specs.Table.{Performs};
 
 use crate::context::Context;
@@ -47,8 +48,7 @@ impl<B: Naming, M: Mailbox + Carrier> Peer<B, M> {
             Call::ListQueuedOwners(name) => self.list_queued_owners(context, request, name),
             Call::ListNames => self.list_names(context, request),
             Call::ListActivatableNames => {
-                let names = Body::Texts([BUS_NAME].as_slice());
-                self.answer(context, request, names)
+                self.answer_texts(context, request, [BUS_NAME].as_slice())
             }
             Call::StartServiceByName(name) => {
                 let found = Ok(Body::Number(ALREADY_RUNNING));
@@ -84,10 +84,11 @@ impl<B: Naming, M: Mailbox + Carrier> Peer<B, M> {
         context: &Context<'_, B, M, W, R>,
         request: Request,
     ) -> Result<(), AnswerError>
-        ensures row { IsAnsweredOnce request self.old result self.new }
+        ensures row { RepliesDigits request (bus_id self.old.identity) self.old result self.new }
         ensures error { NeverSlow request.wants_answer result }
     {
-        let id = self.identity.guid.map(|digit| digit.to_ascii_lowercase());
+        let mut id = self.identity.guid;
+        id.make_ascii_lowercase();
         self.answer_digits(context, request, id)
     }
 
@@ -96,7 +97,7 @@ impl<B: Naming, M: Mailbox + Carrier> Peer<B, M> {
         context: &Context<'_, B, M, W, R>,
         request: Request,
     ) -> Result<(), AnswerError>
-        ensures row { IsAnsweredOnce request self.old result self.new }
+        ensures row { RepliesMachineId request self.old.identity.machine_id self.old result self.new }
         ensures error { NeverSlow request.wants_answer result }
     {
         match self.identity.machine_id {
@@ -111,7 +112,7 @@ impl<B: Naming, M: Mailbox + Carrier> Peer<B, M> {
         request: Request,
         digits: [u8; 32],
     ) -> Result<(), AnswerError>
-        ensures row { IsAnsweredOnce request self.old result self.new }
+        ensures row { RepliesDigits request digits self.old result self.new }
         ensures error { NeverSlow request.wants_answer result }
     {
         match str::from_utf8(&digits) {
@@ -125,12 +126,12 @@ impl<B: Naming, M: Mailbox + Carrier> Peer<B, M> {
         context: &Context<'_, B, M, W, R>,
         request: Request,
     ) -> Result<(), AnswerError>
-        ensures row { IsAnsweredOnce request self.old result self.new }
+        ensures row { RepliesText request introspection_text self.old result self.new }
         ensures error { NeverSlow request.wants_answer result }
     {
         match introspection(context.alloc) {
             Ok(text) => self.answer_text(context, request, text.as_str()),
-            Err(refused) => self.refuse(context, request, Refused::from(refused)),
+            Err(_) => self.refuse(context, request, Refused::Error(ErrorName::NoMemory)),
         }
     }
 }
