@@ -30,9 +30,9 @@ pub fault_is : (serial : ℕ) (to : List ℕ) (request : Request) (name : ErrorN
 unfolding fault_with
 fault_is serial to request name bytes h = h
 
-pub text_is : (serial : ℕ) (to : List ℕ) (request : Request) (text : Bor (List ℕ)) → reply_with serial to request (Text text) ≡ text_with serial to request text.now
+pub text_is : (serial : ℕ) (to : List ℕ) (request : Request) (string : Bor (List ℕ)) → reply_with serial to request (Text string) ≡ text_with serial to request string.now
 unfolding reply_with text_with
-text_is serial to request text = refl
+text_is serial to request string = refl
 
 values_are : (texts : List (Bor (List ℕ))) → string_values texts ≡ text_values (lent_texts texts)
 values_are [] = refl
