@@ -63,10 +63,7 @@ impl<B: Naming, M: Mailbox + Carrier> Peer<B, M> {
         false
     }
 
-    fn give_up_name<W: Wait, R: Wait + Drop>(
-        &mut self,
-        context: &Context<'_, B, M, W, R>,
-    ) -> Giving
+    fn give_up_name<W: Wait, R: Wait + Drop>(&mut self, context: &Context<'_, B, M, W, R>) -> Giving
         ensures { GivesUpName M.outbox_of self.old result self.new }
     {
         let _turn = context.bus.turn(context.rt);
