@@ -1,6 +1,7 @@
 // The methods of the bus.
 
-ghost use Rattle.std.specs.Prelude.{◌≡◌};
+ghost use Rattle.std.specs.Prelude.{◌≡◌, map};
+ghost use Rattle.std.specs.Char.{to_ascii_lowercase};
 ghost use Rattle.bus_messages.specs.Introspection.{introspection_text};
 ghost use Rattle.peers.specs.Answers.{NeverSlow};
 ghost use Rattle.peers.specs.Queries.{RepliesText, RepliesDigits, RepliesMachineId, bus_id};
@@ -87,8 +88,7 @@ impl<B: Naming, M: Mailbox + Carrier> Peer<B, M> {
         ensures row { RepliesDigits request (bus_id self.old.identity) self.old result self.new }
         ensures error { NeverSlow request.wants_answer result }
     {
-        let mut id = self.identity.guid;
-        id.make_ascii_lowercase();
+        let id = in_small_letters(self.identity.guid);
         self.answer_digits(context, request, id)
     }
 
@@ -134,4 +134,11 @@ impl<B: Naming, M: Mailbox + Carrier> Peer<B, M> {
             Err(_) => self.refuse(context, request, Refused::Error(ErrorName::NoMemory)),
         }
     }
+}
+
+fn in_small_letters(mut id: [u8; 32]) -> [u8; 32]
+    ensures { result ≡ map to_ascii_lowercase id }
+{
+    id.make_ascii_lowercase();
+    id
 }
