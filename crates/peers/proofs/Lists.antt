@@ -1,5 +1,5 @@
 -- Lists that clients ask for.
-use Rattle.std.proofs.Common.{◌≡◌, ℕ, List, ◌∷◌, ◌++◌, map, Result, Ok, Err, ⊎_elim, inl, inr, refl, ap, subst}
+use Rattle.std.proofs.Common.{◌≡◌, ◌==◌, ℕ, false, List, [], ◌∷◌, ◌++◌, length, map, Result, Ok, Err, ⊎_elim, inl, inr, refl, ap, subst, true≢false}
 use Rattle.signature.specs.Name.{bus_name}
 use Rattle.unique_name.specs.UniqueNames.{unique_name}
 use Rattle.router.specs.Connections.{numbers_of}
@@ -8,11 +8,16 @@ use Rattle.router.specs.Names.{AreNames}
 use Rattle.router.specs.State.{State}
 use Rattle.peers.specs.Passing.{HasSeenMore, with_pass}
 use Rattle.peers.specs.PeerState.{PeerState}
-use Rattle.peers.specs.Queries.{RepliesFound, AnswersFound, AreAllNames, AreQueuedFor}
+use Rattle.peers.specs.Queries.{queue_found, RepliesFound, AnswersFound, AreAllNames, AreQueuedFor}
 use Rattle.peers.specs.Queues.{IsQueueOf}
 use Rattle.peers.specs.declared.error.AnswerError.{AnswerError}
 use Rattle.peers.specs.declared.refused.Refused.{Refused}
 use Rattle.peers.specs.declared.request.Request.{Request}
+
+-- somebody is in the queue
+pub queue_told : (numbers : List ℕ) → (length numbers == 0) ≡ false → queue_found (map unique_name numbers) ≡ Ok (map unique_name numbers)
+queue_told [] e = absurd (true≢false e)
+queue_told (number ∷ more) e = refl
 
 module _ {M : Type 0} where
   -- what was found is answered

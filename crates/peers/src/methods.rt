@@ -9,7 +9,6 @@ ghost use Rattle.peers.specs.Table.{Performs};
 
 use crate::context::Context;
 use crate::error::AnswerError;
-use crate::identity::BUS_NAME;
 use crate::peer::Peer;
 use crate::refused::Refused;
 use crate::request::Request;
@@ -48,9 +47,7 @@ impl<B: Naming, M: Mailbox + Carrier> Peer<B, M> {
             Call::NameHasOwner(name) => self.name_has_owner(context, request, name),
             Call::ListQueuedOwners(name) => self.list_queued_owners(context, request, name),
             Call::ListNames => self.list_names(context, request),
-            Call::ListActivatableNames => {
-                self.answer_texts(context, request, [BUS_NAME].as_slice())
-            }
+            Call::ListActivatableNames => self.answer_bus_name(context, request),
             Call::StartServiceByName(name) => {
                 let found = Ok(Body::Number(ALREADY_RUNNING));
                 let missing = ErrorName::ServiceUnknown;

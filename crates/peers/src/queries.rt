@@ -154,7 +154,7 @@ impl<B: Naming, M: Mailbox + Carrier> Peer<B, M> {
         ensures error { NeverSlow request.wants_answer result }
     {
         match queue {
-            Queue::Bus => self.answer_texts(context, request, [BUS_NAME].as_slice()),
+            Queue::Bus => self.answer_bus_name(context, request),
             Queue::Connections(unique) => {
                 self.answer_connections(context, request, unique.as_slice())
             }
