@@ -4,4 +4,6 @@ mod Putting
 mod Passing
 mod Announcing
 mod Rows
+mod Lists
+mod Departing
 mod Handling

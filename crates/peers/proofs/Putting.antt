@@ -1,19 +1,23 @@
 -- What is put to a client.
-use Rattle.std.proofs.Common.{◌≡◌, ℕ, Bool, true, false, not, List, [], ◌∷◌, ◌++◌, Some, Result, Ok, Err, refl, sym, ap, subst, ◌∙◌, true≢false, Bor}
+use Rattle.std.proofs.Common.{◌≡◌, ℕ, Bool, true, false, not, List, [], ◌∷◌, ◌++◌, Some, Result, Ok, Err, ⊎_elim, inr, refl, sym, ap, subst, ◌∙◌, true≢false, Bor}
 use Rattle.outbox.specs.Items.{Item}
+use Rattle.signature.specs.DataType.{array, basic}
+use Rattle.message_value.specs.Value.{Values, elements, text, one_value}
+use Rattle.message_build.specs.Adding.{string_values, with_argument}
 use Rattle.message_build.specs.Asked.{Asked}
 use Rattle.message_build.specs.Building.{AreAsked}
 use Rattle.bus_messages.specs.Sent.{reply_asked, error_asked}
 use Rattle.bus_messages.specs.declared.body.Body.{Body}
-use Rattle.bus_messages.specs.declared.body.Body.TheVariants.{Text}
+use Rattle.bus_messages.specs.declared.body.Body.TheVariants.{Nothing, Text, Texts}
 use Rattle.bus_messages.specs.declared.error_name.ErrorName.{ErrorName}
 use Rattle.bus_messages.specs.declared.error_name.ErrorName.TheVariants as names
 use Rattle.router.specs.Passes.{PassState}
 use Rattle.peers.specs.declared.error.AnswerError.{AnswerError}
+use Rattle.peers.specs.declared.identity.Identity.{Identity}
 use Rattle.peers.specs.declared.refused.Refused.{Refused}
 use Rattle.peers.specs.declared.refused.Refused.TheVariants.{Error}
 use Rattle.peers.specs.declared.request.Request.{Request}
-use Rattle.peers.specs.Answers.{IsPut, IsEither, AnswersIf, IsAnswered, IsRefused, after_serial, fault_asked, reply_with, text_with, fault_with}
+use Rattle.peers.specs.Answers.{IsPut, IsEither, AnswersIf, IsAnswered, IsRefused, after_serial, fault_asked, reply_with, text_with, texts_with, text_values, lent_texts, fault_with}
 use Rattle.peers.specs.PeerState.{PeerState}
 use Rattle.peers.specs.Serials.{serial_after}
 
@@ -26,9 +30,17 @@ pub fault_is : (serial : ℕ) (to : List ℕ) (request : Request) (name : ErrorN
 unfolding fault_with
 fault_is serial to request name bytes h = h
 
-pub text_is : (serial : ℕ) (to : List ℕ) (request : Request) (text : Bor (List ℕ)) → reply_with serial to request (Text text) ≡ text_with serial to request text.now
+pub text_is : (serial : ℕ) (to : List ℕ) (request : Request) (string : Bor (List ℕ)) → reply_with serial to request (Text string) ≡ text_with serial to request string.now
 unfolding reply_with text_with
-text_is serial to request text = refl
+text_is serial to request string = refl
+
+values_are : (texts : List (Bor (List ℕ))) → string_values texts ≡ text_values (lent_texts texts)
+values_are [] = refl
+values_are (string ∷ more) = ap (λ (values : Values). one_value (text string.now) values) (values_are more)
+
+pub texts_are : (serial : ℕ) (to : List ℕ) (request : Request) (texts : Bor (List (Bor (List ℕ)))) → reply_with serial to request (Texts texts) ≡ texts_with serial to request (lent_texts texts.now)
+unfolding reply_with texts_with
+texts_are serial to request texts = ap (λ (values : Values). with_argument (reply_asked serial (Some to) request.serial Nothing) (array (basic 115)) (elements values)) (values_are texts.now)
 
 pub not_false : (b : Bool) → not b ≡ false → b ≡ true
 not_false true e = refl
@@ -40,6 +52,16 @@ module _ {M : Type 0} where
   put_as P Q u v (Ok x) w e f (item, mark, p, is) = (item, mark, f item.bytes p, is ∙ ap (λ (s : PeerState M). record s { answers = s.answers ++ item ∷ [] }) e)
   put_as P Q u v (Err x) w e f is = is ∙ e
 
+  no_memory_if : (wants : Bool) (request : Request) (asked : Asked) (v : PeerState M) (result : Result (Unit {0}) AnswerError) (w : PeerState M) → AnswersIf wants request (fault_asked v request names.NoMemory) v result w → AnswersIf wants request asked v result w
+  no_memory_if false request asked v result w h = h
+  no_memory_if true request asked v result w h =
+      let fault = fault_asked v request names.NoMemory in
+      put_as (IsEither fault fault) (IsEither asked fault) (after_serial v) (after_serial v) result w refl (λ bytes are. inr (⊎_elim (λ x. x) (λ x. x) are)) h
+
+  -- the error NoMemory may stand in the place of any answer
+  pub no_memory_for : (request : Request) (asked : Asked) (v : PeerState M) (result : Result (Unit {0}) AnswerError) (w : PeerState M) → IsRefused request (Error names.NoMemory) v result w → IsAnswered request asked v result w
+  no_memory_for request asked v result w h = no_memory_if request.wants_answer request asked v result w h
+
   pub answered_if : (request : Request) (asked : Asked) (v : PeerState M) (result : Result (Unit {0}) AnswerError) (w : PeerState M) → request.wants_answer ≡ true
       → IsPut (IsEither asked (fault_asked v request names.NoMemory)) (after_serial v) result w → IsAnswered request asked v result w
   answered_if request asked v result w e h = let P : Bool → Type 0 = λ b. AnswersIf b request asked v result w in subst P (sym e) h
@@ -49,5 +71,6 @@ module _ {M : Type 0} where
   refused_if request why name v result w is e h = let P : Refused → Type 0 = λ y. IsRefused request y v result w in subst P (sym is) (answered_if request (fault_asked v request name) v result w e h)
 
   -- a peer that has used a serial
-  pub used_serial : (pass : PassState M) (answers : List Item) (serial next : ℕ) (v : PeerState M) → record { pass = pass; answers = answers; serial = serial } ≡ v → next ≡ serial_after serial → record { pass = pass; answers = answers; serial = next } ≡ after_serial v
-  used_serial pass answers serial next v is e = ap (λ (n : ℕ). record { pass = pass; answers = answers; serial = n }) e ∙ ap after_serial is
+  pub used_serial : (pass : PassState M) (answers : List Item) (identity : Identity) (serial next : ℕ) (v : PeerState M) → record { pass = pass; answers = answers; serial = serial; identity = identity } ≡ v → next ≡ serial_after serial
+      → record { pass = pass; answers = answers; serial = next; identity = identity } ≡ after_serial v
+  used_serial pass answers identity serial next v is e = ap (λ (n : ℕ). record { pass = pass; answers = answers; serial = n; identity = identity }) e ∙ ap after_serial is

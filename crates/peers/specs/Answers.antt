@@ -1,6 +1,10 @@
 -- What calls are answered (D-Bus Specification, "Message Format").
-use Rattle.std.specs.Prelude.{ℕ, ◌≡◌, ◌⊎◌, ◌++◌, Bool, true, false, List, [], ◌∷◌, Some, None, Result, Ok, Err, IfErr}
+use Rattle.std.specs.Prelude.{ℕ, ◌≡◌, ◌⊎◌, ◌++◌, Bool, true, false, List, [], ◌∷◌, map, Some, None, Result, Ok, Err, IfErr}
+use Rattle.std.specs.Borrow.{Bor}
 use Rattle.outbox.specs.Items.{Item}
+use Rattle.signature.specs.DataType.{array, basic}
+use Rattle.message_value.specs.Value.{Values, elements, text, no_values, one_value}
+use Rattle.message_build.specs.Adding.{with_argument}
 use Rattle.message_build.specs.Asked.{Asked}
 use Rattle.message_build.specs.Building.{AreAsked}
 use Rattle.bus_messages.specs.Bodies.{with_text}
@@ -27,7 +31,20 @@ reply_with serial to request body = reply_asked serial (Some to) request.serial 
 
 -- the answer with a text
 unfoldable pub text_with : ℕ → List ℕ → Request → List ℕ → Asked
-text_with serial to request text = with_text (reply_asked serial (Some to) request.serial Nothing) text
+text_with serial to request string = with_text (reply_asked serial (Some to) request.serial Nothing) string
+
+-- the texts that lent ones are
+abbrev pub lent_texts : List (Bor (List ℕ)) → List (List ℕ)
+lent_texts texts = map (λ (text : Bor (List ℕ)). text.now) texts
+
+-- texts as the elements of an array
+abbrev pub text_values : List (List ℕ) → Values
+text_values [] = no_values
+text_values (string ∷ more) = one_value (text string) (text_values more)
+
+-- the answer with an array of texts
+unfoldable pub texts_with : ℕ → List ℕ → Request → List (List ℕ) → Asked
+texts_with serial to request texts = with_argument (reply_asked serial (Some to) request.serial Nothing) (array (basic 115)) (elements (text_values texts))
 
 -- the error that a call is answered with
 unfoldable pub fault_with : ℕ → List ℕ → Request → ErrorName → Asked

@@ -1,7 +1,7 @@
 -- Inner: names that clients ask about, and who owns them (D-Bus Specification, "Message Bus Names").
-use Rattle.std.specs.Prelude.{◌≡◌, ◌≢◌, ◌⊎◌, ◌<◌, ◌^◌, ℕ, true, false, List, Option, Some, None, Result, Ok, Err, if◌then◌else◌}
+use Rattle.std.specs.Prelude.{◌≡◌, ◌≢◌, ◌⊎◌, ◌<◌, ◌^◌, ℕ, true, false, List, [], ◌∷◌, map, Option, Some, None, Result, Ok, Err, if◌then◌else◌}
 use Rattle.signature.specs.Name.{is_bus_name, bus_name}
-use Rattle.owners.specs.Queues.{owner_of}
+use Rattle.owners.specs.Queues.{owner_of, queue_of}
 use Rattle.owners.specs.Claimable.{is_claimable}
 use Rattle.unique_name.specs.UniqueNames.{unique_name}
 use Rattle.router.specs.Connections.{is_connected}
@@ -39,6 +39,14 @@ module _ {M : Type 0} where
   owner_in s (asked.Unique None) = None
   owner_in s (asked.Unique (Some n)) = if is_connected n s.connections then Some (whose.Connection n) else None
   owner_in s (asked.WellKnown name) = connection_of (owner_of name s.registrations.claims)
+
+  -- Who owns a name or waits for it, in order: the bus alone its own; the connection of its number, where that is there, a
+  -- unique one; and those in its queue any other.
+  abbrev pub queue_in : State M → AskedName → List (List ℕ)
+  queue_in s asked.Bus = bus_name ∷ []
+  queue_in s (asked.Unique None) = []
+  queue_in s (asked.Unique (Some n)) = if is_connected n s.connections then unique_name n ∷ [] else []
+  queue_in s (asked.WellKnown name) = map unique_name (queue_of name s.registrations.claims)
 
   -- the owner in a state, or that the bus has ended
   abbrev pub TellsOwner : State M → AskedName → Result (Option Owner) Refused → Type 0

@@ -1,10 +1,67 @@
 -- How a peer leaves the bus (own).
-use Rattle.std.specs.Prelude.{◌≡◌, true}
+use Rattle.std.specs.Prelude.{ℕ, zero, suc, ◌≡◌, ◌⊎◌, ◌<◌, Bool, true, false, Some, None, Result, Ok, Err}
+use Rattle.outbox.specs.Seated.{OutboxId}
+use Rattle.owners.specs.Registry.{max_claims}
+use Rattle.router.specs.BusError.{BusError}
+use Rattle.router.specs.BusError.TheVariants as errors
+use Rattle.router.specs.Calls.{Once, Answers}
+use Rattle.router.specs.Command.TheVariants.{DropOne, Close}
+use Rattle.router.specs.Reply.{Reply}
+use Rattle.router.specs.Reply.TheVariants as replies
+use Rattle.peers.specs.declared.error.AnswerError.{AnswerError}
+use Rattle.peers.specs.declared.leaving.Giving.{Giving}
+use Rattle.peers.specs.declared.leaving.Giving.TheVariants as givings
 use Rattle.peers.specs.declared.leaving.Leaving.{Leaving}
 use Rattle.peers.specs.declared.leaving.Leaving.TheVariants.{Done, Ended, Refused}
-use Rattle.peers.specs.PeerState.{PeerState}
+use Rattle.peers.specs.Announcements.{Announces, HasSignalled, change_asked}
+use Rattle.peers.specs.PeerState.{PeerState, name_of}
+use Rattle.peers.specs.Rows.{HasCalled}
 
 module _ {M : Type 0} where
+  -- What giving up a name comes to, by what the bus answered. A change of the owner is announced.
+  abbrev pub IsGiven : (M → OutboxId) → Result Reply BusError → PeerState M → Giving → PeerState M → Type 0
+  IsGiven outbox_of (Ok (replies.Changed change)) v giving w = (giving ≡ givings.Further) × (announced : Result (Unit {0}) AnswerError) × Announces outbox_of change v announced w
+  IsGiven outbox_of (Ok replies.Waiting) v giving w = (giving ≡ givings.Further) × (w ≡ v)
+  IsGiven outbox_of (Ok _) v giving w = (giving ≡ givings.Last) × (w ≡ v)
+  IsGiven outbox_of (Err errors.NoMemory) v giving w = (giving ≡ givings.Refused) × (w ≡ v)
+  IsGiven outbox_of (Err _) v giving w = (giving ≡ givings.Last) × (w ≡ v)
+
+  -- the pass gives up its claim on the least of its names
+  abbrev pub GivesUpName : (M → OutboxId) → PeerState M → Giving → PeerState M → Type 0
+  GivesUpName outbox_of v giving w = HasCalled (λ asked pass. Once (λ before next. Answers false v.pass before (DropOne v.pass.connection) asked pass next)) (λ asked mid. IsGiven outbox_of asked mid giving w) v
+
+  -- this many names were given up, one after the other
+  abbrev pub GivesUpNames : (M → OutboxId) → ℕ → PeerState M → PeerState M → Type 0
+  GivesUpNames outbox_of zero v w = w ≡ v
+  GivesUpNames outbox_of (suc n) v w = (mid : PeerState M) × GivesUpNames outbox_of n v mid × GivesUpName outbox_of mid givings.Further w
+
+  -- Names were given up until none was left, or the bus had ended. If not all were, memory was refused, or there were more
+  -- than a bus has claims.
+  abbrev pub AreGivenUp : (M → OutboxId) → Bool → PeerState M → PeerState M → Type 0
+  AreGivenUp outbox_of true v w = (n : ℕ) × (mid : PeerState M) × GivesUpNames outbox_of n v mid × GivesUpName outbox_of mid givings.Last w
+  AreGivenUp outbox_of false v w =
+      (n : ℕ) × (mid : PeerState M) × GivesUpNames outbox_of n v mid × (GivesUpName outbox_of mid givings.Refused w ⊎ ((max_claims < n) × (w ≡ mid)))
+
+  -- What closing the pass comes to, by what the bus answered: that the client's own name is gone is announced.
+  abbrev pub IsClosing : (M → OutboxId) → Result Reply BusError → PeerState M → Leaving → PeerState M → Type 0
+  IsClosing outbox_of (Ok _) v leaving w =
+      (leaving ≡ Done) × (announced : Result (Unit {0}) AnswerError) × HasSignalled outbox_of (change_asked v.serial (name_of v) (Some v.pass.connection) None) v announced w
+  IsClosing outbox_of (Err errors.NoMemory) v leaving w = (leaving ≡ Refused) × (w ≡ v)
+  IsClosing outbox_of (Err _) v leaving w = (leaving ≡ Ended) × (w ≡ v)
+
+  abbrev pub Closes : (M → OutboxId) → PeerState M → Leaving → PeerState M → Type 0
+  Closes outbox_of v leaving w = HasCalled (λ asked pass. Once (λ before next. Answers true v.pass before (Close v.pass.connection) asked pass next)) (λ asked mid. IsClosing outbox_of asked mid leaving w) v
+
+  -- the pass is closed only once no name is left
+  abbrev pub ClosesIf : (M → OutboxId) → Bool → PeerState M → Leaving → PeerState M → Type 0
+  ClosesIf outbox_of true v leaving w = Closes outbox_of v leaving w
+  ClosesIf outbox_of false v leaving w = (leaving ≡ Refused) × (w ≡ v)
+
+  -- A peer leaves: it gives up its names one after the other, each change announced, closes its pass, and announces that its
+  -- own name is gone, in this order, and does nothing else.
+  abbrev pub Leaves : (M → OutboxId) → PeerState M → Leaving → PeerState M → Type 0
+  Leaves outbox_of v leaving w = (cleared : Bool) × (mid : PeerState M) × AreGivenUp outbox_of cleared v mid × ClosesIf outbox_of cleared mid leaving w
+
   -- a peer that has left has closed its pass
   abbrev pub HasLeft : Leaving → PeerState M → Type 0
   HasLeft Done w = w.pass.is_closed ≡ true

@@ -10,6 +10,7 @@ pub mod Broadcasts
 pub mod Passing
 pub mod Rows
 pub mod Queries
+pub mod Queues
 pub mod Announcements
 pub mod NameRows
 pub mod Arrival

@@ -16,10 +16,9 @@ use Rattle.peers.specs.declared.request.Request.{Request}
 use Rattle.peers.specs.declared.refused.Refused.TheVariants.{Error}
 use Rattle.peers.specs.Announcements.{AreBoth, AnnouncesAny}
 use Rattle.peers.specs.Answers.{IsRefused}
-use Rattle.peers.specs.Passing.{with_pass}
 use Rattle.peers.specs.PeerState.{PeerState}
 use Rattle.peers.specs.Refusals.{refusal_of}
-use Rattle.peers.specs.Rows.{Replies}
+use Rattle.peers.specs.Rows.{Replies, HasCalled}
 
 module _ {M : Type 0} where
   -- the number of the answer, and then what changed
@@ -38,4 +37,4 @@ module _ {M : Type 0} where
   abbrev pub ChangesName : (M → OutboxId) → Request → List ℕ → (Result Reply BusError → PassState M → Type 0) → PeerState M → Result (Unit {0}) AnswerError → PeerState M → Type 0
   ChangesName outbox_of request name P v result w =
       ((fault : ClaimError) × (name_in name ≡ Err fault) × IsRefused request (Error InvalidArgs) v result w)
-      ⊎ ((asked : Result Reply BusError) × (pass : PassState M) × P asked pass × TellsNamed outbox_of request asked (with_pass v pass) result w)
+      ⊎ HasCalled P (λ asked mid. TellsNamed outbox_of request asked mid result w) v

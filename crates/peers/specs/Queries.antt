@@ -1,43 +1,86 @@
 -- What the calls are answered that only ask (D-Bus Specification, "Message Bus Messages").
-use Rattle.std.specs.Prelude.{ℕ, ◌≡◌, ◌⊎◌, List, map, Option, Some, None, is_some, Result, Ok, Err}
-use Rattle.std.specs.Borrow.{Bor}
+use Rattle.std.specs.Prelude.{ℕ, ◌≡◌, ◌⊎◌, ◌++◌, List, [], ◌∷◌, map, Option, Some, None, is_some, Result, Ok, Err}
+use Rattle.std.specs.Char.{to_ascii_lowercase}
+use Rattle.std.specs.Str.{IsUtf8}
 use Rattle.signature.specs.Name.{bus_name}
-use Rattle.message_build.specs.Asked.{Asked}
 use Rattle.bus_messages.specs.declared.body.Body.{Body}
 use Rattle.bus_messages.specs.declared.body.Body.TheVariants as bodies
 use Rattle.bus_messages.specs.declared.error_name.ErrorName.{ErrorName}
 use Rattle.bus_messages.specs.declared.error_name.ErrorName.TheVariants as names
 use Rattle.unique_name.specs.UniqueNames.{unique_name}
+use Rattle.router.specs.Connections.{numbers_of}
 use Rattle.router.specs.History.{after}
+use Rattle.router.specs.Names.{AreNames}
 use Rattle.router.specs.Passes.{PassState}
-use Rattle.peers.specs.Answers.{IsAnswered, IsRefused, text_with}
-use Rattle.peers.specs.Asked.{IsOwnerOf}
+use Rattle.router.specs.State.{State}
+use Rattle.peers.specs.Answers.{IsAnswered, IsRefused, text_with, texts_with}
+use Rattle.peers.specs.Asked.{IsAsked, IsOwnerOf, queue_in}
 use Rattle.peers.specs.Passing.{HasSeenMore, with_pass}
 use Rattle.peers.specs.PeerState.{PeerState, name_of}
 use Rattle.peers.specs.Rows.{Replies}
 use Rattle.peers.specs.declared.error.AnswerError.{AnswerError}
+use Rattle.peers.specs.declared.identity.Identity.{Identity}
+use Rattle.peers.specs.declared.owner.AskedName.{AskedName}
 use Rattle.peers.specs.declared.owner.Owner.{Owner}
 use Rattle.peers.specs.declared.owner.Owner.TheVariants as whose
 use Rattle.peers.specs.declared.refused.Refused.{Refused}
-use Rattle.peers.specs.declared.refused.Refused.TheVariants.{Error}
+use Rattle.peers.specs.declared.refused.Refused.TheVariants.{Error, Ended}
 use Rattle.peers.specs.declared.request.Request.{Request}
+
+-- the bus's id, in small letters
+abbrev pub bus_id : Identity → List ℕ
+bus_id identity = map to_ascii_lowercase identity.guid
+
+-- why a list can't be told: the bus has ended, or memory was refused
+abbrev pub CannotList : Refused → Type 0
+CannotList why = (why ≡ Ended) ⊎ (why ≡ Error names.NoMemory)
+
+-- those who own a name or wait for it, or the error of a name that nobody owns
+abbrev pub queue_found : List (List ℕ) → Result (List (List ℕ)) Refused
+queue_found [] = Err (Error names.NameHasNoOwner)
+queue_found (first ∷ others) = Ok (first ∷ others)
 
 module _ {M : Type 0} where
   -- the call is answered with a text
   abbrev pub RepliesText : Request → List ℕ → PeerState M → Result (Unit {0}) AnswerError → PeerState M → Type 0
   RepliesText request text v result w = IsAnswered request (text_with v.serial (name_of v) request text) v result w
 
-  -- the call is answered with an array of these texts
+  -- the call is answered with an array of texts
   abbrev pub RepliesTexts : Request → List (List ℕ) → PeerState M → Result (Unit {0}) AnswerError → PeerState M → Type 0
-  RepliesTexts request names v result w = (texts : Bor (List (Bor (List ℕ)))) × (map (λ (text : Bor (List ℕ)). text.now) texts.now ≡ names) × Replies request (bodies.Texts texts) v result w
+  RepliesTexts request texts v result w = IsAnswered request (texts_with v.serial (name_of v) request texts) v result w
 
-  -- the client is answered with one message, or refused
-  abbrev pub IsAnsweredOnce : Request → PeerState M → Result (Unit {0}) AnswerError → PeerState M → Type 0
-  IsAnsweredOnce request v result w = ((asked : Asked) × IsAnswered request asked v result w) ⊎ ((why : Refused) × IsRefused request why v result w)
+  -- the digits of an id as a text, or an error if they are none
+  abbrev pub RepliesDigits : Request → List ℕ → PeerState M → Result (Unit {0}) AnswerError → PeerState M → Type 0
+  RepliesDigits request digits v result w =
+      (IsUtf8 digits × RepliesText request digits v result w) ⊎ ((IsUtf8 digits → ⊥) × IsRefused request (Error names.Failed) v result w)
 
-  -- The pass has seen more, the client is answered with one message, or refused, and nothing else is put.
-  abbrev pub OnlyAnswers : Request → PeerState M → Result (Unit {0}) AnswerError → PeerState M → Type 0
-  OnlyAnswers request v result w = (pass : PassState M) × HasSeenMore v.pass pass × IsAnsweredOnce request (with_pass v pass) result w
+  -- the machine's id, or an error if there is none
+  abbrev pub RepliesMachineId : Request → Option (List ℕ) → PeerState M → Result (Unit {0}) AnswerError → PeerState M → Type 0
+  RepliesMachineId request (Some digits) v result w = RepliesDigits request digits v result w
+  RepliesMachineId request None v result w = IsRefused request (Error names.Failed) v result w
+
+  -- the texts that were found, or why there are none
+  abbrev pub RepliesFound : Request → Result (List (List ℕ)) Refused → PeerState M → Result (Unit {0}) AnswerError → PeerState M → Type 0
+  RepliesFound request (Ok texts) v result w = RepliesTexts request texts v result w
+  RepliesFound request (Err why) v result w = IsRefused request why v result w
+
+  -- what is found in what the pass has then seen is answered
+  abbrev pub AnswersFound : (State M → Result (List (List ℕ)) Refused → Type 0) → Request → PeerState M → Result (Unit {0}) AnswerError → PeerState M → Type 0
+  AnswersFound P request v result w = (pass : PassState M) × (found : Result (List (List ℕ)) Refused) × HasSeenMore v.pass pass × P (after pass.seen) found × RepliesFound request found (with_pass v pass) result w
+
+  -- All names in a state: that of the bus, the unique names of the connections by their rising numbers, and the well-known
+  -- names that are owned in the order of bytes.
+  abbrev pub AreAllNames : State M → Result (List (List ℕ)) Refused → Type 0
+  AreAllNames s (Ok texts) = (owned : List (List ℕ)) × AreNames s.registrations.claims owned × (texts ≡ (bus_name ∷ map unique_name (numbers_of s.connections)) ++ owned)
+  AreAllNames s (Err why) = CannotList why
+
+  -- those who own a name or wait for it in a state
+  abbrev pub AreQueued : AskedName → State M → Result (List (List ℕ)) Refused → Type 0
+  AreQueued name s found = (found ≡ queue_found (queue_in s name)) ⊎ ((why : Refused) × CannotList why × (found ≡ Err why))
+
+  -- those of the name that a text is; or it is no name
+  abbrev pub AreQueuedFor : List ℕ → State M → Result (List (List ℕ)) Refused → Type 0
+  AreQueuedFor text s found = ((name : AskedName) × IsAsked text (Ok name) × AreQueued name s found) ⊎ ((why : Refused) × IsAsked text (Err why) × (found ≡ Err why))
 
   -- the owner of the name, in what the pass has then seen, is answered so
   abbrev pub AnswersOwner : List ℕ → (Result (Option Owner) Refused → PeerState M → Result (Unit {0}) AnswerError → PeerState M → Type 0) → PeerState M → Result (Unit {0}) AnswerError → PeerState M → Type 0

@@ -23,9 +23,13 @@ module _ {M : Type 0} where
   Confirms request (Ok _) v result w = Replies request bodies.Nothing v result w
   Confirms request (Err error) v result w = IsRefused request (refusal_of error) v result w
 
-  -- the pass made this call of the bus, and the client is told whether it was done
+  -- the pass made this call of the bus, and then what follows from the bus's answer was done
+  abbrev pub HasCalled : (Result Reply BusError → PassState M → Type 0) → (Result Reply BusError → PeerState M → Type 0) → PeerState M → Type 0
+  HasCalled P Q v = (asked : Result Reply BusError) × (pass : PassState M) × P asked pass × Q asked (with_pass v pass)
+
+  -- the client is told whether the call was done
   abbrev pub IsConfirmed : Request → (Result Reply BusError → PassState M → Type 0) → PeerState M → Result (Unit {0}) AnswerError → PeerState M → Type 0
-  IsConfirmed request P v result w = (asked : Result Reply BusError) × (pass : PassState M) × P asked pass × Confirms request asked (with_pass v pass) result w
+  IsConfirmed request P v result w = HasCalled P (λ asked mid. Confirms request asked mid result w) v
 
   -- the id of an entry, or the error of a refusal
   abbrev pub Numbers : Request → Result Reply BusError → PeerState M → Result (Unit {0}) AnswerError → PeerState M → Type 0
@@ -33,6 +37,6 @@ module _ {M : Type 0} where
   Numbers request (Ok _) v result w = (result ≡ Ok tt) × (w ≡ v)
   Numbers request (Err error) v result w = IsRefused request (refusal_of error) v result w
 
-  -- the pass made this call of the bus, and the client is told the new entry's id
+  -- the client is told the new entry's id
   abbrev pub NumbersEntry : Request → (Result Reply BusError → PassState M → Type 0) → PeerState M → Result (Unit {0}) AnswerError → PeerState M → Type 0
-  NumbersEntry request P v result w = (asked : Result Reply BusError) × (pass : PassState M) × P asked pass × Numbers request asked (with_pass v pass) result w
+  NumbersEntry request P v result w = HasCalled P (λ asked mid. Numbers request asked mid result w) v

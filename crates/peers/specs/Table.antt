@@ -6,13 +6,14 @@ use Rattle.bus_messages.specs.declared.body.Body.TheVariants as bodies
 use Rattle.bus_messages.specs.declared.call.Call.{Call}
 use Rattle.bus_messages.specs.declared.call.Call.TheVariants as calls
 use Rattle.bus_messages.specs.declared.error_name.ErrorName.TheVariants as names
+use Rattle.bus_messages.specs.Introspection.{introspection_text}
 use Rattle.router.specs.Command.TheVariants.{Detach, Request as RequestName, Release}
 use Rattle.router.specs.Calls.{Once, Answers}
 use Rattle.router.specs.Readings.{AddsMatch, RemovesMatch, Attaches}
 use Rattle.peers.specs.Answers.{IsRefused}
 use Rattle.peers.specs.NameRows.{ChangesName}
 use Rattle.peers.specs.PeerState.{PeerState}
-use Rattle.peers.specs.Queries.{RepliesTexts, IsAnsweredOnce, OnlyAnswers, AnswersOwner, NamesOwner, TellsWhetherOwned, TellsOfOwned}
+use Rattle.peers.specs.Queries.{RepliesText, RepliesTexts, RepliesDigits, RepliesMachineId, AnswersFound, AreAllNames, AreQueuedFor, AnswersOwner, NamesOwner, TellsWhetherOwned, TellsOfOwned, bus_id}
 use Rattle.peers.specs.Rows.{Replies, IsConfirmed, NumbersEntry}
 use Rattle.peers.specs.declared.error.AnswerError.{AnswerError}
 use Rattle.peers.specs.declared.refused.Refused.TheVariants.{Error}
@@ -42,8 +43,8 @@ module _ {M : Type 0} where
   Performs outbox_of request calls.Ping v result w = Replies request bodies.Nothing v result w
   Performs outbox_of request calls.Get v result w = Replies request bodies.EmptyList v result w
   Performs outbox_of request calls.GetAll v result w = Replies request bodies.Properties v result w
-  Performs outbox_of request calls.ListNames v result w = OnlyAnswers request v result w
-  Performs outbox_of request (calls.ListQueuedOwners name) v result w = OnlyAnswers request v result w
-  Performs outbox_of request calls.GetId v result w = IsAnsweredOnce request v result w
-  Performs outbox_of request calls.GetMachineId v result w = IsAnsweredOnce request v result w
-  Performs outbox_of request calls.Introspect v result w = IsAnsweredOnce request v result w
+  Performs outbox_of request calls.ListNames v result w = AnswersFound AreAllNames request v result w
+  Performs outbox_of request (calls.ListQueuedOwners name) v result w = AnswersFound (AreQueuedFor name.now) request v result w
+  Performs outbox_of request calls.GetId v result w = RepliesDigits request (bus_id v.identity) v result w
+  Performs outbox_of request calls.GetMachineId v result w = RepliesMachineId request v.identity.machine_id v result w
+  Performs outbox_of request calls.Introspect v result w = RepliesText request introspection_text v result w

@@ -1,14 +1,16 @@
 // How a call is answered.
 
-ghost use Rattle.std.specs.Prelude.{◌≡◌, Some, IfOk, option_map};
+ghost use Rattle.std.specs.Prelude.{◌≡◌, ◌∷◌, [], Some, IfOk, option_map};
+ghost use Rattle.signature.specs.Name.{bus_name};
 ghost use Rattle.bus_messages.specs.Sent.{error_asked};
-ghost use Rattle.peers.specs.Answers.{IsRefused, IsPut, IsEither, NeverSlow, fault_with};
+ghost use Rattle.peers.specs.Answers.{IsRefused, IsPut, IsEither, NeverSlow, fault_with, lent_texts};
 ghost use Rattle.peers.specs.PeerState.{name_of};
-ghost use Rattle.peers.specs.Queries.{RepliesText};
+ghost use Rattle.peers.specs.Queries.{RepliesText, RepliesTexts};
 ghost use Rattle.peers.specs.Rows.{Replies};
 
 use crate::context::Context;
 use crate::error::AnswerError;
+use crate::identity::BUS_NAME;
 use crate::peer::Peer;
 use crate::refused::Refused;
 use crate::request::Request;
@@ -83,6 +85,39 @@ impl<B: Naming, M: Mailbox + Carrier> Peer<B, M> {
         ensures error { NeverSlow request.wants_answer result }
     {
         self.answer(context, request, Body::Text(text))
+    }
+
+    /// Answers a call with an array of texts, if its caller waits for an answer.
+    ///
+    /// # Errors
+    ///
+    /// As those of `answer`.
+    pub(crate) fn answer_texts<W: Wait, R: Wait + Drop>(
+        &mut self,
+        context: &Context<'_, B, M, W, R>,
+        request: Request,
+        texts: &[&str],
+    ) -> Result<(), AnswerError>
+        ensures answer { RepliesTexts request (lent_texts texts.now) self.old result self.new }
+        ensures error { NeverSlow request.wants_answer result }
+    {
+        self.answer(context, request, Body::Texts(texts))
+    }
+
+    /// Answers a call with the bus's own name alone, if its caller waits for an answer.
+    ///
+    /// # Errors
+    ///
+    /// As those of `answer`.
+    pub(crate) fn answer_bus_name<W: Wait, R: Wait + Drop>(
+        &mut self,
+        context: &Context<'_, B, M, W, R>,
+        request: Request,
+    ) -> Result<(), AnswerError>
+        ensures answer { RepliesTexts request (bus_name ∷ []) self.old result self.new }
+        ensures error { NeverSlow request.wants_answer result }
+    {
+        self.answer_texts(context, request, [BUS_NAME].as_slice())
     }
 
     // Puts an error with this serial, or the error NoMemory in its place.

@@ -1,10 +1,13 @@
 // How a peer leaves the bus.
 
-ghost use Rattle.peers.specs.Departure.{HasLeft};
+ghost use Rattle.std.specs.Prelude.{◌≡◌, Result};
+ghost use Rattle.peers.specs.Announcements.{Announces};
+ghost use Rattle.peers.specs.Departure.{Leaves, HasLeft, AreGivenUp, GivesUpName, IsGiven, Closes, IsClosing};
 
 use crate::context::Context;
+use crate::error::AnswerError;
 use crate::peer::Peer;
-use owners::MAX_CLAIMS;
+use owners::{Change, MAX_CLAIMS};
 use router::{BusError, Mailbox, Naming, Reply};
 use routing::Carrier;
 use std::sync::Wait;
@@ -31,10 +34,11 @@ enum Giving {
 }
 
 impl<B: Naming, M: Mailbox + Carrier> Peer<B, M> {
-    /// Gives up the client's names one after the other, each change announced, closes its pass, and writes out what was
-    /// announced. An announcement that memory refuses is left out.
+    /// Gives up the client's names one after the other, each change announced, closes its pass, announces that its own
+    /// name is gone, and writes out what was announced. An announcement that memory refuses is left out.
     pub fn leave<W: Wait, R: Wait + Drop>(&mut self, context: &Context<'_, B, M, W, R>) -> Leaving
-        ensures { HasLeft result self.new }
+        ensures leaves { Leaves M.outbox_of self.old result self.new }
+        ensures closed { HasLeft result self.new }
     {
         let leaving = if self.give_up_names(context) {
             self.close(context)
@@ -46,43 +50,78 @@ impl<B: Naming, M: Mailbox + Carrier> Peer<B, M> {
     }
 
     // Whether no name is left.
-    fn give_up_names<W: Wait, R: Wait + Drop>(
-        &mut self,
-        context: &Context<'_, B, M, W, R>,
-    ) -> bool {
-        for _ in 0..=MAX_CLAIMS {
+    fn give_up_names<W: Wait, R: Wait + Drop>(&mut self, context: &Context<'_, B, M, W, R>) -> bool
+        ensures { AreGivenUp M.outbox_of result self.old self.new }
+    {
+        for given in 0..=MAX_CLAIMS {
             match self.give_up_name(context) {
                 Giving::Further => {}
                 Giving::Last => return true,
                 Giving::Refused => return false,
             }
         }
-        true
+        false
     }
 
-    fn give_up_name<W: Wait, R: Wait + Drop>(
+    fn give_up_name<W: Wait, R: Wait + Drop>(&mut self, context: &Context<'_, B, M, W, R>) -> Giving
+        ensures { GivesUpName M.outbox_of self.old result self.new }
+    {
+        let _turn = context.bus.turn(context.rt);
+        let dropped = context.bus.drop_name(context.rt, &mut self.pass);
+        self.announce_dropped(context, dropped)
+    }
+
+    // Announces what giving up a name changed.
+    fn announce_dropped<W: Wait, R: Wait + Drop>(
         &mut self,
         context: &Context<'_, B, M, W, R>,
-    ) -> Giving {
-        let _turn = context.bus.turn(context.rt);
-        match context.bus.drop_name(context.rt, &mut self.pass) {
+        dropped: Result<Reply, BusError>,
+    ) -> Giving
+        ensures { IsGiven M.outbox_of dropped self.old result self.new }
+    {
+        match dropped {
             Ok(Reply::Changed(change)) => {
-                self.pass.hold(context.alloc);
-                let _ = self.announce(context, &change);
-                self.pass.release();
+                self.announce_held(context, &change);
                 Giving::Further
             }
             Ok(Reply::Waiting) => Giving::Further,
+            Ok(_) => Giving::Last,
             Err(BusError::NoMemory) => Giving::Refused,
-            _ => Giving::Last,
+            Err(_) => Giving::Last,
         }
     }
 
-    // Takes the connection off the bus, and announces that its unique name is gone.
-    fn close<W: Wait, R: Wait + Drop>(&mut self, context: &Context<'_, B, M, W, R>) -> Leaving
-        ensures { HasLeft result self.new }
+    // Announces a change. Nobody gets one of these messages before all are put.
+    fn announce_held<W: Wait, R: Wait + Drop>(
+        &mut self,
+        context: &Context<'_, B, M, W, R>,
+        change: &Change,
+    )
+        ensures { (announced : Result (Unit {0}) AnswerError) × Announces M.outbox_of change.now self.old announced self.new }
     {
-        match context.bus.close(context.rt, &mut self.pass) {
+        self.pass.hold(context.alloc);
+        let _ = self.announce(context, change);
+        self.pass.release();
+    }
+
+    // Takes the connection off the bus.
+    fn close<W: Wait, R: Wait + Drop>(&mut self, context: &Context<'_, B, M, W, R>) -> Leaving
+        ensures leaves { Closes M.outbox_of self.old result self.new }
+        ensures closed { HasLeft result self.new }
+    {
+        let closed = context.bus.close(context.rt, &mut self.pass);
+        self.announce_closed(context, closed)
+    }
+
+    // Announces that the client's unique name is gone, if its pass was closed.
+    fn announce_closed<W: Wait, R: Wait + Drop>(
+        &mut self,
+        context: &Context<'_, B, M, W, R>,
+        closed: Result<Reply, BusError>,
+    ) -> Leaving
+        ensures { IsClosing M.outbox_of closed self.old result self.new }
+    {
+        match closed {
             Ok(_) => {
                 let _ = self.announce_departure(context);
                 Leaving::Done

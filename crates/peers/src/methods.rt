@@ -1,13 +1,14 @@
 // The methods of the bus.
 
-ghost use Rattle.std.specs.Prelude.{◌≡◌};
+ghost use Rattle.std.specs.Prelude.{◌≡◌, map};
+ghost use Rattle.std.specs.Char.{to_ascii_lowercase};
+ghost use Rattle.bus_messages.specs.Introspection.{introspection_text};
 ghost use Rattle.peers.specs.Answers.{NeverSlow};
-ghost use Rattle.peers.specs.Queries.{IsAnsweredOnce};
+ghost use Rattle.peers.specs.Queries.{RepliesText, RepliesDigits, RepliesMachineId, bus_id};
 ghost use Rattle.peers.specs.Table.{Performs};
 
 use crate::context::Context;
 use crate::error::AnswerError;
-use crate::identity::BUS_NAME;
 use crate::peer::Peer;
 use crate::refused::Refused;
 use crate::request::Request;
@@ -46,10 +47,7 @@ impl<B: Naming, M: Mailbox + Carrier> Peer<B, M> {
             Call::NameHasOwner(name) => self.name_has_owner(context, request, name),
             Call::ListQueuedOwners(name) => self.list_queued_owners(context, request, name),
             Call::ListNames => self.list_names(context, request),
-            Call::ListActivatableNames => {
-                let names = Body::Texts([BUS_NAME].as_slice());
-                self.answer(context, request, names)
-            }
+            Call::ListActivatableNames => self.answer_bus_name(context, request),
             Call::StartServiceByName(name) => {
                 let found = Ok(Body::Number(ALREADY_RUNNING));
                 let missing = ErrorName::ServiceUnknown;
@@ -84,10 +82,10 @@ impl<B: Naming, M: Mailbox + Carrier> Peer<B, M> {
         context: &Context<'_, B, M, W, R>,
         request: Request,
     ) -> Result<(), AnswerError>
-        ensures row { IsAnsweredOnce request self.old result self.new }
+        ensures row { RepliesDigits request (bus_id self.old.identity) self.old result self.new }
         ensures error { NeverSlow request.wants_answer result }
     {
-        let id = self.identity.guid.map(|digit| digit.to_ascii_lowercase());
+        let id = in_small_letters(self.identity.guid);
         self.answer_digits(context, request, id)
     }
 
@@ -96,7 +94,7 @@ impl<B: Naming, M: Mailbox + Carrier> Peer<B, M> {
         context: &Context<'_, B, M, W, R>,
         request: Request,
     ) -> Result<(), AnswerError>
-        ensures row { IsAnsweredOnce request self.old result self.new }
+        ensures row { RepliesMachineId request self.old.identity.machine_id self.old result self.new }
         ensures error { NeverSlow request.wants_answer result }
     {
         match self.identity.machine_id {
@@ -111,7 +109,7 @@ impl<B: Naming, M: Mailbox + Carrier> Peer<B, M> {
         request: Request,
         digits: [u8; 32],
     ) -> Result<(), AnswerError>
-        ensures row { IsAnsweredOnce request self.old result self.new }
+        ensures row { RepliesDigits request digits self.old result self.new }
         ensures error { NeverSlow request.wants_answer result }
     {
         match str::from_utf8(&digits) {
@@ -125,12 +123,19 @@ impl<B: Naming, M: Mailbox + Carrier> Peer<B, M> {
         context: &Context<'_, B, M, W, R>,
         request: Request,
     ) -> Result<(), AnswerError>
-        ensures row { IsAnsweredOnce request self.old result self.new }
+        ensures row { RepliesText request introspection_text self.old result self.new }
         ensures error { NeverSlow request.wants_answer result }
     {
         match introspection(context.alloc) {
             Ok(text) => self.answer_text(context, request, text.as_str()),
-            Err(refused) => self.refuse(context, request, Refused::from(refused)),
+            Err(_) => self.refuse(context, request, Refused::Error(ErrorName::NoMemory)),
         }
     }
+}
+
+fn in_small_letters(mut id: [u8; 32]) -> [u8; 32]
+    ensures { result ≡ map to_ascii_lowercase id }
+{
+    id.make_ascii_lowercase();
+    id
 }

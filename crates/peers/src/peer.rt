@@ -15,7 +15,8 @@ use std::marker::Model;
 use std::sync::Wait;
 
 /// A client on the bus. Its name is that of its pass's connection. Contracts see what its pass has seen and done, what
-/// the bus has put to the client itself, and the serial of the next message that the bus makes for it.
+/// the bus has put to the client itself, the serial of the next message that the bus makes for it, and what it is told of
+/// the bus.
 #[derive(Drop)]
 pub struct Peer<B: Naming, M: Mailbox + Carrier>
 where
@@ -38,7 +39,7 @@ where
 
     ghost Value = { PeerState M };
 
-    ghost view = { λ p. record { pass = p.pass; answers = p.own; serial = p.serials } };
+    ghost view = { λ p. record { pass = p.pass; answers = p.own; serial = p.serials; identity = p.identity } };
 
     ghost invariant = { λ p. p.name ≡ p.pass.connection };
 }
@@ -46,7 +47,7 @@ where
 impl<B: Naming, M: Mailbox + Carrier> Peer<B, M> {
     /// The peer of a pass that is connected, named by its number.
     pub fn new(pass: Pass<B, M>, own: OwnOutbox<M>, identity: Identity) -> Peer<B, M>
-        ensures { result ≡ record { pass = pass; answers = own; serial = 1 } }
+        ensures { result ≡ record { pass = pass; answers = own; serial = 1; identity = identity } }
     {
         let name = UniqueName::new(pass.connection());
         Peer {

@@ -1,9 +1,17 @@
 // The calls that only ask.
 
-ghost use Rattle.std.specs.Prelude.{◌≡◌};
-ghost use Rattle.peers.specs.Answers.{NeverSlow};
+ghost use Rattle.std.specs.Prelude.{◌≡◌, ◌++◌, ◌∷◌, map, IfOk, MatchResult};
+ghost use Rattle.signature.specs.Name.{bus_name};
+ghost use Rattle.owners.specs.Queues.{queue_of};
+ghost use Rattle.router.specs.Connections.{numbers_of};
+ghost use Rattle.router.specs.History.{after};
+ghost use Rattle.router.specs.Names.{AreNames};
+ghost use Rattle.unique_name.specs.UniqueNames.{unique_name};
+ghost use Rattle.peers.specs.Answers.{NeverSlow, lent_texts};
+ghost use Rattle.peers.specs.Asked.{queue_in};
 ghost use Rattle.peers.specs.Passing.{HasSeenMore, with_pass};
-ghost use Rattle.peers.specs.Queries.{AnswersOwner, NamesOwner, TellsWhetherOwned, TellsOfOwned, OnlyAnswers, IsAnsweredOnce};
+ghost use Rattle.peers.specs.Queries.{AnswersOwner, NamesOwner, TellsWhetherOwned, TellsOfOwned, AnswersFound, AreAllNames, AreQueuedFor, RepliesFound, RepliesTexts, CannotList, queue_found};
+ghost use Rattle.peers.specs.Queues.{TellsQueue, IsQueueOf, texts_in};
 
 use crate::context::Context;
 use crate::error::AnswerError;
@@ -81,7 +89,7 @@ impl<B: Naming, M: Mailbox + Carrier> Peer<B, M> {
         context: &Context<'_, B, M, W, R>,
         request: Request,
     ) -> Result<(), AnswerError>
-        ensures row { OnlyAnswers request self.old result self.new }
+        ensures row { AnswersFound AreAllNames request self.old result self.new }
         ensures error { NeverSlow request.wants_answer result }
     {
         match self.all_names(context.alloc) {
@@ -94,6 +102,9 @@ impl<B: Naming, M: Mailbox + Carrier> Peer<B, M> {
 
     // The unique names and the well-known ones.
     fn all_names(&mut self, alloc: Global) -> Result<(Vec<UniqueName>, Vec<WellKnown>), Refused>
+        ensures found { MatchResult result
+            (λ all. (all.0.items ≡ numbers_of (after self.new.pass.seen).connections) × AreNames (after self.new.pass.seen).registrations.claims all.1.items)
+            (λ why. CannotList why) }
         ensures later { HasSeenMore self.old.pass self.new.pass }
         ensures same { self.new ≡ with_pass self.old self.new.pass }
     {
@@ -109,12 +120,12 @@ impl<B: Naming, M: Mailbox + Carrier> Peer<B, M> {
         unique: &[UniqueName],
         names: &[WellKnown],
     ) -> Result<(), AnswerError>
-        ensures row { IsAnsweredOnce request self.old result self.new }
+        ensures row { RepliesTexts request ((bus_name ∷ map unique_name unique.now) ++ names.now) self.old result self.new }
         ensures error { NeverSlow request.wants_answer result }
     {
         match all_name_texts(context.alloc, unique, names) {
-            Ok(texts) => self.answer(context, request, Body::Texts(texts.as_slice())),
-            Err(refused) => self.refuse(context, request, Refused::from(refused)),
+            Ok(texts) => self.answer_texts(context, request, texts.as_slice()),
+            Err(_) => self.refuse(context, request, Refused::Error(ErrorName::NoMemory)),
         }
     }
 
@@ -124,14 +135,11 @@ impl<B: Naming, M: Mailbox + Carrier> Peer<B, M> {
         request: Request,
         name: &str,
     ) -> Result<(), AnswerError>
-        ensures row { OnlyAnswers request self.old result self.new }
+        ensures row { AnswersFound (AreQueuedFor name.now) request self.old result self.new }
         ensures error { NeverSlow request.wants_answer result }
     {
-        match self.queue_of(context.alloc, name) {
-            Ok(Queue::Bus) => { self.answer(context, request, Body::Texts([BUS_NAME].as_slice())) }
-            Ok(Queue::Connections(queue)) => {
-                self.answer_queue(context, request, queue.as_slice())
-            }
+        match self.queue_named(context.alloc, name) {
+            Ok(queue) => self.answer_queue(context, request, &queue),
             Err(why) => self.refuse(context, request, why),
         }
     }
@@ -140,44 +148,108 @@ impl<B: Naming, M: Mailbox + Carrier> Peer<B, M> {
         &mut self,
         context: &Context<'_, B, M, W, R>,
         request: Request,
+        queue: &Queue,
+    ) -> Result<(), AnswerError>
+        ensures row { RepliesFound request (queue_found (texts_in queue.now)) self.old result self.new }
+        ensures error { NeverSlow request.wants_answer result }
+    {
+        match queue {
+            Queue::Bus => self.answer_bus_name(context, request),
+            Queue::Connections(unique) => {
+                self.answer_connections(context, request, unique.as_slice())
+            }
+        }
+    }
+
+    fn answer_connections<W: Wait, R: Wait + Drop>(
+        &mut self,
+        context: &Context<'_, B, M, W, R>,
+        request: Request,
         unique: &[UniqueName],
     ) -> Result<(), AnswerError>
-        ensures row { IsAnsweredOnce request self.old result self.new }
+        ensures row { RepliesFound request (queue_found (map unique_name unique.now)) self.old result self.new }
         ensures error { NeverSlow request.wants_answer result }
     {
         if unique.is_empty() {
-            let why = Refused::Error(ErrorName::NameHasNoOwner);
-            return self.refuse(context, request, why);
+            return self.refuse(context, request, Refused::Error(ErrorName::NameHasNoOwner));
         }
+        self.answer_unique(context, request, unique)
+    }
+
+    fn answer_unique<W: Wait, R: Wait + Drop>(
+        &mut self,
+        context: &Context<'_, B, M, W, R>,
+        request: Request,
+        unique: &[UniqueName],
+    ) -> Result<(), AnswerError>
+        ensures row { RepliesTexts request (map unique_name unique.now) self.old result self.new }
+        ensures error { NeverSlow request.wants_answer result }
+    {
         match texts_of(context.alloc, unique) {
-            Ok(texts) => self.answer(context, request, Body::Texts(texts.as_slice())),
-            Err(refused) => self.refuse(context, request, Refused::from(refused)),
+            Ok(texts) => self.answer_texts(context, request, texts.as_slice()),
+            Err(_) => self.refuse(context, request, Refused::Error(ErrorName::NoMemory)),
+        }
+    }
+
+    // Those who have claims on the name that a text is, or why that can't be told.
+    fn queue_named(&mut self, alloc: Global, text: &str) -> Result<Queue, Refused>
+        ensures queue { IsQueueOf (after self.new.pass.seen) text.now result }
+        ensures later { HasSeenMore self.old.pass self.new.pass }
+        ensures same { self.new ≡ with_pass self.old self.new.pass }
+    {
+        match AskedName::read(text) {
+            Ok(name) => self.queue_of(alloc, name),
+            Err(why) => Err(why),
         }
     }
 
     // The claims on a name, in order; none if nobody owns it.
-    fn queue_of(&mut self, alloc: Global, name: &str) -> Result<Queue, Refused>
+    fn queue_of(&mut self, alloc: Global, name: AskedName) -> Result<Queue, Refused>
+        ensures queue { TellsQueue (after self.new.pass.seen) name result }
         ensures later { HasSeenMore self.old.pass self.new.pass }
         ensures same { self.new ≡ with_pass self.old self.new.pass }
     {
-        let queue = match AskedName::read(name)? {
-            AskedName::Bus => return Ok(Queue::Bus),
-            AskedName::WellKnown(name) => self.pass.queued_owners(alloc, &name)?,
-            AskedName::Unique(_) => self.queue_of_one(alloc, name)?,
-        };
-        Ok(Queue::Connections(unique_names(alloc, queue.as_slice())?))
+        match name {
+            AskedName::Bus => Ok(Queue::Bus),
+            AskedName::Unique(number) => {
+                Ok(Queue::Connections(self.queue_of_one(alloc, number)?))
+            }
+            AskedName::WellKnown(name) => {
+                Ok(Queue::Connections(self.queue_of_claims(alloc, &name)?))
+            }
+        }
     }
 
     // A unique name's only claim is that of its connection.
-    fn queue_of_one(&mut self, alloc: Global, name: &str) -> Result<Vec<u64>, Refused>
+    fn queue_of_one(
+        &mut self,
+        alloc: Global,
+        number: Option<u64>,
+    ) -> Result<Vec<UniqueName>, Refused>
+        ensures queue { MatchResult result (λ queue. map unique_name queue.items ≡ queue_in (after self.new.pass.seen) (AskedName.Unique number)) (λ why. CannotList why) }
         ensures later { HasSeenMore self.old.pass self.new.pass }
         ensures same { self.new ≡ with_pass self.old self.new.pass }
     {
         let mut queue = Vec::new(alloc);
-        if let Some(Owner::Connection(number)) = self.owner_named(name)? {
-            queue.push(number)?;
+        if let Some(number) = number {
+            if self.pass.is_connected(number)? {
+                queue.push(UniqueName::new(number))?;
+            }
         }
         Ok(queue)
+    }
+
+    fn queue_of_claims(
+        &mut self,
+        alloc: Global,
+        name: &WellKnown,
+    ) -> Result<Vec<UniqueName>, Refused>
+        ensures queue { MatchResult result (λ queue. queue.items ≡ queue_of name.now (after self.new.pass.seen).registrations.claims) (λ why. CannotList why) }
+        ensures later { HasSeenMore self.old.pass self.new.pass }
+        ensures same { self.new ≡ with_pass self.old self.new.pass }
+    {
+        let queue = self.pass.queued_owners(alloc, name)?;
+        Ok(unique_names(alloc, queue.as_slice())?)
     }
 }
 
@@ -189,7 +261,9 @@ enum Queue {
     Connections(Vec<UniqueName>),
 }
 
-fn unique_names(alloc: Global, numbers: &[u64]) -> Result<Vec<UniqueName>, AllocError> {
+fn unique_names(alloc: Global, numbers: &[u64]) -> Result<Vec<UniqueName>, AllocError>
+    ensures { IfOk result (λ unique. unique.items ≡ numbers.now) }
+{
     let mut unique = Vec::with_capacity(alloc, numbers.len())?;
     for number in numbers {
         unique.push(UniqueName::new(*number))?;
@@ -197,10 +271,12 @@ fn unique_names(alloc: Global, numbers: &[u64]) -> Result<Vec<UniqueName>, Alloc
     Ok(unique)
 }
 
-fn texts_of<'a>(alloc: Global, unique: &'a [UniqueName]) -> Result<Vec<&'a str>, AllocError> {
+fn texts_of<'a>(alloc: Global, unique: &'a [UniqueName]) -> Result<Vec<&'a str>, AllocError>
+    ensures { IfOk result (λ texts. lent_texts texts.items ≡ map unique_name unique.now) }
+{
     let mut texts = Vec::with_capacity(alloc, unique.len())?;
-    for name in unique {
-        texts.push(name.as_str())?;
+    for owner in unique {
+        texts.push(owner.as_str())?;
     }
     Ok(texts)
 }
@@ -209,7 +285,9 @@ fn all_name_texts<'a>(
     alloc: Global,
     unique: &'a [UniqueName],
     names: &'a [WellKnown],
-) -> Result<Vec<&'a str>, AllocError> {
+) -> Result<Vec<&'a str>, AllocError>
+    ensures { IfOk result (λ texts. lent_texts texts.items ≡ (bus_name ∷ map unique_name unique.now) ++ names.now) }
+{
     let mut texts = texts_of(alloc, unique)?;
     texts.insert(0, BUS_NAME)?;
     for name in names {

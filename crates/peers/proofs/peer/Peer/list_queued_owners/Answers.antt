@@ -1,9 +1,10 @@
-use Rattle.std.proofs.Common.{inl, inr}
-use Rattle.peers.proofs.Rows.{only_answered}
+use Rattle.std.proofs.Common.{Err}
+use Rattle.router.specs.History.{after}
+use Rattle.peers.specs.Queries.{AreQueuedFor}
+use Rattle.peers.proofs.Lists.{answers_found, queue_untold}
 use Rattle.peers.proofs.peer.Peer.list_queued_owners.Goals as goal
 
-pub returns-in-Ok-Bus-clause-row : goal.returns-in-Ok-Bus-clause-row
-returns-in-Ok-Bus-clause-row g c = only_answered c.args.request c.args.self.now c.queue_of.new.self c.answer.new.self c.answer.result c.queue_of.ensures.same c.queue_of.ensures.later (inl (_, c.answer.ensures.answer))
-
 pub returns-in-Err-clause-row : goal.returns-in-Err-clause-row
-returns-in-Err-clause-row g c = only_answered c.args.request c.args.self.now c.queue_of.new.self c.refuse.new.self c.refuse.result c.queue_of.ensures.same c.queue_of.ensures.later (inr (_, c.refuse.ensures.answer))
+returns-in-Err-clause-row g c =
+    answers_found (AreQueuedFor c.args.name.now) c.args.request (Err c.in-Err.why) c.args.self.now c.queue_named.new.self c.refuse.new.self c.refuse.result c.queue_named.ensures.same c.queue_named.ensures.later
+    (queue_untold (after c.queue_named.new.self.pass.seen) c.args.name.now c.in-Err.why c.in-Err.ensures.queue) c.refuse.ensures.answer

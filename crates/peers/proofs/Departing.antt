@@ -1,0 +1,52 @@
+-- How a peer leaves the bus.
+use Rattle.std.proofs.Common.{◌≡◌, Bool, true, false, Some, None, Result, Ok, Err, inl, inr, sym, ap, subst, ◌∙◌}
+use Rattle.outbox.specs.Seated.{OutboxId}
+use Rattle.message_build.specs.Asked.{Asked}
+use Rattle.router.specs.BusError.{BusError}
+use Rattle.router.specs.BusError.TheVariants as errors
+use Rattle.router.specs.Calls.{Once, Answers}
+use Rattle.router.specs.Command.TheVariants.{DropOne, Close}
+use Rattle.router.specs.Passes.{PassState}
+use Rattle.router.specs.Reply.{Reply}
+use Rattle.peers.specs.declared.error.AnswerError.{AnswerError}
+use Rattle.peers.specs.declared.leaving.Giving.{Giving}
+use Rattle.peers.specs.declared.leaving.Leaving.{Leaving}
+use Rattle.peers.specs.Announcements.{IsSignalled, change_asked}
+use Rattle.peers.specs.Departure.{IsGiven, GivesUpName, IsClosing, Closes, HasLeft}
+use Rattle.peers.specs.Passing.{with_pass}
+use Rattle.peers.specs.PeerState.{PeerState, name_of}
+use Rattle.peers.proofs.Rows.{called}
+
+module _ {M : Type 0} where
+  pub given_up : (outbox_of : M → OutboxId) (u v w : PeerState M) (asked : Result Reply BusError) (pass : PassState M) (giving : Giving) → u ≡ v → Once (λ before next. Answers false u.pass before (DropOne u.pass.connection) asked pass next) → IsGiven outbox_of asked (with_pass u pass) giving w
+      → GivesUpName outbox_of v giving w
+  given_up outbox_of u v w asked pass giving is d g =
+      let D : PassState M → Result Reply BusError → PassState M → Type 0 = λ p reply next. Once (λ before after. Answers false p before (DropOne p.connection) reply next after) in
+      let G : Result Reply BusError → PeerState M → Type 0 = λ reply mid. IsGiven outbox_of reply mid giving w in
+      called D G u v asked pass is d g
+
+  pub closed : (outbox_of : M → OutboxId) (u v w : PeerState M) (asked : Result Reply BusError) (pass : PassState M) (leaving : Leaving) → u ≡ v → Once (λ before next. Answers true u.pass before (Close u.pass.connection) asked pass next) → IsClosing outbox_of asked (with_pass u pass) leaving w
+      → Closes outbox_of v leaving w
+  closed outbox_of u v w asked pass leaving is d g =
+      let D : PassState M → Result Reply BusError → PassState M → Type 0 = λ p reply next. Once (λ before after. Answers true p before (Close p.connection) reply next after) in
+      let G : Result Reply BusError → PeerState M → Type 0 = λ reply mid. IsClosing outbox_of reply mid leaving w in
+      called D G u v asked pass is d g
+
+  -- a signal of the bus closes no pass and opens none
+  signalled : (outbox_of : M → OutboxId) (asked : Asked) (v w : PassState M) (result : Result (Unit {0}) AnswerError) → IsSignalled outbox_of asked v result w → w.is_closed ≡ v.is_closed
+  signalled outbox_of asked v w (Ok x) (bytes, recipients, refused, are, routed) = ap (λ (p : PassState M). p.is_closed) routed.sends.same
+  signalled outbox_of asked v w (Err error) (is, inl same) = ap (λ (p : PassState M). p.is_closed) same
+  signalled outbox_of asked v w (Err error) (is, inr (why, inl (gone, same))) = ap (λ (p : PassState M). p.is_closed) same
+  signalled outbox_of asked v w (Err error) (is, inr (why, inr (lost, unput))) = ap (λ (p : PassState M). p.is_closed) unput.sends.same
+
+  -- whoever is done has closed its pass
+  pub left : (outbox_of : M → OutboxId) (v w : PeerState M) (asked : Result Reply BusError) (pass : PassState M) (leaving : Leaving) → Once (λ before next. Answers true v.pass before (Close v.pass.connection) asked pass next) → IsClosing outbox_of asked (with_pass v pass) leaving w → HasLeft leaving w
+  left outbox_of v w (Ok reply) pass leaving (before, next, done) (is, announced, (made, told)) =
+      let P : Leaving → Type 0 = λ l. HasLeft l w in
+      let u : PeerState M = with_pass v pass in
+      subst P (sym is) (signalled outbox_of (change_asked u.serial (name_of u) (Some pass.connection) None) pass w.pass announced told ∙ done.2)
+  left outbox_of v w (Err errors.NoMemory) pass leaving once (is, same) = let P : Leaving → Type 0 = λ l. HasLeft l w in subst P (sym is) tt
+  left outbox_of v w (Err error) pass leaving once (is, same) = let P : Leaving → Type 0 = λ l. HasLeft l w in subst P (sym is) tt
+
+  pub left_by : (outbox_of : M → OutboxId) (v w : PeerState M) (leaving : Leaving) → Closes outbox_of v leaving w → HasLeft leaving w
+  left_by outbox_of v w leaving (asked, pass, once, is) = left outbox_of v w asked pass leaving once is
