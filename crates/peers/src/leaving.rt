@@ -53,7 +53,7 @@ impl<B: Naming, M: Mailbox + Carrier> Peer<B, M> {
     fn give_up_names<W: Wait, R: Wait + Drop>(&mut self, context: &Context<'_, B, M, W, R>) -> bool
         ensures { AreGivenUp M.outbox_of result self.old self.new }
     {
-        for given in 0..=MAX_CLAIMS {
+        for count in 0..=MAX_CLAIMS {
             match self.give_up_name(context) {
                 Giving::Further => {}
                 Giving::Last => return true,

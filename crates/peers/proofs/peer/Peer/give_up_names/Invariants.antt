@@ -1,5 +1,5 @@
 use Rattle.peers.specs.Departure.{GivesUpNames}
 use Rattle.peers.proofs.peer.Peer.give_up_names.Given as goal
 
-abbrev pub invariant-loop-given : goal.invariant-loop-given
-invariant-loop-given g l = GivesUpNames g.M.Carrier.outbox_of l.given l.fn.self l.self
+abbrev pub invariant-loop-count : goal.invariant-loop-count
+invariant-loop-count g l = GivesUpNames g.M.Carrier.outbox_of l.count l.fn.self l.self
