@@ -3,7 +3,7 @@ use Rattle.std.proofs.Common.{◌≡◌, ◌≢◌, ◌++◌, ◌∷◌, ◌∙�
 use Rattle.std.specs.Prelude.{Bool, Option, None, Some, IfSome}
 use Rattle.percent_encoding.specs.Percent.{percent_decode}
 use Rattle.endpoints.specs.declared.address.Address.{Address}
-use Rattle.endpoints.specs.Address.{Place, Spells, IsPlain, IsPort, IsValue, place_of, at_port, at_path, at_name, in_folder, in_runtime, over_tcp, over_unix, over_tcp_escaped, over_tcp_turned, over_unix_escaped, over_name, over_folder, over_temporary, over_runtime, comma, tcp_key, port_key, tcp_port_key, host_key, unix_key, abstract_key, folder_key, temporary_key, runtime_text}
+use Rattle.endpoints.specs.Address.{Place, Spells, IsPort, IsValue, place_of, at_port, at_path, at_name, in_folder, in_runtime, over_tcp, over_unix, over_tcp_escaped, over_tcp_turned, over_unix_escaped, over_name, over_folder, over_temporary, over_runtime, comma, tcp_key, port_key, tcp_port_key, host_key, unix_key, abstract_key, folder_key, temporary_key, runtime_text}
 use Rattle.std.specs.Option.{option_map}
 use Rattle.endpoints.specs.AddressParts.{Parts, parts_of}
 use Rattle.endpoints.proofs.Values.{plain_decodes, plain_is_value}

@@ -1,6 +1,6 @@
 -- Values without escapes are themselves, and no digit ends a value.
-use Rattle.std.proofs.Common.{◌≡◌, ◌≢◌, ◌∙◌, ◌<◌, ◌≤◌, ap, true, false, ℕ, List, [], ◌∷◌, refl, length, arith}
-use Rattle.std.specs.Prelude.{Some, Bool, ◌==◌}
+use Rattle.std.proofs.Common.{◌≡◌, ◌∙◌, ◌≤◌, ap, true, false, ℕ, List, [], ◌∷◌, refl, arith}
+use Rattle.std.specs.Prelude.{Some, ◌==◌}
 use Rattle.std.specs.List.{list_any}
 use Rattle.std.specs.Str.Parse.{AllDigits}
 use Rattle.std.proofs.lemmas.Bool.{or_parts, or_from, eqb-false, ne_eqb}

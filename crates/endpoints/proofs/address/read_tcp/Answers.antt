@@ -3,7 +3,7 @@ use Rattle.std.proofs.Common.{◌≡◌, ◌++◌, ◌∷◌, ◌∙◌, ap, sym
 use Rattle.std.specs.Prelude.{Some}
 use Rattle.std.specs.Option.{option_map}
 use Rattle.percent_encoding.specs.Percent.{percent_decode}
-use Rattle.endpoints.specs.Address.{tcp_key, comma, port_key, tcp_port_key, host_key, over_tcp_escaped, over_tcp_turned, IsValue, IsPort, place_of, at_port}
+use Rattle.endpoints.specs.Address.{tcp_key, comma, tcp_port_key, host_key, over_tcp_escaped, over_tcp_turned, IsValue, IsPort, place_of, at_port}
 use Rattle.endpoints.proofs.Spelled.{spelled, found_tcp, read_text, read_parts, no_text, no_parts}
 use Rattle.endpoints.proofs.Values.{digits_end_nothing}
 use Rattle.endpoints.proofs.address.read_tcp.Goals as goal
