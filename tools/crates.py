@@ -5,8 +5,10 @@ the library that `rt` is made of, so that `rt check`, `rt test` and the scripts 
 graph of crates.txt anew along each of its paths; here each crate's sum and what it stands on are computed once.
 """
 import copy
+import hashlib
 import importlib.machinery
 import importlib.util
+import json
 import os
 import re
 import shutil
@@ -104,11 +106,11 @@ def run_step(crate, step):
         return status == 0, crate.out.read()
 
 
-def build_library(crate, jobs):
+def build_library(rt, crate, jobs):
     """Proves a library from nothing, and builds it for the crates above."""
     status = crate.build_rlib(["--jobs", str(jobs)], anew=True)
     if status == 0:
-        Path(crate.folder, "out/rlib/stamp").write_text(crate.stamp(), encoding="utf-8")
+        note_proved(rt, crate)
     return status
 
 
@@ -121,6 +123,38 @@ def link_program(rt, crate, jobs):
         stamp = crate.stamp() + rt.rtlib.sum_of(f"{crate.folder}/{program}")
         Path(crate.folder, f"{program}.stamp").write_text(stamp, encoding="utf-8")
     return status
+
+
+def surface_of(crate):
+    """A sum of what crates above see of a built library: its items with their contracts, its definitions and its lemmas, and
+    no body of a function."""
+    top, kept = Path(crate.folder, f"out/rlib/{crate.name}.rlib"), Path(crate.folder, "out/rlib/surface")
+    lines = Path(top, "format").read_text(encoding="utf-8").splitlines()
+    # (the last line is the sum of all files of the library)
+    if not kept.is_file() or kept.read_text(encoding="utf-8").split()[0] != lines[-1].split()[-1]:
+        seen = [it for it in lines if it.split()[0] not in ("over", "needs", "checked", "sum")]
+        for part in ("lang", "interface"):
+            files = (it for it in sorted(Path(top, part).rglob("*")) if it.is_file() and it.name != "made.json")
+            seen += [(str(it.relative_to(top)), it.read_bytes()) for it in files]
+        kept.write_text(f"{lines[-1].split()[-1]} {hashlib.sha256(repr(seen).encode()).hexdigest()}", encoding="utf-8")
+    return kept.read_text(encoding="utf-8").split()[1]
+
+
+def proved_over(rt, crate):
+    """What the proof of a library rests on: its own files, and the surfaces of the libraries below as they are built."""
+    return {"": rt.own_sum(crate), **{it.name: surface_of(it) for it in crate.below()}}
+
+
+def note_proved(rt, crate):
+    """Writes down that a library is proved and built from the sources as they are, and over what."""
+    Path(crate.folder, "out/rlib/over").write_text(json.dumps(proved_over(rt, crate)), encoding="utf-8")
+    Path(crate.folder, "out/rlib/stamp").write_text(crate.stamp(), encoding="utf-8")
+
+
+def stays_proved(rt, crate):
+    """Whether a library was proved from its files as they are, over surfaces as they are, whatever stands behind these."""
+    kept = Path(crate.folder, "out/rlib/over")
+    return kept.is_file() and json.loads(kept.read_text(encoding="utf-8")) == proved_over(rt, crate)
 
 
 def is_built(rt, crate):
@@ -183,7 +217,7 @@ def take_kept(rt, wanted):
         if not is_built(rt, crate):
             if not kept.give(crate, False, kept.key(crate)):
                 continue
-            Path(crate.folder, "out/rlib/stamp").write_text(crate.stamp(), encoding="utf-8")
+            note_proved(rt, crate)
         kept.is_built(crate)
         there.add(crate.name)
 
@@ -210,18 +244,15 @@ def build_tasks(rt, crates, wanted, begun, ended):
     begins, `ended` as it ends, with whether it is proved and what was said."""
 
     def task(crate):
-        step = link if crate.is_program else build_library
+        step = link_program if crate.is_program else build_library
 
         def call(jobs):
             begun(crate)
-            well, said = run_step(crate, lambda it: step(it, jobs))
+            well, said = run_step(crate, lambda it: step(rt, it, jobs))
             ended(crate, well, said)
             return well
 
         return [it.name for it in crate.below() if it.name in names], work_of(crate), rt.need(crate), call
-
-    def link(crate, jobs):
-        return link_program(rt, crate, jobs)
 
     names = {it.name for it in wanted}
     forget_above(crates, wanted)
