@@ -114,7 +114,7 @@ fn of_property<'a>(
     name: &str,
     found: Result<Call<'a>, CallError>,
 ) -> Result<Call<'a>, CallError>
-    ensures { result ≡ of_property interface.now name.now found }
+    ensures { result ≡ of_property interface.now name.now found.entry }
 {
     if !is_interface(interface) {
         Err(CallError::UnknownInterface)

@@ -63,11 +63,7 @@ pub(crate) static INTERFACES: [&str; 5] = [BUS, PEER, PROGRAMS, INTROSPECTABLE, 
 pub(crate) fn is_interface(name: &str) -> bool
     ensures { result ≡ is_interface name.now }
 {
-    name == BUS
-        || name == PEER
-        || name == PROGRAMS
-        || name == INTROSPECTABLE
-        || name == PROPERTIES
+    name == BUS || name == PEER || name == PROGRAMS || name == INTROSPECTABLE || name == PROPERTIES
 }
 
 macro_rules! rows {

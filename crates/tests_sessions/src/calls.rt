@@ -98,7 +98,14 @@ const CALLS: [(&str, &str, &[u8], &[u8], &str, u32); 20] = [
     (BUS, "GetConnectionUnixProcessID", b"s", TEXT, "x", 0),
     (BUS, "GetConnectionCredentials", b"s", TEXT, "x", 0),
     (PEER, "GetMachineId", b"", b"", "", 0),
-    (BUS, "UpdateActivationEnvironment", b"a{ss}", b"\0\0\0\0\0\0\0\0", "", 0),
+    (
+        BUS,
+        "UpdateActivationEnvironment",
+        b"a{ss}",
+        b"\0\0\0\0\0\0\0\0",
+        "",
+        0,
+    ),
     (
         "org.freedesktop.DBus.Introspectable",
         "Introspect",
