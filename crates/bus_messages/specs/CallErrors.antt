@@ -7,6 +7,9 @@ use Rattle.bus_messages.specs.declared.error_name.ErrorName.TheVariants as names
 
 abbrev pub error_name_of : CallError → ErrorName
 error_name_of errors.UnknownMethod = names.UnknownMethod
+error_name_of errors.UnknownInterface = names.UnknownInterface
+error_name_of errors.UnknownProperty = names.UnknownProperty
+error_name_of errors.PropertyReadOnly = names.PropertyReadOnly
 error_name_of errors.InvalidArgs = names.InvalidArgs
 error_name_of errors.BadEdition = names.BadEdition
 error_name_of errors.NoMemory = names.NoMemory

@@ -1,5 +1,5 @@
 -- What the bus understands of a call (D-Bus Specification, "Message Bus Messages").
-use Rattle.std.specs.Prelude.{◌≡◌, ◌≢◌, ◌⊎◌, ℕ, Bool, true, false, ◌&&◌, ◌||◌, List, codes, Option, Some, None, Result, Ok, Err}
+use Rattle.std.specs.Prelude.{◌≡◌, ◌≢◌, ◌⊎◌, ℕ, Bool, true, false, ◌&&◌, ◌||◌, List, codes, Option, Some, None, Result, Ok, Err, if◌then◌else◌}
 use Rattle.std.specs.Str.{bytes_eq}
 use Rattle.bpf_code.specs.declared.instruction.Ins.{Ins}
 use Rattle.signature.specs.DataType.{spellings}
@@ -10,10 +10,11 @@ use Rattle.summary.specs.declared.edition.Edition.TheVariants.{One}
 use Rattle.bus_messages.specs.declared.call.Call.{Call}
 use Rattle.bus_messages.specs.declared.call.Call.TheVariants as calls
 use Rattle.bus_messages.specs.declared.call.CallError.{CallError}
-use Rattle.bus_messages.specs.declared.call.CallError.TheVariants.{UnknownMethod, InvalidArgs, BadEdition, NoMemory}
+use Rattle.bus_messages.specs.declared.call.CallError.TheVariants.{UnknownMethod, UnknownInterface, UnknownProperty, PropertyReadOnly, InvalidArgs, BadEdition, NoMemory}
 use Rattle.bus_messages.specs.declared.method.Method.{Method}
 use Rattle.bus_messages.specs.declared.method.Method.TheVariants as names
 use Rattle.bus_messages.specs.Arguments.{Given, later, first_text, first_number, first_program, edition_of}
+use Rattle.bus_messages.specs.Introspection.{is_interface}
 use Rattle.bus_messages.specs.Methods.{MethodRow, bus, method_called}
 
 -- a call of a method whose first argument is a text
@@ -30,10 +31,19 @@ IsAttach method args_left edition program =
 abbrev pub is_property : List ℕ → List ℕ → Bool
 is_property interface name = bytes_eq interface bus && (bytes_eq name (codes "Features") || bytes_eq name (codes "Interfaces"))
 
--- the first two arguments are texts that name a property of the bus
-abbrev pub NamesProperty : Given → Type 0
-NamesProperty args_left =
-    (interface : List ℕ) × (name : List ℕ) × (first_text args_left ≡ Some interface) × (first_text (later args_left) ≡ Some name) × (is_property interface name ≡ true)
+-- the first argument is a text that names an interface that the bus doesn't have
+abbrev pub NamesNoInterface : Given → Type 0
+NamesNoInterface args_left = (interface : List ℕ) × (first_text args_left ≡ Some interface) × (is_interface interface ≡ false)
+
+-- the first two arguments are texts that name an interface of the bus, and a property of it or another one
+abbrev pub NamesProperty : Bool → Given → Type 0
+NamesProperty is_there args_left =
+    (interface : List ℕ) × (name : List ℕ) × (first_text args_left ≡ Some interface) × (first_text (later args_left) ≡ Some name) × (is_interface interface ≡ true) × (is_property interface name ≡ is_there)
+
+-- the first argument is a text that names an interface of the bus, which is the one that has properties or another one
+abbrev pub NamesInterface : Bool → Given → Type 0
+NamesInterface has_properties args_left =
+    (interface : List ℕ) × (first_text args_left ≡ Some interface) × (is_interface interface ≡ true) × (bytes_eq interface bus ≡ has_properties)
 
 -- a call is of the method, and its values are those of the arguments
 abbrev pub IsCallOf : Call → Method → Given → Type 0
@@ -57,11 +67,12 @@ IsCallOf (calls.GetConnectionUnixProcessId name) method args_left = IsTextCall n
 IsCallOf (calls.GetConnectionCredentials name) method args_left = IsTextCall names.GetConnectionCredentials method args_left name.now
 IsCallOf calls.GetMachineId method args_left = method ≡ names.GetMachineId
 IsCallOf calls.Introspect method args_left = method ≡ names.Introspect
-IsCallOf calls.Get method args_left = (method ≡ names.Get) × NamesProperty args_left
-IsCallOf calls.GetAll method args_left = (method ≡ names.GetAll) × (first_text args_left ≡ Some bus)
+IsCallOf calls.Get method args_left = (method ≡ names.Get) × NamesProperty true args_left
+IsCallOf calls.GetAll method args_left = (method ≡ names.GetAll) × NamesInterface true args_left
+IsCallOf calls.GetAllOfNone method args_left = (method ≡ names.GetAll) × NamesInterface false args_left
+IsCallOf calls.UpdateActivationEnvironment method args_left = method ≡ names.UpdateActivationEnvironment
 
--- An argument that a method takes isn't where its type puts it, or names nothing that the bus has. A method that takes
--- none lacks none.
+-- An argument that a method takes isn't where its type puts it. A method that reads none lacks none.
 abbrev pub Lacks : Method → Given → Type 0
 Lacks names.Hello args_left = ⊥
 Lacks names.ListNames args_left = ⊥
@@ -70,12 +81,13 @@ Lacks names.ListActivatableNames args_left = ⊥
 Lacks names.GetId args_left = ⊥
 Lacks names.GetMachineId args_left = ⊥
 Lacks names.Introspect args_left = ⊥
+Lacks names.UpdateActivationEnvironment args_left = ⊥
 Lacks names.RequestName args_left = (first_text args_left ≡ None) ⊎ (first_number (later args_left) ≡ None)
 Lacks names.Attach args_left = first_program args_left ≡ None
 Lacks names.AttachEdition args_left = (first_number args_left ≡ None) ⊎ (first_program (later args_left) ≡ None)
 Lacks names.Detach args_left = first_number args_left ≡ None
-Lacks names.Get args_left = NamesProperty args_left → ⊥
-Lacks names.GetAll args_left = first_text args_left ≢ Some bus
+Lacks names.Get args_left = (first_text args_left ≡ None) ⊎ (first_text (later args_left) ≡ None)
+Lacks names.Set args_left = (first_text args_left ≡ None) ⊎ (first_text (later args_left) ≡ None)
 Lacks _ args_left = first_text args_left ≡ None
 
 abbrev pub takes_program : Method → Bool
@@ -83,9 +95,22 @@ takes_program names.Attach = true
 takes_program names.AttachEdition = true
 takes_program _ = false
 
+-- which methods name a property after its interface, and which at least an interface
+abbrev pub names_property : Method → Bool
+names_property names.Get = true
+names_property names.Set = true
+names_property _ = false
+
+abbrev pub names_interface : Method → Bool
+names_interface names.GetAll = true
+names_interface method = names_property method
+
 -- why a call of a method is refused whose body has the method's signature
 abbrev pub Refuses : CallError → Method → Given → Type 0
 Refuses UnknownMethod method args_left = ⊥
+Refuses UnknownInterface method args_left = (names_interface method ≡ true) × NamesNoInterface args_left
+Refuses UnknownProperty method args_left = (names_property method ≡ true) × NamesProperty false args_left
+Refuses PropertyReadOnly method args_left = (method ≡ names.Set) × NamesProperty true args_left
 Refuses BadEdition method args_left = (method ≡ names.AttachEdition) × (edition_of (first_number args_left) ≡ Err BadEdition)
 Refuses NoMemory method args_left = takes_program method ≡ true
 Refuses InvalidArgs method args_left = Lacks method args_left
@@ -95,14 +120,18 @@ abbrev pub row_called : Option (List ℕ) → Option (List ℕ) → Option Metho
 row_called interface (Some member) = method_called interface member
 row_called interface None = None
 
--- What a message is read as: of a method that isn't there, `UnknownMethod`; of another signature than the method's,
--- `InvalidArgs`; else as the method's given say.
-abbrev pub ReadsAs : Option MethodRow → List ℕ → Given → Result Call CallError → Type 0
-ReadsAs None signature args_left (Err UnknownMethod) = Unit {0}
-ReadsAs None signature args_left _ = ⊥
-ReadsAs (Some row) signature args_left (Ok call) = (signature ≡ row.takes) × IsCallOf call row.method args_left
-ReadsAs (Some row) signature args_left (Err InvalidArgs) = signature ≡ row.takes → Refuses InvalidArgs row.method args_left
-ReadsAs (Some row) signature args_left (Err error) = (signature ≡ row.takes) × Refuses error row.method args_left
+-- why a call of no method isn't understood: a call that names an interface has to name one of the bus
+abbrev pub unknown_call : Option (List ℕ) → CallError
+unknown_call (Some interface) = if is_interface interface then UnknownMethod else UnknownInterface
+unknown_call None = UnknownMethod
+
+-- What a message is read as: of a method that isn't there, that its interface or the method isn't known; of another signature
+-- than the method's, `InvalidArgs`; else as the method's arguments say.
+abbrev pub ReadsAs : Option (List ℕ) → Option MethodRow → List ℕ → Given → Result Call CallError → Type 0
+ReadsAs interface None signature args_left read = read ≡ Err (unknown_call interface)
+ReadsAs interface (Some row) signature args_left (Ok call) = (signature ≡ row.takes) × IsCallOf call row.method args_left
+ReadsAs interface (Some row) signature args_left (Err InvalidArgs) = signature ≡ row.takes → Refuses InvalidArgs row.method args_left
+ReadsAs interface (Some row) signature args_left (Err error) = (signature ≡ row.takes) × Refuses error row.method args_left
 
 -- the arguments of a message
 abbrev pub given_by : Message → Given
@@ -110,4 +139,4 @@ given_by m = record { message = message_bytes m; order = m.order; left = argumen
 
 -- what a message is read as, as a call of the bus
 abbrev pub IsReadAs : Message → Result Call CallError → Type 0
-IsReadAs m read = ReadsAs (row_called (interface_of m) (member_of m)) (spellings m.types) (given_by m) read
+IsReadAs m read = ReadsAs (interface_of m) (row_called (interface_of m) (member_of m)) (spellings m.types) (given_by m) read

@@ -1,7 +1,7 @@
 -- The names of the errors that the bus answers (D-Bus Specification, "Message Bus Messages").
 use Rattle.std.specs.Prelude.{ℕ, List, codes, ◌++◌}
 use Rattle.bus_messages.specs.declared.error_name.ErrorName.{ErrorName}
-use Rattle.bus_messages.specs.declared.error_name.ErrorName.TheVariants.{Failed, InvalidArgs, LimitsExceeded, MatchRuleInvalid, MatchRuleNotFound, NameHasNoOwner, NoMemory, ServiceUnknown, UnixProcessIdUnknown, UnknownMethod, BadProgram, BadEdition, NoAttachment}
+use Rattle.bus_messages.specs.declared.error_name.ErrorName.TheVariants.{Failed, InvalidArgs, LimitsExceeded, MatchRuleInvalid, MatchRuleNotFound, NameHasNoOwner, NoMemory, ServiceUnknown, PropertyReadOnly, UnixProcessIdUnknown, UnknownInterface, UnknownMethod, UnknownProperty, BadProgram, BadEdition, NoAttachment}
 
 abbrev pub word_of : ErrorName → List ℕ
 word_of Failed = codes "Failed"
@@ -13,7 +13,10 @@ word_of NameHasNoOwner = codes "NameHasNoOwner"
 word_of NoMemory = codes "NoMemory"
 word_of ServiceUnknown = codes "ServiceUnknown"
 word_of UnixProcessIdUnknown = codes "UnixProcessIdUnknown"
+word_of UnknownInterface = codes "UnknownInterface"
 word_of UnknownMethod = codes "UnknownMethod"
+word_of UnknownProperty = codes "UnknownProperty"
+word_of PropertyReadOnly = codes "PropertyReadOnly"
 word_of BadProgram = codes "BadProgram"
 word_of BadEdition = codes "BadEdition"
 word_of NoAttachment = codes "NoAttachment"

@@ -3,7 +3,7 @@ use Rattle.std.specs.Prelude.{ℕ, Bool, true, List, [], ◌∷◌, codes, Optio
 use Rattle.std.specs.List.{find}
 use Rattle.std.specs.Str.{bytes_eq}
 use Rattle.bus_messages.specs.declared.method.Method.{Method}
-use Rattle.bus_messages.specs.declared.method.Method.TheVariants.{Hello, AddMatch, RemoveMatch, RequestName, ReleaseName, GetNameOwner, NameHasOwner, ListNames, Ping, Attach, AttachEdition, Detach, StartServiceByName, ListActivatableNames, ListQueuedOwners, GetId, GetConnectionUnixUser, GetConnectionUnixProcessId, GetConnectionCredentials, GetMachineId, Introspect, Get, GetAll}
+use Rattle.bus_messages.specs.declared.method.Method.TheVariants.{Hello, AddMatch, RemoveMatch, RequestName, ReleaseName, GetNameOwner, NameHasOwner, ListNames, Ping, Attach, AttachEdition, Detach, StartServiceByName, ListActivatableNames, ListQueuedOwners, GetId, GetConnectionUnixUser, GetConnectionUnixProcessId, GetConnectionCredentials, GetMachineId, Introspect, Get, GetAll, Set, UpdateActivationEnvironment}
 
 -- a method, what it is called, and the signatures of its arguments and of its answer
 pub record MethodRow : Type 0 where
@@ -57,6 +57,8 @@ methods =
     ∷ row_of Introspect introspectable (codes "Introspect") [] (codes "s")
     ∷ row_of Get properties (codes "Get") (codes "ss") (codes "v")
     ∷ row_of GetAll properties (codes "GetAll") (codes "s") (codes "a{sv}")
+    ∷ row_of Set properties (codes "Set") (codes "ssv") []
+    ∷ row_of UpdateActivationEnvironment bus (codes "UpdateActivationEnvironment") (codes "a{ss}") []
     ∷ []
 
 -- a call that names no interface may be of any

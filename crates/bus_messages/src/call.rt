@@ -1,19 +1,16 @@
 // The calls that the bus answers itself.
 
-ghost use Rattle.std.specs.Prelude.{◌≡◌, Ok, Err, if◌then◌else◌};
-ghost use Rattle.std.specs.Str.{bytes_eq};
+ghost use Rattle.std.specs.Prelude.{◌≡◌, option_map};
 ghost use Rattle.message_view.specs.Message.{Message};
 ghost use Rattle.message_view.specs.Valid.{Valid};
-ghost use Rattle.bus_messages.specs.declared.call.Call.TheVariants.{Get, GetAll};
-ghost use Rattle.bus_messages.specs.declared.call.CallError.TheVariants.{InvalidArgs};
-ghost use Rattle.bus_messages.specs.Calls.{IsReadAs, is_property};
-ghost use Rattle.bus_messages.specs.CallAnswers.{Understands};
+ghost use Rattle.bus_messages.specs.Calls.{IsReadAs, row_called, unknown_call};
+ghost use Rattle.bus_messages.specs.CallAnswers.{Understands, of_property, properties_of};
 ghost use Rattle.bus_messages.specs.CallErrors.{error_name_of};
-ghost use Rattle.bus_messages.specs.Methods.{bus};
+ghost use Rattle.bus_messages.specs.Rows.{method_row_of};
 
 use crate::arguments::Arguments;
 use crate::error_name::ErrorName;
-use crate::method::{BUS, Method, MethodEntry};
+use crate::method::{BUS, Method, MethodEntry, is_interface};
 use bpf_code::Ins;
 use message_view::View;
 use std::alloc::{AllocError, Global};
@@ -50,6 +47,10 @@ pub enum Call<'a> {
     Get,
     /// Of the bus's properties.
     GetAll,
+    /// Of the properties of an interface that has none.
+    GetAllOfNone,
+    /// The environment of services, of which this bus starts none.
+    UpdateActivationEnvironment,
 }
 
 /// Why a message is no call that the bus answers.
@@ -57,7 +58,13 @@ pub enum Call<'a> {
 pub enum CallError {
     /// The bus has no such method.
     UnknownMethod,
-    /// The arguments aren't of the method's types, or name a property that the bus hasn't.
+    /// The bus has no such interface.
+    UnknownInterface,
+    /// The interface has no such property.
+    UnknownProperty,
+    /// No property of the bus can be set.
+    PropertyReadOnly,
+    /// The arguments aren't of the method's types.
     InvalidArgs,
     /// There is no such edition of a summary.
     BadEdition,
@@ -72,6 +79,9 @@ impl CallError {
     {
         match self {
             CallError::UnknownMethod => ErrorName::UnknownMethod,
+            CallError::UnknownInterface => ErrorName::UnknownInterface,
+            CallError::UnknownProperty => ErrorName::UnknownProperty,
+            CallError::PropertyReadOnly => ErrorName::PropertyReadOnly,
             CallError::InvalidArgs => ErrorName::InvalidArgs,
             CallError::BadEdition => ErrorName::BadEdition,
             CallError::NoMemory => ErrorName::NoMemory,
@@ -98,26 +108,51 @@ impl From<AllocError> for CallError {
     }
 }
 
-/// A property of the bus, by its interface and its name.
-fn property<'a>(interface: &str, name: &str) -> Result<Call<'a>, CallError>
-    ensures { result ≡ (if is_property interface.now name.now then Ok Get else Err InvalidArgs) }
+/// What a call answers that names a property by its interface and its name: what is found, if the property is there.
+fn of_property<'a>(
+    interface: &str,
+    name: &str,
+    found: Result<Call<'a>, CallError>,
+) -> Result<Call<'a>, CallError>
+    ensures { result ≡ of_property interface.now name.now found.entry }
 {
-    if interface == BUS && (name == "Features" || name == "Interfaces") {
-        Ok(Call::Get)
+    if !is_interface(interface) {
+        Err(CallError::UnknownInterface)
+    } else if interface == BUS && (name == "Features" || name == "Interfaces") {
+        found
     } else {
-        Err(CallError::InvalidArgs)
+        Err(CallError::UnknownProperty)
     }
 }
 
 /// All properties of an interface.
 fn properties<'a>(interface: &str) -> Result<Call<'a>, CallError>
-    ensures { result ≡ (if bytes_eq interface.now bus then Ok GetAll else Err InvalidArgs) }
+    ensures { result ≡ properties_of interface.now }
 {
     if interface == BUS {
         Ok(Call::GetAll)
+    } else if is_interface(interface) {
+        Ok(Call::GetAllOfNone)
     } else {
-        Err(CallError::InvalidArgs)
+        Err(CallError::UnknownInterface)
     }
+}
+
+/// Why a call of no method isn't understood.
+fn unknown_call(interface: Option<&str>) -> CallError
+    ensures { result ≡ unknown_call (option_map (λ name. name.now) interface.entry) }
+{
+    match interface {
+        Some(name) if !is_interface(name) => CallError::UnknownInterface,
+        _ => CallError::UnknownMethod,
+    }
+}
+
+/// The row of the method that a message calls.
+fn row_called(interface: Option<&str>, member: Option<&str>) -> Option<&'static MethodEntry>
+    ensures { option_map (λ row. method_row_of row.now) result ≡ row_called (option_map (λ name. name.now) interface.entry) (option_map (λ name. name.now) member.entry) }
+{
+    MethodEntry::of(interface, member?)
 }
 
 impl<'a> Call<'a> {
@@ -158,8 +193,13 @@ impl<'a> Call<'a> {
             }
             Method::GetMachineId => Ok(Call::GetMachineId),
             Method::Introspect => Ok(Call::Introspect),
-            Method::Get => property(arguments.text()?, arguments.text()?),
+            Method::Get => of_property(arguments.text()?, arguments.text()?, Ok(Call::Get)),
             Method::GetAll => properties(arguments.text()?),
+            Method::Set => {
+                let read_only = Err(CallError::PropertyReadOnly);
+                of_property(arguments.text()?, arguments.text()?, read_only)
+            }
+            Method::UpdateActivationEnvironment => Ok(Call::UpdateActivationEnvironment),
         }
     }
 
@@ -167,13 +207,15 @@ impl<'a> Call<'a> {
     ///
     /// # Errors
     ///
-    /// `UnknownMethod` where the bus has no method of the interface and the member, `InvalidArgs` where the body has
-    /// another signature than the method takes, `BadEdition` where a summary's edition isn't 1 or 2, and `NoMemory`.
+    /// `UnknownInterface` and `UnknownMethod` where the bus has no method of the interface and the member, `InvalidArgs`
+    /// where the body has another signature than the method takes, `BadEdition` where a summary's edition isn't 1 or 2,
+    /// `UnknownInterface`, `UnknownProperty` and `PropertyReadOnly` of properties, and `NoMemory`.
     pub fn read(alloc: Global, view: &View<'a>) -> Result<Call<'a>, CallError>
         ensures { (m : Message) → Valid view.now m → IsReadAs m result }
     {
-        let member = view.member().ok_or(CallError::UnknownMethod)?;
-        let row = MethodEntry::of(view.interface(), member).ok_or(CallError::UnknownMethod)?;
+        let Some(row) = row_called(view.interface(), view.member()) else {
+            return Err(unknown_call(view.interface()));
+        };
         if view.signature() != row.takes.as_bytes() {
             return Err(CallError::InvalidArgs);
         }

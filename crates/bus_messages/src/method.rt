@@ -3,6 +3,7 @@
 ghost use Rattle.std.specs.Prelude.{◌≡◌, map, option_map};
 ghost use Rattle.std.specs.List.{find};
 ghost use Rattle.bus_messages.specs.Methods.{methods, is_of, is_called, method_called};
+ghost use Rattle.bus_messages.specs.Introspection.{is_interface};
 ghost use Rattle.bus_messages.specs.Rows.{method_row_of};
 
 /// A method of the bus.
@@ -31,6 +32,8 @@ pub(crate) enum Method {
     Introspect,
     Get,
     GetAll,
+    Set,
+    UpdateActivationEnvironment,
 }
 
 /// What a method is called, and the signatures of its arguments and of its answer.
@@ -56,6 +59,13 @@ const PROPERTIES: &str = "org.freedesktop.DBus.Properties";
 /// The interfaces of the bus, in the order in which Introspect gives them.
 pub(crate) static INTERFACES: [&str; 5] = [BUS, PEER, PROGRAMS, INTROSPECTABLE, PROPERTIES];
 
+/// Whether the bus has an interface.
+pub(crate) fn is_interface(name: &str) -> bool
+    ensures { result ≡ is_interface name.now }
+{
+    name == BUS || name == PEER || name == PROGRAMS || name == INTROSPECTABLE || name == PROPERTIES
+}
+
 macro_rules! rows {
     ($($method:ident $interface:ident $member:literal ($takes:literal) -> $gives:literal;)*) => {
         [$(MethodEntry {
@@ -69,7 +79,7 @@ macro_rules! rows {
 }
 
 /// Each method. A call that names no interface is of the first row with its member.
-static ROWS: [MethodEntry; 23] = rows! {
+static ROWS: [MethodEntry; 25] = rows! {
     Hello BUS "Hello" ("") -> "s";
     AddMatch BUS "AddMatch" ("s") -> "";
     RemoveMatch BUS "RemoveMatch" ("s") -> "";
@@ -93,6 +103,8 @@ static ROWS: [MethodEntry; 23] = rows! {
     Introspect INTROSPECTABLE "Introspect" ("") -> "s";
     Get PROPERTIES "Get" ("ss") -> "v";
     GetAll PROPERTIES "GetAll" ("s") -> "a{sv}";
+    Set PROPERTIES "Set" ("ssv") -> "";
+    UpdateActivationEnvironment BUS "UpdateActivationEnvironment" ("a{ss}") -> "";
 };
 
 /// Every method of the bus.

@@ -43,6 +43,8 @@ module _ {M : Type 0} where
   Performs outbox_of request calls.Ping v result w = Replies request bodies.Nothing v result w
   Performs outbox_of request calls.Get v result w = Replies request bodies.EmptyList v result w
   Performs outbox_of request calls.GetAll v result w = Replies request bodies.Properties v result w
+  Performs outbox_of request calls.GetAllOfNone v result w = Replies request bodies.EmptyDict v result w
+  Performs outbox_of request calls.UpdateActivationEnvironment v result w = Replies request bodies.Nothing v result w
   Performs outbox_of request calls.ListNames v result w = AnswersFound AreAllNames request v result w
   Performs outbox_of request (calls.ListQueuedOwners name) v result w = AnswersFound (AreQueuedFor name.now) request v result w
   Performs outbox_of request calls.GetId v result w = RepliesDigits request (bus_id v.identity) v result w

@@ -74,6 +74,8 @@ impl<B: Naming, M: Mailbox + Carrier> Peer<B, M> {
             Call::Introspect => self.introspect(context, request),
             Call::Get => self.answer(context, request, Body::EmptyList),
             Call::GetAll => self.answer(context, request, Body::Properties),
+            Call::GetAllOfNone => self.answer(context, request, Body::EmptyDict),
+            Call::UpdateActivationEnvironment => self.answer(context, request, Body::Nothing),
         }
     }
 

@@ -72,12 +72,14 @@ fn rest_of<'a>(call: &Call<'a>) -> (&'static str, &'a str, u32) {
         Call::Introspect => ("Introspect", "", 0),
         Call::Get => ("Get", "", 0),
         Call::GetAll => ("GetAll", "", 0),
+        Call::GetAllOfNone => ("GetAll", "none", 0),
+        Call::UpdateActivationEnvironment => ("UpdateActivationEnvironment", "", 0),
         _ => ("another", "", 0),
     }
 }
 
 // Interface, member, signature and body of a call, and its text and its number.
-const CALLS: [(&str, &str, &[u8], &[u8], &str, u32); 19] = [
+const CALLS: [(&str, &str, &[u8], &[u8], &str, u32); 20] = [
     (BUS, "Hello", b"", b"", "", 0),
     (BUS, "AddMatch", b"s", TEXT, "x", 0),
     (BUS, "RemoveMatch", b"s", TEXT, "x", 0),
@@ -96,6 +98,14 @@ const CALLS: [(&str, &str, &[u8], &[u8], &str, u32); 19] = [
     (BUS, "GetConnectionUnixProcessID", b"s", TEXT, "x", 0),
     (BUS, "GetConnectionCredentials", b"s", TEXT, "x", 0),
     (PEER, "GetMachineId", b"", b"", "", 0),
+    (
+        BUS,
+        "UpdateActivationEnvironment",
+        b"a{ss}",
+        b"\0\0\0\0\0\0\0\0",
+        "",
+        0,
+    ),
     (
         "org.freedesktop.DBus.Introspectable",
         "Introspect",
@@ -163,7 +173,7 @@ fn each_call_without_interface(rt: HostRuntime) {
 // A wrong interface, a wrong member, wrong signatures.
 const REFUSED: [(&str, &str, &[u8], &[u8], CallError); 8] = [
     (PEER, "Hello", b"", b"", CallError::UnknownMethod),
-    ("a.b", "Ping", b"", b"", CallError::UnknownMethod),
+    ("a.b", "Ping", b"", b"", CallError::UnknownInterface),
     ("", "Unhello", b"", b"", CallError::UnknownMethod),
     (BUS, "hello", b"", b"", CallError::UnknownMethod),
     (BUS, "Hello", b"u", FIVE, CallError::InvalidArgs),
@@ -187,46 +197,53 @@ fn refused(rt: HostRuntime) {
     }
 }
 
-// Get's two arguments, an interface and a property, and whether there is one.
-const PROPERTY_NAMES: [(&[u8], bool); 4] = [
+// Get's two arguments, an interface and a property, and what is wrong with them.
+const PROPERTY_NAMES: [(&[u8], Option<CallError>); 5] = [
     (
         b"\x14\0\0\0org.freedesktop.DBus\0\0\0\0\x08\0\0\0Features\0",
-        true,
+        None,
     ),
     (
         b"\x14\0\0\0org.freedesktop.DBus\0\0\0\0\x0a\0\0\0Interfaces\0",
-        true,
+        None,
     ),
     (
         b"\x14\0\0\0org.freedesktop.DBus\0\0\0\0\x07\0\0\0Feature\0",
-        false,
+        Some(CallError::UnknownProperty),
     ),
     (
         b"\x19\0\0\0org.freedesktop.DBus.Peer\0\0\0\x08\0\0\0Features\0",
-        false,
+        Some(CallError::UnknownProperty),
+    ),
+    (
+        b"\x03\0\0\0a.b\0\x08\0\0\0Features\0",
+        Some(CallError::UnknownInterface),
     ),
 ];
 
 #[test]
 fn properties(rt: HostRuntime) {
     let alloc = rt.alloc();
-    for (body, is_known) in &PROPERTY_NAMES {
+    for (body, wrong) in &PROPERTY_NAMES {
         let bytes = message(&rt, alloc, PROPERTIES, "Get", b"ss", *body);
-        if *is_known {
-            expect_call(&rt, alloc, &bytes, "Get", "", 0);
-        } else {
-            expect_refusal(&rt, alloc, &bytes, CallError::InvalidArgs);
+        match wrong {
+            None => expect_call(&rt, alloc, &bytes, "Get", "", 0),
+            Some(error) => expect_refusal(&rt, alloc, &bytes, *error),
         }
     }
 }
 
 const BUS_TEXT: &[u8] = b"\x14\0\0\0org.freedesktop.DBus\0";
 
+const PEER_TEXT: &[u8] = b"\x19\0\0\0org.freedesktop.DBus.Peer\0";
+
 #[test]
 fn all_of_an_interface(rt: HostRuntime) {
     let alloc = rt.alloc();
     let bytes = message(&rt, alloc, PROPERTIES, "GetAll", b"s", BUS_TEXT);
     expect_call(&rt, alloc, &bytes, "GetAll", "", 0);
+    let bytes = message(&rt, alloc, PROPERTIES, "GetAll", b"s", PEER_TEXT);
+    expect_call(&rt, alloc, &bytes, "GetAll", "none", 0);
     let bytes = message(&rt, alloc, PROPERTIES, "GetAll", b"s", TEXT);
-    expect_refusal(&rt, alloc, &bytes, CallError::InvalidArgs);
+    expect_refusal(&rt, alloc, &bytes, CallError::UnknownInterface);
 }
