@@ -10,10 +10,10 @@ use Rattle.place_lists.proofs.Places.{AreOnce-without}
 use Rattle.entry_table.specs.declared.entry.Entry.{Entry}
 use Rattle.entry_table.specs.declared.text_points.TextPoints.{TextPoints}
 use Rattle.entry_table.specs.declared.index.Index.{Index}
-use Rattle.entry_table.specs.OfferedEntries.{texts_fixed}
 use Rattle.entry_table.specs.PlacedEntries.{Placed, places_of, entry_at, but_at, room}
 use Rattle.entry_table.specs.ShapeCounts.{shape_count, is_in_use, AreShapes}
 use Rattle.entry_table.specs.TextKeys.{joined_hash, shape_of, hash_lists}
+use Rattle.entry_table.specs.EntryTexts.{lookup_texts}
 use Rattle.entry_table.specs.IndexLists.{places_with_key, AreCounted, IsIndexed, CanStand, Stands, connection_key, connection_lists, texts_key, shape_key, standing_of, empty_index, with_place, without_place, taken_from}
 use Rattle.entry_table.proofs.Placing.{has_place-gone, has_place-kept, places_of-but}
 use Rattle.entry_table.proofs.Keying.{keyed-few, keyed-grown, keyed-same, keyed-shrunk, keyed-kept, IsKeyed-empty, IsKeyed-free, IsKeyed-stands, IsKeyed-put, IsKeyed-take}
@@ -24,10 +24,10 @@ connection-low : (e : Entry) → connection_key e < connection_lists
 connection-low e = mod-lt e.connection (omega arith)
 
 texts-low : (points : TextPoints) (e : Entry) → texts_key points e < hash_lists + 1
-texts-low points e = list_of-low (shape_of (texts_fixed e.filter)) (joined_hash points (texts_fixed e.filter))
+texts-low points e = list_of-low (shape_of (lookup_texts e.filter)) (joined_hash points (lookup_texts e.filter))
 
 shape-low : (e : Entry) → shape_key e < shape_count
-shape-low e = shape-below (texts_fixed e.filter)
+shape-low e = shape-below (lookup_texts e.filter)
 
 pub IsIndexed-empty : (points : TextPoints) → IsIndexed (empty_index points) []
 IsIndexed-empty points = record {
