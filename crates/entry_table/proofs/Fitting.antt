@@ -49,9 +49,10 @@ offers_cases (l ∷ ls) more e h = elim h [
 
 once_append : (ls more : List Lookup) (e : Entry) → OffersOnce ls e → OffersOnce more e → (Offers ls e → Offers more e → ⊥) → OffersOnce (ls ++ more) e
 once_append [] more e h k apart = k
-once_append (l ∷ ls) more e h k apart =
-    (λ here there. elim (offers_cases ls more e there) [ inl left ↦ h.0 here left | inr right ↦ apart (inl here) right ],
-    once_append ls more e h.1 k (λ left right. apart (inr left) right))
+once_append (l ∷ ls) more e h k apart = (
+  λ here there. elim (offers_cases ls more e there) [ inl left ↦ h.0 here left | inr right ↦ apart (inl here) right ],
+  once_append ls more e h.1 k (λ left right. apart (inr left) right),
+)
 
 -- ---- the lookups of one shape
 
@@ -82,9 +83,10 @@ module _ (shape : ℕ) (texts : FixedTexts) (e : Entry) where
 
   arg0_once : (path : Option (List ℕ)) (arg0s : List (Option (List ℕ))) → OnlyOne (lookup_texts e.filter).arg0_namespace arg0s → OffersOnce (with_path shape texts path arg0s) e
   arg0_once path [] only = tt
-  arg0_once path (arg0 ∷ arg0s) only =
-      (λ here later. (let found = offers_arg0 path arg0s later in only.0 (one_parts path arg0 here).2 found.0 found.1 (one_parts path found.0 found.2).2),
-      arg0_once path arg0s only.1)
+  arg0_once path (arg0 ∷ arg0s) only = (
+    λ here later. (let found = offers_arg0 path arg0s later in only.0 (one_parts path arg0 here).2 found.0 found.1 (one_parts path found.0 found.2).2),
+    arg0_once path arg0s only.1,
+  )
 
   abbrev arg0s : List (Option (List ℕ))
   arg0s = texts.arg0 ∷ arg0s_after shape texts.arg0
@@ -169,11 +171,13 @@ shape_fits : (shape : ℕ) (texts : FixedTexts) (e : Entry) → Offers (of_shape
 shape_fits shape texts e h =
     let found = offers_path shape texts e (texts.path ∷ paths_after shape texts.path) h in
     let t : LookupTexts = record { texts = texts; path_namespace = found.0; arg0_namespace = found.1 } in
-    let all = all_found (lookup_texts e.filter) t (and_parts (eqb (shape_key e) shape) (are_found (lookup_texts e.filter) t) found.4).1 in
-    (AreFound-test (texts_fixed e.filter) texts all.0, record {
-      path = path_fits (namespaces_fixed e.filter).path found.0 (eqb (shape / 8 % 2) 1) texts.path found.2 all.1;
-      arg0 = arg0_fits (namespaces_fixed e.filter).arg0 found.1 (eqb (shape / 32 % 2) 1) texts.arg0 found.3 all.2;
-    })
+    let all = all_found (lookup_texts e.filter) t (and_parts (eqb (shape_key e) shape) (are_found (lookup_texts e.filter) t) found.4).1 in (
+      AreFound-test (texts_fixed e.filter) texts all.0,
+      record {
+        path = path_fits (namespaces_fixed e.filter).path found.0 (eqb (shape / 8 % 2) 1) texts.path found.2 all.1;
+        arg0 = arg0_fits (namespaces_fixed e.filter).arg0 found.1 (eqb (shape / 32 % 2) 1) texts.arg0 found.3 all.2;
+      },
+    )
 
 fits_shape : (shape : ℕ) (texts : FixedTexts) (e : Entry) → IsRooted texts.path → shape_key e ≡ shape → Fits texts e → Offers (of_shape shape texts) e
 fits_shape shape texts e rooted same fit =
@@ -232,16 +236,18 @@ none_if (Some text) P e = absurd (omega (arith, e))
 
 other_arg0 : (e : Entry) (a b : FixedTexts) → shape_key e < 16 → b.member ≡ a.member → b.interface ≡ a.interface → b.path ≡ a.path → Fits a e → Fits b e
 other_arg0 e a b low member interface path fit =
-    let none = no_arg0 e low in
-    (record {
-      member = subst (λ (o : Option (List ℕ)). IfSome (texts_fixed e.filter).member (λ text. o ≡ Some text)) (sym member) fit.0.member;
-      interface = subst (λ (o : Option (List ℕ)). IfSome (texts_fixed e.filter).interface (λ text. o ≡ Some text)) (sym interface) fit.0.interface;
-      path = subst (λ (o : Option (List ℕ)). IfSome (texts_fixed e.filter).path (λ text. o ≡ Some text)) (sym path) fit.0.path;
-      arg0 = none_if (texts_fixed e.filter).arg0 (λ text. b.arg0 ≡ Some text) none.0;
-    }, record {
-      path = subst (λ (o : Option (List ℕ)). IfSome (namespaces_fixed e.filter).path (λ namespace. HasPathIn o namespace)) (sym path) fit.1.path;
-      arg0 = none_if (namespaces_fixed e.filter).arg0 (λ namespace. IsSomeAnd b.arg0 (λ text. InNamespace text namespace)) none.1;
-    })
+    let none = no_arg0 e low in (
+      record {
+        member = subst (λ (o : Option (List ℕ)). IfSome (texts_fixed e.filter).member (λ text. o ≡ Some text)) (sym member) fit.0.member;
+        interface = subst (λ (o : Option (List ℕ)). IfSome (texts_fixed e.filter).interface (λ text. o ≡ Some text)) (sym interface) fit.0.interface;
+        path = subst (λ (o : Option (List ℕ)). IfSome (texts_fixed e.filter).path (λ text. o ≡ Some text)) (sym path) fit.0.path;
+        arg0 = none_if (texts_fixed e.filter).arg0 (λ text. b.arg0 ≡ Some text) none.0;
+      },
+      record {
+        path = subst (λ (o : Option (List ℕ)). IfSome (namespaces_fixed e.filter).path (λ namespace. HasPathIn o namespace)) (sym path) fit.1.path;
+        arg0 = none_if (namespaces_fixed e.filter).arg0 (λ namespace. IsSomeAnd b.arg0 (λ text. InNamespace text namespace)) none.1;
+      },
+    )
 
 pub read_fits : (has_arg0 : Bool) (m : Message) (e : Entry) → (has_arg0 ≡ false → shape_key e < 16) → Fits (texts_read has_arg0 m) e → Fits (texts_of m) e
 read_fits true m e low fit = fit

@@ -3,7 +3,9 @@ use Rattle.std.proofs.Common.{◌≡◌, ◌≢◌, ℕ, zero, suc, ◌<◌, ◌
 use Rattle.std.proofs.lemmas.Bool.{eqb-true, eq-eqb, ne_eqb, cond-true, cond-false, cases_Bool, false≢true}
 use Rattle.std.proofs.lemmas.Slice.Eq.{bytes_eq-Decides}
 use Rattle.std.specs.Prelude.{Option, Some, None, IfSome, IsSomeAnd, option_map, if◌then◌else◌}
-use Rattle.std.specs.Str.{bytes_eq}
+use Rattle.std.specs.Str.{bytes_eq, IsCharBoundary}
+use Rattle.std.proofs.lemmas.Str.{IsCharBoundary-before_ascii}
+use Rattle.memchr.specs.Find.{IsLastByte, is_byte}
 use Rattle.match_rule.specs.Holds.{Begins, InPathNamespace}
 use Rattle.match_rule.specs.PathNamespaces.{HasPathIn}
 use Rattle.entry_table.specs.Fronts.{shorter_fronts, fronts_after, namespace_front}
@@ -87,6 +89,20 @@ first_front divider (x ∷ xs) zero low here none =
 first_front divider (x ∷ xs) (suc end) low here none =
     ap (λ (fronts : List (List ℕ)). map (λ (f : List ℕ). x ∷ f) fronts ++ none_or_empty (eqb x divider))
     (first_front divider xs end (omega (arith, low)) here (λ i above inside. none (suc i) (omega (arith, above)) (omega (arith, inside))))
+
+-- the last place of the divider is where the longest front ends
+pub last_front : (divider end : ℕ) (text : List ℕ) → IsLastByte (is_byte divider) text (Some end) → shorter_fronts divider text ≡ take end text ∷ shorter_fronts divider (take end text)
+last_front divider end text h =
+    first_front divider text end h.0.high (eqb-true (get_or text end 0) divider h.1)
+    (λ i above inside is. h.0.after i (omega (arith, above)) inside (eq-eqb (get_or text i 0) divider is))
+
+pub no_last_front : (divider : ℕ) (text : List ℕ) → IsLastByte (is_byte divider) text None → shorter_fronts divider text ≡ []
+no_last_front divider text h = no_fronts divider text (λ i inside is. h i (omega arith) inside (eq-eqb (get_or text i 0) divider is))
+
+-- a text may be cut there
+pub ends_at_boundary : (divider end : ℕ) (text : List ℕ) → divider < 128 → IsLastByte (is_byte divider) text (Some end) → IsCharBoundary text end
+ends_at_boundary divider end text ascii h =
+    IsCharBoundary-before_ascii text end h.0.high (omega (arith, ascii, eqb-true (get_or text end 0) divider h.1))
 
 -- ---- a text and its fronts
 

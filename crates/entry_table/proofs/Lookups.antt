@@ -208,14 +208,14 @@ AreOffered-index index held m offers rooted h falls up =
     record {
       exact = λ e. (
         λ in_offered. (
-        let parts = from_lookups held ls e (subst (λ (es : List Entry). Contains es e) is in_offered) in
-        let fit = offers_fit texts shapes e parts.1 in
-        (reversed held e parts.0, read_fits up.has_arg0 m e (λ none. low_in_use up none (shape_key e) fit.0) fit.1)),
+            let parts = from_lookups held ls e (subst (λ (es : List Entry). Contains es e) is in_offered) in
+            let fit = offers_fit texts shapes e parts.1 in
+            (reversed held e parts.0, read_fits up.has_arg0 m e (λ none. low_in_use up none (shape_key e) fit.0) fit.1)),
         λ both. (
-        let stands = turned_back held e both.0 in
-        let there = in_use index held up.used h up.same e stands in
-        let fit = fits_read up.has_arg0 m e (λ none. low_in_use up none (shape_key e) there) both.1 in
-        subst (λ (es : List Entry). Contains es e) (sym is) (to_lookups held ls e stands (fit_offers texts shapes e (rooted_read up.has_arg0 m rooted) there fit))),
+            let stands = turned_back held e both.0 in
+            let there = in_use index held up.used h up.same e stands in
+            let fit = fits_read up.has_arg0 m e (λ none. low_in_use up none (shape_key e) there) both.1 in
+            subst (λ (es : List Entry). Contains es e) (sym is) (to_lookups held ls e stands (fit_offers texts shapes e (rooted_read up.has_arg0 m rooted) there fit))),
       );
       once = subst (λ (es : List Entry). AllPairs (λ (e f : Entry). e.id ≢ f.id) es) (sym is) (AllPairs-apart (by_lookups held ls) (IdsApart-lookups held falls ls (λ e. offers_once texts shapes e (zero_out, up.once))));
     }

@@ -42,6 +42,7 @@ NoTwice-map f one (x ∷ xs) h =
 
 pub NoTwice-append : {X : Type 0} (xs ys : List X) → NoTwice xs → NoTwice ys → ((x : X) → Among xs x → Among ys x → ⊥) → NoTwice (xs ++ ys)
 NoTwice-append [] ys h k apart = k
-NoTwice-append (x ∷ xs) ys h k apart =
-    (λ there. elim (among-cases xs ys x there) [ inl left ↦ h.0 left | inr right ↦ apart x (inl refl) right ],
-    NoTwice-append xs ys h.1 k (λ y left right. apart y (inr left) right))
+NoTwice-append (x ∷ xs) ys h k apart = (
+  λ there. elim (among-cases xs ys x there) [ inl left ↦ h.0 left | inr right ↦ apart x (inl refl) right ],
+  NoTwice-append xs ys h.1 k (λ y left right. apart y (inr left) right),
+)

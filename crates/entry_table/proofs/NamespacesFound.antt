@@ -19,9 +19,11 @@ same_string None = refl
 same_string (Some found) = refl
 
 pub fits_where_it_holds : OfferedWhereItHolds
-fits_where_it_holds rule m owned h =
-    (AreFound-Holds rule m owned h, record {
-      path = asked_found (Header Path) PathNamespace rule m owned h;
-      arg0 = subst (λ (found : Option (List ℕ)). IfSome (arg0_namespace_asked rule) (λ namespace. IsSomeAnd found (λ text. InNamespace text namespace))) (same_string (text_in (slice_get (arguments_of m) 0)))
-          (asked_found (Arg first_arg) NameNamespace rule m owned h);
-    })
+fits_where_it_holds rule m owned h = (
+  AreFound-Holds rule m owned h,
+  record {
+    path = asked_found (Header Path) PathNamespace rule m owned h;
+    arg0 = subst (λ (found : Option (List ℕ)). IfSome (arg0_namespace_asked rule) (λ namespace. IsSomeAnd found (λ text. InNamespace text namespace))) (same_string (text_in (slice_get (arguments_of m) 0)))
+        (asked_found (Arg first_arg) NameNamespace rule m owned h);
+  },
+)

@@ -6,7 +6,6 @@ use Rattle.signature.specs.Name.{is_path, are_elements, path_form}
 use Rattle.message_value.specs.declared.order.Order.{Order}
 use Rattle.message_value.specs.Value.{Value, text}
 use Rattle.message_value.specs.Fits.{ValueFits}
-use Rattle.message_view.specs.declared.field.FieldCode.TheVariants.{Path}
 use Rattle.message_view.specs.Message.{Message, field_with, text_in, path_of}
 use Rattle.message_view.specs.Spelling.{fixed_len}
 use Rattle.message_view.specs.Valid.{Valid, levels_in_field}
@@ -23,4 +22,4 @@ value_rooted order place (text bytes) fits = path_rooted bytes fits.0
 value_rooted order place _ fits = tt
 
 pub rooted : (bytes : List ℕ) (m : Message) → Valid bytes m → IsRooted (path_of m)
-rooted bytes m valid = fields_held (λ (o : Option Value). IsRooted (text_in o)) Path 1 m.order refl tt (value_rooted m.order) fixed_len m.fields valid.fields
+rooted bytes m valid = fields_held (λ (o : Option Value). IsRooted (text_in o)) _ 1 m.order refl tt (value_rooted m.order) fixed_len m.fields valid.fields

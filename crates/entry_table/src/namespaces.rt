@@ -45,9 +45,13 @@ fn shorter_front(divider: u8, text: &str) -> Option<&str>
     requires { divider < 128 }
     ensures { MatchOption result (shorter_fronts divider text.now ≡ []) (λ front. shorter_fronts divider text.now ≡ front.now ∷ shorter_fronts divider front.now) }
 {
-    let end = memrchr(divider, text.as_bytes())?;
-    let (front, _) = text.split_at(end);
-    Some(front)
+    match memrchr(divider, text.as_bytes()) {
+        None => None,
+        Some(end) => {
+            let (front, _) = text.split_at(end);
+            Some(front)
+        }
+    }
 }
 
 /// The next of the fronts of a text, where a namespace is looked up.

@@ -225,7 +225,14 @@ impl<'a> MessageTexts<'a> {
         );
         list_of(
             shape,
-            join_hashes(member, interface, path, arg0, path_namespace, arg0_namespace),
+            join_hashes(
+                member,
+                interface,
+                path,
+                arg0,
+                path_namespace,
+                arg0_namespace,
+            ),
         )
     }
 
@@ -276,6 +283,7 @@ impl<'a> MessageTexts<'a> {
         ensures { result ≡ are_namespaces_found (rule_texts rule.now) self.now.texts }
     {
         (shape / 8 % 2 == 0 || is_text_found(path_namespace(rule), self.path_namespace.get()))
-            && (shape / 32 % 2 == 0 || is_text_found(arg0_namespace(rule), self.arg0_namespace.get()))
+            && (shape / 32 % 2 == 0
+                || is_text_found(arg0_namespace(rule), self.arg0_namespace.get()))
     }
 }
