@@ -50,6 +50,15 @@ static const char by_arg0[] =
     "080167000373737300000000000000000e0000006f72672e6578616d706c652e6e370000000000000000000004000000"
     "3a312e3700";
 
+/* signal path=/org/freedesktop/DBus interface=org.freedesktop.DBus member=NameOwnerChanged sender=org.freedesktop.DBus
+   s:org.example.n7.part s: s::1.7 */
+static const char by_arg0_namespace[] = 
+    "6c04000129000000010000008900000001016f00150000002f6f72672f667265656465736b746f702f44427573000000"
+    "02017300140000006f72672e667265656465736b746f702e444275730000000003017300100000004e616d654f776e65"
+    "724368616e676564000000000000000007017300140000006f72672e667265656465736b746f702e4442757300000000"
+    "08016700037373730000000000000000130000006f72672e6578616d706c652e6e372e70617274000000000000000000"
+    "040000003a312e3700";
+
 /* signal path=/org/example/o7/part interface=org.example.Things member=Changed s:hello */
 static const char by_namespace[] = 
     "6c0400010a000000010000005700000001016f00140000002f6f72672f6578616d706c652f6f372f7061727400000000"
@@ -122,6 +131,14 @@ int main(void) {
     show("250 x 64 by arg0", by_arg0);
     give(250 * 4, 4, "path_namespace='/org/example/o%u'");
     show("250 x 4 by path_namespace", by_namespace);
+    give(250 * 4, 4, "arg0namespace='org.example.n%u'");
+    show("250 x 4 by arg0namespace", by_arg0_namespace);
+    give(250 * 4, 4, "sender='org.freedesktop.DBus',interface='org.freedesktop.DBus',member='NameOwnerChanged',arg0namespace='org.example.n%u'");
+    show("250 x 4 by names of the bus", by_arg0_namespace);
+    give(250 * 64, 64, "path_namespace='/org/example/o%u'");
+    show("250 x 64 by path_namespace", by_namespace);
+    give(250 * 64, 64, "arg0namespace='org.example.n%u'");
+    show("250 x 64 by arg0namespace", by_arg0_namespace);
     give(250, 1, "member='m7'");
     show("250 of 250", by_member);
     give(1, 1, "member='m8'");

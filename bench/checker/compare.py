@@ -22,6 +22,7 @@ def add_options(parser):
     parser.add_argument("--events", type=int, default=300, help="about how many events a list has")
     parser.add_argument("--jobs", type=int, default=1, help="how many lists are played at once")
     parser.add_argument("--both", action="store_true", help="only what cases_world and cases_bus answer alike")
+    parser.add_argument("--near", action="store_true", help="lists full of near misses for the namespaces of rules")
     parser.add_argument("--unreadable", action="store_true", help="lists with a line of no form")
     parser.add_argument("--seconds", type=int, default=600, help="how long one list may take")
     parser.add_argument("--directory", default=".", help="where lists with a difference are written")
@@ -126,7 +127,7 @@ def one_list(job):
     if options.unreadable:
         return one_unreadable(options, index, rng)
     full = lists.FULL[index] if options.lists >= 10 * FIRST_FULL and index < FIRST_FULL else None
-    made = lists.make(rng, options.both, options.events, full)
+    made = lists.make(rng, options.both, options.events, full, options.near)
     raw = as_bytes(made.lines)
     found = first_difference(made.lines, made.answers, program_answer(options, raw))
     if found is None:

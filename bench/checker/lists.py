@@ -1,6 +1,6 @@
 """Random lists of events. A list is made while it is played, so that it meets what stands and what is gone."""
 
-from . import build, bus, messages, names
+from . import build, bus, messages, names, near_misses
 from . import random_messages, random_programs, random_rules, rules, text
 
 FAR = (1 << 64) - 1
@@ -329,9 +329,12 @@ def full_of_entries(made):
     made.everything("mixed", 200)
 
 
-def make(rng, both=False, events=300, full=None):
-    """A random list; `both` keeps it to what a world and passes of one bus answer alike."""
+def make(rng, both=False, events=300, full=None, near=False):
+    """A random list; `both` keeps it to what a world and passes of one bus answer alike, `near` fills it with near misses."""
     made = List(rng, both)
+    if near:
+        near_misses.fill(made)
+        return made
     if full is None and rng.randrange(ONE_FULL_IN) == 0:
         full = rng.choice(FULL)
     if full is not None:

@@ -2,18 +2,18 @@
 use Rattle.std.proofs.Common.{◌≡◌, ◌≢◌, ℕ, ◌<◌, ◌+◌, ◌-◌, Bool, true, false, ◌&&◌, List, [], ◌∷◌, length, get_or, refl, sym, ap, ◌∙◌, subst, ltb, inl, inr, arith, get_or-set_same, get_or-set_other}
 use Rattle.std.proofs.Math.ListN.{set}
 use Rattle.std.proofs.Math.Nat.{mod-lt}
-use Rattle.std.proofs.lemmas.List.{length-set, length-replicate, get_or-replicate}
-use Rattle.std.proofs.lemmas.Bool.{cases_eq, lt-ltb}
-use Rattle.std.specs.Prelude.{Some}
-use Rattle.place_lists.specs.PlaceLists.{PlaceLists, places_in, has_place, without, AreOnce}
+use Rattle.std.proofs.lemmas.List.{length-set, length-replicate, get_or-replicate, get_or_past}
+use Rattle.std.proofs.lemmas.Bool.{cases_eq, cases_lt, lt-ltb}
+use Rattle.std.specs.Prelude.{Some, replicate}
+use Rattle.place_lists.specs.PlaceLists.{PlaceLists, places_in, has_place, without, AreOnce, empty_lists}
 use Rattle.place_lists.proofs.Places.{AreOnce-without}
 use Rattle.entry_table.specs.declared.entry.Entry.{Entry}
 use Rattle.entry_table.specs.declared.text_points.TextPoints.{TextPoints}
 use Rattle.entry_table.specs.declared.index.Index.{Index}
-use Rattle.entry_table.specs.OfferedEntries.{texts_fixed}
 use Rattle.entry_table.specs.PlacedEntries.{Placed, places_of, entry_at, but_at, room}
 use Rattle.entry_table.specs.ShapeCounts.{shape_count, is_in_use, AreShapes}
 use Rattle.entry_table.specs.TextKeys.{joined_hash, shape_of, hash_lists}
+use Rattle.entry_table.specs.EntryTexts.{lookup_texts}
 use Rattle.entry_table.specs.IndexLists.{places_with_key, AreCounted, IsIndexed, CanStand, Stands, connection_key, connection_lists, texts_key, shape_key, standing_of, empty_index, with_place, without_place, taken_from}
 use Rattle.entry_table.proofs.Placing.{has_place-gone, has_place-kept, places_of-but}
 use Rattle.entry_table.proofs.Keying.{keyed-few, keyed-grown, keyed-same, keyed-shrunk, keyed-kept, IsKeyed-empty, IsKeyed-free, IsKeyed-stands, IsKeyed-put, IsKeyed-take}
@@ -24,10 +24,10 @@ connection-low : (e : Entry) → connection_key e < connection_lists
 connection-low e = mod-lt e.connection (omega arith)
 
 texts-low : (points : TextPoints) (e : Entry) → texts_key points e < hash_lists + 1
-texts-low points e = list_of-low (shape_of (texts_fixed e.filter)) (joined_hash points (texts_fixed e.filter))
+texts-low points e = list_of-low (shape_of (lookup_texts e.filter)) (joined_hash points (lookup_texts e.filter))
 
 shape-low : (e : Entry) → shape_key e < shape_count
-shape-low e = shape-below (texts_fixed e.filter)
+shape-low e = shape-below (lookup_texts e.filter)
 
 pub IsIndexed-empty : (points : TextPoints) → IsIndexed (empty_index points) []
 IsIndexed-empty points = record {
@@ -144,3 +144,21 @@ AreShapes-fewer counts used shape at count h low here is some more =
       | inl none ↦ ap (λ (k : ℕ). ltb 0 k && ltb 0 (get_or counts shape 0)) none ∙ sym (ap (λ (k : ℕ). ltb 0 k && ltb 0 (count - 1)) none)
       | inr other ↦ (let above = more other in ap (λ (b : Bool). ltb 0 shape && b) (lt-ltb 0 (get_or counts shape 0) (omega (arith, is, some)) ∙ sym (lt-ltb 0 (count - 1) (omega (arith, above)))))
     ]
+
+-- no shape is counted, and none is in use
+none_in_use : (n shape : ℕ) (counts : List ℕ) → counts ≡ replicate n 0 → is_in_use shape counts ≡ false
+none_in_use n shape counts zeros = ap (λ (count : ℕ). ltb 0 shape && ltb 0 count) none ∙ no_more (ltb 0 shape)
+  where
+    none : get_or counts shape 0 ≡ 0
+    none = elim (cases_lt shape n) [
+      | inl low ↦ ap (λ (ns : List ℕ). get_or ns shape 0) zeros ∙ get_or-replicate {A = ℕ} n shape 0 0 low
+      | inr past ↦ get_or_past counts shape 0 (omega (arith, ap (λ (ns : List ℕ). length ns) zeros, length-replicate {A = ℕ} n 0, past))
+    ]
+
+pub AreShapes-none : (counts : List ℕ) (used : PlaceLists) → counts ≡ replicate shape_count 0 → used ≡ empty_lists 1 shape_count → AreShapes counts used
+AreShapes-none counts used counted empty = record {
+  long = ap (λ (ns : List ℕ). length ns) counted ∙ length-replicate {A = ℕ} shape_count 0;
+  places = ap (λ (l : PlaceLists). l.places) empty;
+  one = ap (λ (l : PlaceLists). length l.lists) empty;
+  same = λ shape. ap (λ (l : PlaceLists). has_place shape (places_in l 0)) empty ∙ sym (none_in_use shape_count shape counts counted);
+}

@@ -4,6 +4,11 @@ pub mod Keying
 pub mod Shelving
 pub mod Finding
 pub mod Offering
+pub mod Asking
+pub mod Members
+pub mod Fronts
+pub mod Fitting
+pub mod NamespacesFound
+pub mod RootedPaths
 pub mod Lookups
 pub mod Indexing
-pub mod Asking

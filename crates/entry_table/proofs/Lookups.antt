@@ -6,22 +6,26 @@ use Rattle.std.proofs.lemmas.List.Elements.{Contains-append_cases, Contains-appe
 use Rattle.std.proofs.lemmas.List.Kept.{AllPairs-cons}
 use Rattle.std.specs.Prelude.{filter, Contains, All, AllPairs, if◌then◌else◌}
 use Rattle.std.specs.List.{filter_map}
-use Rattle.message_view.specs.Message.{Message}
-use Rattle.match_rule.specs.FixedTexts.{FixedTexts, texts_of}
+use Rattle.message_view.specs.Message.{Message, path_of}
+use Rattle.match_rule.specs.FixedTexts.{FixedTexts}
 use Rattle.place_lists.specs.PlaceLists.{PlaceLists, has_place, AreOnce}
 use Rattle.entry_table.specs.declared.entry.Entry.{Entry}
 use Rattle.entry_table.specs.declared.index.Index.{Index}
-use Rattle.entry_table.specs.OfferedEntries.{texts_fixed, AreOffered}
-use Rattle.entry_table.specs.FoundTexts.{are_found, is_offered, offered_of, texts_read, IsLookedUp}
+use Rattle.entry_table.specs.declared.text_points.TextPoints.{TextPoints}
+use Rattle.entry_table.specs.OfferedEntries.{AreOffered}
+use Rattle.entry_table.specs.FoundTexts.{are_found, is_offered, offered_by, texts_read, IsLookedUp}
+use Rattle.entry_table.specs.Lookups.{Lookup, of_shapes}
 use Rattle.entry_table.specs.PlacedEntries.{Placed, places_of, entry_at}
 use Rattle.entry_table.specs.Searching.{entries_of, AreBelow, IdsFall}
 use Rattle.entry_table.specs.ShapeCounts.{is_in_use}
-use Rattle.entry_table.specs.TextKeys.{KeyedTexts, joined_hash, shape_of, in_shape, list_of, hash_lists}
+use Rattle.entry_table.specs.TextKeys.{LookupTexts, joined_hash, shape_of, in_shape, list_of, hash_lists}
+use Rattle.entry_table.specs.EntryTexts.{lookup_texts}
 use Rattle.entry_table.specs.IndexLists.{places_with_key, IsKeyed, texts_key, shape_key, IsIndexed}
-use Rattle.entry_table.proofs.Asking.{low_offered}
 use Rattle.entry_table.proofs.Finding.{AreKept-all}
 use Rattle.entry_table.proofs.Keying.{keyed-here, keyed-other}
-use Rattle.entry_table.proofs.Offering.{in_list, contains-cons, contains-first, contains-later, filter-contains, contains-filter, reversed, turned_back, shape-below, AreFound-test, test-AreFound, in_own_shape}
+use Rattle.entry_table.proofs.Offering.{in_list, contains-cons, contains-first, contains-later, filter-contains, contains-filter, reversed, turned_back, shape-below, in_own_shape}
+use Rattle.entry_table.proofs.Fronts.{IsRooted}
+use Rattle.entry_table.proofs.Fitting.{Offers, OffersOnce, offers_fit, fit_offers, offers_once, read_fits, fits_read, rooted_read}
 
 -- the entries, the newest first
 abbrev seen_in : List Placed → List Entry
@@ -34,50 +38,47 @@ list_of-low shape hash = low (eqb shape 0)
     low true = omega arith
     low false = let small : hash % 32768 < 32768 = mod-lt hash (omega arith) in omega (arith, small)
 
--- an entry of a shape that a message is offered to stands in the list of the message's texts
-stands-there : (found : KeyedTexts) (shape : ℕ) (e : Entry) → is_offered shape found.texts e ≡ true → texts_key found.points e ≡ list_of shape (joined_hash found.points (in_shape shape found.texts))
-stands-there found shape e h =
-    let asked : FixedTexts = texts_fixed e.filter in
-    let parts = and_parts (eqb (shape_of asked) shape) (are_found asked found.texts) h in
-    let same : shape_of asked ≡ shape = eqb-true (shape_of asked) shape parts.0 in
-    let own : in_shape shape found.texts ≡ asked = ap (λ (n : ℕ). in_shape n found.texts) (sym same) ∙ in_own_shape asked found.texts parts.1 in
-    ap (λ (n : ℕ). list_of n (joined_hash found.points asked)) same ∙ ap (λ (t : FixedTexts). list_of shape (joined_hash found.points t)) (sym own)
+-- an entry that is looked up by these texts stands in their list
+stands-there : (points : TextPoints) (l : Lookup) (e : Entry) → is_offered l.shape l.texts e ≡ true → texts_key points e ≡ list_of l.shape (joined_hash points (in_shape l.shape l.texts))
+stands-there points l e h =
+    let asked : LookupTexts = lookup_texts e.filter in
+    let parts = and_parts (eqb (shape_of asked) l.shape) (are_found asked l.texts) h in
+    let same : shape_of asked ≡ l.shape = eqb-true (shape_of asked) l.shape parts.0 in
+    let own : in_shape l.shape l.texts ≡ asked = ap (λ (n : ℕ). in_shape n l.texts) (sym same) ∙ in_own_shape asked l.texts parts.1 in
+    ap (λ (n : ℕ). list_of n (joined_hash points asked)) same ∙ ap (λ (t : LookupTexts). list_of l.shape (joined_hash points t)) (sym own)
 
-abbrev by_shapes : List Placed → FixedTexts → List ℕ → List Entry
-by_shapes held found [] = []
-by_shapes held found (shape ∷ shapes) = filter (is_offered shape found) (seen_in held) ++ by_shapes held found shapes
+abbrev by_lookups : List Placed → List Lookup → List Entry
+by_lookups held [] = []
+by_lookups held (l ∷ ls) = filter (is_offered l.shape l.texts) (seen_in held) ++ by_lookups held ls
 
--- the list of each shape gives all entries of the shape that the message is offered to
-offered_of-by_shapes : (held : List Placed) (all : PlaceLists) (found : KeyedTexts) → AreOnce (places_of held) → IsKeyed (texts_key found.points) (hash_lists + 1) all held → (shapes : List ℕ) → offered_of held all found shapes ≡ by_shapes held found.texts shapes
-offered_of-by_shapes held all found once h [] = refl
-offered_of-by_shapes held all found once h (shape ∷ shapes) =
-    let list : ℕ = list_of shape (joined_hash found.points (in_shape shape found.texts)) in
-    ap (λ (places : List ℕ). filter (is_offered shape found.texts) (entries places) ++ offered_of held all found shapes) (h.each list (list_of-low shape (joined_hash found.points (in_shape shape found.texts))))
-    ∙ ap (λ (es : List Entry). es ++ offered_of held all found shapes) (in_list (texts_key found.points) list (is_offered shape found.texts) (λ e passes. stands-there found shape e passes) held held (AreKept-all held once))
-    ∙ ap (λ (es : List Entry). filter (is_offered shape found.texts) (seen_in held) ++ es) (offered_of-by_shapes held all found once h shapes)
+-- the list of each lookup gives all entries that are looked up by its texts
+offered_by-lookups : (held : List Placed) (all : PlaceLists) (points : TextPoints) → AreOnce (places_of held) → IsKeyed (texts_key points) (hash_lists + 1) all held → (ls : List Lookup) → offered_by held all points ls ≡ by_lookups held ls
+offered_by-lookups held all points once h [] = refl
+offered_by-lookups held all points once h (l ∷ ls) =
+    let list : ℕ = list_of l.shape (joined_hash points (in_shape l.shape l.texts)) in
+    ap (λ (places : List ℕ). filter (is_offered l.shape l.texts) (entries places) ++ offered_by held all points ls) (h.each list (list_of-low l.shape (joined_hash points (in_shape l.shape l.texts))))
+    ∙ ap (λ (es : List Entry). es ++ offered_by held all points ls) (in_list (texts_key points) list (is_offered l.shape l.texts) (λ e passes. stands-there points l e passes) held held (AreKept-all held once))
+    ∙ ap (λ (es : List Entry). filter (is_offered l.shape l.texts) (seen_in held) ++ es) (offered_by-lookups held all points once h ls)
   where
     entries : List ℕ → List Entry
     entries places = filter_map (λ (place : ℕ). entry_at place held) places
 
--- what is looked up is an entry that the message is offered to
-from_shapes : (held : List Placed) (found : FixedTexts) (shapes : List ℕ) (e : Entry) → Contains (by_shapes held found shapes) e → Contains (seen_in held) e × (are_found (texts_fixed e.filter) found ≡ true) × (has_place (shape_key e) shapes ≡ true)
-from_shapes held found [] e h = absurd (omega (arith, h.1))
-from_shapes held found (shape ∷ shapes) e h =
-    elim (Contains-append_cases (filter (is_offered shape found) (seen_in held)) (by_shapes held found shapes) e h) [
-      | inl here ↦ (
-          let both = filter-contains (is_offered shape found) (seen_in held) e here in
-          let parts = and_parts (eqb (shape_key e) shape) (are_found (texts_fixed e.filter) found) both.1 in
-          (both.0, parts.1, or_left (eqb (shape_key e) shape) (has_place (shape_key e) shapes) parts.0))
-      | inr later ↦ (let rest = from_shapes held found shapes e later in (rest.0, rest.1, or_right (eqb (shape_key e) shape) (has_place (shape_key e) shapes) rest.2))
+-- what is looked up is an entry that one of the lookups offers
+from_lookups : (held : List Placed) (ls : List Lookup) (e : Entry) → Contains (by_lookups held ls) e → Contains (seen_in held) e × Offers ls e
+from_lookups held [] e h = absurd (omega (arith, h.1))
+from_lookups held (l ∷ ls) e h =
+    elim (Contains-append_cases (filter (is_offered l.shape l.texts) (seen_in held)) (by_lookups held ls) e h) [
+      | inl here ↦ (let both = filter-contains (is_offered l.shape l.texts) (seen_in held) e here in (both.0, inl both.1))
+      | inr later ↦ (let rest = from_lookups held ls e later in (rest.0, inr rest.1))
     ]
 
 -- and each such entry is looked up
-to_shapes : (held : List Placed) (found : FixedTexts) (shapes : List ℕ) (e : Entry) → Contains (seen_in held) e → are_found (texts_fixed e.filter) found ≡ true → has_place (shape_key e) shapes ≡ true → Contains (by_shapes held found shapes) e
-to_shapes held found [] e stands passes has = absurd (false≢true has)
-to_shapes held found (shape ∷ shapes) e stands passes has =
-    elim (or_cases (eqb (shape_key e) shape) (has_place (shape_key e) shapes) has) [
-      | inl here ↦ Contains-append_left (filter (is_offered shape found) (seen_in held)) (by_shapes held found shapes) e (contains-filter (is_offered shape found) (seen_in held) e stands (and_from (eqb (shape_key e) shape) (are_found (texts_fixed e.filter) found) here passes))
-      | inr later ↦ Contains-append_right (filter (is_offered shape found) (seen_in held)) (by_shapes held found shapes) e (to_shapes held found shapes e stands passes later)
+to_lookups : (held : List Placed) (ls : List Lookup) (e : Entry) → Contains (seen_in held) e → Offers ls e → Contains (by_lookups held ls) e
+to_lookups held [] e stands offers = absurd offers
+to_lookups held (l ∷ ls) e stands offers =
+    elim offers [
+      | inl here ↦ Contains-append_left (filter (is_offered l.shape l.texts) (seen_in held)) (by_lookups held ls) e (contains-filter (is_offered l.shape l.texts) (seen_in held) e stands here)
+      | inr later ↦ Contains-append_right (filter (is_offered l.shape l.texts) (seen_in held)) (by_lookups held ls) e (to_lookups held ls e stands later)
     ]
 
 -- a shape that an entry has is counted
@@ -160,19 +161,17 @@ one_id (x ∷ xs) e f falls he hf same =
     ]
 
 -- no entry is looked up twice
-IdsApart-shapes : (held : List Placed) (found : FixedTexts) → IdsFall held → (shapes : List ℕ) → AreOnce shapes → IdsApart (by_shapes held found shapes)
-IdsApart-shapes held found falls [] once = tt
-IdsApart-shapes held found falls (shape ∷ shapes) once =
-    IdsApart-joined (is_offered shape found) (seen_in held) (by_shapes held found shapes) (IdsApart-held held falls) (IdsApart-shapes held found falls shapes once.1)
-    (λ e stands passes. OtherIds-from e (by_shapes held found shapes) (λ f later same. apart e f stands passes later same))
+IdsApart-lookups : (held : List Placed) → IdsFall held → (ls : List Lookup) → ((e : Entry) → OffersOnce ls e) → IdsApart (by_lookups held ls)
+IdsApart-lookups held falls [] once = tt
+IdsApart-lookups held falls (l ∷ ls) once =
+    IdsApart-joined (is_offered l.shape l.texts) (seen_in held) (by_lookups held ls) (IdsApart-held held falls) (IdsApart-lookups held falls ls (λ e. (once e).1))
+    (λ e stands passes. OtherIds-from e (by_lookups held ls) (λ f later same. apart e f stands passes later same))
   where
-    apart : (e f : Entry) → Contains (seen_in held) e → is_offered shape found e ≡ true → Contains (by_shapes held found shapes) f → e.id ≡ f.id → ⊥
+    apart : (e f : Entry) → Contains (seen_in held) e → is_offered l.shape l.texts e ≡ true → Contains (by_lookups held ls) f → e.id ≡ f.id → ⊥
     apart e f stands passes later same =
-        let rest = from_shapes held found shapes f later in
+        let rest = from_lookups held ls f later in
         let one : e ≡ f = one_id held e f falls stands rest.0 same in
-        let parts = and_parts (eqb (shape_key e) shape) (are_found (texts_fixed e.filter) found) passes in
-        let there : has_place shape shapes ≡ true = ap (λ (n : ℕ). has_place n shapes) (sym (eqb-true (shape_key e) shape parts.0)) ∙ ap (λ (g : Entry). has_place (shape_key g) shapes) one ∙ rest.2 in
-        false≢true (sym once.0 ∙ there)
+        (once e).0 passes (subst (Offers ls) (sym one) rest.1)
 
 All-other : (e : Entry) (ys : List Entry) → OtherIds e ys → All (λ (f : Entry). e.id ≢ f.id) ys
 All-other e [] h = All-nil (λ (f : Entry). e.id ≢ f.id)
@@ -185,46 +184,38 @@ AllPairs-apart (e ∷ es) h = AllPairs-cons (λ (x y : Entry). x.id ≢ y.id) e 
 -- shape 0 and those in use are all shapes that entries have
 in_use : (index : Index) (held : List Placed) (used : List ℕ) → IsIndexed index held → ((shape : ℕ) → has_place shape used ≡ is_in_use shape index.shapes) → (e : Entry) → Contains (seen_in held) e → has_place (shape_key e) (0 ∷ used) ≡ true
 in_use index held used h same e stands =
-    let low : shape_key e < 16 = shape-below (texts_fixed e.filter) in
+    let low : shape_key e < 64 = shape-below (lookup_texts e.filter) in
     elim (cases_eq (shape_key e) 0) [
       | inl none ↦ or_left (eqb (shape_key e) 0) (has_place (shape_key e) used) (eq-eqb (shape_key e) 0 none)
       | inr some ↦ or_right (eqb (shape_key e) 0) (has_place (shape_key e) used)
           (same (shape_key e) ∙ and_from (ltb 0 (shape_key e)) (ltb 0 (get_or index.shapes (shape_key e) 0)) (lt-ltb 0 (shape_key e) (omega (arith, some))) (lt-ltb 0 (get_or index.shapes (shape_key e) 0) (omega (arith, h.shapes.each (shape_key e) low, counted held e stands))))
     ]
 
-filter_same : (p q : Entry → Bool) (es : List Entry) → ((e : Entry) → p e ≡ q e) → filter p es ≡ filter q es
-filter_same p q [] h = refl
-filter_same p q (e ∷ es) h = rw (h e, filter_same p q es h) refl
-
--- argument 0 need not be read where no shape has it
-low_by_shapes : (held : List Placed) (m : Message) (shapes : List ℕ) → ((shape : ℕ) → has_place shape shapes ≡ true → shape < 8) → by_shapes held (texts_read false m) shapes ≡ by_shapes held (texts_of m) shapes
-low_by_shapes held m [] low = refl
-low_by_shapes held m (shape ∷ shapes) low =
-    let here : shape < 8 = low shape (or_left (eqb shape shape) (has_place shape shapes) (eq-eqb shape shape refl)) in
-    ap (λ (es : List Entry). es ++ by_shapes held (texts_read false m) shapes) (filter_same (is_offered shape (texts_read false m)) (is_offered shape (texts_of m)) (seen_in held) (λ e. low_offered shape m e here))
-    ∙ ap (λ (es : List Entry). filter (is_offered shape (texts_of m)) (seen_in held) ++ es) (low_by_shapes held m shapes (λ other has. low other (or_right (eqb other shape) (has_place other shapes) has)))
-
-read_by_shapes : (held : List Placed) (m : Message) (has_arg0 : Bool) (shapes : List ℕ) → (has_arg0 ≡ false → (shape : ℕ) → has_place shape shapes ≡ true → shape < 8) → by_shapes held (texts_read has_arg0 m) shapes ≡ by_shapes held (texts_of m) shapes
-read_by_shapes held m true shapes low = refl
-read_by_shapes held m false shapes low = low_by_shapes held m shapes (low refl)
-
-low_in_use : {index : Index} {held : List Placed} {m : Message} {offers : List Entry} (up : IsLookedUp index held m offers) → up.has_arg0 ≡ false → (shape : ℕ) → has_place shape (0 ∷ up.used) ≡ true → shape < 8
+low_in_use : {index : Index} {held : List Placed} {m : Message} {offers : List Entry} (up : IsLookedUp index held m offers) → up.has_arg0 ≡ false → (shape : ℕ) → has_place shape (0 ∷ up.used) ≡ true → shape < 16
 low_in_use up none shape has = elim (or_cases (eqb shape 0) (has_place shape up.used) has) [
   | inl zero ↦ omega (arith, eqb-true shape 0 zero)
   | inr later ↦ up.without none shape (sym (up.same shape) ∙ later)
 ]
 
 -- exactly the entries that a message is offered to, each once
-pub AreOffered-index : (index : Index) (held : List Placed) (m : Message) (offers : List Entry) → IsIndexed index held → IdsFall held → IsLookedUp index held m offers → AreOffered (entries_of held) m offers
-AreOffered-index index held m offers h falls up =
-    let found : KeyedTexts = record { points = index.points; texts = texts_read up.has_arg0 m } in
+pub AreOffered-index : (index : Index) (held : List Placed) (m : Message) (offers : List Entry) → IsRooted (path_of m) → IsIndexed index held → IdsFall held → IsLookedUp index held m offers → AreOffered (entries_of held) m offers
+AreOffered-index index held m offers rooted h falls up =
+    let texts : FixedTexts = texts_read up.has_arg0 m in
     let shapes : List ℕ = 0 ∷ up.used in
-    let is : offers ≡ by_shapes held (texts_of m) shapes = up.is ∙ offered_of-by_shapes held index.by_texts found h.once h.texts shapes ∙ read_by_shapes held m up.has_arg0 shapes (λ none shape has. low_in_use up none shape has) in
+    let ls : List Lookup = of_shapes texts shapes in
+    let is : offers ≡ by_lookups held ls = up.is ∙ offered_by-lookups held index.by_texts index.points h.once h.texts ls in
     let zero_out : has_place 0 up.used ≡ false = up.same 0 in
     record {
       exact = λ e. (
-        λ in_offered. (let parts = from_shapes held (texts_of m) shapes e (subst (λ (es : List Entry). Contains es e) is in_offered) in (reversed held e parts.0, AreFound-test (texts_fixed e.filter) (texts_of m) parts.1)),
-        λ both. (let stands = turned_back held e both.0 in subst (λ (es : List Entry). Contains es e) (sym is) (to_shapes held (texts_of m) shapes e stands (test-AreFound (texts_fixed e.filter) (texts_of m) both.1) (in_use index held up.used h up.same e stands))),
+        λ in_offered. (
+            let parts = from_lookups held ls e (subst (λ (es : List Entry). Contains es e) is in_offered) in
+            let fit = offers_fit texts shapes e parts.1 in
+            (reversed held e parts.0, read_fits up.has_arg0 m e (λ none. low_in_use up none (shape_key e) fit.0) fit.1)),
+        λ both. (
+            let stands = turned_back held e both.0 in
+            let there = in_use index held up.used h up.same e stands in
+            let fit = fits_read up.has_arg0 m e (λ none. low_in_use up none (shape_key e) there) both.1 in
+            subst (λ (es : List Entry). Contains es e) (sym is) (to_lookups held ls e stands (fit_offers texts shapes e (rooted_read up.has_arg0 m rooted) there fit))),
       );
-      once = subst (λ (es : List Entry). AllPairs (λ (e f : Entry). e.id ≢ f.id) es) (sym is) (AllPairs-apart (by_shapes held (texts_of m) shapes) (IdsApart-shapes held (texts_of m) falls shapes (zero_out, up.once)));
+      once = subst (λ (es : List Entry). AllPairs (λ (e f : Entry). e.id ≢ f.id) es) (sym is) (AllPairs-apart (by_lookups held ls) (IdsApart-lookups held falls ls (λ e. offers_once texts shapes e (zero_out, up.once))));
     }

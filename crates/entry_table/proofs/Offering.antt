@@ -7,9 +7,9 @@ use Rattle.std.specs.List.{filter_map}
 use Rattle.std.proofs.lemmas.Slice.Eq.{bytes_eq-Decides}
 use Rattle.match_rule.specs.FixedTexts.{FixedTexts, AreFound}
 use Rattle.entry_table.specs.declared.entry.Entry.{Entry}
-use Rattle.entry_table.specs.FoundTexts.{is_text_found, are_found}
+use Rattle.entry_table.specs.FoundTexts.{is_text_found, are_texts_found, are_namespaces_found, are_found}
 use Rattle.entry_table.specs.IndexLists.{places_with_key}
-use Rattle.entry_table.specs.TextKeys.{bit_of, shape_of, where_bit, in_shape}
+use Rattle.entry_table.specs.TextKeys.{LookupTexts, bit_of, shape_of, where_bit, in_shape}
 use Rattle.entry_table.specs.PlacedEntries.{Placed, entry_at}
 use Rattle.entry_table.specs.Searching.{entries_of}
 use Rattle.entry_table.proofs.Finding.{AreKept, entries_of-cons}
@@ -88,24 +88,31 @@ turned_back (x ∷ xs) e h =
       | inr first ↦ (elim (contains-cons x.1 [] e first) [ inl same ↦ contains-first x.1 (map (λ (x : Placed). x.1) xs) e same | inr none ↦ absurd (omega (arith, none.1)) ])
     ]
 
-bit-small : (text : Option (List ℕ)) → bit_of text ≤ 1
+pub bit-small : (text : Option (List ℕ)) → bit_of text ≤ 1
 bit-small None = omega arith
 bit-small (Some text) = omega arith
 
-shape-member : (t : FixedTexts) → shape_of t % 2 ≡ bit_of t.member
-shape-member t = omega (arith, bit-small t.member, bit-small t.interface, bit-small t.path, bit-small t.arg0)
+module _ (t : LookupTexts) where
+  shape-member : shape_of t % 2 ≡ bit_of t.texts.member
+  shape-member = omega (arith, bit-small t.texts.member, bit-small t.texts.interface, bit-small t.texts.path, bit-small t.path_namespace, bit-small t.texts.arg0, bit-small t.arg0_namespace)
 
-shape-interface : (t : FixedTexts) → shape_of t / 2 % 2 ≡ bit_of t.interface
-shape-interface t = omega (arith, bit-small t.member, bit-small t.interface, bit-small t.path, bit-small t.arg0)
+  shape-interface : shape_of t / 2 % 2 ≡ bit_of t.texts.interface
+  shape-interface = omega (arith, bit-small t.texts.member, bit-small t.texts.interface, bit-small t.texts.path, bit-small t.path_namespace, bit-small t.texts.arg0, bit-small t.arg0_namespace)
 
-shape-path : (t : FixedTexts) → shape_of t / 4 % 2 ≡ bit_of t.path
-shape-path t = omega (arith, bit-small t.member, bit-small t.interface, bit-small t.path, bit-small t.arg0)
+  shape-path : shape_of t / 4 % 2 ≡ bit_of t.texts.path
+  shape-path = omega (arith, bit-small t.texts.member, bit-small t.texts.interface, bit-small t.texts.path, bit-small t.path_namespace, bit-small t.texts.arg0, bit-small t.arg0_namespace)
 
-shape-arg0 : (t : FixedTexts) → shape_of t / 8 % 2 ≡ bit_of t.arg0
-shape-arg0 t = omega (arith, bit-small t.member, bit-small t.interface, bit-small t.path, bit-small t.arg0)
+  pub shape-path_namespace : shape_of t / 8 % 2 ≡ bit_of t.path_namespace
+  shape-path_namespace = omega (arith, bit-small t.texts.member, bit-small t.texts.interface, bit-small t.texts.path, bit-small t.path_namespace, bit-small t.texts.arg0, bit-small t.arg0_namespace)
 
-pub shape-below : (t : FixedTexts) → shape_of t < 16
-shape-below t = omega (arith, bit-small t.member, bit-small t.interface, bit-small t.path, bit-small t.arg0)
+  shape-arg0 : shape_of t / 16 % 2 ≡ bit_of t.texts.arg0
+  shape-arg0 = omega (arith, bit-small t.texts.member, bit-small t.texts.interface, bit-small t.texts.path, bit-small t.path_namespace, bit-small t.texts.arg0, bit-small t.arg0_namespace)
+
+  pub shape-arg0_namespace : shape_of t / 32 % 2 ≡ bit_of t.arg0_namespace
+  shape-arg0_namespace = omega (arith, bit-small t.texts.member, bit-small t.texts.interface, bit-small t.texts.path, bit-small t.path_namespace, bit-small t.texts.arg0, bit-small t.arg0_namespace)
+
+  pub shape-below : shape_of t < 64
+  shape-below = omega (arith, bit-small t.texts.member, bit-small t.texts.interface, bit-small t.texts.path, bit-small t.path_namespace, bit-small t.texts.arg0, bit-small t.arg0_namespace)
 
 same_texts : (s t : FixedTexts) → s.member ≡ t.member → s.interface ≡ t.interface → s.path ≡ t.path → s.arg0 ≡ t.arg0 → s ≡ t
 same_texts s t member interface path arg0 =
@@ -114,30 +121,47 @@ same_texts s t member interface path arg0 =
     ∙ ap (λ (x : Option (List ℕ)). record s { member = t.member; interface = t.interface; path = x }) path
     ∙ ap (λ (x : Option (List ℕ)). record s { member = t.member; interface = t.interface; path = t.path; arg0 = x }) arg0
 
+same_lookup : (s t : LookupTexts) → s.texts ≡ t.texts → s.path_namespace ≡ t.path_namespace → s.arg0_namespace ≡ t.arg0_namespace → s ≡ t
+same_lookup s t texts path arg0 =
+    ap (λ (x : FixedTexts). record s { texts = x }) texts
+    ∙ ap (λ (x : Option (List ℕ)). record s { texts = t.texts; path_namespace = x }) path
+    ∙ ap (λ (x : Option (List ℕ)). record s { texts = t.texts; path_namespace = t.path_namespace; arg0_namespace = x }) arg0
+
+text_found : (a f : Option (List ℕ)) → is_text_found a f ≡ true → IfSome a (λ text. f ≡ Some text)
+text_found None f h = tt
+text_found (Some text) None h = absurd (false≢true h)
+text_found (Some text) (Some other) h = ap (λ (t : List ℕ). Some t) ((bytes_eq-Decides other text).0 h)
+
+found_text : (a f : Option (List ℕ)) → IfSome a (λ text. f ≡ Some text) → is_text_found a f ≡ true
+found_text None f h = refl
+found_text (Some text) None h = absurd cc
+found_text (Some text) (Some other) h = let same : other ≡ text = cc in (bytes_eq-Decides other text).1 same
+
+where_found : (a f : Option (List ℕ)) → is_text_found a f ≡ true → where_bit (bit_of a) f ≡ a
+where_found None f h = refl
+where_found (Some text) None h = absurd (false≢true h)
+where_found (Some text) (Some other) h = ap (λ (t : List ℕ). Some t) ((bytes_eq-Decides other text).0 h)
+
 module _ (asked found : FixedTexts) where
-  text_found : (a f : Option (List ℕ)) → is_text_found a f ≡ true → IfSome a (λ text. f ≡ Some text)
-  text_found None f h = tt
-  text_found (Some text) None h = absurd (false≢true h)
-  text_found (Some text) (Some other) h = ap (λ (t : List ℕ). Some t) ((bytes_eq-Decides other text).0 h)
-
-  found_text : (a f : Option (List ℕ)) → IfSome a (λ text. f ≡ Some text) → is_text_found a f ≡ true
-  found_text None f h = refl
-  found_text (Some text) None h = absurd cc
-  found_text (Some text) (Some other) h = let same : other ≡ text = cc in (bytes_eq-Decides other text).1 same
-
-  pub AreFound-test : are_found asked found ≡ true → AreFound asked found
-  AreFound-test h =
+  -- the four tests
+  four_found : are_texts_found asked found ≡ true → (is_text_found asked.member found.member ≡ true) × (is_text_found asked.interface found.interface ≡ true) × (is_text_found asked.path found.path ≡ true) × (is_text_found asked.arg0 found.arg0 ≡ true)
+  four_found h =
       let last = and_parts (is_text_found asked.member found.member && is_text_found asked.interface found.interface && is_text_found asked.path found.path) (is_text_found asked.arg0 found.arg0) h in
       let third = and_parts (is_text_found asked.member found.member && is_text_found asked.interface found.interface) (is_text_found asked.path found.path) last.0 in
       let second = and_parts (is_text_found asked.member found.member) (is_text_found asked.interface found.interface) third.0 in
+      (second.0, second.1, third.1, last.1)
+
+  pub AreFound-test : are_texts_found asked found ≡ true → AreFound asked found
+  AreFound-test h =
+      let four = four_found h in
       record {
-        member = text_found asked.member found.member second.0;
-        interface = text_found asked.interface found.interface second.1;
-        path = text_found asked.path found.path third.1;
-        arg0 = text_found asked.arg0 found.arg0 last.1;
+        member = text_found asked.member found.member four.0;
+        interface = text_found asked.interface found.interface four.1;
+        path = text_found asked.path found.path four.2;
+        arg0 = text_found asked.arg0 found.arg0 four.3;
       }
 
-  pub test-AreFound : AreFound asked found → are_found asked found ≡ true
+  pub test-AreFound : AreFound asked found → are_texts_found asked found ≡ true
   test-AreFound h =
       and_from (is_text_found asked.member found.member && is_text_found asked.interface found.interface && is_text_found asked.path found.path) (is_text_found asked.arg0 found.arg0)
       (and_from (is_text_found asked.member found.member && is_text_found asked.interface found.interface) (is_text_found asked.path found.path)
@@ -145,19 +169,28 @@ module _ (asked found : FixedTexts) where
       (found_text asked.path found.path h.path))
       (found_text asked.arg0 found.arg0 h.arg0)
 
-  where_found : (a f : Option (List ℕ)) → is_text_found a f ≡ true → where_bit (bit_of a) f ≡ a
-  where_found None f h = refl
-  where_found (Some text) None h = absurd (false≢true h)
-  where_found (Some text) (Some other) h = ap (λ (t : List ℕ). Some t) ((bytes_eq-Decides other text).0 h)
+module _ (asked found : LookupTexts) where
+  -- the test of the texts, and those of the namespaces
+  pub all_found : are_found asked found ≡ true → (are_texts_found asked.texts found.texts ≡ true) × (is_text_found asked.path_namespace found.path_namespace ≡ true) × (is_text_found asked.arg0_namespace found.arg0_namespace ≡ true)
+  all_found h =
+      let both = and_parts (are_texts_found asked.texts found.texts) (are_namespaces_found asked found) h in
+      let two = and_parts (is_text_found asked.path_namespace found.path_namespace) (is_text_found asked.arg0_namespace found.arg0_namespace) both.1 in
+      (both.0, two.0, two.1)
+
+  pub found_all : are_texts_found asked.texts found.texts ≡ true → is_text_found asked.path_namespace found.path_namespace ≡ true → is_text_found asked.arg0_namespace found.arg0_namespace ≡ true → are_found asked found ≡ true
+  found_all texts path arg0 =
+      and_from (are_texts_found asked.texts found.texts) (are_namespaces_found asked found) texts
+      (and_from (is_text_found asked.path_namespace found.path_namespace) (is_text_found asked.arg0_namespace found.arg0_namespace) path arg0)
 
   -- of the texts that are found, those of the asked shape are just those that are asked for
   pub in_own_shape : are_found asked found ≡ true → in_shape (shape_of asked) found ≡ asked
   in_own_shape h =
-      let last = and_parts (is_text_found asked.member found.member && is_text_found asked.interface found.interface && is_text_found asked.path found.path) (is_text_found asked.arg0 found.arg0) h in
-      let third = and_parts (is_text_found asked.member found.member && is_text_found asked.interface found.interface) (is_text_found asked.path found.path) last.0 in
-      let second = and_parts (is_text_found asked.member found.member) (is_text_found asked.interface found.interface) third.0 in
-      let member = ap (λ (n : ℕ). where_bit n found.member) (shape-member asked) ∙ where_found asked.member found.member second.0 in
-      let interface = ap (λ (n : ℕ). where_bit n found.interface) (shape-interface asked) ∙ where_found asked.interface found.interface second.1 in
-      let path = ap (λ (n : ℕ). where_bit n found.path) (shape-path asked) ∙ where_found asked.path found.path third.1 in
-      let arg0 = ap (λ (n : ℕ). where_bit n found.arg0) (shape-arg0 asked) ∙ where_found asked.arg0 found.arg0 last.1 in
-      same_texts (in_shape (shape_of asked) found) asked member interface path arg0
+      let all = all_found h in
+      let four = four_found asked.texts found.texts all.0 in
+      let member = ap (λ (n : ℕ). where_bit n found.texts.member) (shape-member asked) ∙ where_found asked.texts.member found.texts.member four.0 in
+      let interface = ap (λ (n : ℕ). where_bit n found.texts.interface) (shape-interface asked) ∙ where_found asked.texts.interface found.texts.interface four.1 in
+      let path = ap (λ (n : ℕ). where_bit n found.texts.path) (shape-path asked) ∙ where_found asked.texts.path found.texts.path four.2 in
+      let arg0 = ap (λ (n : ℕ). where_bit n found.texts.arg0) (shape-arg0 asked) ∙ where_found asked.texts.arg0 found.texts.arg0 four.3 in
+      let path_namespace = ap (λ (n : ℕ). where_bit n found.path_namespace) (shape-path_namespace asked) ∙ where_found asked.path_namespace found.path_namespace all.1 in
+      let arg0_namespace = ap (λ (n : ℕ). where_bit n found.arg0_namespace) (shape-arg0_namespace asked) ∙ where_found asked.arg0_namespace found.arg0_namespace all.2 in
+      same_lookup (in_shape (shape_of asked) found) asked (same_texts (in_shape (shape_of asked) found).texts asked.texts member interface path arg0) path_namespace arg0_namespace

@@ -8,10 +8,12 @@ use Rattle.place_lists.specs.PlaceLists.{PlaceLists, places_in, has_place, AreOn
 use Rattle.entry_table.specs.declared.entry.Entry.{Entry}
 use Rattle.entry_table.specs.declared.index.Index.{Index}
 use Rattle.entry_table.specs.declared.offers.Cursor.{Cursor}
-use Rattle.entry_table.specs.OfferedEntries.{texts_fixed}
+use Rattle.entry_table.specs.declared.text_points.TextPoints.{TextPoints}
 use Rattle.entry_table.specs.PlacedEntries.{Placed, entry_at}
 use Rattle.entry_table.specs.ShapeCounts.{is_in_use}
-use Rattle.entry_table.specs.TextKeys.{KeyedTexts, joined_hash, shape_of, in_shape, list_of, hash_lists}
+use Rattle.entry_table.specs.Lookups.{Lookup, first_texts, lookups_after}
+use Rattle.entry_table.specs.TextKeys.{KeyedTexts, LookupTexts, joined_hash, shape_of, in_shape, list_of, hash_lists}
+use Rattle.entry_table.specs.EntryTexts.{lookup_texts}
 
 -- a text that is asked for is the one that is found
 abbrev pub is_text_found : Option (List ℕ) → Option (List ℕ) → Bool
@@ -19,27 +21,46 @@ is_text_found None found = true
 is_text_found (Some text) None = false
 is_text_found (Some text) (Some other) = bytes_eq other text
 
-abbrev pub are_found : FixedTexts → FixedTexts → Bool
-are_found asked found =
+-- each text that an entry is looked up by is the one that is found
+abbrev pub are_texts_found : FixedTexts → FixedTexts → Bool
+are_texts_found asked found =
     is_text_found asked.member found.member && is_text_found asked.interface found.interface && is_text_found asked.path found.path && is_text_found asked.arg0 found.arg0
 
--- the entry has the shape, and a message with these texts is offered to it
-abbrev pub is_offered : ℕ → FixedTexts → Entry → Bool
-is_offered shape found e = shape_of (texts_fixed e.filter) == shape && are_found (texts_fixed e.filter) found
+abbrev pub are_namespaces_found : LookupTexts → LookupTexts → Bool
+are_namespaces_found asked found =
+    is_text_found asked.path_namespace found.path_namespace && is_text_found asked.arg0_namespace found.arg0_namespace
 
--- the entries of a shape at these places that a message with these texts is offered to
-abbrev pub offered_at : List Placed → FixedTexts → ℕ → List ℕ → List Entry
+abbrev pub are_found : LookupTexts → LookupTexts → Bool
+are_found asked found = are_texts_found asked.texts found.texts && are_namespaces_found asked found
+
+-- the entry has the shape, and these are the texts that it is looked up by
+abbrev pub is_offered : ℕ → LookupTexts → Entry → Bool
+is_offered shape found e = shape_of (lookup_texts e.filter) == shape && are_found (lookup_texts e.filter) found
+
+-- the entries of a shape at these places that are looked up by these texts
+abbrev pub offered_at : List Placed → LookupTexts → ℕ → List ℕ → List Entry
 offered_at held found shape places = filter (is_offered shape found) (filter_map (λ (place : ℕ). entry_at place held) places)
 
--- those of these shapes, each shape looked up in its list
-abbrev pub offered_of : List Placed → PlaceLists → KeyedTexts → List ℕ → List Entry
-offered_of held all found [] = []
-offered_of held all found (shape ∷ shapes) =
-    offered_at held found.texts shape (places_in all (list_of shape (joined_hash found.points (in_shape shape found.texts)))) ++ offered_of held all found shapes
+-- those of each lookup, in the lookup's list
+abbrev pub offered_by : List Placed → PlaceLists → TextPoints → List Lookup → List Entry
+offered_by held all points [] = []
+offered_by held all points (l ∷ ls) =
+    offered_at held l.texts l.shape (places_in all (list_of l.shape (joined_hash points (in_shape l.shape l.texts)))) ++ offered_by held all points ls
 
--- what is still to come: those of a shape at these places, and those of the shapes after it
+-- what is still to come: the entries of a shape at these places, and those of the lookups after it
 abbrev pub coming : List Placed → PlaceLists → KeyedTexts → Cursor → List Entry
-coming held all found at = offered_at held found.texts at.shape at.places ++ offered_of held all found at.shapes
+coming held all found at = offered_at held found.texts at.shape at.places ++ offered_by held all found.points (lookups_after at.shape found.texts at.shapes)
+
+-- the next lookup: its texts and its shape, where the places stay those of the lookup before
+pub record IsNextLookup (old : KeyedTexts) (from : Cursor) (new : KeyedTexts) (to : Cursor) : Type 0 where
+  pub next : lookups_after from.shape old.texts from.shapes ≡ record { shape = to.shape; texts = new.texts } ∷ lookups_after to.shape new.texts to.shapes
+  pub points : new.points ≡ old.points
+
+-- no lookup is left, and all is as it was
+pub record IsLastLookup (old : KeyedTexts) (from : Cursor) (new : KeyedTexts) (to : Cursor) : Type 0 where
+  pub none : lookups_after from.shape old.texts from.shapes ≡ []
+  pub same_texts : new ≡ old
+  pub same_cursor : to ≡ from
 
 -- the texts that are read of a message, argument 0 among them or not
 abbrev pub texts_read : Bool → Message → FixedTexts
@@ -53,5 +74,5 @@ pub record IsLookedUp (index : Index) (held : List Placed) (m : Message) (offers
   pub same : (shape : ℕ) → has_place shape used ≡ is_in_use shape index.shapes
   -- argument 0 is read, or no shape in use has it
   pub has_arg0 : Bool
-  pub without : has_arg0 ≡ false → (shape : ℕ) → is_in_use shape index.shapes ≡ true → shape < 8
-  pub is : offers ≡ coming held index.by_texts (record { points = index.points; texts = texts_read has_arg0 m }) (record { shape = 0; places = places_in index.by_texts hash_lists; shapes = used })
+  pub without : has_arg0 ≡ false → (shape : ℕ) → is_in_use shape index.shapes ≡ true → shape < 16
+  pub is : offers ≡ coming held index.by_texts (record { points = index.points; texts = first_texts (texts_read has_arg0 m) }) (record { shape = 0; places = places_in index.by_texts hash_lists; shapes = used })

@@ -5,10 +5,10 @@ use Rattle.entry_table.specs.declared.entry.Entry.{Entry}
 use Rattle.entry_table.specs.declared.text_points.TextPoints.{TextPoints}
 use Rattle.entry_table.specs.declared.index.Index.{Index}
 use Rattle.entry_table.specs.declared.index.Standing.{Standing}
-use Rattle.entry_table.specs.OfferedEntries.{texts_fixed}
 use Rattle.entry_table.specs.PlacedEntries.{Placed, places_of, room}
 use Rattle.entry_table.specs.ShapeCounts.{shape_count}
 use Rattle.entry_table.specs.TextKeys.{joined_hash, shape_of, list_of, hash_lists}
+use Rattle.entry_table.specs.EntryTexts.{lookup_texts}
 
 -- the places of the entries of a key, the entry that was put last first
 abbrev pub places_with_key : (Entry → ℕ) → ℕ → List Placed → List ℕ
@@ -28,10 +28,10 @@ abbrev pub connection_key : Entry → ℕ
 connection_key e = e.connection % connection_lists
 
 abbrev pub shape_key : Entry → ℕ
-shape_key e = shape_of (texts_fixed e.filter)
+shape_key e = shape_of (lookup_texts e.filter)
 
 abbrev pub texts_key : TextPoints → Entry → ℕ
-texts_key points e = list_of (shape_of (texts_fixed e.filter)) (joined_hash points (texts_fixed e.filter))
+texts_key points e = list_of (shape_of (lookup_texts e.filter)) (joined_hash points (lookup_texts e.filter))
 
 -- the entries of each shape are counted
 pub record AreCounted (counts : List ℕ) (held : List Placed) : Type 0 where

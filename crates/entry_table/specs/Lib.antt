@@ -6,10 +6,13 @@ pub mod OfferedEntries
 pub mod PlacedEntries
 pub mod Searching
 pub mod TextKeys
+pub mod EntryTexts
 pub mod ShapeCounts
 pub mod IndexLists
 pub mod FoundTexts
 pub mod HeldTexts
 pub mod RuleHints
-pub mod Elsewhere
+pub mod Namespaces
+pub mod Fronts
+pub mod Lookups
 pub mod Envelopes

@@ -1,20 +1,35 @@
 -- The entries that a message is offered to (own).
-use Rattle.std.specs.Prelude.{◌≢◌, ◌↔◌, List, Contains, AllPairs}
+use Rattle.std.specs.Prelude.{◌≢◌, ◌↔◌, ℕ, Bool, List, Contains, AllPairs}
 use Rattle.message_view.specs.Message.{Message}
+use Rattle.match_rule.specs.RuleTree.{RuleTree}
+use Rattle.match_rule.specs.Holds.{Holds}
 use Rattle.match_rule.specs.FixedTexts.{FixedTexts, no_texts, fixed_texts, texts_of, AreFound}
 use Rattle.entry_table.specs.declared.entry.Entry.{Entry}
 use Rattle.entry_table.specs.declared.entry.Filter.{Filter}
 use Rattle.entry_table.specs.declared.entry.Filter.TheVariants.{Rule, Attached}
+use Rattle.entry_table.specs.Namespaces.{Namespaces, no_namespaces, namespaces_asked, AreInside}
 
 -- the texts that a filter fixes by equality; an attached program fixes none
 abbrev pub texts_fixed : Filter → FixedTexts
 texts_fixed (Rule compiled) = fixed_texts compiled.rule
 texts_fixed (Attached program) = no_texts
 
--- A message is offered to an entry where it has each text that the entry's rule fixes; to an attached program it
--- always is.
+-- the namespaces that a filter asks for; an attached program asks for none
+abbrev pub namespaces_fixed : Filter → Namespaces
+namespaces_fixed (Rule compiled) = namespaces_asked compiled.rule
+namespaces_fixed (Attached program) = no_namespaces
+
+-- A message is offered to an entry where it has each text that the entry's rule fixes, and lies in each namespace that
+-- the rule asks for; to an attached program it always is.
 abbrev pub IsOffered : Message → Entry → Type 0
-IsOffered m e = AreFound (texts_fixed e.filter) (texts_of m)
+IsOffered m e = AreFound (texts_fixed e.filter) (texts_of m) × AreInside (namespaces_fixed e.filter) (texts_of m)
+
+-- a message of which a rule holds has the texts that the rule fixes, and lies in the namespaces that it asks for
+abbrev pub OfferedWhereItHolds : Type 0
+OfferedWhereItHolds =
+    (rule : RuleTree) (m : Message) (owned : List ℕ → Bool)
+    → Holds rule m owned
+    → AreFound (fixed_texts rule) (texts_of m) × AreInside (namespaces_asked rule) (texts_of m)
 
 -- exactly those of the entries that a message is offered to, each once
 pub record AreOffered (entries : List Entry) (m : Message) (offers : List Entry) : Type 0 where

@@ -14,14 +14,13 @@ pub enum Filter {
 }
 
 impl Filter {
-    ghost use Rattle.std.specs.Prelude.{◌≡◌, ◌↔◌, IfOk, IsTrue, option_map};
+    ghost use Rattle.std.specs.Prelude.{◌≡◌, ◌↔◌, IfOk, IsTrue};
     ghost use Rattle.message_view.specs.Message.{Message};
     ghost use Rattle.message_view.specs.Valid.{Valid};
-    ghost use Rattle.entry_table.specs.Elsewhere.{IsFilterElsewhere};
     ghost use Rattle.entry_table.specs.Envelopes.{FilterFits};
     ghost use Rattle.entry_table.specs.Entries.{is_rule, is_attached};
-    ghost use Rattle.entry_table.specs.OfferedEntries.{texts_fixed};
     ghost use Rattle.entry_table.specs.TextKeys.{shape_of};
+    ghost use Rattle.entry_table.specs.EntryTexts.{lookup_texts};
 
     /// The same filter once more, without a copy.
     pub fn share(&self) -> Result<Filter, AllocError>
@@ -33,24 +32,13 @@ impl Filter {
         }
     }
 
-    /// Which texts it fixes.
+    /// Which texts it is looked up by.
     pub(crate) fn shape(&self) -> u16
-        ensures { result ≡ shape_of (texts_fixed self.now) }
+        ensures { result ≡ shape_of (lookup_texts self.now) }
     {
         match self {
             Filter::Rule(compiled) => compiled.shape(),
             Filter::Attached(_) => 0,
-        }
-    }
-
-    /// Whether it is a rule that asks for a path namespace that the path, that of a message, isn't in.
-    #[inline(always)]
-    pub fn is_elsewhere(&self, path: Option<&str>) -> bool
-        ensures { IsTrue result ↔ IsFilterElsewhere self.now (option_map (λ text. text.now) path.entry) }
-    {
-        match self {
-            Filter::Rule(compiled) => compiled.is_elsewhere(path),
-            Filter::Attached(_) => false,
         }
     }
 

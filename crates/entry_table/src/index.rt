@@ -1,12 +1,13 @@
 // The lists by which entries are looked up.
 
 use crate::entry::Entry;
+use crate::lookup_texts::LookupTexts;
 use crate::offers::Offers;
 use crate::shapes::Shapes;
 use crate::shelf::Shelf;
 use crate::table::MAX_ENTRIES;
 use crate::text_points::TextPoints;
-use crate::texts::{HASH_LISTS, MessageTexts, joined_hash, list_of, shape_of, texts_fixed};
+use crate::texts::{HASH_LISTS, MessageTexts, list_of};
 use message_view::View;
 use place_lists::{Lists, Walk};
 use std::alloc::{AllocError, Global};
@@ -22,7 +23,7 @@ pub(crate) struct Standing {
     shape: u16,
 }
 
-/// The places of entries, by connection and by the texts that they fix.
+/// The places of entries, by connection and by the texts that they are looked up by.
 #[derive(Drop)]
 pub(crate) struct Index {
     points: TextPoints,
@@ -56,11 +57,11 @@ impl Index {
     pub(crate) fn standing_of(&self, entry: &Entry) -> Standing
         ensures { result ≡ standing_of self.now.points entry.now }
     {
-        let texts = texts_fixed(&entry.filter);
-        let shape = shape_of(&texts);
+        let texts = LookupTexts::of(&entry.filter);
+        let shape = texts.shape();
         Standing {
             connection: (entry.connection % CONNECTION_LISTS as u64) as usize,
-            texts: list_of(shape, joined_hash(&self.points, &texts)),
+            texts: list_of(shape, texts.hash(&self.points)),
             shape,
         }
     }
@@ -94,7 +95,8 @@ impl Index {
             .walk((connection % CONNECTION_LISTS as u64) as usize)
     }
 
-    /// The entries of a shelf that a message is offered to: each shape in use is looked up once.
+    /// The entries of a shelf that a message is offered to: each shape in use is looked up, one
+    /// that has a namespace once for each that the message's text is in.
     #[inline(always)]
     pub(crate) fn entries_for<'a>(&'a self, shelf: &'a Shelf, view: &View<'a>) -> Offers<'a>
         requires { length self.now.by_texts.lists ≡ hash_lists + 1 }

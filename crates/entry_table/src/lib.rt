@@ -1,8 +1,9 @@
 //! The entries of the bus: rules with their programs, and attached programs. The layers above use that the calls of
 //! `EntryTable` are edits of a list of entries by rising id, and that `EntryTable::entries_for` gives exactly the entries
-//! that a message is offered to. An index finds them: entries stand in lists by the texts that they fix, and a message
-//! is looked up once for each shape in use, that is for each choice of keys that some entry fixes. What is done for one
-//! connection goes over the list of that connection.
+//! that a message is offered to. An index finds them: entries stand in lists by the texts that they fix and by the
+//! namespaces that they ask for. A message is looked up for each shape in use, that is for each choice of keys that some
+//! entry has: once, or, where the shape has a namespace, once for each namespace that the message's text is in. What is
+//! done for one connection goes over the list of that connection.
 #![tactic(auto)]
 
 mod attachment;
@@ -10,6 +11,8 @@ mod entry;
 mod index;
 mod index_key;
 mod indexed_shelf;
+mod lookup_texts;
+mod namespaces;
 mod offers;
 mod rule_program;
 mod search;
@@ -22,6 +25,7 @@ mod texts;
 pub use attachment::Attachment;
 pub use entry::{Entry, Filter};
 pub use index_key::IndexKey;
+pub use namespaces::offered_where_it_holds;
 pub use offers::Offers;
 pub use rule_program::RuleProgram;
 pub use table::{EntryTable, MAX_ENTRIES};

@@ -1,8 +1,8 @@
 // The entries that a message is offered to.
 
-ghost use Rattle.std.specs.Prelude.{◌≡◌, ◌∷◌, ◌+◌, [], length, MatchOption};
+ghost use Rattle.std.specs.Prelude.{◌≡◌, ◌∷◌, ◌+◌, [], length, MatchBool, MatchOption};
 ghost use Rattle.entry_table.specs.TextKeys.{hash_lists};
-ghost use Rattle.entry_table.specs.FoundTexts.{is_offered, offered_at, coming};
+ghost use Rattle.entry_table.specs.FoundTexts.{is_offered, offered_at, coming, IsNextLookup, IsLastLookup};
 
 use crate::entry::{Entry, Filter};
 use crate::shelf::Shelf;
@@ -23,7 +23,9 @@ fn is_offered(shape: u16, found: &MessageTexts<'_>, entry: &Entry) -> bool
         return true;
     }
     match &entry.filter {
-        Filter::Rule(compiled) => found.has(compiled.rule()),
+        Filter::Rule(compiled) => {
+            found.has(compiled.rule()) && found.has_namespaces(shape, compiled.rule())
+        }
         Filter::Attached(_) => true,
     }
 }
@@ -56,6 +58,24 @@ struct Cursor<'a> {
     shapes: Walk<'a>,
 }
 
+/// On to the next lookup of a message: with other texts of the same shape, or the first of the next shape.
+#[inline(always)]
+fn next_lookup(found: &mut MessageTexts<'_>, at: &mut Cursor<'_>) -> bool
+    ensures { MatchBool result (IsNextLookup found.old at.old found.new at.new) (IsLastLookup found.old at.old found.new at.new) }
+{
+    if found.next_texts(at.shape) {
+        return true;
+    }
+    match at.shapes.next() {
+        None => false,
+        Some(shape) => {
+            found.begin();
+            at.shape = shape;
+            true
+        }
+    }
+}
+
 /// The next of the entries that a message is offered to.
 #[inline(always)]
 fn next_offered<'a>(
@@ -65,16 +85,16 @@ fn next_offered<'a>(
     at: &mut Cursor<'a>,
 ) -> Option<&'a Entry>
     requires { length by_texts.now.lists ≡ hash_lists + 1 }
-    ensures next { MatchOption result ((coming shelf.entry.now by_texts.entry.now found.old at.old ≡ []) × (coming shelf.entry.now by_texts.entry.now found.old at.new ≡ [])) (λ e. coming shelf.entry.now by_texts.entry.now found.old at.old ≡ e.now ∷ coming shelf.entry.now by_texts.entry.now found.old at.new) }
-    ensures same { found.new ≡ found.old }
+    ensures { MatchOption result ((coming shelf.entry.now by_texts.entry.now found.old at.old ≡ []) × (coming shelf.entry.now by_texts.entry.now found.new at.new ≡ [])) (λ e. coming shelf.entry.now by_texts.entry.now found.old at.old ≡ e.now ∷ coming shelf.entry.now by_texts.entry.now found.new at.new) }
 {
-    'shapes: loop {
+    'lookups: loop {
         if let Some(entry) = next_at(shelf, found, at.shape, &mut at.places) {
             return Some(entry);
         }
-        let shape = at.shapes.next()?;
-        at.shape = shape;
-        at.places = by_texts.walk(found.list_of(shape));
+        if !next_lookup(found, at) {
+            return None;
+        }
+        at.places = by_texts.walk(found.list_of(at.shape));
     }
 }
 
@@ -103,7 +123,7 @@ impl<'a> Model for Offers<'a> {
 impl<'a> Offers<'a> {
     ghost use Rattle.place_lists.specs.PlaceLists.{places_in};
 
-    /// The entries of a shelf that a message with these texts is offered to: those that fix no text, and after them
+    /// The entries of a shelf that a message with these texts is offered to: those of no text, and after them
     /// those of these shapes.
     #[inline(always)]
     pub(crate) fn new(

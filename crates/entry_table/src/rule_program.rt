@@ -1,17 +1,16 @@
 // Rules with their programs.
 
-ghost use Rattle.std.specs.Prelude.{◌≡◌, ◌↔◌, IfErr, IsTrue, option_map};
+ghost use Rattle.std.specs.Prelude.{◌≡◌, ◌↔◌, IfErr, IsTrue};
 ghost use Rattle.message_view.specs.Message.{Message};
 ghost use Rattle.message_view.specs.Valid.{Valid};
 ghost use Rattle.match_rule.specs.Envelope.{EnvelopeFits};
-ghost use Rattle.match_rule.specs.FixedTexts.{fixed_texts};
-ghost use Rattle.match_rule.specs.PathNamespaces.{end_of, IsElsewhere};
 ghost use Rattle.rule_compile.specs.Compiled.{IsSlotOf, IsRefusal};
+ghost use Rattle.entry_table.specs.RuleHints.{rule_texts};
 ghost use Rattle.entry_table.specs.TextKeys.{shape_of};
 
-use crate::texts::shape_of;
+use crate::lookup_texts::LookupTexts;
 use bpf_verify::Verified;
-use match_rule::{NamespaceEnd, Rule, has_path_in};
+use match_rule::Rule;
 use message_view::View;
 use rule_compile::{CompileError, compile, compile_rest};
 use std::alloc::{AllocError, Global};
@@ -33,14 +32,12 @@ struct Parts {
 /// A rule and what runs of it, for images of edition 2. Shares are of one value. A message that was looked up has the
 /// texts which the rule fixes, and its envelope is seen without an image, so that the program tests only what is left of
 /// the rule: nothing, where the rule asks for such texts and for the envelope alone. The program of the whole rule isn't
-/// kept: contracts see the one that `compile` lowers. Which texts the rule fixes and how its path namespace ends are
-/// asked of each entry of a list that a message is looked up in, so they are kept here, where no share has to be
-/// followed.
+/// kept: contracts see the one that `compile` lowers. Which texts the rule is looked up by is asked of each entry of a list
+/// that a message is looked up in, so it is kept here, where no share has to be followed.
 #[derive(Drop)]
 pub struct RuleProgram {
     parts: Arc<Parts>,
     shape: u16,
-    namespace_end: Option<NamespaceEnd>,
 }
 
 impl Model for RuleProgram {
@@ -53,29 +50,7 @@ impl Model for RuleProgram {
 
     ghost view = { λ p. record { rule = p.parts.value.rule; slot = p.parts.value.slot; program = whole_program p.parts.value.rule p.parts.value.slot } };
 
-    ghost invariant = { λ p. IsFit (record { rule = p.parts.value.rule; slot = p.parts.value.slot; program = whole_program p.parts.value.rule p.parts.value.slot }) × IsRest p.parts.value.rule p.parts.value.slot p.parts.value.rest × AreHints p.parts.value.rule p.shape p.namespace_end };
-}
-
-/// How the namespace ends that is asked for.
-fn end_asked(asked: Option<&str>) -> Option<NamespaceEnd>
-    ensures { result ≡ option_map end_of (option_map (λ text. text.now) asked.entry) }
-{
-    match asked {
-        None => None,
-        Some(namespace) => Some(NamespaceEnd::of(namespace)),
-    }
-}
-
-/// Whether a rule asks for a path namespace that the path isn't in. It is a call of its own, so that what is asked before
-/// it, how the namespace ends, stays small where it is inlined.
-#[inline(never)]
-fn is_outside(path: Option<&str>, rule: &Rule) -> bool
-    ensures { IsTrue result ↔ IsElsewhere rule.now (option_map (λ text. text.now) path.entry) }
-{
-    match rule.path_namespace() {
-        None => false,
-        Some(namespace) => !has_path_in(path, namespace),
-    }
+    ghost invariant = { λ p. IsFit (record { rule = p.parts.value.rule; slot = p.parts.value.slot; program = whole_program p.parts.value.rule p.parts.value.slot }) × IsRest p.parts.value.rule p.parts.value.slot p.parts.value.rest × AreHints p.parts.value.rule p.shape };
 }
 
 /// Refuses a rule whose program would be too long. That program isn't run, so a rule is compiled to it only if its weight
@@ -114,13 +89,11 @@ impl RuleProgram {
         let rest = compile_rest(alloc, &rule, slot)?;
         // What its contract says of conditions makes the rule's program fit.
         let _ = rule.conditions();
-        let shape = shape_of(&rule.fixed_texts());
-        let namespace_end = end_asked(rule.path_namespace());
+        let shape = LookupTexts::of_rule(&rule).shape();
         let parts = Parts { rule, slot, rest };
         Ok(RuleProgram {
             parts: Arc::new(alloc, parts)?,
             shape,
-            namespace_end,
         })
     }
 
@@ -131,7 +104,6 @@ impl RuleProgram {
         Ok(RuleProgram {
             parts: Arc::try_clone(&self.parts)?,
             shape: self.shape,
-            namespace_end: self.namespace_end,
         })
     }
 
@@ -151,25 +123,11 @@ impl RuleProgram {
         self.parts.slot
     }
 
-    /// Which texts the rule fixes.
+    /// Which texts the rule is looked up by.
     pub(crate) fn shape(&self) -> u16
-        ensures { result ≡ shape_of (fixed_texts self.now.rule) }
+        ensures { result ≡ shape_of (rule_texts self.now.rule) }
     {
         self.shape
-    }
-
-    /// Whether the rule asks for a path namespace that the path isn't in.
-    #[inline(always)]
-    pub fn is_elsewhere(&self, path: Option<&str>) -> bool
-        ensures { IsTrue result ↔ IsElsewhere self.now.rule (option_map (λ text. text.now) path.entry) }
-    {
-        let Some(end) = self.namespace_end else {
-            return false;
-        };
-        if end.len > 1 && !end.may_have(path) {
-            return true;
-        }
-        is_outside(path, &self.parts.rule)
     }
 
     /// Whether a message's envelope is as the rule asks.

@@ -1,4 +1,4 @@
-// The shapes of entries: which of the four texts they fix.
+// The shapes of entries: which texts they are looked up by.
 
 ghost use Rattle.std.specs.Prelude.{ℕ, ◌<◌, ◌≤◌, length, slice_index};
 
@@ -7,10 +7,10 @@ use std::alloc::{AllocError, Global};
 use std::marker::Model;
 
 /// How many shapes there are.
-pub(crate) const SHAPES: u16 = 16;
+pub(crate) const SHAPES: u16 = 64;
 
-/// The least shape that has argument 0.
-const ARG0_SHAPE: usize = 8;
+/// The least shape that has argument 0 or its namespace.
+const ARG0_SHAPE: usize = 16;
 
 /// The greatest of the counts from a place on.
 fn most_from(counts: &[u16], from: usize) -> u16
@@ -23,8 +23,8 @@ fn most_from(counts: &[u16], from: usize) -> u16
     most
 }
 
-/// How many entries have each shape, and the list of the shapes in use. Shape 0, that of entries that fix no text,
-/// is in no list: they are looked at for each message. Contracts see the counts.
+/// How many entries have each shape, and the list of the shapes in use. Shape 0, that of entries that are looked up by no
+/// text, is in no list: they are looked at for each message. Contracts see the counts.
 #[derive(Drop)]
 pub(crate) struct Shapes {
     counts: Vec<u16>,
@@ -84,9 +84,9 @@ impl Shapes {
         self.counts[usize::from(shape)] = count - 1;
     }
 
-    /// Whether a shape in use has argument 0.
+    /// Whether a shape in use has argument 0 or its namespace.
     pub(crate) fn has_arg0(&self) -> bool
-        ensures { result ≡ false → (shape : ℕ) → is_in_use shape self.now ≡ true → shape < 8 }
+        ensures { result ≡ false → (shape : ℕ) → is_in_use shape self.now ≡ true → shape < 16 }
     {
         most_from(self.counts.as_slice(), ARG0_SHAPE) != 0
     }

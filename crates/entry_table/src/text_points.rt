@@ -10,4 +10,6 @@ pub(crate) struct TextPoints {
     pub(crate) interface: Point,
     pub(crate) path: Point,
     pub(crate) arg0: Point,
+    pub(crate) path_namespace: Point,
+    pub(crate) arg0_namespace: Point,
 }

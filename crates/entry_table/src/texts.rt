@@ -1,25 +1,28 @@
-// The texts that decide which entries a message is offered to.
+// The texts that a message is looked up by.
 
-ghost use Rattle.std.specs.Prelude.{◌≡◌, ◌≤◌, ◌<◌, Some, None, option_map, if◌then◌else◌};
+ghost use Rattle.std.specs.Prelude.{◌≡◌, ◌≤◌, Some, None, [], ◌∷◌, MatchBool, option_map, if◌then◌else◌};
 ghost use Rattle.std.specs.Option.{ForSome};
 ghost use Rattle.message_value.specs.ShownArguments.{shown_arg};
 ghost use Rattle.message_view.specs.Message.{Message};
 ghost use Rattle.message_view.specs.Valid.{Valid};
 ghost use Rattle.match_rule.specs.Arguments.{text_in as argument_text};
 ghost use Rattle.match_rule.specs.FixedTexts.{arg0_of, fixed_texts, string_in};
-ghost use Rattle.entry_table.specs.OfferedEntries.{texts_fixed};
+ghost use Rattle.match_rule.specs.PathNamespaces.{namespace_asked};
 ghost use Rattle.entry_table.specs.HeldTexts.{text_in};
-ghost use Rattle.entry_table.specs.FoundTexts.{is_text_found, are_found, texts_read};
-ghost use Rattle.entry_table.specs.TextKeys.{bit_of, shape_of, in_shape, where_bit, text_hash, hash_of_texts, joined_hash, list_of, hash_lists};
+ghost use Rattle.entry_table.specs.FoundTexts.{is_text_found, are_texts_found, are_namespaces_found, texts_read};
+ghost use Rattle.entry_table.specs.TextKeys.{shape_of, in_shape, text_hash, joined_hash, list_of, hash_lists};
+ghost use Rattle.entry_table.specs.RuleHints.{rule_texts};
+ghost use Rattle.entry_table.specs.Lookups.{first_texts, of_shape_after};
 
-use crate::entry::Filter;
+use crate::lookup_texts::{hash_of, join_hashes};
+use crate::namespaces::{arg0_namespace, front_after, path_namespace};
 use crate::text_points::TextPoints;
-use match_rule::{FixedTexts, Rule};
+use match_rule::Rule;
 use message_view::{Arg, View};
 use std::marker::Model;
-use text_hash::{Point, text_hash};
+use text_hash::Point;
 
-/// How many lists there are for entries that fix a text, by the hash of their texts.
+/// How many lists there are for entries that are looked up by a text, by the hash of their texts.
 pub(crate) const HASH_LISTS: usize = 32768;
 
 /// The text of an argument, where it is a string.
@@ -57,39 +60,7 @@ fn is_text_found(asked: Option<&str>, found: Option<&str>) -> bool
     }
 }
 
-/// 1 where there is a text.
-fn bit_of(text: Option<&str>) -> u16
-    ensures value { result ≡ bit_of (option_map (λ text. text.now) text.entry) }
-    ensures below { result ≤ 1 }
-{
-    match text {
-        None => 0,
-        Some(_) => 1,
-    }
-}
-
-/// The sum of the hashes of four texts, as one hash. If texts differ under one key, the sums differ by as much as the
-/// hashes of that key do, whatever the other texts are.
-fn join_hashes(member: u64, interface: u64, path: u64, arg0: u64) -> u64
-    ensures { result ≡ hash_of_texts member interface path arg0 }
-{
-    member
-        .wrapping_add(interface)
-        .wrapping_add(path)
-        .wrapping_add(arg0)
-}
-
-/// The hash of a text at a point, 0 where there is no text.
-fn hash_of(point: &Point, text: Option<&str>) -> u64
-    ensures { result ≡ text_hash point.now (option_map (λ text. text.now) text.entry) }
-{
-    match text {
-        None => 0,
-        Some(text) => text_hash(point, text),
-    }
-}
-
-/// The list of entries of a shape whose texts have this hash. Entries that fix no text have a list of their own.
+/// The list of entries of a shape whose texts have this hash. Entries of no text have a list of their own.
 pub(crate) fn list_of(shape: u16, hash: u64) -> usize
     ensures value { result ≡ list_of shape hash }
     ensures below { result ≤ hash_lists }
@@ -98,39 +69,6 @@ pub(crate) fn list_of(shape: u16, hash: u64) -> usize
         return HASH_LISTS;
     }
     (hash % HASH_LISTS as u64) as usize
-}
-
-/// The texts that a filter fixes.
-pub(crate) fn texts_fixed(filter: &Filter) -> FixedTexts<'_>
-    ensures { result ≡ texts_fixed filter.now }
-{
-    match filter {
-        Filter::Rule(compiled) => compiled.rule().fixed_texts(),
-        Filter::Attached(_) => FixedTexts::none(),
-    }
-}
-
-/// Which keys have a text: 1 for the member, 2 for the interface, 4 for the path, 8 for arg0, added up.
-pub(crate) fn shape_of(texts: &FixedTexts<'_>) -> u16
-    ensures value { result ≡ shape_of texts.now }
-    ensures below { result < 16 }
-{
-    bit_of(texts.member)
-        + 2 * bit_of(texts.interface)
-        + 4 * bit_of(texts.path)
-        + 8 * bit_of(texts.arg0)
-}
-
-/// The hash of texts at these points.
-pub(crate) fn joined_hash(points: &TextPoints, texts: &FixedTexts<'_>) -> u64
-    ensures { result ≡ joined_hash points.now texts.now }
-{
-    join_hashes(
-        hash_of(&points.member, texts.member),
-        hash_of(&points.interface, texts.interface),
-        hash_of(&points.path, texts.path),
-        hash_of(&points.arg0, texts.arg0),
-    )
 }
 
 /// The hash of a text where it is wanted, else 0. It is computed once.
@@ -150,6 +88,14 @@ fn hash_once(wanted: bool, known: &mut Option<u64>, point: &Point, text: Option<
             hash
         }
     }
+}
+
+/// The hash of a text where it is wanted, else 0.
+#[inline(always)]
+fn hash_where(wanted: bool, point: &Point, text: Option<&str>) -> u64
+    ensures { result ≡ text_hash point.now (if wanted then option_map (λ text. text.now) text.entry else None) }
+{
+    if wanted { hash_of(point, text) } else { 0 }
 }
 
 /// A text, or none. Other than in an `Option` the text is a field of its own, which the compiler keeps in registers where
@@ -185,7 +131,8 @@ impl<'a> Text<'a> {
     }
 }
 
-/// The texts of a message, and the hashes of those that were wanted so far. Contracts see the texts and the points.
+/// The texts of a message, of the path and of argument 0 the namespace too that is looked up just now, and the hashes of
+/// the texts that were wanted so far. Contracts see the texts and the points.
 #[derive(Drop)]
 pub(crate) struct MessageTexts<'a> {
     points: &'a TextPoints,
@@ -193,6 +140,8 @@ pub(crate) struct MessageTexts<'a> {
     interface: Text<'a>,
     path: Text<'a>,
     arg0: Text<'a>,
+    path_namespace: Text<'a>,
+    arg0_namespace: Text<'a>,
     member_hash: Option<u64>,
     interface_hash: Option<u64>,
     path_hash: Option<u64>,
@@ -205,23 +154,27 @@ impl<'a> Model for MessageTexts<'a> {
 
     ghost Value = { KeyedTexts };
 
-    ghost view = { λ m. record { points = m.points.now; texts = texts_in m.member m.interface m.path m.arg0 } };
+    ghost view = { λ m. record { points = m.points.now; texts = texts_in m.member m.interface m.path m.arg0 m.path_namespace m.arg0_namespace } };
 
-    ghost invariant = { λ m. AreHashes (record { points = m.points.now; texts = texts_in m.member m.interface m.path m.arg0 }) (record { member = m.member_hash; interface = m.interface_hash; path = m.path_hash; arg0 = m.arg0_hash }) };
+    ghost invariant = { λ m. AreHashes (record { points = m.points.now; texts = texts_in m.member m.interface m.path m.arg0 m.path_namespace m.arg0_namespace }) (record { member = m.member_hash; interface = m.interface_hash; path = m.path_hash; arg0 = m.arg0_hash }) };
 }
 
 impl<'a> MessageTexts<'a> {
-    /// The texts that a message has, argument 0 only where it is wanted; no hash is known.
+    /// The texts that a message has, argument 0 only where it is wanted, for the first lookup of a shape; no hash is known.
     #[inline(always)]
     pub(crate) fn new(points: &'a TextPoints, view: &View<'a>, has_arg0: bool) -> MessageTexts<'a>
-        ensures { (m : Message) → Valid view.now m → result ≡ record { points = points.entry.now; texts = texts_read has_arg0 m } }
+        ensures { (m : Message) → Valid view.now m → result ≡ record { points = points.entry.now; texts = first_texts (texts_read has_arg0 m) } }
     {
+        let path = Text::of(view.path());
+        let arg0 = Text::of(if has_arg0 { arg0_of(view) } else { None });
         MessageTexts {
             points,
             member: Text::of(view.member()),
             interface: Text::of(view.interface()),
-            path: Text::of(view.path()),
-            arg0: Text::of(if has_arg0 { arg0_of(view) } else { None }),
+            path,
+            arg0,
+            path_namespace: path,
+            arg0_namespace: arg0,
             member_hash: None,
             interface_hash: None,
             path_hash: None,
@@ -229,7 +182,7 @@ impl<'a> MessageTexts<'a> {
         }
     }
 
-    /// The list of the entries of a shape that fix the message's texts.
+    /// The list of the entries of a shape that are looked up by these texts.
     pub(crate) fn list_of(&mut self, shape: u16) -> usize
         ensures list { result ≡ list_of shape (joined_hash self.old.points (in_shape shape self.old.texts)) }
         ensures below { result ≤ hash_lists }
@@ -255,22 +208,82 @@ impl<'a> MessageTexts<'a> {
             self.path.get(),
         );
         let arg0 = hash_once(
-            shape / 8 % 2 == 1,
+            shape / 16 % 2 == 1,
             &mut self.arg0_hash,
             &at.arg0,
             self.arg0.get(),
         );
-        list_of(shape, join_hashes(member, interface, path, arg0))
+        let path_namespace = hash_where(
+            shape / 8 % 2 == 1,
+            &at.path_namespace,
+            self.path_namespace.get(),
+        );
+        let arg0_namespace = hash_where(
+            shape / 32 % 2 == 1,
+            &at.arg0_namespace,
+            self.arg0_namespace.get(),
+        );
+        list_of(
+            shape,
+            join_hashes(
+                member,
+                interface,
+                path,
+                arg0,
+                path_namespace,
+                arg0_namespace,
+            ),
+        )
+    }
+
+    /// On to the next texts that a shape is looked up by: a shorter namespace of argument 0, or else a shorter one of the
+    /// path, with all of argument 0. Where there is none, nothing changes.
+    #[inline(always)]
+    pub(crate) fn next_texts(&mut self, shape: u16) -> bool
+        ensures next { MatchBool result (of_shape_after shape self.old.texts ≡ record { shape = shape; texts = self.new.texts } ∷ of_shape_after shape self.new.texts) ((of_shape_after shape self.old.texts ≡ []) × (self.new.texts ≡ self.old.texts)) }
+        ensures points { self.new.points ≡ self.old.points }
+        ensures texts { self.new.texts.texts ≡ self.old.texts.texts }
+    {
+        if let Some(front) = front_after(shape / 32 % 2 == 1, b'.', self.arg0_namespace.get()) {
+            self.arg0_namespace = Text::of(Some(front));
+            return true;
+        }
+        if let Some(front) = front_after(shape / 8 % 2 == 1, b'/', self.path_namespace.get()) {
+            self.path_namespace = Text::of(Some(front));
+            self.arg0_namespace = self.arg0;
+            return true;
+        }
+        false
+    }
+
+    /// Back to the texts of the first lookup of a shape.
+    #[inline(always)]
+    pub(crate) fn begin(&mut self)
+        ensures { self.new ≡ record self.old { texts = first_texts self.old.texts.texts } }
+    {
+        self.path_namespace = self.path;
+        self.arg0_namespace = self.arg0;
     }
 
     /// Whether each of the texts that a rule fixes is the message's.
     pub(crate) fn has(&self, rule: &Rule) -> bool
-        ensures { result ≡ are_found (fixed_texts rule.now) self.now.texts }
+        ensures { result ≡ are_texts_found (fixed_texts rule.now) self.now.texts.texts }
     {
         let asked = rule.fixed_texts();
         is_text_found(asked.member, self.member.get())
             && is_text_found(asked.interface, self.interface.get())
             && is_text_found(asked.path, self.path.get())
             && is_text_found(asked.arg0, self.arg0.get())
+    }
+
+    /// Whether the namespaces that a rule of a shape asks for are those that are looked up.
+    #[tactic(auto, using(crate::proofs::Asking::no_path_namespace, crate::proofs::Asking::no_arg0_namespace))]
+    pub(crate) fn has_namespaces(&self, shape: u16, rule: &Rule) -> bool
+        requires { shape ≡ shape_of (rule_texts rule.now) }
+        ensures { result ≡ are_namespaces_found (rule_texts rule.now) self.now.texts }
+    {
+        (shape / 8 % 2 == 0 || is_text_found(path_namespace(rule), self.path_namespace.get()))
+            && (shape / 32 % 2 == 0
+                || is_text_found(arg0_namespace(rule), self.arg0_namespace.get()))
     }
 }

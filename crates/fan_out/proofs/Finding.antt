@@ -7,7 +7,7 @@ use Rattle.std.proofs.lemmas.Bool.{and_parts}
 use Rattle.message_view.specs.Message.{Message}
 use Rattle.message_view.specs.Valid.{Valid}
 use Rattle.entry_table.specs.declared.entry.Entry.{Entry}
-use Rattle.entry_table.specs.OfferedEntries.{AreOffered}
+use Rattle.entry_table.specs.OfferedEntries.{OfferedWhereItHolds, AreOffered}
 use Rattle.program_table.specs.Connections.{numbers_of, is_connected}
 use Rattle.program_table.specs.State.{State}
 use Rattle.program_table.specs.IsState.{has_own_slot, IsState}
@@ -18,7 +18,7 @@ use Rattle.fan_out.specs.Marks.{marked_numbers}
 use Rattle.fan_out.specs.Marking.{AreDecided, AreMarked, AreMarkedRecipients}
 use Rattle.fan_out.proofs.Places.{contains_cases, contains_none, none_marked, marked_from, from_marked, rising_marked}
 use Rattle.fan_out.proofs.Deciding.{EndInOneWay, filter_decided}
-use Rattle.fan_out.proofs.Offering.{FoundWhereItHolds, among_offered, offered_few}
+use Rattle.fan_out.proofs.Offering.{among_offered, offered_few}
 
 all_at : {X : Type 0} (p : X → Bool) (x : X) (xs : List X) → list_all p xs ≡ true → Contains xs x → p x ≡ true
 all_at p x [] e there = absurd (contains_none x there)
@@ -35,10 +35,10 @@ module _ {M : Type 0} where
   offered_decided : (s : State M) (sender : Option ℕ) (m : Message) (bytes words : List ℕ) (offers : List Entry) → IsState s → AreOwnedSlots s.registrations sender words → Valid bytes m → EndInOneWay → AreOffered s.registrations.entries m offers → AreDecided s sender m bytes words offers
   offered_decided s sender m bytes words offers is owned valid one_way are = record {
     connected = λ e there. all_at (λ (x : Entry). is_connected x.connection s.connections) e s.registrations.entries is.of_connections ((are.exact e).0 there).0;
-    decided = λ e there fits answer answered. filter_decided s.registrations sender words owned bytes m valid one_way e.filter answer (all_at (has_own_slot s.registrations.slots) e s.registrations.entries is.registrations.own_slots ((are.exact e).0 there).0) ((are.exact e).0 there).1 (fits m valid) answered;
+    decided = λ e there fits answer answered. filter_decided s.registrations sender words owned bytes m valid one_way e.filter answer (all_at (has_own_slot s.registrations.slots) e s.registrations.entries is.registrations.own_slots ((are.exact e).0 there).0) ((are.exact e).0 there).1.0 (fits m valid) answered;
   }
 
-  pub recipients_marked : (s : State M) (sender : Option ℕ) (m : Message) (bytes words : List ℕ) (part of : ℕ) (offers : List Entry) (marks : List Bool) → IsState s → AreOwnedSlots s.registrations sender words → Valid bytes m → EndInOneWay → FoundWhereItHolds → AreOffered s.registrations.entries m offers → (AreDecided s sender m bytes words offers → AreMarked s sender m part of offers marks) → AreMarkedRecipients s sender m part of marks
+  pub recipients_marked : (s : State M) (sender : Option ℕ) (m : Message) (bytes words : List ℕ) (part of : ℕ) (offers : List Entry) (marks : List Bool) → IsState s → AreOwnedSlots s.registrations sender words → Valid bytes m → EndInOneWay → OfferedWhereItHolds → AreOffered s.registrations.entries m offers → (AreDecided s sender m bytes words offers → AreMarked s sender m part of offers marks) → AreMarkedRecipients s sender m part of marks
   recipients_marked s sender m bytes words part of offers marks is owned valid one_way found are marked =
       let exact = (marked (offered_decided s sender m bytes words offers is owned valid one_way are)).exact in
       record {
@@ -53,7 +53,7 @@ module _ {M : Type 0} where
   offered_connected s m offers is are e there = all_at (λ (x : Entry). is_connected x.connection s.connections) e s.registrations.entries is.of_connections ((are.exact e).0 there).0
 
   -- a message that is offered to no entry has no recipient
-  pub nobody_marked : (s : State M) (sender : Option ℕ) (m : Message) (part of size : ℕ) (offers : List Entry) (marks : List Bool) → FoundWhereItHolds → AreOffered s.registrations.entries m offers → offers ≡ [] → marks ≡ replicate size false → AreMarkedRecipients s sender m part of marks
+  pub nobody_marked : (s : State M) (sender : Option ℕ) (m : Message) (part of size : ℕ) (offers : List Entry) (marks : List Bool) → OfferedWhereItHolds → AreOffered s.registrations.entries m offers → offers ≡ [] → marks ≡ replicate size false → AreMarkedRecipients s sender m part of marks
   nobody_marked s sender m part of size offers marks found are none e = record {
     exact = λ n. (
       (λ marked. absurd (none_marked size marked.0 (sym (ap (λ (ms : List Bool). slice_get ms marked.0) e) ∙ marked.2))),

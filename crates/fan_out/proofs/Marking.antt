@@ -10,7 +10,7 @@ use Rattle.program_table.specs.Recipients.{FilterMatches}
 use Rattle.fan_out.specs.Pieces.{IsInPiece}
 use Rattle.fan_out.specs.Answers.{IsAnswer}
 use Rattle.fan_out.specs.Marks.{IsMarked, IsUnmarked, IsMarkedMore, mark_count}
-use Rattle.fan_out.specs.Marking.{AreAfterMissed, IsFit, NeedsNoRun, Considers, MatchesAmong, AreDecided, AreMarked, AreMarkedSoFar}
+use Rattle.fan_out.specs.Marking.{IsFit, NeedsNoRun, Considers, MatchesAmong, AreDecided, AreMarked, AreMarkedSoFar}
 use Rattle.fan_out.proofs.Places.{contains_here, contains_later, contains_cases, contains_none, none_marked, count_none, set_here, set_kept, set_cases, count_set}
 
 false_true : (b : Bool) → b ≡ false → b ≡ true → ⊥
@@ -73,14 +73,6 @@ module _ {M : Type 0} where
           ]),
         );
   }
-
-  -- after some entries that are missed
-  pub marks_skip : (s : State M) (part of : ℕ) (bytes words : List ℕ) (all before left : List Entry) (marks : List Bool) (runs : ℕ) → AreAfterMissed bytes before left → AreMarkedSoFar s part of bytes words all before marks runs → AreMarkedSoFar s part of bytes words all left marks runs
-  marks_skip s part of bytes words all [] left marks runs after so_far = rw after so_far
-  marks_skip s part of bytes words all (e ∷ before) left marks runs after so_far = elim after [
-    | inl same ↦ rw same so_far
-    | inr missed ↦ marks_skip s part of bytes words all before left marks runs missed.1 (marks_pass s part of bytes words all before e marks runs so_far (inl missed.0))
-  ]
 
   -- the entry's program was run and has verdict 0
   marks_no : (s : State M) (part of : ℕ) (bytes words : List ℕ) (all left : List Entry) (e : Entry) (marks : List Bool) (runs : ℕ) → AreMarkedSoFar s part of bytes words all (e ∷ left) marks runs → IsFit bytes e.filter → IsAnswer bytes words e.filter false → AreMarkedSoFar s part of bytes words all left marks (runs + 1)

@@ -10,13 +10,12 @@ use Rattle.std.proofs.lemmas.Map.Made.{length-le_from_is_member}
 use Rattle.std.proofs.lemmas.Map.Views.{Contains-from_any, list_any-from_Contains}
 use Rattle.std.proofs.lemmas.Slice.Eq.{bytes_eq-Decides}
 use Rattle.message_view.specs.Message.{Message}
-use Rattle.match_rule.specs.RuleTree.{RuleTree}
-use Rattle.match_rule.specs.Holds.{Holds}
-use Rattle.match_rule.specs.FixedTexts.{fixed_texts, texts_of, AreFound}
+use Rattle.match_rule.specs.FixedTexts.{texts_of, AreFound}
 use Rattle.entry_table.specs.declared.entry.Entry.{Entry}
 use Rattle.entry_table.specs.declared.entry.Filter.{Filter}
 use Rattle.entry_table.specs.declared.entry.Filter.TheVariants.{Rule, Attached}
-use Rattle.entry_table.specs.OfferedEntries.{texts_fixed, AreOffered}
+use Rattle.entry_table.specs.Namespaces.{AreInside}
+use Rattle.entry_table.specs.OfferedEntries.{texts_fixed, namespaces_fixed, OfferedWhereItHolds, AreOffered}
 use Rattle.program_table.specs.Registrations.{Registrations}
 use Rattle.program_table.specs.State.{State}
 use Rattle.program_table.specs.Recipients.{FilterMatches, IsRecipient}
@@ -24,19 +23,15 @@ use Rattle.program_table.specs.Candidates.{is_text_found, is_candidate, candidat
 use Rattle.fan_out.specs.Marking.{MatchesAmong}
 use Rattle.fan_out.proofs.Places.{contains_here, contains_later, contains_cases, contains_none}
 
--- a message of which a rule holds has the texts that the rule fixes
-abbrev pub FoundWhereItHolds : Type 0
-FoundWhereItHolds = (rule : RuleTree) (m : Message) (owned : List ℕ → Bool) → Holds rule m owned → AreFound (fixed_texts rule) (texts_of m)
-
-matches_offered : (r : Registrations) (sender : Option ℕ) (m : Message) (filter : Filter) → FoundWhereItHolds → FilterMatches r sender m filter → AreFound (texts_fixed filter) (texts_of m)
-matches_offered r sender m (Rule compiled) found matches = found compiled.rule m _ matches
-matches_offered r sender m (Attached attached) found matches = record { member = tt; interface = tt; path = tt; arg0 = tt }
+matches_offered : (r : Registrations) (sender : Option ℕ) (m : Message) (filter : Filter) → OfferedWhereItHolds → FilterMatches r sender m filter → AreFound (texts_fixed filter) (texts_of m) × AreInside (namespaces_fixed filter) (texts_of m)
+matches_offered r sender m (Rule compiled) law matches = law compiled.rule m _ matches
+matches_offered r sender m (Attached attached) law matches = (record { member = tt; interface = tt; path = tt; arg0 = tt }, record { path = tt; arg0 = tt })
 
 module _ {M : Type 0} where
-  pub among_offered : (s : State M) (sender : Option ℕ) (m : Message) (offers : List Entry) (n : ℕ) → FoundWhereItHolds → AreOffered s.registrations.entries m offers → (MatchesAmong s sender m offers n ↔ IsRecipient s sender m n)
+  pub among_offered : (s : State M) (sender : Option ℕ) (m : Message) (offers : List Entry) (n : ℕ) → OfferedWhereItHolds → AreOffered s.registrations.entries m offers → (MatchesAmong s sender m offers n ↔ IsRecipient s sender m n)
   among_offered s sender m offers n found are = (
     (λ (e, there, of, matches). (e, ((are.exact e).0 there).0, of, matches)),
-    (λ (e, there, of, matches). (e, (are.exact e).1 (there, matches_offered s.registrations sender m e.filter found matches), of, matches)),
+    (λ (e, there, of, matches). (let fits = matches_offered s.registrations sender m e.filter found matches in (e, (are.exact e).1 (there, fits), of, matches))),
   )
 
 text_found : (asked found : Option (List ℕ)) → IfSome asked (λ text. found ≡ Some text) → is_text_found asked found ≡ true
@@ -105,4 +100,4 @@ module _ {M : Type 0} where
   offered_few s m offers are =
       few_among offers (candidates s m) are.once (λ e there.
       let of = (are.exact e).0 there in
-      kept_in (λ (x : Entry). is_candidate m x.filter) e s.registrations.entries of.0 (offered_candidate m e.filter of.1))
+      kept_in (λ (x : Entry). is_candidate m x.filter) e s.registrations.entries of.0 (offered_candidate m e.filter of.1.0))

@@ -4,23 +4,24 @@ use Rattle.std.specs.Prelude.{Contains}
 use Rattle.message_view.specs.Message.{Message}
 use Rattle.match_rule.specs.FixedTexts.{FixedTexts, texts_of, AreFound}
 use Rattle.entry_table.specs.declared.entry.Entry.{Entry}
-use Rattle.entry_table.specs.OfferedEntries.{texts_fixed, AreOffered}
+use Rattle.entry_table.specs.Namespaces.{AreInside}
+use Rattle.entry_table.specs.OfferedEntries.{texts_fixed, namespaces_fixed, OfferedWhereItHolds, AreOffered}
 use Rattle.program_table.specs.State.{State}
 use Rattle.fan_out.specs.Reach.{TellsReach}
 use Rattle.fan_out.proofs.Places.{contains_here, contains_none}
-use Rattle.fan_out.proofs.Offering.{FoundWhereItHolds, among_offered}
+use Rattle.fan_out.proofs.Offering.{among_offered}
 
 same_offered : (entries : List Entry) (m other : Message) (offers : List Entry) → texts_of other ≡ texts_of m → AreOffered entries m offers → AreOffered entries other offers
 same_offered entries m other offers same are = record {
   exact = λ e. (
-    (λ there. (((are.exact e).0 there).0, subst (λ (texts : FixedTexts). AreFound (texts_fixed e.filter) texts) (sym same) ((are.exact e).0 there).1)),
-    (λ here. (are.exact e).1 (here.0, subst (λ (texts : FixedTexts). AreFound (texts_fixed e.filter) texts) same here.1)),
+    (λ there. (((are.exact e).0 there).0, subst (λ (texts : FixedTexts). AreFound (texts_fixed e.filter) texts × AreInside (namespaces_fixed e.filter) texts) (sym same) ((are.exact e).0 there).1)),
+    (λ here. (are.exact e).1 (here.0, subst (λ (texts : FixedTexts). AreFound (texts_fixed e.filter) texts × AreInside (namespaces_fixed e.filter) texts) same here.1)),
   );
   once = are.once;
 }
 
 module _ {M : Type 0} where
-  pub nobody_reached : (s : State M) (m : Message) (offers : List Entry) → FoundWhereItHolds → AreOffered s.registrations.entries m offers → offers ≡ [] → TellsReach s m false
+  pub nobody_reached : (s : State M) (m : Message) (offers : List Entry) → OfferedWhereItHolds → AreOffered s.registrations.entries m offers → offers ≡ [] → TellsReach s m false
   nobody_reached s m offers found are none sender other same = record {
     rising = λ k short. absurd (omega (arith, short));
     exact = λ n. (

@@ -27,11 +27,6 @@ IsMissed bytes filter = (r : Registrations) (sender : Option ℕ) (m : Message) 
 abbrev pub IsFit : List ℕ → Filter → Type 0
 IsFit bytes filter = (m : Message) → Valid bytes m → FilterFits filter m
 
--- what is left of entries after some of them that match no message of these bytes
-abbrev pub AreAfterMissed : List ℕ → List Entry → List Entry → Type 0
-AreAfterMissed bytes [] left = left ≡ []
-AreAfterMissed bytes (e ∷ entries) left = (left ≡ e ∷ entries) ⊎ (IsMissed bytes e.filter × AreAfterMissed bytes entries left)
-
 -- the entry's program was run, and its connection is marked where it matches
 pub record IsAsked (numbers : List ℕ) (part of : ℕ) (bytes words : List ℕ) (e : Entry) (before after : List Bool) (runs later : ℕ) : Type 0 where
   pub inside : IsInPiece part of e.connection

@@ -1,16 +1,14 @@
 // The programs of entries, run over one message.
 
-ghost use Rattle.std.specs.Prelude.{◌≡◌, ◌+◌, ◌∷◌, [], ◌<◌, IsTrue, MatchBool, MatchOption, option_map};
-ghost use Rattle.message_view.specs.Message.{Message, path_of};
-ghost use Rattle.message_view.specs.Valid.{Valid};
+ghost use Rattle.std.specs.Prelude.{◌≡◌, ◌+◌, ◌<◌, MatchBool, MatchOption};
 ghost use Rattle.program_table.specs.Answers.{max_entries};
 ghost use Rattle.fan_out.specs.Answers.{IsImage, IsAnswer, edition_of};
-ghost use Rattle.fan_out.specs.Marking.{AreAfterMissed, IsMissed, IsFit};
+ghost use Rattle.fan_out.specs.Marking.{IsMissed, IsFit};
 
 use crate::tally::Tally;
 use bpf_verify::Verified;
-use entry_table::{Entry, Filter, Offers};
-use match_rule::{envelope_fits_where_it_holds, not_elsewhere_where_it_holds};
+use entry_table::Filter;
+use match_rule::envelope_fits_where_it_holds;
 use message_view::View;
 use summary::{Edition, Image, Slots};
 
@@ -24,14 +22,12 @@ pub(crate) fn edition_of(filter: &Filter) -> Edition
     }
 }
 
-/// A message, the slots of its sender, its path, and the count of the programs that were run.
+/// A message, the slots of its sender, and the count of the programs that were run.
 #[derive(Drop)]
 pub(crate) struct Programs<'v, 'a> {
     pub(crate) view: &'v View<'a>,
     pub(crate) owned: &'v Slots,
-    path: Option<&'a str>,
     tally: Tally,
-    ghost asked: { (m : Message) → Valid view.now m → option_map (λ text. text.now) path ≡ path_of m },
 }
 
 impl<'v, 'a> Programs<'v, 'a> {
@@ -44,7 +40,6 @@ impl<'v, 'a> Programs<'v, 'a> {
         Programs {
             view,
             owned,
-            path: view.path(),
             tally: Tally::new(),
         }
     }
@@ -56,35 +51,12 @@ impl<'v, 'a> Programs<'v, 'a> {
         self.tally.runs
     }
 
-    /// Whether a filter can't match, since it asks for a path namespace that the message's path isn't in.
-    fn is_elsewhere(&self, filter: &Filter) -> bool
-        ensures { IsTrue result → IsMissed self.now.view.now filter.now }
-    {
-        not_elsewhere_where_it_holds();
-        filter.is_elsewhere(self.path)
-    }
-
-    /// Whether a filter can't match, since it asks for a path namespace that the message's path isn't in, or for another
-    /// envelope than the message's.
+    /// Whether a filter can't match, since it asks for another envelope than the message's.
     pub(crate) fn misses(&self, filter: &Filter) -> bool
         ensures { MatchBool result (IsMissed self.now.view.now filter.now) (IsFit self.now.view.now filter.now) }
     {
         envelope_fits_where_it_holds();
-        self.is_elsewhere(filter) || !filter.fits_envelope(self.view)
-    }
-
-    /// The next entry that doesn't ask for a path namespace elsewhere. A rule's path namespace can't be looked up, so a
-    /// message may be offered to many rules of other namespaces: this loop does nothing but pass over them.
-    #[inline(never)]
-    pub(crate) fn skip_elsewhere<'e>(&self, others: &mut Offers<'e>) -> Option<&'e Entry>
-        ensures { MatchOption result (AreAfterMissed self.now.view.now others.old []) (λ e. AreAfterMissed self.now.view.now others.old (e.now ∷ others.new)) }
-    {
-        while let Some(entry) = others.next() {
-            if !self.is_elsewhere(&entry.filter) {
-                return Some(entry);
-            }
-        }
-        None
+        !filter.fits_envelope(self.view)
     }
 
     /// Whether a filter's program has a verdict other than 0 on every image, where it returns a constant at once, as that

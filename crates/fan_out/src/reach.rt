@@ -5,7 +5,7 @@ ghost use Rattle.message_view.specs.Message.{Message};
 ghost use Rattle.message_view.specs.Valid.{Valid};
 ghost use Rattle.fan_out.specs.Reach.{TellsReach};
 
-use match_rule::found_where_it_holds;
+use entry_table::offered_where_it_holds;
 use message_view::View;
 use program_table::{BusState, Mailbox};
 
@@ -15,7 +15,7 @@ use program_table::{BusState, Mailbox};
 pub fn may_reach<'a, M: Mailbox>(state: &'a BusState<M>, view: &View<'a>) -> bool
     ensures { (m : Message) → Valid view.now m → TellsReach state.entry.now m result }
 {
-    found_where_it_holds();
+    offered_where_it_holds();
     let mut entries = state.entries_for(view);
     match entries.next() {
         Some(_) => true,

@@ -20,8 +20,7 @@ use crate::piece::Piece;
 use crate::programs::{Programs, edition_of};
 use arrayvec::ArrayVec;
 use bpf_machine::ends_in_one_way;
-use entry_table::{Entry, Offers};
-use match_rule::found_where_it_holds;
+use entry_table::{Entry, Offers, offered_where_it_holds};
 use message_view::View;
 use program_table::{BusState, Mailbox};
 use summary::{Edition, Image};
@@ -59,7 +58,7 @@ fn mark<M: Mailbox>(state: &BusState<M>, marks: &mut Marks, connection: u64)
     }
 }
 
-/// Whether the program of an entry needn't be run: the message's path or envelope tells that it doesn't match, or its
+/// Whether the program of an entry needn't be run: the message's envelope tells that it doesn't match, or its
 /// connection is in another piece, or is marked already.
 #[inline(always)]
 fn is_passed_over<M: Mailbox>(
@@ -303,7 +302,7 @@ fn consider_all<M: Mailbox>(
         if consider(state, piece, entry, &mut programs, marks) {
             return consider_with_edition_two(state, piece, entry, others, programs, marks);
         }
-        match programs.skip_elsewhere(others) {
+        match others.next() {
             Some(next) => entry = next,
             None => return programs.runs(),
         }
@@ -330,7 +329,7 @@ fn consider_offered<'a, M: Mailbox>(
     ensures least { mark_count marks.new.places ≤ result }
 {
     ends_in_one_way();
-    found_where_it_holds();
+    offered_where_it_holds();
     let _ = view.raw();
     let owned = state.slots_of(sender);
     let programs = Programs::new(view, &owned);
@@ -352,7 +351,7 @@ pub(crate) fn mark_recipients<'a, M: Mailbox>(
     ensures least { mark_count marks.new.places ≤ result }
     ensures state { IsState state.entry.now }
 {
-    found_where_it_holds();
+    offered_where_it_holds();
     let mut offers = state.entries_for(view);
     match offers.next() {
         None => 0,

@@ -3,7 +3,7 @@ use Rattle.fan_out.proofs.reach.may_reach.Goals as goal
 
 pub returns-in-None : goal.returns-in-None
 returns-in-None g c m valid =
-    nobody_reached c.args.state.now m c.entries_for-entries.result c.found_where_it_holds.ensures (c.entries_for-entries.ensures.offers m valid) c.in-None.ensures.steps.0
+    nobody_reached c.args.state.now m c.entries_for-entries.result c.offered_where_it_holds.ensures (c.entries_for-entries.ensures.offers m valid) c.in-None.ensures.steps.0
 
 pub returns-in-Some : goal.returns-in-Some
 returns-in-Some g c m valid =

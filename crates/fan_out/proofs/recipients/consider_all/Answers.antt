@@ -1,9 +1,8 @@
 use Rattle.std.proofs.Common.{[], ◌∷◌, ◌∙◌, Bool, List, refl, sym, ap, arith}
 use Rattle.std.specs.Prelude.{slice_get}
 use Rattle.fan_out.specs.Marking.{AreMarkedSoFar}
-use Rattle.fan_out.proofs.Missing.{fewer_left}
 use Rattle.fan_out.proofs.Places.{none_marked}
-use Rattle.fan_out.proofs.Marking.{marks_begin, marks_more, marks_skip}
+use Rattle.fan_out.proofs.Marking.{marks_begin, marks_more}
 use Rattle.fan_out.proofs.recipients.consider_all.Goals as goal
 
 pub entries-init : goal.entries-init
@@ -38,7 +37,7 @@ entries-preserved g c =
       view = c.consider.ensures.view ∙ before.view;
       owned = c.consider.ensures.owned ∙ before.owned;
       noted = c.consider.ensures.noted;
-      so_far = marks_skip c.args.state.now c.args.piece.part c.args.piece.of c.args.programs.view.now c.args.programs.owned.now (c.args.first.now ∷ c.args.others.now) c.entries.others (c.in-Some.next.now ∷ c.skip_elsewhere.new.others) c.consider.new.marks.places c.consider.new.programs.tally.runs (rw (c.consider.ensures.view, before.view) at c.in-Some.ensures) so_far;
+      so_far = rw c.in-Some.ensures.steps at so_far;
     }
 
 pub returns-in-None : goal.returns-in-None
@@ -47,7 +46,4 @@ returns-in-None g c =
     let considered = rw (c.if-consider.false, before.view, before.owned) at c.consider.ensures.considered in
     let so_far : AreMarkedSoFar c.args.state.now c.args.piece.part c.args.piece.of c.args.programs.view.now c.args.programs.owned.now (c.args.first.now ∷ c.args.others.now) c.entries.others c.consider.new.marks.places c.consider.new.programs.tally.runs =
     marks_more c.args.state.now c.args.piece.part c.args.piece.of c.args.programs.view.now c.args.programs.owned.now (c.args.first.now ∷ c.args.others.now) c.entries.others c.entries.entry.now c.entries.marks.places c.consider.new.marks.places c.entries.programs.tally.runs c.consider.new.programs.tally.runs before.so_far considered in
-    record { marked = rw c.runs.ensures (marks_skip c.args.state.now c.args.piece.part c.args.piece.of c.args.programs.view.now c.args.programs.owned.now (c.args.first.now ∷ c.args.others.now) c.entries.others [] c.consider.new.marks.places c.consider.new.programs.tally.runs (rw (c.consider.ensures.view, before.view) at c.in-None.ensures) so_far) }
-
-pub entries-smaller : goal.entries-smaller
-entries-smaller g c = fewer_left c.consider.new.programs.view.now c.entries.others c.in-Some.next.now c.skip_elsewhere.new.others c.in-Some.ensures
+    record { marked = rw c.runs.ensures (rw c.in-None.ensures.steps.0 at so_far) }

@@ -3,10 +3,11 @@ use Rattle.entry_table.specs.OfferedEntries.{AreOffered}
 use Rattle.entry_table.specs.PlacedEntries.{Placed}
 use Rattle.entry_table.specs.Searching.{entries_of, IdsFall}
 use Rattle.entry_table.proofs.Lookups.{AreOffered-index}
+use Rattle.entry_table.proofs.RootedPaths.{rooted}
 use Rattle.entry_table.proofs.indexed_shelf.IndexedShelf.entries_for.Goals as goal
 
 pub returns : goal.returns
 returns c = λ m valid.
     let i = c.self.inside in
     subst (λ (held : List Placed). IdsFall held → AreOffered (entries_of held) m c.entries_for.result) c.self.view_is
-    (λ falls. AreOffered-index i.index i.shelf m c.entries_for.result c.self.invariant falls (c.entries_for.ensures m valid))
+    (λ falls. AreOffered-index i.index i.shelf m c.entries_for.result (rooted c.args.view.now m valid) c.self.invariant falls (c.entries_for.ensures m valid))

@@ -7,4 +7,4 @@ use Rattle.rule_compile.specs.Rest.{IsRest}
 use Rattle.entry_table.proofs.rule_program.RuleProgram.share.Goals as goal
 
 pub invariant_of-result : goal.invariant_of-result
-invariant_of-result c = subst (λ (p : Parts). IsFit (record { rule = p.rule; slot = p.slot; program = whole_program p.rule p.slot }) × IsRest p.rule p.slot p.rest × AreHints p.rule c.self.inside.shape c.self.inside.namespace_end) (sym c.in_ok-try_clone.ensures) c.self.invariant
+invariant_of-result c = subst (λ (p : Parts). IsFit (record { rule = p.rule; slot = p.slot; program = whole_program p.rule p.slot }) × IsRest p.rule p.slot p.rest × AreHints p.rule c.self.inside.shape) (sym c.in_ok-try_clone.ensures) c.self.invariant
