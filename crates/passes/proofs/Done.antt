@@ -2,14 +2,15 @@
 use Rattle.std.proofs.Common.{◌≡◌, ◌≢◌, ℕ, ◌+◌, ◌<◌, ◌≤◌, Bool, true, false, List, [], ◌∷◌, ◌++◌, length, Option, Some, None, refl, sym, ap, ◌∙◌, subst, arith, length-append}
 use Rattle.std.specs.Prelude.{if◌then◌else◌, MatchOption}
 use mathlib.Core.List.{IsPrefix}
-use Rattle.lookups.specs.Command.{Command}
-use Rattle.lookups.specs.Reply.{Reply}
-use Rattle.lookups.specs.Connections.{is_connected, commands_of}
-use Rattle.lookups.specs.Does.{is_accepted, reply_to}
-use Rattle.lookups.specs.History.{after, own_commands, is_command_of, IsHistory}
-use Rattle.lookups.specs.Publication.{Publication}
-use Rattle.lookups.proofs.Counted.{commands-owned}
-use Rattle.lookups.proofs.Fronts.{prefix_self}
+use Rattle.program_table.specs.declared.command.Command.{Command}
+use Rattle.program_table.specs.declared.command.Reply.{Reply}
+use Rattle.program_table.specs.Connections.{is_connected, commands_of}
+use Rattle.program_table.specs.Does.{is_accepted, reply_to}
+use Rattle.program_table.specs.History.{after, own_commands, is_command_of, IsHistory}
+use Rattle.program_table.specs.State.{State}
+use Rattle.published.specs.Publication.{Publication}
+use Rattle.published.proofs.Counted.{commands-owned}
+use Rattle.published.proofs.Fronts.{prefix_self}
 use Rattle.passes.specs.Passes.{PassState, HasTaken}
 use Rattle.passes.specs.Calls.{IsDone, KeepsOwn}
 use Rattle.passes.proofs.Owned.{own-push, own_grows, own_same}
@@ -65,7 +66,9 @@ module _ {M : Type 0} where
         own = omega (arith, was, more, e, took);
       }
 
--- what is seen after a visit, or where there was none
-pub seen_more : {A C : Type 0} (o : Option A) (seen next : List C) (P : A → Type 0) → MatchOption o (next ≡ seen) (λ x. IsPrefix seen next × P x) → IsPrefix seen next
-seen_more None seen next P h = subst (λ l. IsPrefix seen l) (sym h) (prefix_self seen)
-seen_more (Some x) seen next P h = h.0
+module _ {M : Type 0} where
+  -- what holds of the state that was entered holds after the history that is seen then
+  pub asked : (P : State M → Type 0) (seen l : List (Command M)) (w : PassState M) (s : State M) → IsPrefix seen l → s ≡ after l → w.seen ≡ l → P s → IsPrefix seen w.seen × P (after w.seen)
+  asked P seen l w s begins state left holds =
+      let Q : List (Command M) → Type 0 = λ x. IsPrefix seen x × P (after x) in
+      subst Q (sym left) (begins, subst P state holds)

@@ -3,6 +3,9 @@ pub mod Done
 pub mod Commands
 pub mod Joining
 pub mod Finding
+pub mod NameOrder
+pub mod NameOwners
+pub mod Seats
 pub mod Sending
 pub mod Admitted
 pub mod Adding

@@ -1,14 +1,15 @@
 // The calls that publish a command of a pass's connection.
 
 ghost use Rattle.std.specs.Prelude.{true, false};
-ghost use Rattle.lookups.specs.Command.TheVariants.{Detach, Request, Release, DropOne, Close};
+ghost use Rattle.program_table.specs.declared.command.Command.TheVariants.{Detach, Request, Release, DropOne, Close};
 ghost use Rattle.passes.specs.Calls.{Answers};
 
 use crate::control::Control;
 use crate::error::BusError;
 use crate::pass::Pass;
-use lookups::{Command, Mailbox, Naming, Reply};
 use owners::WellKnown;
+use program_table::{Command, Mailbox, Reply};
+use published::Naming;
 use std::sync::Wait;
 
 impl<J: Naming, M: Mailbox, R: Wait + Drop> Control<J, M, R> {

@@ -4,8 +4,9 @@ ghost use Rattle.std.specs.Prelude.{◌≡◌, None, IfOk};
 
 use crate::pass::Pass;
 use bytes::Bytes;
-use lookups::{Mailbox, Naming};
 use outbox::Item;
+use program_table::Mailbox;
+use published::Naming;
 use routing::Carrier;
 use std::alloc::{AllocError, Global};
 

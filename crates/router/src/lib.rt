@@ -4,6 +4,7 @@
 #![tactic(auto)]
 
 mod bus;
+mod gated;
 mod letterbox;
 mod routes;
 mod unicasts;
