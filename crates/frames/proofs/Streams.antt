@@ -7,7 +7,7 @@ use Rattle.message_view.specs.Fixed.{framing}
 use Rattle.message_view.specs.Reading.{message_at}
 use Rattle.message_view.proofs.FrontMessage.{valid_frames}
 use Rattle.message_view.proofs.OneMessage.{fault_invalid}
-use Rattle.frames.specs.Stream.{IsMessage, AreMessages, bytes_of, IsUnfinished, IsFault, EndsIn, IsCut, FramesOf}
+use Rattle.frames.specs.Stream.{IsMessage, AreMessages, BeginsWithMessage, bytes_of, IsUnfinished, IsFault, EndsIn, IsCut, FramesOf}
 
 -- ---- where a message begins nothing ends
 
@@ -30,6 +30,10 @@ not_fault message more fault (m, valid) (inr (len, said, there, bad)) =
     let same : length message ≡ len = some_len _ _ _ (valid_frames message more m valid) said in
     let front : take len (message ++ more) ≡ message = ap (λ (k : ℕ). take k (message ++ more)) (sym same) ∙ take-append_seam message more in
     fault_invalid message fault m (ap message_at (sym front) ∙ bad) valid
+
+-- where more bytes are needed no whole message is there
+pub unfinished_has_none : (rest : List ℕ) → IsUnfinished rest → BeginsWithMessage rest → ⊥
+unfinished_has_none rest is (message, more, is_message, e) = not_unfinished message more is_message (subst IsUnfinished e is)
 
 not_end : (message more : List ℕ) (fault : Option MsgError) → IsMessage message → EndsIn (message ++ more) fault → ⊥
 not_end message more None is ends = not_unfinished message more is ends

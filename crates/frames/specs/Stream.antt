@@ -23,7 +23,7 @@ bytes_of (message ∷ later) = message ++ bytes_of later
 abbrev pub BeginsWithMessage : List ℕ → Type 0
 BeginsWithMessage bytes = (message rest : List ℕ) × IsMessage message × (bytes ≡ message ++ rest)
 
--- A valid message may still begin: how long it is isn't said yet, or not all of it is there.
+-- More bytes are needed: how long the next message is isn't said yet, or not all of it is there. No fault has shown so far.
 abbrev pub IsUnfinished : List ℕ → Type 0
 IsUnfinished rest = (framing rest ≡ Ok None) ⊎ ((len : ℕ) × (framing rest ≡ Ok (Some len)) × (length rest < len))
 
@@ -41,7 +41,7 @@ pub record IsCut (stream : List ℕ) (messages : List (List ℕ)) (rest : List �
   pub whole : stream ≡ bytes_of messages ++ rest
   pub each : AreMessages messages
 
--- All messages that a stream begins with, and then either a rest that a message may still begin, or a fault.
+-- All messages that a stream begins with, and then either a rest that needs more bytes, or a fault.
 pub record FramesOf (stream : List ℕ) (messages : List (List ℕ)) (rest : List ℕ) (fault : Option MsgError) : Type 0 where
   pub cut : IsCut stream messages rest
   pub ends : EndsIn rest fault

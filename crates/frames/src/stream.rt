@@ -70,7 +70,7 @@ impl Frames {
         Ok(())
     }
 
-    /// The next message, lent where it lies; `None` where more bytes are needed. It stays the next one until `skip`.
+    /// The next message, lent where it lies; `None` where no whole message is there and more bytes are needed. It stays the next one until `skip`.
     ///
     /// # Errors
     ///
@@ -78,6 +78,7 @@ impl Frames {
     pub fn front(&self) -> Result<Option<View<'_>>, MsgError>
         ensures message { IfOk result (λ front. IfSome front (λ view. (self.now.fault ≡ None) × IsMessage view × ((rest : List ℕ) × (self.now.unread ≡ view ++ rest)))) }
         ensures unfinished { IfOk result (λ front. IfNone front ((self.now.fault ≡ None) × IsUnfinished self.now.unread)) }
+        ensures none { IfOk result (λ front. IfNone front (BeginsWithMessage self.now.unread → ⊥)) }
         ensures fault { IfErr result (λ fault. self.now.fault ≡ None → IsFault self.now.unread fault) }
         ensures for_ever { (fault : MsgError) → self.now.fault ≡ Some fault → result ≡ Err fault }
     {
@@ -87,7 +88,7 @@ impl Frames {
         }
     }
 
-    /// The next message, which shares the stream's bytes; `None` where more bytes are needed.
+    /// The next message, which shares the stream's bytes; `None` where no whole message is there and more bytes are needed.
     ///
     /// # Errors
     ///
@@ -96,6 +97,7 @@ impl Frames {
     pub fn next(&mut self) -> Result<Option<Bytes>, FrameError>
         ensures message { IfOk result (λ next. IfSome next (λ message. (self.old.fault ≡ None) × IsMessage message × (self.old.unread ≡ message ++ self.new.unread) × (self.new.fault ≡ None))) }
         ensures unfinished { IfOk result (λ next. IfNone next ((self.old.fault ≡ None) × IsUnfinished self.old.unread × (self.new ≡ self.old))) }
+        ensures none { IfOk result (λ next. IfNone next (BeginsWithMessage self.old.unread → ⊥)) }
         ensures fault { (fault : MsgError) → result ≡ Err (FrameError.Message fault) → (self.old.fault ≡ None → IsFault self.old.unread fault) × (self.new ≡ record { unread = self.old.unread; fault = Some fault }) }
         ensures for_ever { (fault : MsgError) → self.old.fault ≡ Some fault → result ≡ Err (FrameError.Message fault) }
         ensures memory { result ≡ Err FrameError.NoMemory → (self.old.fault ≡ None) × BeginsWithMessage self.old.unread × (self.new ≡ self.old) }

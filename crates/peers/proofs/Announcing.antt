@@ -1,5 +1,5 @@
 -- What the bus announces of names.
-use Rattle.std.proofs.Common.{◌≡◌, ℕ, List, [], ◌∷◌, Option, Some, None, Result, Ok, Err, inr, refl, sym, ap, subst, ◌∙◌}
+use Rattle.std.proofs.Common.{◌≡◌, ℕ, List, [], ◌∷◌, Option, Some, None, Result, Ok, Err, inr, sym, ap, subst, ◌∙◌}
 use Rattle.std.specs.Prelude.{IfErr, codes}
 use Rattle.outbox.specs.Seated.{OutboxId}
 use Rattle.message_build.specs.Asked.{Asked}
@@ -16,7 +16,7 @@ use Rattle.router.specs.Source.TheVariants.{Bus}
 use Rattle.router.specs.Passes.{PassState}
 use Rattle.peers.specs.declared.error.AnswerError.{AnswerError}
 use Rattle.peers.specs.declared.error.AnswerError.TheVariants.{NoMemory}
-use Rattle.peers.specs.Announcements.{AreBoth, IsTold, HasTold, TellsOwner, IsSignalled, HasSignalled, Announces, AnnouncesAny, AnnouncesArrival, told_asked, change_asked, owner_text}
+use Rattle.peers.specs.Announcements.{IsTold, HasTold, TellsOwner, IsSignalled, HasSignalled, Announces, AnnouncesAny, AnnouncesArrival, told_asked, change_asked, owner_text}
 use Rattle.peers.specs.Answers.{after_serial}
 use Rattle.peers.specs.Broadcasts.{Broadcasts}
 use Rattle.peers.specs.Passing.{with_pass}
@@ -34,13 +34,6 @@ told_built serial member name n result h = h
 pub change_built : (serial : ℕ) (name : List ℕ) (old new : Option ℕ) (bytes : List ℕ) → AreAsked (signal_asked serial None (codes "NameOwnerChanged") (name ∷ owner_text old ∷ owner_text new ∷ [])) bytes → AreAsked (change_asked serial name old new) bytes
 unfolding change_asked
 change_built serial name old new bytes h = h
-
-and_ok : (a b r : Result (Unit {0}) AnswerError) → r ≡ result_and a b → r ≡ Ok tt → (a ≡ Ok tt) × (b ≡ Ok tt)
-and_ok (Ok x) b r e ok = (refl, sym e ∙ ok)
-and_ok (Err x) b r e ok = let no : Err x ≡ Ok tt = sym e ∙ ok in absurd (cc)
-
-pub both : (a b r : Result (Unit {0}) AnswerError) → r ≡ result_and a b → AreBoth a b r
-both a b r e ok = and_ok a b r e ok
 
 module _ {M : Type 0} where
   signalled : (outbox_of : M → OutboxId) (asked : Asked) (bytes : List ℕ) (v w : PassState M) (result : Result (Unit {0}) AnswerError) (recipients refused : List ℕ) → AreAsked asked bytes → IfErr result (λ error. error ≡ NoMemory)
@@ -73,25 +66,25 @@ module _ {M : Type 0} where
       let A : List ℕ → Type 0 = λ n. TellsOwner outbox_of (codes "NameLost") n change.old v lost mid in
       let B : List ℕ → Type 0 = λ n. HasSignalled outbox_of (change_asked mid.serial n change.old change.new) mid changed next in
       let C : List ℕ → Type 0 = λ n. TellsOwner outbox_of (codes "NameAcquired") n change.new next acquired w in
-      (mid, next, lost, changed, acquired, subst A is a, subst B is b, subst C is c, λ ok. let last = and_ok first acquired result f ok in let firsts = and_ok lost changed first e last.0 in (firsts.0, firsts.1, last.1))
+      (mid, next, lost, changed, acquired, subst A is a, subst B is b, subst C is c, f ∙ ap (λ (x : Result (Unit {0}) AnswerError). result_and x acquired) e)
 
   pub arrived : (outbox_of : M → OutboxId) (number : ℕ) (name other : List ℕ) (v mid w : PeerState M) (changed acquired result : Result (Unit {0}) AnswerError) → number ≡ v.pass.connection → name ≡ unique_name number → other ≡ unique_name number
       → HasSignalled outbox_of (change_asked v.serial name None (Some number)) v changed mid → TellsOwner outbox_of (codes "NameAcquired") other (Some number) mid acquired w → result ≡ result_and changed acquired → AnnouncesArrival outbox_of v result w
   arrived outbox_of number name other v mid w changed acquired result e n o a b both_are =
       let A : List ℕ → ℕ → Type 0 = λ x k. HasSignalled outbox_of (change_asked v.serial x None (Some k)) v changed mid in
       let B : List ℕ → ℕ → Type 0 = λ x k. TellsOwner outbox_of (codes "NameAcquired") x (Some k) mid acquired w in
-      (mid, changed, acquired, subst (λ k. A (unique_name k) k) e (subst (λ x. A x number) n a), subst (λ k. B (unique_name k) k) e (subst (λ x. B x number) o b), both changed acquired result both_are)
+      (mid, changed, acquired, subst (λ k. A (unique_name k) k) e (subst (λ x. A x number) n a), subst (λ k. B (unique_name k) k) e (subst (λ x. B x number) o b), both_are)
 
   pub registered : (outbox_of : M → OutboxId) (request : Request) (name : List ℕ) (v u mid x w : PeerState M) (answered announced result : Result (Unit {0}) AnswerError) → u ≡ v → name ≡ name_of v → RepliesText request name u answered mid → AnnouncesArrival outbox_of mid announced x → w ≡ x
       → result ≡ result_and answered announced → Registers outbox_of request v result w
   registered outbox_of request name v u mid x w answered announced result is n a b e both_are =
       let A : PeerState M → List ℕ → Type 0 = λ s text. RepliesText request text s answered mid in
       let B : PeerState M → Type 0 = λ s. AnnouncesArrival outbox_of mid announced s in
-      (mid, answered, announced, subst (λ s. A s (name_of v)) is (subst (A u) n a), subst B (sym e) b, both answered announced result both_are)
+      (mid, answered, announced, subst (λ s. A s (name_of v)) is (subst (A u) n a), subst B (sym e) b, both_are)
 
   pub named : (outbox_of : M → OutboxId) (request : Request) (name : Named) (number : ℕ) (v u mid x w : PeerState M) (answered announced result : Result (Unit {0}) AnswerError) → u ≡ v → number ≡ name_reply_number name.answer → Replies request (Number number) u answered mid
       → AnnouncesAny outbox_of name.change mid announced x → w ≡ x → result ≡ result_and answered announced → TellsName outbox_of request name v result w
   named outbox_of request name number v u mid x w answered announced result is n a b e both_are =
       let A : PeerState M → ℕ → Type 0 = λ s k. Replies request (Number k) s answered mid in
       let B : PeerState M → Type 0 = λ s. AnnouncesAny outbox_of name.change mid announced s in
-      (mid, answered, announced, subst (λ s. A s (name_reply_number name.answer)) is (subst (A u) n a), subst B (sym e) b, both answered announced result both_are)
+      (mid, answered, announced, subst (λ s. A s (name_reply_number name.answer)) is (subst (A u) n a), subst B (sym e) b, both_are)

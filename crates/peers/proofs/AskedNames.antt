@@ -9,7 +9,8 @@ use Rattle.router.specs.State.{State}
 use Rattle.peers.specs.declared.refused.Refused.{Refused}
 use Rattle.peers.specs.declared.owner.AskedName.{AskedName}
 use Rattle.peers.specs.declared.owner.Owner.{Owner}
-use Rattle.peers.specs.Asked.{IsAsked, TellsOwner, IsOwnerOf}
+use Rattle.peers.specs.Asked.{IsAsked, IsOwnerOf}
+use Rattle.peers.specs.Queues.{TellsOwner}
 
 by_tests : (eq known : Bool) (text name : List ℕ) → (if eq then Err Reserved else if known then Ok text else Err BadName) ≡ Ok name → (name ≡ text) × ((known && not eq) ≡ true)
 by_tests true known text name e = grind arith

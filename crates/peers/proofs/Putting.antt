@@ -17,7 +17,8 @@ use Rattle.peers.specs.declared.identity.Identity.{Identity}
 use Rattle.peers.specs.declared.refused.Refused.{Refused}
 use Rattle.peers.specs.declared.refused.Refused.TheVariants.{Error}
 use Rattle.peers.specs.declared.request.Request.{Request}
-use Rattle.peers.specs.Answers.{IsPut, IsEither, AnswersIf, IsAnswered, IsRefused, after_serial, fault_asked, reply_with, text_with, texts_with, text_values, lent_texts, fault_with}
+use Rattle.peers.specs.Answers.{IsPut, IsEither, AnswersIf, IsAnswered, IsRefused, after_serial, fault_asked, reply_with, text_with, texts_with, text_values, fault_with}
+use Rattle.peers.specs.LentTexts.{lent_texts}
 use Rattle.peers.specs.PeerState.{PeerState}
 use Rattle.peers.specs.Serials.{serial_after}
 

@@ -1,5 +1,6 @@
 -- What the bus announces of names (D-Bus Specification, "Message Bus Messages": NameOwnerChanged, NameLost, NameAcquired).
 use Rattle.std.specs.Prelude.{ℕ, ◌≡◌, ◌⊎◌, List, [], ◌∷◌, codes, Option, Some, None, Result, Ok, Err}
+use Rattle.std.specs.Result.{result_and}
 use Rattle.outbox.specs.Seated.{OutboxId}
 use Rattle.owners.specs.declared.answer.Change.{Change}
 use Rattle.message_build.specs.Asked.{Asked}
@@ -31,10 +32,6 @@ change_asked serial name old new = signal_asked serial None (codes "NameOwnerCha
 unfoldable pub told_asked : ℕ → List ℕ → List ℕ → ℕ → Asked
 told_asked serial member name n = signal_asked serial (Some (unique_name n)) member (name ∷ [])
 
--- two things were done, and both well if the result is
-abbrev pub AreBoth : Result (Unit {0}) AnswerError → Result (Unit {0}) AnswerError → Result (Unit {0}) AnswerError → Type 0
-AreBoth first second result = result ≡ Ok tt → (first ≡ Ok tt) × (second ≡ Ok tt)
-
 module _ {M : Type 0} where
   -- The pass sent this message of the bus to the owner of a name, who may be gone; or nothing was put.
   abbrev pub IsTold : (M → OutboxId) → Asked → List ℕ → PassState M → Result (Unit {0}) AnswerError → PassState M → Type 0
@@ -62,14 +59,14 @@ module _ {M : Type 0} where
   TellsOwner outbox_of member name (Some n) v result w = HasTold outbox_of (told_asked v.serial member name n) (unique_name n) v result w
 
   -- A change of a name's owner: NameLost to the old one, NameOwnerChanged to all whose rules hold of it, NameAcquired to
-  -- the new one, in this order, and nothing else.
+  -- the new one, in this order, and nothing else. The result is the first error of these, if there is one.
   abbrev pub Announces : (M → OutboxId) → Change → PeerState M → Result (Unit {0}) AnswerError → PeerState M → Type 0
   Announces outbox_of change v result w =
       (mid next : PeerState M) × (lost changed acquired : Result (Unit {0}) AnswerError)
       × TellsOwner outbox_of (codes "NameLost") change.name change.old v lost mid
       × HasSignalled outbox_of (change_asked mid.serial change.name change.old change.new) mid changed next
       × TellsOwner outbox_of (codes "NameAcquired") change.name change.new next acquired w
-      × (result ≡ Ok tt → (lost ≡ Ok tt) × (changed ≡ Ok tt) × (acquired ≡ Ok tt))
+      × (result ≡ result_and (result_and lost changed) acquired)
 
   -- a change, if there is one, is announced
   abbrev pub AnnouncesAny : (M → OutboxId) → Option Change → PeerState M → Result (Unit {0}) AnswerError → PeerState M → Type 0
@@ -82,4 +79,4 @@ module _ {M : Type 0} where
       (mid : PeerState M) × (changed acquired : Result (Unit {0}) AnswerError)
       × HasSignalled outbox_of (change_asked v.serial (name_of v) None (Some v.pass.connection)) v changed mid
       × TellsOwner outbox_of (codes "NameAcquired") (name_of v) (Some v.pass.connection) mid acquired w
-      × AreBoth changed acquired result
+      × (result ≡ result_and changed acquired)

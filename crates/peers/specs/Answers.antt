@@ -1,6 +1,5 @@
 -- What calls are answered (D-Bus Specification, "Message Format").
-use Rattle.std.specs.Prelude.{ℕ, ◌≡◌, ◌⊎◌, ◌++◌, Bool, true, false, List, [], ◌∷◌, map, Some, None, Result, Ok, Err, IfErr}
-use Rattle.std.specs.Borrow.{Bor}
+use Rattle.std.specs.Prelude.{ℕ, ◌≡◌, ◌⊎◌, ◌++◌, Bool, true, false, List, [], ◌∷◌, Some, None, Result, Ok, Err, IfErr}
 use Rattle.outbox.specs.Items.{Item}
 use Rattle.signature.specs.DataType.{array, basic}
 use Rattle.message_value.specs.Value.{Values, elements, text, no_values, one_value}
@@ -32,10 +31,6 @@ reply_with serial to request body = reply_asked serial (Some to) request.serial 
 -- the answer with a text
 unfoldable pub text_with : ℕ → List ℕ → Request → List ℕ → Asked
 text_with serial to request string = with_text (reply_asked serial (Some to) request.serial Nothing) string
-
--- the texts that lent ones are
-abbrev pub lent_texts : List (Bor (List ℕ)) → List (List ℕ)
-lent_texts texts = map (λ (text : Bor (List ℕ)). text.now) texts
 
 -- texts as the elements of an array
 abbrev pub text_values : List (List ℕ) → Values

@@ -1,16 +1,33 @@
--- What Hello is answered (D-Bus Specification, "Message Bus Messages": Hello).
-use Rattle.std.specs.Prelude.{Result}
+-- How a client joins the bus, and what Hello is answered (D-Bus Specification, "Message Bus Messages": Hello).
+use Rattle.std.specs.Prelude.{◌≡◌, ◌⊎◌, Result, Ok, Err}
+use Rattle.std.specs.Result.{result_and}
 use Rattle.outbox.specs.Seated.{OutboxId}
+use Rattle.bus_messages.specs.declared.error_name.ErrorName.TheVariants.{NoMemory}
+use Rattle.router.specs.BusError.{BusError}
+use Rattle.router.specs.Calls.{Connects}
+use Rattle.router.specs.Passes.{PassState}
+use Rattle.router.specs.Publication.{Publication}
+use Rattle.router.specs.Reply.{Reply}
 use Rattle.peers.specs.declared.error.AnswerError.{AnswerError}
+use Rattle.peers.specs.declared.refused.Refused.{Refused}
+use Rattle.peers.specs.declared.refused.Refused.TheVariants.{Error}
 use Rattle.peers.specs.declared.request.Request.{Request}
-use Rattle.peers.specs.Announcements.{AreBoth, AnnouncesArrival}
+use Rattle.peers.specs.Announcements.{AnnouncesArrival}
 use Rattle.peers.specs.PeerState.{PeerState, name_of}
 use Rattle.peers.specs.Queries.{RepliesText}
+use Rattle.peers.specs.Refusals.{refusal_of}
 
 module _ {M : Type 0} where
-  -- The call is answered with the client's name, and then the name is announced.
+  -- The pass is connected: the published history gains just its Connect, for a handle of the client's mailbox. Or the bus
+  -- refuses, or memory for the handle was refused; then nothing is published.
+  abbrev pub Joins : PassState M → Publication M → Result (Unit {0}) Refused → PassState M → Publication M → Type 0
+  Joins v before (Ok _) w next = (mailbox : M) × (reply : Reply) × Connects v before mailbox (Ok reply) w next
+  Joins v before (Err why) w next =
+      ((why ≡ Error NoMemory) × (w ≡ v) × (next ≡ before)) ⊎ ((mailbox : M) × (error : BusError) × Connects v before mailbox (Err error) w next × (why ≡ refusal_of error))
+
+  -- The call is answered with the client's name, and then the name is announced. The result is the first error of these.
   abbrev pub Registers : (M → OutboxId) → Request → PeerState M → Result (Unit {0}) AnswerError → PeerState M → Type 0
   Registers outbox_of request v result w =
       (mid : PeerState M) × (answered announced : Result (Unit {0}) AnswerError)
       × RepliesText request (name_of v) v answered mid
-      × AnnouncesArrival outbox_of mid announced w × AreBoth answered announced result
+      × AnnouncesArrival outbox_of mid announced w × (result ≡ result_and answered announced)

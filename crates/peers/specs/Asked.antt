@@ -1,4 +1,4 @@
--- Inner: names that clients ask about, and who owns them (D-Bus Specification, "Message Bus Names").
+-- Names that clients ask about, and who owns them (D-Bus Specification, "Message Bus Names").
 use Rattle.std.specs.Prelude.{◌≡◌, ◌≢◌, ◌⊎◌, ◌<◌, ◌^◌, ℕ, true, false, List, [], ◌∷◌, map, Option, Some, None, Result, Ok, Err, if◌then◌else◌}
 use Rattle.signature.specs.Name.{is_bus_name, bus_name}
 use Rattle.owners.specs.Queues.{owner_of, queue_of}
@@ -47,11 +47,6 @@ module _ {M : Type 0} where
   queue_in s (asked.Unique None) = []
   queue_in s (asked.Unique (Some n)) = if is_connected n s.connections then unique_name n ∷ [] else []
   queue_in s (asked.WellKnown name) = map unique_name (queue_of name s.registrations.claims)
-
-  -- the owner in a state, or that the bus has ended
-  abbrev pub TellsOwner : State M → AskedName → Result (Option Owner) Refused → Type 0
-  TellsOwner s name (Ok owner) = owner ≡ owner_in s name
-  TellsOwner s name (Err why) = why ≡ Ended
 
   -- the owner of the name that a text is, in a state; or that it is no name, or the bus has ended
   abbrev pub IsOwnerOf : State M → List ℕ → Result (Option Owner) Refused → Type 0

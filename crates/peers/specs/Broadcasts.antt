@@ -1,4 +1,4 @@
--- Broadcasts of a peer's pass (own).
+-- Inner: broadcasts of a peer's pass (own).
 use Rattle.std.specs.Prelude.{ℕ, List, Result, Ok, Err}
 use Rattle.outbox.specs.Seated.{OutboxId}
 use Rattle.router.specs.BusError.{BusError}

@@ -5,6 +5,7 @@ pub mod PeerState
 pub mod Serials
 pub mod Refusals
 pub mod Answers
+pub mod LentTexts
 pub mod Asked
 pub mod Broadcasts
 pub mod Passing

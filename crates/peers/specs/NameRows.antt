@@ -1,5 +1,6 @@
 -- What RequestName and ReleaseName do, and are answered (D-Bus Specification, "Message Bus Messages").
 use Rattle.std.specs.Prelude.{ℕ, ◌≡◌, ◌⊎◌, List, Result, Ok, Err}
+use Rattle.std.specs.Result.{result_and}
 use Rattle.outbox.specs.Seated.{OutboxId}
 use Rattle.owners.specs.WellKnown.{name_in}
 use Rattle.owners.specs.declared.error.ClaimError.{ClaimError}
@@ -14,18 +15,18 @@ use Rattle.router.specs.Passes.{PassState}
 use Rattle.peers.specs.declared.error.AnswerError.{AnswerError}
 use Rattle.peers.specs.declared.request.Request.{Request}
 use Rattle.peers.specs.declared.refused.Refused.TheVariants.{Error}
-use Rattle.peers.specs.Announcements.{AreBoth, AnnouncesAny}
+use Rattle.peers.specs.Announcements.{AnnouncesAny}
 use Rattle.peers.specs.Answers.{IsRefused}
 use Rattle.peers.specs.PeerState.{PeerState}
 use Rattle.peers.specs.Refusals.{refusal_of}
 use Rattle.peers.specs.Rows.{Replies, HasCalled}
 
 module _ {M : Type 0} where
-  -- the number of the answer, and then what changed
+  -- The number of the answer, and then what changed. The result is the first error of these.
   abbrev pub TellsName : (M → OutboxId) → Request → Named → PeerState M → Result (Unit {0}) AnswerError → PeerState M → Type 0
   TellsName outbox_of request named v result w =
       (mid : PeerState M) × (answered announced : Result (Unit {0}) AnswerError)
-      × Replies request (Number (name_reply_number named.answer)) v answered mid × AnnouncesAny outbox_of named.change mid announced w × AreBoth answered announced result
+      × Replies request (Number (name_reply_number named.answer)) v answered mid × AnnouncesAny outbox_of named.change mid announced w × (result ≡ result_and answered announced)
 
   abbrev pub TellsNamed : (M → OutboxId) → Request → Result Reply BusError → PeerState M → Result (Unit {0}) AnswerError → PeerState M → Type 0
   TellsNamed outbox_of request (Ok (replies.Name named)) v result w = TellsName outbox_of request named v result w

@@ -1,14 +1,16 @@
--- Inner: what a client's queue of owners is made of.
-use Rattle.std.specs.Prelude.{◌≡◌, ◌⊎◌, ℕ, List, [], ◌∷◌, map, Result, Ok, Err}
+-- Inner: how the owner of a name and those in its queue are told.
+use Rattle.std.specs.Prelude.{◌≡◌, ◌⊎◌, ℕ, List, [], ◌∷◌, map, Option, Result, Ok, Err}
 use Rattle.signature.specs.Name.{bus_name}
 use Rattle.unique_name.specs.UniqueNames.{unique_name}
 use Rattle.router.specs.State.{State}
-use Rattle.peers.specs.Asked.{IsAsked, queue_in}
+use Rattle.peers.specs.Asked.{IsAsked, owner_in, queue_in}
 use Rattle.peers.specs.Queries.{CannotList}
 use Rattle.peers.specs.declared.owner.AskedName.{AskedName}
+use Rattle.peers.specs.declared.owner.Owner.{Owner}
 use Rattle.peers.specs.declared.queries.Queue.{Queue}
 use Rattle.peers.specs.declared.queries.Queue.TheVariants as queues
 use Rattle.peers.specs.declared.refused.Refused.{Refused}
+use Rattle.peers.specs.declared.refused.Refused.TheVariants.{Ended}
 
 -- the names of those in a queue
 abbrev pub texts_in : Queue → List (List ℕ)
@@ -16,6 +18,11 @@ texts_in queues.Bus = bus_name ∷ []
 texts_in (queues.Connections unique) = map unique_name unique.items
 
 module _ {M : Type 0} where
+  -- the owner in a state, or that the bus has ended
+  abbrev pub TellsOwner : State M → AskedName → Result (Option Owner) Refused → Type 0
+  TellsOwner s name (Ok owner) = owner ≡ owner_in s name
+  TellsOwner s name (Err why) = why ≡ Ended
+
   abbrev pub TellsQueue : State M → AskedName → Result Queue Refused → Type 0
   TellsQueue s name (Ok queue) = texts_in queue ≡ queue_in s name
   TellsQueue s name (Err why) = CannotList why

@@ -1,4 +1,4 @@
--- Inner: the serials of the messages that the bus makes for one session (D-Bus Specification, "Message Format": a serial is
+-- The serials of the messages that the bus makes for one session (D-Bus Specification, "Message Format": a serial is
 -- never 0).
 use Rattle.std.specs.Prelude.{ℕ, ◌==◌, ◌+◌, if◌then◌else◌}
 

@@ -3,7 +3,8 @@
 ghost use Rattle.std.specs.Prelude.{◌≡◌, ◌∷◌, [], Some, IfOk, option_map};
 ghost use Rattle.signature.specs.Name.{bus_name};
 ghost use Rattle.bus_messages.specs.Sent.{error_asked};
-ghost use Rattle.peers.specs.Answers.{IsRefused, IsPut, IsEither, NeverSlow, fault_with, lent_texts};
+ghost use Rattle.peers.specs.Answers.{IsRefused, IsPut, IsEither, NeverSlow, fault_with};
+ghost use Rattle.peers.specs.LentTexts.{lent_texts};
 ghost use Rattle.peers.specs.PeerState.{name_of};
 ghost use Rattle.peers.specs.Queries.{RepliesText, RepliesTexts};
 ghost use Rattle.peers.specs.Rows.{Replies};

@@ -1,21 +1,41 @@
-// What Hello is answered.
+// How a client joins the bus, and what Hello is answered.
 
 ghost use Rattle.std.specs.Prelude.{◌≡◌, false, IsOk};
 ghost use Rattle.peers.specs.Answers.{NeverSlow};
-ghost use Rattle.peers.specs.Arrival.{Registers};
+ghost use Rattle.peers.specs.Arrival.{Joins, Registers};
 
 use crate::answers::error_bytes;
 use crate::context::Context;
 use crate::error::AnswerError;
 use crate::own_outbox::OwnOutbox;
 use crate::peer::Peer;
+use crate::refused::Refused;
 use crate::request::Request;
 use crate::serial::Serials;
 use bus_messages::{Body, ErrorName, UniqueName};
 use outbox::Item;
-use router::{Mailbox, Naming};
+use router::{Control, Mailbox, Naming, Pass};
 use routing::Carrier;
 use std::sync::Wait;
+
+/// Connects a pass, whose messages go to the client's outbox, under the bus's lock.
+///
+/// # Errors
+///
+/// The bus's refusal, and `NoMemory`. Nothing is published then.
+pub fn join<B: Naming, M: Mailbox + Carrier, R: Wait + Drop>(
+    control: &mut Control<B, M, R>,
+    pass: &mut Pass<B, M>,
+    own: &OwnOutbox<M>,
+) -> Result<(), Refused>
+    ensures { Joins pass.old control.old result pass.new control.new }
+{
+    let mailbox = own.share()?;
+    match control.connect(pass, mailbox) {
+        Ok(_) => Ok(()),
+        Err(error) => Err(Refused::from(error)),
+    }
+}
 
 /// Answers a Hello that is refused, if its caller waits for an answer. The client has no name that the answer could bear.
 ///

@@ -30,7 +30,7 @@ mod serial;
 pub use context::Context;
 pub use dispatch::is_for_bus;
 pub use error::AnswerError;
-pub use hello::put_refusal;
+pub use hello::{join, put_refusal};
 pub use identity::{BUS_NAME, Identity};
 pub use leaving::Leaving;
 pub use own_outbox::OwnOutbox;
@@ -40,6 +40,6 @@ pub use request::Request;
 
 // Passed on from the crates below, so that the crates above need not name those in crates.txt.
 pub use router::{
-    Bus, BusError, Command, IndexKey, Letterbox, Mailbox, Naming, Opened, Pass, Published,
+    Bus, BusError, Command, Control, IndexKey, Letterbox, Mailbox, Naming, Opened, Pass, Published,
     RouteLists, Shown,
 };

@@ -2,7 +2,8 @@
 
 ghost use Rattle.std.specs.Prelude.{◌≡◌};
 ghost use Rattle.router.specs.History.{after};
-ghost use Rattle.peers.specs.Asked.{IsAsked, TellsOwner, IsOwnerOf};
+ghost use Rattle.peers.specs.Asked.{IsAsked, IsOwnerOf};
+ghost use Rattle.peers.specs.Queues.{TellsOwner};
 ghost use Rattle.peers.specs.Passing.{HasSeenMore, with_pass};
 
 use crate::identity::BUS_NAME;

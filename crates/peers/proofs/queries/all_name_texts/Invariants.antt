@@ -1,7 +1,7 @@
 use Rattle.std.proofs.Common.{◌≡◌, ◌++◌, ◌∷◌, take, map}
 use Rattle.signature.specs.Name.{bus_name}
 use Rattle.unique_name.specs.UniqueNames.{unique_name}
-use Rattle.peers.specs.Answers.{lent_texts}
+use Rattle.peers.specs.LentTexts.{lent_texts}
 use Rattle.peers.proofs.queries.all_name_texts.Given as goal
 
 abbrev pub invariant-loop-name : goal.invariant-loop-name

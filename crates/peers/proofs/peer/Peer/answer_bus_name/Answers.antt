@@ -1,5 +1,5 @@
 use Rattle.std.proofs.Common.{ℕ, List, ap, subst}
-use Rattle.peers.specs.Answers.{lent_texts}
+use Rattle.peers.specs.LentTexts.{lent_texts}
 use Rattle.peers.specs.Queries.{RepliesTexts}
 use Rattle.peers.proofs.peer.Peer.answer_bus_name.Goals as goal
 
