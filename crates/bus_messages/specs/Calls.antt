@@ -125,13 +125,17 @@ abbrev pub unknown_call : Option (List ℕ) → CallError
 unknown_call (Some interface) = if is_interface interface then UnknownMethod else UnknownInterface
 unknown_call None = UnknownMethod
 
+-- what a message that calls a method is read as, if its body has the method's signature
+abbrev pub Understands : Method → Given → Result Call CallError → Type 0
+Understands method args_left (Ok call) = IsCallOf call method args_left
+Understands method args_left (Err error) = Refuses error method args_left
+
 -- What a message is read as: of a method that isn't there, that its interface or the method isn't known; of another signature
 -- than the method's, `InvalidArgs`; else as the method's arguments say.
 abbrev pub ReadsAs : Option (List ℕ) → Option MethodRow → List ℕ → Given → Result Call CallError → Type 0
 ReadsAs interface None signature args_left read = read ≡ Err (unknown_call interface)
-ReadsAs interface (Some row) signature args_left (Ok call) = (signature ≡ row.takes) × IsCallOf call row.method args_left
-ReadsAs interface (Some row) signature args_left (Err InvalidArgs) = signature ≡ row.takes → Refuses InvalidArgs row.method args_left
-ReadsAs interface (Some row) signature args_left (Err error) = (signature ≡ row.takes) × Refuses error row.method args_left
+ReadsAs interface (Some row) signature args_left read =
+    ((signature ≡ row.takes) × Understands row.method args_left read) ⊎ ((signature ≢ row.takes) × (read ≡ Err InvalidArgs))
 
 -- the arguments of a message
 abbrev pub given_by : Message → Given

@@ -1,10 +1,12 @@
 // The calls that the bus answers itself.
 
-ghost use Rattle.std.specs.Prelude.{◌≡◌, option_map};
+ghost use Rattle.std.specs.Prelude.{◌≡◌, MatchResult, false, option_map, true};
 ghost use Rattle.message_view.specs.Message.{Message};
 ghost use Rattle.message_view.specs.Valid.{Valid};
-ghost use Rattle.bus_messages.specs.Calls.{IsReadAs, row_called, unknown_call};
-ghost use Rattle.bus_messages.specs.CallAnswers.{Understands, of_property, properties_of};
+ghost use Rattle.bus_messages.specs.declared.call.CallError.TheVariants.{UnknownInterface};
+ghost use Rattle.bus_messages.specs.Calls.{IsReadAs, Understands, row_called, unknown_call};
+ghost use Rattle.bus_messages.specs.CallAnswers.{of_property, properties_of};
+ghost use Rattle.bus_messages.specs.Introspection.{is_interface};
 ghost use Rattle.bus_messages.specs.CallErrors.{error_name_of};
 ghost use Rattle.bus_messages.specs.Rows.{method_row_of};
 
@@ -108,7 +110,20 @@ impl From<AllocError> for CallError {
     }
 }
 
-/// What a call answers that names a property by its interface and its name: what is found, if the property is there.
+/// The name of an interface that the bus has.
+fn known_interface<'a>(name: &'a str) -> Result<&'a str, CallError>
+    ensures { MatchResult result
+        (λ known. (known.now ≡ name.entry.now) × (is_interface name.entry.now ≡ true))
+        (λ error. (error ≡ UnknownInterface) × (is_interface name.entry.now ≡ false)) }
+{
+    if is_interface(name) {
+        Ok(name)
+    } else {
+        Err(CallError::UnknownInterface)
+    }
+}
+
+/// What a call about a property of an interface is read as: what is found, if the property is there.
 fn of_property<'a>(
     interface: &str,
     name: &str,
@@ -116,9 +131,7 @@ fn of_property<'a>(
 ) -> Result<Call<'a>, CallError>
     ensures { result ≡ of_property interface.now name.now found.entry }
 {
-    if !is_interface(interface) {
-        Err(CallError::UnknownInterface)
-    } else if interface == BUS && (name == "Features" || name == "Interfaces") {
+    if interface == BUS && (name == "Features" || name == "Interfaces") {
         found
     } else {
         Err(CallError::UnknownProperty)
@@ -193,11 +206,15 @@ impl<'a> Call<'a> {
             }
             Method::GetMachineId => Ok(Call::GetMachineId),
             Method::Introspect => Ok(Call::Introspect),
-            Method::Get => of_property(arguments.text()?, arguments.text()?, Ok(Call::Get)),
+            Method::Get => {
+                let interface = known_interface(arguments.text()?)?;
+                of_property(interface, arguments.text()?, Ok(Call::Get))
+            }
             Method::GetAll => properties(arguments.text()?),
             Method::Set => {
+                let interface = known_interface(arguments.text()?)?;
                 let read_only = Err(CallError::PropertyReadOnly);
-                of_property(arguments.text()?, arguments.text()?, read_only)
+                of_property(interface, arguments.text()?, read_only)
             }
             Method::UpdateActivationEnvironment => Ok(Call::UpdateActivationEnvironment),
         }
