@@ -13,13 +13,24 @@ const BUS_INTERFACE: &str = "org.freedesktop.DBus";
 /// The interface of the bus's methods for programs.
 const PROGRAM_INTERFACE: &str = "org.example.ProgramBus1";
 
+/// The interface of the bus's methods for monitors.
+const MONITORING_INTERFACE: &str = "org.freedesktop.DBus.Monitoring";
+
 const BUS_PATH: &str = "/org/freedesktop/DBus";
+
+/// The flags of BecomeMonitor, of which there are none yet.
+const NO_FLAGS: u32 = 0;
 
 /// A method of a bus with its arguments.
 #[derive(Clone, Copy)]
 pub(crate) enum Call<'a> {
     Hello,
     AddMatch(&'a str),
+    /// The name whose owner is asked for.
+    GetNameOwner(&'a str),
+    ListNames,
+    /// The rules of what the monitor gets; none means everything.
+    BecomeMonitor(&'a [&'a str]),
     /// A program's instructions, eight bytes each.
     Attach(&'a [u8]),
     /// The same for images of an edition.
@@ -47,7 +58,8 @@ fn program_body(alloc: Global, edition: Option<u32>, code: &[u8]) -> Result<Vec<
 impl<'a> Call<'a> {
     fn interface(self) -> &'static str {
         match self {
-            Call::Hello | Call::AddMatch(_) => BUS_INTERFACE,
+            Call::Hello | Call::AddMatch(_) | Call::GetNameOwner(_) | Call::ListNames => BUS_INTERFACE,
+            Call::BecomeMonitor(_) => MONITORING_INTERFACE,
             Call::Attach(_) | Call::AttachEdition(_, _) => PROGRAM_INTERFACE,
         }
     }
@@ -56,6 +68,9 @@ impl<'a> Call<'a> {
         match self {
             Call::Hello => "Hello",
             Call::AddMatch(_) => "AddMatch",
+            Call::GetNameOwner(_) => "GetNameOwner",
+            Call::ListNames => "ListNames",
+            Call::BecomeMonitor(_) => "BecomeMonitor",
             Call::Attach(_) => "Attach",
             Call::AttachEdition(_, _) => "AttachEdition",
         }
@@ -64,8 +79,12 @@ impl<'a> Call<'a> {
     /// Gives a builder the arguments.
     fn put_arguments(self, alloc: Global, builder: &mut Builder<'_>) -> Result<(), BuildError> {
         match self {
-            Call::Hello => Ok(()),
-            Call::AddMatch(rule) => builder.arg_str(rule),
+            Call::Hello | Call::ListNames => Ok(()),
+            Call::AddMatch(text) | Call::GetNameOwner(text) => builder.arg_str(text),
+            Call::BecomeMonitor(rules) => {
+                builder.arg_strs(rules)?;
+                builder.arg_u32(NO_FLAGS)
+            }
             Call::Attach(code) => {
                 let body = program_body(alloc, None, code)?;
                 builder.raw_body(b"a(qyyu)", &body)

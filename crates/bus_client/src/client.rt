@@ -3,6 +3,7 @@
 use crate::calls::{BUS_NAME, Call};
 use crate::error::ClientError;
 use crate::lines::{log_in, read_some};
+use crate::strings::{first_string, strings_of};
 use bytes::Bytes;
 use frames::Frames;
 use message_view::{Kind, View};
@@ -13,12 +14,17 @@ use std::io::{Read, Write};
 /// How many bytes of messages are read at once.
 const READ_LEN: usize = 8192;
 
+/// The error by which a bus says that nobody owns a name.
+const NO_OWNER: &str = "org.freedesktop.DBus.Error.NameHasNoOwner";
+
 /// A connection that has said Hello.
 #[derive(Drop)]
 pub struct Client<S> {
     alloc: Global,
     stream: S,
     frames: Frames,
+    /// The connection's name, as the bus said it at Hello.
+    name: Option<String>,
     /// The serial of the last call.
     serial: u32,
     /// Broadcasts that came while an answer was waited for.
@@ -65,11 +71,18 @@ impl<S: Read + Write + Drop> Client<S> {
             alloc,
             stream,
             frames,
+            name: None,
             serial: 0,
             kept: VecDeque::new(alloc),
         };
-        client.call(Call::Hello)?;
+        let answer = client.call(Call::Hello)?;
+        client.name = first_string(alloc, answer.as_slice())?;
         Ok(client)
+    }
+
+    /// The connection's own name, if the bus said it.
+    pub fn name(&self) -> Option<&str> {
+        self.name.as_ref().map(|name| name.as_str())
     }
 
     /// Adds a match rule.
@@ -78,7 +91,42 @@ impl<S: Read + Write + Drop> Client<S> {
     ///
     /// `Answered` where the bus refuses it, and others.
     pub fn add_match(&mut self, rule: &str) -> Result<(), ClientError> {
-        self.call(Call::AddMatch(rule))
+        self.call(Call::AddMatch(rule))?;
+        Ok(())
+    }
+
+    /// Becomes a monitor, which gets what any of the rules holds of, or all messages where there is none. From now on it
+    /// may call nothing.
+    ///
+    /// # Errors
+    ///
+    /// `Answered` where the bus refuses it, and others.
+    pub fn become_monitor(&mut self, rules: &[&str]) -> Result<(), ClientError> {
+        self.call(Call::BecomeMonitor(rules))?;
+        Ok(())
+    }
+
+    /// The unique name of a name's owner, if it has one.
+    ///
+    /// # Errors
+    ///
+    /// `Answered` where the bus refuses the call for another reason, and others.
+    pub fn name_owner(&mut self, name: &str) -> Result<Option<String>, ClientError> {
+        match self.call(Call::GetNameOwner(name)) {
+            Ok(answer) => first_string(self.alloc, answer.as_slice()),
+            Err(ClientError::Answered(error)) if error.as_str() == NO_OWNER => Ok(None),
+            Err(other) => Err(other),
+        }
+    }
+
+    /// The names that are owned, unique ones too.
+    ///
+    /// # Errors
+    ///
+    /// `Answered` where the bus refuses the call, and others.
+    pub fn names(&mut self) -> Result<Vec<String>, ClientError> {
+        let answer = self.call(Call::ListNames)?;
+        strings_of(self.alloc, answer.as_slice())
     }
 
     /// Attaches a program, given by the bytes of its instructions, for images of an edition, or of the first where none
@@ -89,9 +137,10 @@ impl<S: Read + Write + Drop> Client<S> {
     /// `Answered` where the bus refuses it or knows no programs, and others.
     pub fn attach(&mut self, edition: Option<u32>, code: &[u8]) -> Result<(), ClientError> {
         match edition {
-            Some(edition) => self.call(Call::AttachEdition(edition, code)),
-            None => self.call(Call::Attach(code)),
-        }
+            Some(edition) => self.call(Call::AttachEdition(edition, code))?,
+            None => self.call(Call::Attach(code))?,
+        };
+        Ok(())
     }
 
     /// The stream that the client talks by.
@@ -125,14 +174,14 @@ impl<S: Read + Write + Drop> Client<S> {
     }
 
     /// Calls a method of the bus and waits for its answer.
-    fn call(&mut self, call: Call<'_>) -> Result<(), ClientError> {
+    fn call(&mut self, call: Call<'_>) -> Result<Bytes, ClientError> {
         self.serial = self.serial.checked_add(1).unwrap_or(1);
         let message = call.message(self.alloc, self.serial)?;
         self.stream.write_all(&message)?;
         for _ in 0..u64::MAX {
             let message = self.next_read()?;
             match read_answer(self.alloc, message.as_slice(), self.serial)? {
-                Reading::Returned => return Ok(()),
+                Reading::Returned => return Ok(message),
                 Reading::Answered(name) => return Err(ClientError::Answered(name)),
                 Reading::Broadcast => self.kept.push_back(message)?,
                 Reading::Other => {}

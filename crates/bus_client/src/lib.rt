@@ -10,6 +10,7 @@ mod escapes;
 mod lines;
 mod places;
 mod sockets;
+mod strings;
 mod talk;
 mod timed;
 

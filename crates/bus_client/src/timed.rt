@@ -9,50 +9,79 @@ use std::time::{Duration, Instant};
 /// How long a talk, or a call with its answer, may take, in seconds.
 const ANSWER_SECONDS: u64 = 25;
 
+/// A time that ends so long after it began.
+#[derive(Clone, Copy)]
+struct Limit {
+    since: Instant,
+    len: Duration,
+}
+
 /// A socket whose reads and writes up to a time have to be done by then.
 #[derive(Drop)]
 pub struct Timed<'a, R> {
     rt: &'a R,
     link: Link,
-    since: Option<Instant>,
+    limit: Option<Limit>,
 }
 
 impl<'a, R: Clock> Timed<'a, R> {
     /// A socket that waits for an answer from now on.
     pub fn new(rt: &'a R, link: Link) -> io::Result<Timed<'a, R>> {
-        let since = Some(Instant::now(rt)?);
-        Ok(Timed { rt, link, since })
+        let limit = Some(Limit {
+            since: Instant::now(rt)?,
+            len: Duration::from_secs(ANSWER_SECONDS),
+        });
+        Ok(Timed { rt, link, limit })
     }
 
     /// From now on it waits as long as nothing comes.
     pub fn wait_for_ever(&mut self) -> io::Result<()> {
-        self.since = None;
+        self.limit = None;
         self.link.set_timeouts(None)
     }
 
-    /// Sets the socket's limits to the time that is left.
-    fn limit(&self) -> io::Result<()> {
-        let Some(since) = self.since else {
-            return Ok(());
+    /// From now on it waits for so many seconds in all.
+    pub fn wait_for(&mut self, seconds: u64) -> io::Result<()> {
+        let since = Instant::now(self.rt)?;
+        let len = Duration::from_secs(seconds);
+        self.limit = Some(Limit { since, len });
+        Ok(())
+    }
+
+    /// Whether the time is over that it waits.
+    pub fn is_over(&self) -> io::Result<bool> {
+        Ok(self.time_left()?.is_some_and(|left| left.is_zero()))
+    }
+
+    /// How much of the time is left that it waits, if that has an end.
+    fn time_left(&self) -> io::Result<Option<Duration>> {
+        let Some(limit) = self.limit else {
+            return Ok(None);
         };
-        let gone = since.elapsed(self.rt)?;
-        match Duration::from_secs(ANSWER_SECONDS).checked_sub(gone) {
-            Some(left) if !left.is_zero() => self.link.set_timeouts(Some(left)),
-            _ => Err(io::Error::from(ErrorKind::TimedOut)),
+        let gone = limit.since.elapsed(self.rt)?;
+        Ok(Some(limit.len.checked_sub(gone).unwrap_or(Duration::ZERO)))
+    }
+
+    /// Sets the socket's limits to the time that is left.
+    fn set_limit(&self) -> io::Result<()> {
+        match self.time_left()? {
+            None => Ok(()),
+            Some(left) if left.is_zero() => Err(io::Error::from(ErrorKind::TimedOut)),
+            Some(left) => self.link.set_timeouts(Some(left)),
         }
     }
 }
 
 impl<'a, R: Clock> Read for Timed<'a, R> {
     fn read(&mut self, buf: &mut [u8]) -> io::Result<usize> {
-        self.limit()?;
+        self.set_limit()?;
         self.link.receive(buf)
     }
 }
 
 impl<'a, R: Clock> Write for Timed<'a, R> {
     fn write(&mut self, buf: &[u8]) -> io::Result<usize> {
-        self.limit()?;
+        self.set_limit()?;
         self.link.send(buf)
     }
 

@@ -1,8 +1,9 @@
 // Values of basic types.
 
-use crate::double::put_double;
+use crate::double::{put_double, put_json_double};
 use crate::error::TextError;
 use crate::line::Line;
+use crate::notation::Notation;
 use itoa::Buffer;
 use message_value::{Cursor, Order, TextType};
 use message_view::MsgError;
@@ -90,8 +91,43 @@ impl<'a> Basic<'a> {
         }
     }
 
-    /// Adds a blank and the value.
-    pub(crate) fn put(self, alloc: Global, line: &mut Line) -> Result<(), TextError> {
+    /// Adds the value, in words with a blank before it.
+    pub(crate) fn put(
+        self,
+        alloc: Global,
+        line: &mut Line,
+        notation: Notation,
+    ) -> Result<(), TextError> {
+        match notation {
+            Notation::Words => self.put_word(alloc, line),
+            Notation::Json => self.put_json(alloc, line),
+        }
+    }
+
+    /// Adds the value as a dict's key. Those of JSON are strings.
+    pub(crate) fn put_key(
+        self,
+        alloc: Global,
+        line: &mut Line,
+        notation: Notation,
+    ) -> Result<(), TextError> {
+        match notation {
+            Notation::Words => self.put_word(alloc, line),
+            Notation::Json => {
+                match self {
+                    Basic::Text(_) => self.put_json(alloc, line)?,
+                    _ => {
+                        line.push_all(b"\"")?;
+                        self.put_json(alloc, line)?;
+                        line.push_all(b"\"")?;
+                    }
+                }
+                Ok(line.push_all(b":")?)
+            }
+        }
+    }
+
+    fn put_word(self, alloc: Global, line: &mut Line) -> Result<(), TextError> {
         match self {
             Basic::Unsigned(n) => line.put_word(Buffer::new().format(n).as_bytes())?,
             Basic::Signed(n) => line.put_word(Buffer::new().format(n).as_bytes())?,
@@ -99,6 +135,18 @@ impl<'a> Basic<'a> {
             Basic::Boolean(false) => line.put_word(b"false")?,
             Basic::Double(bits) => put_double(alloc, line, bits)?,
             Basic::Text(text) => line.put_quoted(text.as_bytes())?,
+        }
+        Ok(())
+    }
+
+    fn put_json(self, alloc: Global, line: &mut Line) -> Result<(), TextError> {
+        match self {
+            Basic::Unsigned(n) => line.put(Buffer::new().format(n).as_bytes())?,
+            Basic::Signed(n) => line.put(Buffer::new().format(n).as_bytes())?,
+            Basic::Boolean(true) => line.put(b"true")?,
+            Basic::Boolean(false) => line.put(b"false")?,
+            Basic::Double(bits) => put_json_double(alloc, line, bits)?,
+            Basic::Text(text) => line.put_json(text)?,
         }
         Ok(())
     }

@@ -35,6 +35,19 @@ pub(crate) fn put_double(alloc: Global, line: &mut Line, bits: u64) -> Result<()
     Ok(())
 }
 
+/// Adds the double of these bits as a number of JSON, with as many digits as tell it from any other, or `null` where it is
+/// none.
+pub(crate) fn put_json_double(alloc: Global, line: &mut Line, bits: u64) -> Result<(), TextError> {
+    if bits & EXPONENT == EXPONENT {
+        line.put(b"null")?;
+        return Ok(());
+    }
+    let number = f64_from_bits_with_nan(bits);
+    let text = format!(in alloc; "{number:.16e}")?;
+    line.put(text.as_bytes())?;
+    Ok(())
+}
+
 /// Adds a number that is given as a digit, a point, digits, `e` and a power of ten.
 fn put_scientific(line: &mut Line, text: &str) -> Result<(), AllocError> {
     let Some((mantissa, exponent)) = text.split_once('e') else {

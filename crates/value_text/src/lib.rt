@@ -7,11 +7,15 @@ mod body;
 mod double;
 mod element;
 mod error;
+mod json;
 mod line;
 mod message;
+mod notation;
 mod value;
 
 pub use error::TextError;
+pub use json::json_line;
 pub use line::Line;
-pub use message::{hex_line, message_line};
+pub use message::{Ends, hex_line, line_between, message_line};
+pub use notation::Notation;
 pub use value::write_value;

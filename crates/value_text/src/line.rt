@@ -1,6 +1,6 @@
 // A line of text.
 
-ghost use Rattle.std.specs.Prelude.{◌≡◌, IfSome, true};
+ghost use Rattle.std.specs.Prelude.{◌≡◌, ◌<◌, IfSome, true};
 ghost use Rattle.value_text.specs.Printable.{is_printable};
 ghost use Rattle.value_text.specs.Escaped.{letter_of};
 
@@ -50,6 +50,35 @@ fn is_printable(byte: u8) -> bool
     byte >= 32 && byte <= 126
 }
 
+/// The letter that stands for a character after a backslash in JSON.
+fn json_letter_of(character: char) -> Option<u8>
+    ensures { IfSome result (λ letter. is_printable letter ≡ true) }
+{
+    match character {
+        '"' => Some(b'"'),
+        '\\' => Some(b'\\'),
+        '\u{8}' => Some(b'b'),
+        '\t' => Some(b't'),
+        '\n' => Some(b'n'),
+        '\u{c}' => Some(b'f'),
+        '\r' => Some(b'r'),
+        _ => None,
+    }
+}
+
+/// A hexadecimal digit.
+fn hex_digit(value: u32) -> u8
+    requires { value < 16 }
+    ensures { is_printable result ≡ true }
+{
+    let value = value as u8;
+    if value < 10 {
+        b'0' + value
+    } else {
+        b'a' + (value - 10)
+    }
+}
+
 impl Line {
     ghost use Rattle.std.specs.Prelude.{◌≡◌, ◌++◌, ◌∷◌, [], true, OnOk, IfOk, codes};
     ghost use Rattle.std.specs.List.{list_all};
@@ -66,7 +95,7 @@ impl Line {
     }
 
     /// Adds printable characters.
-    fn push_all(&mut self, text: &[u8]) -> Result<(), AllocError>
+    pub(crate) fn push_all(&mut self, text: &[u8]) -> Result<(), AllocError>
         requires { list_all is_printable text.now ≡ true }
         ensures { OnOk result (self.new ≡ self.old ++ text.now) }
     {
@@ -105,6 +134,51 @@ impl Line {
             self.push_escaped(*byte)?;
         }
         Ok(())
+    }
+
+    /// Adds a string of JSON (RFC 8259, section 7), in which each character that isn't of printable ASCII is escaped.
+    pub(crate) fn put_json(&mut self, text: &str) -> Result<(), AllocError> {
+        self.push_all(b"\"")?;
+        for character in text.chars() {
+            self.push_json(character)?;
+        }
+        self.push_all(b"\"")
+    }
+
+    fn push_json(&mut self, character: char) -> Result<(), AllocError> {
+        match json_letter_of(character) {
+            Some(letter) => self.push_all(&[b'\\', letter]),
+            None => self.push_json_units(character),
+        }
+    }
+
+    /// Adds a character as itself, or as its units of UTF-16 with four digits each.
+    fn push_json_units(&mut self, character: char) -> Result<(), AllocError> {
+        let code = u32::from(character);
+        if let Ok(byte) = u8::try_from(code)
+            && is_printable(byte)
+        {
+            return self.push_all(&[byte]);
+        }
+        match code.checked_sub(0x1_0000) {
+            None => self.push_unit(code),
+            Some(rest) => {
+                self.push_unit(0xd800 + rest / 0x400 % 0x400)?;
+                self.push_unit(0xdc00 + rest % 0x400)
+            }
+        }
+    }
+
+    /// Adds the four digits of a unit of UTF-16.
+    fn push_unit(&mut self, unit: u32) -> Result<(), AllocError> {
+        self.push_all(&[
+            b'\\',
+            b'u',
+            hex_digit(unit / 0x1000 % 16),
+            hex_digit(unit / 0x100 % 16),
+            hex_digit(unit / 0x10 % 16),
+            hex_digit(unit % 16),
+        ])
     }
 
     /// Adds a blank and then a text between quotes.

@@ -1,7 +1,9 @@
 // A message as a line.
 
-ghost use Rattle.std.specs.Prelude.{◌≡◌, ◌++◌, ◌∷◌, [], IfOk};
+ghost use Rattle.std.specs.Prelude.{◌≡◌, ◌++◌, ◌∷◌, [], IfOk, option_map};
 ghost use Rattle.hex.specs.Hex.{encode_lower};
+ghost use Rattle.message_view.specs.Message.{Message, sender_of, destination_of};
+ghost use Rattle.message_view.specs.Valid.{Valid};
 ghost use Rattle.value_text.specs.Printable.{IsOneLine};
 
 use crate::body::put_body;
@@ -21,9 +23,44 @@ use std::alloc::{AllocError, Global};
 pub fn message_line(alloc: Global, view: &View<'_>) -> Result<Vec<u8>, TextError>
     ensures { IfOk result (λ bytes. IsOneLine bytes.items) }
 {
+    line_between(alloc, view, Ends::of(view))
+}
+
+/// Who sent a message and to whom, as its line names them.
+#[derive(Clone, Copy, Debug, PartialEq, Eq)]
+pub struct Ends<'a> {
+    pub sender: Option<&'a str>,
+    pub destination: Option<&'a str>,
+}
+
+impl<'a> Ends<'a> {
+    /// By the names that the message has.
+    pub fn of(view: &View<'a>) -> Ends<'a>
+        ensures sender { (m : Message) → Valid view.now m → option_map (λ text. text.now) result.sender ≡ sender_of m }
+        ensures destination { (m : Message) → Valid view.now m → option_map (λ text. text.now) result.destination ≡ destination_of m }
+    {
+        Ends {
+            sender: view.sender(),
+            destination: view.destination(),
+        }
+    }
+}
+
+/// A message as `message_line` writes it, but for the names of its ends.
+///
+/// # Errors
+///
+/// As `message_line`.
+pub fn line_between(
+    alloc: Global,
+    view: &View<'_>,
+    ends: Ends<'_>,
+) -> Result<Vec<u8>, TextError>
+    ensures { IfOk result (λ bytes. IsOneLine bytes.items) }
+{
     let mut line = Line::new(alloc);
     put_kind(&mut line, view.kind())?;
-    put_ends(&mut line, view)?;
+    put_ends(&mut line, ends)?;
     put_serial(&mut line, view)?;
     put_names(&mut line, view)?;
     put_body(alloc, &mut line, view)?;
@@ -44,7 +81,7 @@ pub fn hex_line(alloc: Global, view: &View<'_>) -> Result<Vec<u8>, AllocError>
 }
 
 /// Adds a message's kind, by its name in match rules.
-fn put_kind(line: &mut Line, kind: Kind) -> Result<(), AllocError> {
+pub(crate) fn put_kind(line: &mut Line, kind: Kind) -> Result<(), AllocError> {
     let name = match kind {
         Kind::MethodCall => "method_call",
         Kind::MethodReturn => "method_return",
@@ -61,9 +98,9 @@ fn put_kind(line: &mut Line, kind: Kind) -> Result<(), AllocError> {
 }
 
 /// Adds a message's sender and destination.
-fn put_ends(line: &mut Line, view: &View<'_>) -> Result<(), AllocError> {
-    line.put_word(view.sender().unwrap_or("-").as_bytes())?;
-    if let Some(destination) = view.destination() {
+fn put_ends(line: &mut Line, ends: Ends<'_>) -> Result<(), AllocError> {
+    line.put_word(ends.sender.unwrap_or("-").as_bytes())?;
+    if let Some(destination) = ends.destination {
         line.put_word(b"->")?;
         line.put_word(destination.as_bytes())?;
     }

@@ -6,7 +6,7 @@ use crate::basic::Basic;
 use crate::element::{Element, Elements};
 use crate::error::TextError;
 use crate::line::Line;
-use itoa::Buffer;
+use crate::notation::Notation;
 use message_value::{Cursor, Order};
 use message_view::MsgError;
 use signature::{OneType, Parts, Types};
@@ -19,9 +19,8 @@ fn inside(levels: usize) -> Result<usize, MsgError>
     levels.checked_sub(1).ok_or(MsgError::Depth)
 }
 
-/// Adds a value as `busctl` writes it, a blank before each of its words: an array's count, a dict's count and the keys
-/// before their values, a variant's type, and the members of a struct one after another. It reads the zeros before the
-/// value too, and goes at most `levels` levels deep.
+/// Adds a value in a notation, as `busctl` writes it. It reads the zeros before the value too, and goes at most `levels`
+/// levels deep.
 ///
 /// # Errors
 ///
@@ -34,17 +33,18 @@ pub fn write_value(
     order: Order,
     value_type: &OneType<'_>,
     levels: usize,
+    notation: Notation,
 ) -> Result<(), TextError> {
     match value_type.parts() {
-        Parts::Basic(basic) => Basic::read(cursor, order, basic)?.put(alloc, line),
+        Parts::Basic(basic) => Basic::read(cursor, order, basic)?.put(alloc, line, notation),
         Parts::Variant => {
             let deeper = inside(levels)?;
-            write_variant(alloc, line, cursor, order, deeper)
+            write_variant(alloc, line, cursor, order, deeper, notation)
         }
         Parts::Array(element) => {
             cursor.align(4)?;
             let deeper = inside(levels)?;
-            write_array(alloc, line, cursor, order, &Element::One(element), deeper)
+            write_array(alloc, line, cursor, order, &Element::One(element), deeper, notation)
         }
         Parts::Dict(key, value) => {
             cursor.align(4)?;
@@ -56,12 +56,13 @@ pub fn write_value(
                 order,
                 &Element::Entry(key, value),
                 deeper,
+                notation,
             )
         }
         Parts::Struct(members) => {
             cursor.align(8)?;
             let deeper = inside(levels)?;
-            write_members(alloc, line, cursor, order, members, deeper)
+            write_members(alloc, line, cursor, order, members, deeper, notation)
         }
     }
 }
@@ -74,13 +75,15 @@ fn write_variant(
     cursor: &mut Cursor<'_>,
     order: Order,
     levels: usize,
+    notation: Notation,
 ) -> Result<(), TextError> {
     let value_type = cursor.signature()?;
-    line.put_word(value_type.as_bytes())?;
-    write_value(alloc, line, cursor, order, &value_type, levels)
+    notation.begin_variant(line, value_type.as_bytes())?;
+    write_value(alloc, line, cursor, order, &value_type, levels, notation)?;
+    Ok(notation.end_variant(line)?)
 }
 
-/// Adds how many elements an array has, and then these.
+/// Adds an array's elements.
 #[cycle(write)]
 fn write_array(
     alloc: Global,
@@ -89,15 +92,18 @@ fn write_array(
     order: Order,
     element: &Element<'_>,
     levels: usize,
+    notation: Notation,
 ) -> Result<(), TextError> {
     let elements = Elements::read(cursor, order, element)?;
     let count = elements.count(order, element, levels)?;
-    line.put_word(Buffer::new().format(count).as_bytes())?;
+    let is_dict = matches!(element, Element::Entry(_, _));
+    notation.begin_array(line, count, is_dict)?;
     let mut inner = elements.cursor();
-    for _ in 0..count {
-        write_element(alloc, line, &mut inner, order, element, levels)?;
+    for index in 0..count {
+        notation.separate(line, index == 0)?;
+        write_element(alloc, line, &mut inner, order, element, levels, notation)?;
     }
-    Ok(())
+    Ok(notation.end_array(line, is_dict)?)
 }
 
 /// Adds an element, of a dict its key and then its value.
@@ -109,13 +115,16 @@ fn write_element(
     order: Order,
     element: &Element<'_>,
     levels: usize,
+    notation: Notation,
 ) -> Result<(), TextError> {
     match element {
-        Element::One(value_type) => write_value(alloc, line, cursor, order, value_type, levels),
+        Element::One(value_type) => {
+            write_value(alloc, line, cursor, order, value_type, levels, notation)
+        }
         Element::Entry(key, value_type) => {
             cursor.align(8)?;
-            Basic::read(cursor, order, *key)?.put(alloc, line)?;
-            write_value(alloc, line, cursor, order, value_type, levels)
+            Basic::read(cursor, order, *key)?.put_key(alloc, line, notation)?;
+            write_value(alloc, line, cursor, order, value_type, levels, notation)
         }
     }
 }
@@ -129,9 +138,14 @@ pub(crate) fn write_members(
     order: Order,
     members: Types<'_>,
     levels: usize,
+    notation: Notation,
 ) -> Result<(), TextError> {
+    notation.begin_members(line)?;
+    let mut is_first = true;
     for member in members {
-        write_value(alloc, line, cursor, order, &member, levels)?;
+        notation.separate(line, is_first)?;
+        write_value(alloc, line, cursor, order, &member, levels, notation)?;
+        is_first = false;
     }
-    Ok(())
+    Ok(notation.end_members(line)?)
 }
