@@ -1,6 +1,6 @@
 // What the words of the command ask for.
 
-use crate::words::{Key, Word, read_words};
+use crate::words::{Key, Word, has, read_words};
 use std::alloc::{AllocError, Global};
 use summary::Edition;
 
@@ -27,7 +27,7 @@ impl<'a> Options<'a> {
 
     /// Whether an option is there.
     pub fn has(&self, key: Key) -> bool {
-        self.words.iter().any(|word| word.is(key))
+        has(&self.words, key)
     }
 
     /// The word of an option, if it is there.

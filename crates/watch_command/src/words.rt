@@ -1,5 +1,9 @@
 // The words of the command, one after another.
 
+ghost use Rattle.std.specs.Prelude.{◌≡◌, IfOk, option_map};
+ghost use Rattle.std.specs.List.{list_any};
+ghost use Rattle.watch_command.specs.Words.{key_of, takes_word, is_option, is_key, is_repeated, reading_by, reading_of, may_end, saying_of, sayings_of, sayings_in, texts, word_in, name_in, reading_by_step};
+
 use std::alloc::{AllocError, Global};
 
 /// An option of the command.
@@ -66,7 +70,9 @@ struct Step<'a> {
 
 impl Key {
     /// The option that a word is.
-    fn of(word: &str) -> Option<Key> {
+    fn of(word: &str) -> Option<Key>
+        ensures { result ≡ key_of word.now }
+    {
         match word {
             "--attach" => Some(Key::Attach),
             "--count" => Some(Key::Count),
@@ -87,7 +93,9 @@ impl Key {
     }
 
     /// Whether the option takes the word after it.
-    fn takes_word(self) -> bool {
+    fn takes_word(self) -> bool
+        ensures { result ≡ takes_word self }
+    {
         match self {
             Key::Count
             | Key::Edition
@@ -109,23 +117,29 @@ impl Key {
 
 impl<'a> Word<'a> {
     /// Whether this is an option, with or without its word.
-    pub(crate) fn is(&self, key: Key) -> bool {
+    pub(crate) fn is(&self, key: Key) -> bool
+        ensures { result ≡ is_key key (saying_of self.now) }
+    {
         match self {
             Word::Flag(own) | Word::Setting(own, _) => *own == key,
             Word::Name(_) => false,
         }
     }
 
-    /// Whether this is the option that a word is.
-    fn is_same_option(&self, word: &Word<'_>) -> bool {
-        match word {
-            Word::Flag(key) | Word::Setting(key, _) => self.is(*key),
+    /// Whether this is an option that was said before.
+    fn is_repeated(&self, before: &[Word<'_>]) -> bool
+        ensures { result ≡ is_repeated (sayings_of before.now) (saying_of self.now) }
+    {
+        match self {
+            Word::Flag(key) | Word::Setting(key, _) => has(before, *key),
             Word::Name(_) => false,
         }
     }
 
     /// The word of an option, if this is it.
-    pub(crate) fn text_of(&self, key: Key) -> Option<&'a str> {
+    pub(crate) fn text_of(&self, key: Key) -> Option<&'a str>
+        ensures { option_map (λ text. text.now) result ≡ word_in key (saying_of self.now) }
+    {
         match self {
             Word::Setting(own, text) if *own == key => Some(*text),
             _ => None,
@@ -133,7 +147,9 @@ impl<'a> Word<'a> {
     }
 
     /// The name, if this is one.
-    pub(crate) fn name(&self) -> Option<&'a str> {
+    pub(crate) fn name(&self) -> Option<&'a str>
+        ensures { option_map (λ text. text.now) result ≡ name_in (saying_of self.now) }
+    {
         match self {
             Word::Name(name) => Some(*name),
             _ => None,
@@ -143,7 +159,9 @@ impl<'a> Word<'a> {
 
 impl Awaited {
     /// The step of a word, if it may stand here.
-    fn step<'a>(self, word: &'a str) -> Option<Step<'a>> {
+    fn step<'a>(self, word: &'a str) -> Option<Step<'a>>
+        ensures { option_map reading_by_step result ≡ reading_of self word.entry.now }
+    {
         match self {
             Awaited::AnyWord => any_step(word),
             Awaited::WordOf(key) => Some(Step {
@@ -158,7 +176,9 @@ impl Awaited {
     }
 
     /// Whether the words may end here.
-    fn may_end(self) -> bool {
+    fn may_end(self) -> bool
+        ensures { result ≡ may_end self }
+    {
         match self {
             Awaited::AnyWord | Awaited::NameAlone => true,
             Awaited::WordOf(_) => false,
@@ -167,7 +187,9 @@ impl Awaited {
 }
 
 /// The step of a word before `--` that is no option's word.
-fn any_step<'a>(word: &'a str) -> Option<Step<'a>> {
+fn any_step<'a>(word: &'a str) -> Option<Step<'a>>
+    ensures { option_map reading_by_step result ≡ reading_of Awaited.AnyWord word.entry.now }
+{
     if word == "--" {
         return Some(Step {
             said: None,
@@ -195,7 +217,9 @@ fn any_step<'a>(word: &'a str) -> Option<Step<'a>> {
 pub(crate) fn read_words<'a>(
     alloc: Global,
     words: &[&'a str],
-) -> Result<Option<Vec<Word<'a>>>, AllocError> {
+) -> Result<Option<Vec<Word<'a>>>, AllocError>
+    ensures { IfOk result (λ said. option_map (λ words. sayings_of words.items) said ≡ sayings_in (texts words.now)) }
+{
     let mut said = Vec::new(alloc);
     let mut awaited = Awaited::AnyWord;
     for i in 0..words.len() {
@@ -203,7 +227,7 @@ pub(crate) fn read_words<'a>(
             return Ok(None);
         };
         if let Some(word) = step.said {
-            if is_among(&word, &said) {
+            if word.is_repeated(&said) {
                 return Ok(None);
             }
             said.push(word)?;
@@ -217,12 +241,21 @@ pub(crate) fn read_words<'a>(
     }
 }
 
-/// Whether a word is an option that was there before.
-fn is_among(word: &Word<'_>, said: &[Word<'_>]) -> bool {
-    said.iter().any(|other| other.is_same_option(word))
+/// Whether an option is among some words.
+pub(crate) fn has(words: &[Word<'_>], key: Key) -> bool
+    ensures { result ≡ list_any (is_key key) (sayings_of words.now) }
+{
+    for word in words {
+        if word.is(key) {
+            return true;
+        }
+    }
+    false
 }
 
 /// Whether a word begins with `-` and is more than that.
-fn is_option(word: &str) -> bool {
+fn is_option(word: &str) -> bool
+    ensures { result ≡ is_option word.now }
+{
     word.len() > 1 && word.as_bytes()[0] == b'-'
 }
