@@ -1,5 +1,8 @@
 pub mod Words
 pub mod Options
-pub mod Showing
 pub mod Owners
+pub mod Showing
 pub mod Counts
+pub mod Stamp
+pub mod Errors
+pub mod CountedRules

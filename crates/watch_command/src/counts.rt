@@ -1,5 +1,9 @@
 // How many messages each of some rules takes.
 
+ghost use Rattle.std.specs.Prelude.{◌≡◌, ◌++◌, IfOk, OnOk, string_bytes};
+ghost use Rattle.watch_command.specs.Counts.{count_line, count_lines};
+ghost use Rattle.watch_command.specs.CountedRules.{text_counts};
+
 use crate::filter::rule_holds;
 use crate::owners::Owners;
 use match_rule::Rule;
@@ -34,6 +38,10 @@ impl CountedRule {
 }
 
 impl Counts {
+    ghost use Rattle.std.specs.Prelude.{◌≡◌, IfOk, string_bytes};
+    ghost use Rattle.watch_command.specs.Counts.{count_report};
+    ghost use Rattle.watch_command.specs.CountedRules.{text_counts};
+
     /// Counts a message for each rule that holds of it.
     pub(crate) fn take(&mut self, view: &View<'_>, owners: &Owners) {
         let mut is_taken = false;
@@ -48,16 +56,28 @@ impl Counts {
     }
 
     /// A line for each rule, with how many messages it took before it, and last how many none took.
-    pub(crate) fn report(&self, alloc: Global) -> Result<String, AllocError> {
-        let mut text = String::new(alloc);
-        for rule in &self.rules {
-            put_line(&mut text, rule.count, rule.text.as_str())?;
-        }
+    pub(crate) fn report(&self, alloc: Global) -> Result<String, AllocError>
+        ensures { IfOk result (λ text. string_bytes text ≡ count_report (text_counts self.now.rules.items) self.now.untaken) }
+    {
+        let mut text = lines_of(alloc, &self.rules)?;
         put_line(&mut text, self.untaken, "by no rule")?;
         Ok(text)
     }
 }
 
-fn put_line(text: &mut String, count: u64, name: &str) -> Result<(), AllocError> {
+/// A line for each rule.
+fn lines_of(alloc: Global, rules: &[CountedRule]) -> Result<String, AllocError>
+    ensures { IfOk result (λ text. string_bytes text ≡ count_lines (text_counts rules.now)) }
+{
+    let mut text = String::new(alloc);
+    for rule in rules {
+        put_line(&mut text, rule.count, rule.text.as_str())?;
+    }
+    Ok(text)
+}
+
+fn put_line(text: &mut String, count: u64, name: &str) -> Result<(), AllocError>
+    ensures { OnOk result (string_bytes text.new ≡ string_bytes text.old ++ count_line count name.now) }
+{
     write!(text, "{count} {name}\n")
 }

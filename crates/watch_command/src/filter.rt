@@ -1,5 +1,10 @@
 // Which messages are shown.
 
+ghost use Rattle.std.specs.Prelude.{◌≡◌, ◌↔◌, IsTrue, option_map};
+ghost use Rattle.message_view.specs.Message.{Message, sender_of};
+ghost use Rattle.message_view.specs.Valid.{Valid};
+ghost use Rattle.watch_command.specs.Showing.{TakesRule, SomeTakes};
+
 use crate::owners::Owners;
 use bpf_machine::run;
 use bpf_verify::Verified;
@@ -24,8 +29,14 @@ pub(crate) struct Filter {
 }
 
 impl Program {
+    ghost use Rattle.message_view.specs.Message.{Message};
+    ghost use Rattle.message_view.specs.Valid.{Valid};
+    ghost use Rattle.watch_command.specs.Showing.{IsAccepted};
+
     /// Whether the program accepts a message whose sender owns none of the names that it asks for.
-    fn accepts(&self, view: &View<'_>) -> bool {
+    fn accepts(&self, view: &View<'_>) -> bool
+        ensures { (m : Message) → Valid view.now m → IsAccepted self.now.code self.now.edition m result }
+    {
         let owned = Slots::empty();
         let image = Image::new(view, &owned, self.edition);
         run(&self.code, &image).verdict != 0
@@ -50,7 +61,9 @@ impl Filter {
 }
 
 /// Whether one of some rules holds of a message.
-fn some_holds(rules: &[Rule], view: &View<'_>, owners: &Owners) -> bool {
+fn some_holds(rules: &[Rule], view: &View<'_>, owners: &Owners) -> bool
+    ensures { (m : Message) → Valid view.now m → (IsTrue result ↔ SomeTakes owners.now m rules.now) }
+{
     for rule in rules {
         if rule_holds(rule, view, owners) {
             return true;
@@ -60,7 +73,9 @@ fn some_holds(rules: &[Rule], view: &View<'_>, owners: &Owners) -> bool {
 }
 
 /// Whether a rule holds of a message, by the owners that are known.
-pub(crate) fn rule_holds(rule: &Rule, view: &View<'_>, owners: &Owners) -> bool {
+pub(crate) fn rule_holds(rule: &Rule, view: &View<'_>, owners: &Owners) -> bool
+    ensures { (m : Message) → Valid view.now m → (IsTrue result ↔ TakesRule owners.now m rule.now) }
+{
     rule.holds(view, is_from_owner(rule.sender_name(), view.sender(), owners))
 }
 

@@ -39,7 +39,7 @@ impl Form {
             Form::Text { has_time, has_names } => {
                 let mut line = Vec::new(alloc);
                 if has_time {
-                    line.extend_from_slice(stamp_of(alloc, seen.time)?.as_bytes())?;
+                    line = stamp_of(alloc, seen.time)?;
                 }
                 line.extend_from_slice(&text_line(alloc, seen, has_names)?)?;
                 Ok(line)

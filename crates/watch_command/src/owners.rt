@@ -2,6 +2,7 @@
 
 use message_view::{Kind, View};
 use std::alloc::{AllocError, Global};
+use std::marker::Model;
 
 /// The name of a bus itself.
 pub(crate) const BUS_NAME: &str = "org.freedesktop.DBus";
@@ -17,6 +18,15 @@ struct Ownership {
 #[derive(Debug, Drop)]
 pub(crate) struct Owners {
     ownerships: Vec<Ownership>,
+}
+
+impl Model for Owners {
+    ghost use Rattle.std.specs.Prelude.{map, string_bytes};
+    ghost use Rattle.watch_command.specs.Owners.{Ownerships};
+
+    ghost Value = { Ownerships };
+
+    ghost view = { λ o. map (λ it. (string_bytes it.name, string_bytes it.owner)) o.ownerships.items };
 }
 
 /// A change that a bus tells of: a name, and the unique name of its new owner, or nothing.
@@ -45,8 +55,13 @@ impl<'a> Change<'a> {
 }
 
 impl Owners {
+    ghost use Rattle.std.specs.Prelude.{◌≡◌, [], Some};
+    ghost use Rattle.watch_command.specs.Owners.{owns};
+
     /// Nobody owns anything. It takes no memory.
-    pub(crate) fn new(alloc: Global) -> Owners {
+    pub(crate) fn new(alloc: Global) -> Owners
+        ensures { result ≡ [] }
+    {
         Owners {
             ownerships: Vec::new(alloc),
         }
@@ -70,10 +85,15 @@ impl Owners {
     }
 
     /// Whether a connection of this unique name owns a name.
-    pub(crate) fn owns(&self, owner: &str, name: &str) -> bool {
-        self.ownerships.iter().any(|ownership| {
-            ownership.owner.as_str() == owner && ownership.name.as_str() == name
-        })
+    pub(crate) fn owns(&self, owner: &str, name: &str) -> bool
+        ensures { result ≡ owns self.now (Some owner.now) name.now }
+    {
+        for ownership in &self.ownerships {
+            if ownership.owner.as_str() == owner && ownership.name.as_str() == name {
+                return true;
+            }
+        }
+        false
     }
 
     /// The names of an owner with commas between them, or its own name where it has none.
