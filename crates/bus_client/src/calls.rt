@@ -58,7 +58,8 @@ fn program_body(alloc: Global, edition: Option<u32>, code: &[u8]) -> Result<Vec<
 impl<'a> Call<'a> {
     fn interface(self) -> &'static str {
         match self {
-            Call::Hello | Call::AddMatch(_) | Call::GetNameOwner(_) | Call::ListNames => BUS_INTERFACE,
+            Call::Hello | Call::AddMatch(_) | Call::GetNameOwner(_) | Call::ListNames =>
+                BUS_INTERFACE,
             Call::BecomeMonitor(_) => MONITORING_INTERFACE,
             Call::Attach(_) | Call::AttachEdition(_, _) => PROGRAM_INTERFACE,
         }

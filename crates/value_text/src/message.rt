@@ -51,11 +51,7 @@ impl<'a> Ends<'a> {
 /// # Errors
 ///
 /// As `message_line`.
-pub fn line_between(
-    alloc: Global,
-    view: &View<'_>,
-    ends: Ends<'_>,
-) -> Result<Vec<u8>, TextError>
+pub fn line_between(alloc: Global, view: &View<'_>, ends: Ends<'_>) -> Result<Vec<u8>, TextError>
     ensures { IfOk result (λ bytes. IsOneLine bytes.items) }
 {
     let mut line = Line::new(alloc);

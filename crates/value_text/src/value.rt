@@ -44,7 +44,15 @@ pub fn write_value(
         Parts::Array(element) => {
             cursor.align(4)?;
             let deeper = inside(levels)?;
-            write_array(alloc, line, cursor, order, &Element::One(element), deeper, notation)
+            write_array(
+                alloc,
+                line,
+                cursor,
+                order,
+                &Element::One(element),
+                deeper,
+                notation,
+            )
         }
         Parts::Dict(key, value) => {
             cursor.align(4)?;

@@ -14,7 +14,8 @@ use summary::Edition;
 const ALL_BROADCASTS: &str = "";
 
 /// The rule of the bus's messages of new owners.
-const OWNER_CHANGES: &str = "type='signal',sender='org.freedesktop.DBus',path='/org/freedesktop/DBus',interface='org.freedesktop.DBus',member='NameOwnerChanged'";
+const OWNER_CHANGES: &str =
+    "type='signal',sender='org.freedesktop.DBus',path='/org/freedesktop/DBus',interface='org.freedesktop.DBus',member='NameOwnerChanged'";
 
 /// Asks a bus for what the options want, and answers who owns the names that have to be known. These are asked for before
 /// any message that depends on them, and after the changes of their owners.
@@ -125,10 +126,7 @@ fn become_monitor<S: Read + Write + Drop>(
 }
 
 /// Adds the rules of the messages that are wanted.
-fn add_rules<S: Read + Write + Drop>(
-    client: &mut Client<S>,
-    plan: &Plan<'_>,
-) -> Result<(), Fault> {
+fn add_rules<S: Read + Write + Drop>(client: &mut Client<S>, plan: &Plan<'_>) -> Result<(), Fault> {
     if plan.asked.is_empty() {
         client.add_match(ALL_BROADCASTS)?;
     }

@@ -97,7 +97,12 @@ where
     let count = options.number_of(Key::Count);
     let mut selection = Selection::new(sink, err, &plan.filter, owners, count);
     selection.begin()?;
-    let shown = show_messages(rt, &mut client, options.number_of(Key::Seconds), &mut selection);
+    let shown = show_messages(
+        rt,
+        &mut client,
+        options.number_of(Key::Seconds),
+        &mut selection,
+    );
     let ended = selection.end(rt.alloc());
     shown?;
     ended

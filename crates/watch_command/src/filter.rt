@@ -76,7 +76,10 @@ fn some_holds(rules: &[Rule], view: &View<'_>, owners: &Owners) -> bool
 pub(crate) fn rule_holds(rule: &Rule, view: &View<'_>, owners: &Owners) -> bool
     ensures { (m : Message) → Valid view.now m → (IsTrue result ↔ TakesRule owners.now m rule.now) }
 {
-    rule.holds(view, is_from_owner(rule.sender_name(), view.sender(), owners))
+    rule.holds(
+        view,
+        is_from_owner(rule.sender_name(), view.sender(), owners),
+    )
 }
 
 /// Whether the sender owns a name, where there is one.

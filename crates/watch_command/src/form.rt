@@ -28,15 +28,14 @@ const MICROSECOND: u64 = 1_000;
 
 impl Form {
     /// The line of a message.
-    pub(crate) fn line(
-        self,
-        alloc: Global,
-        seen: &Seen<'_, '_, '_>,
-    ) -> Result<Vec<u8>, TextError> {
+    pub(crate) fn line(self, alloc: Global, seen: &Seen<'_, '_, '_>) -> Result<Vec<u8>, TextError> {
         match self {
             Form::Hex => Ok(hex_line(alloc, seen.view)?),
             Form::Json => json_line(alloc, seen.view, seen.time / MICROSECOND),
-            Form::Text { has_time, has_names } => {
+            Form::Text {
+                has_time,
+                has_names,
+            } => {
                 let mut line = Vec::new(alloc);
                 if has_time {
                     line = stamp_of(alloc, seen.time)?;

@@ -22,11 +22,12 @@ pub(crate) struct Owners {
 
 impl Model for Owners {
     ghost use Rattle.std.specs.Prelude.{map, string_bytes};
+    ghost use Rattle.watch_command.specs.declared.owners.Ownership.{Ownership};
     ghost use Rattle.watch_command.specs.Owners.{Ownerships};
 
     ghost Value = { Ownerships };
 
-    ghost view = { λ o. map (λ it. (string_bytes it.name, string_bytes it.owner)) o.ownerships.items };
+    ghost view = { λ o. map (λ (it : Ownership). (string_bytes it.name, string_bytes it.owner)) o.ownerships.items };
 }
 
 /// A change that a bus tells of: a name, and the unique name of its new owner, or nothing.
@@ -68,12 +69,7 @@ impl Owners {
     }
 
     /// From now on the name has this owner, or none where the owner is an empty text.
-    pub(crate) fn put(
-        &mut self,
-        alloc: Global,
-        name: &str,
-        owner: &str,
-    ) -> Result<(), AllocError> {
+    pub(crate) fn put(&mut self, alloc: Global, name: &str, owner: &str) -> Result<(), AllocError> {
         self.ownerships
             .retain(|ownership| ownership.name.as_str() != name);
         if !owner.is_empty() {

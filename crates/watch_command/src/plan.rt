@@ -58,7 +58,9 @@ impl<'a> Plan<'a> {
         if let Some(file) = options.text_of(Key::Program) {
             let instructions = read_program(alloc, file, files)?;
             if options.has(Key::Attach) {
-                plan.attached = Some(encode(alloc, &instructions).map_err(command_line::Fault::from)?);
+                plan.attached = Some(encode(alloc, &instructions).map_err(
+                    command_line::Fault::from,
+                )?);
             } else {
                 let edition = options.edition().unwrap_or(Edition::One);
                 plan.filter.program = Some(verified(instructions, edition)?);

@@ -2,8 +2,8 @@
 
 use crate::error::Fault;
 use crate::filter::Filter;
-use crate::owners::{Change, Owners};
 use crate::form::Seen;
+use crate::owners::{Change, Owners};
 use crate::sink::Sink;
 use captures::Packet;
 use command_line::{Output, Writer};
