@@ -9,6 +9,9 @@ use std::time::{Duration, Instant};
 /// How long a talk, or a call with its answer, may take, in seconds.
 const ANSWER_SECONDS: u64 = 25;
 
+/// The longest time that one read waits, in seconds: systems refuse limits that are too long.
+const LONGEST_WAIT: u64 = 3600;
+
 /// A time that ends so long after it began.
 #[derive(Clone, Copy)]
 struct Limit {
@@ -67,15 +70,25 @@ impl<'a, R: Clock> Timed<'a, R> {
         match self.time_left()? {
             None => Ok(()),
             Some(left) if left.is_zero() => Err(io::Error::from(ErrorKind::TimedOut)),
-            Some(left) => self.link.set_timeouts(Some(left)),
+            Some(left) => {
+                let longest = Duration::from_secs(LONGEST_WAIT);
+                self.link.set_timeouts(Some(left.min(longest)))
+            }
         }
     }
 }
 
 impl<'a, R: Clock> Read for Timed<'a, R> {
     fn read(&mut self, buf: &mut [u8]) -> io::Result<usize> {
-        self.set_limit()?;
-        self.link.receive(buf)
+        for _ in 0..u64::MAX {
+            self.set_limit()?;
+            match self.link.receive(buf) {
+                // The system's limit may end a little before the time.
+                Err(error) if error.kind() == ErrorKind::WouldBlock => {}
+                read => return read,
+            }
+        }
+        Err(io::Error::from(ErrorKind::TimedOut))
     }
 }
 

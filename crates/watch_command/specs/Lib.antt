@@ -6,3 +6,4 @@ pub mod Counts
 pub mod Stamp
 pub mod Errors
 pub mod CountedRules
+pub mod KnownOwners

@@ -21,13 +21,13 @@ pub(crate) struct Owners {
 }
 
 impl Model for Owners {
-    ghost use Rattle.std.specs.Prelude.{map, string_bytes};
-    ghost use Rattle.watch_command.specs.declared.owners.Ownership.{Ownership};
+    ghost use Rattle.std.specs.Prelude.{map};
     ghost use Rattle.watch_command.specs.Owners.{Ownerships};
+    ghost use Rattle.watch_command.specs.KnownOwners.{pair_of};
 
     ghost Value = { Ownerships };
 
-    ghost view = { λ o. map (λ (it : Ownership). (string_bytes it.name, string_bytes it.owner)) o.ownerships.items };
+    ghost view = { λ o. map pair_of o.ownerships.items };
 }
 
 /// A change that a bus tells of: a name, and the unique name of its new owner, or nothing.
