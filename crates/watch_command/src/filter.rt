@@ -1,8 +1,9 @@
 // Which messages are shown.
 
-ghost use Rattle.std.specs.Prelude.{◌≡◌, ◌↔◌, IsTrue, option_map};
+ghost use Rattle.std.specs.Prelude.{◌≡◌, ◌↔◌, IsTrue, IfSome, option_map};
 ghost use Rattle.message_view.specs.Message.{Message, sender_of};
 ghost use Rattle.message_view.specs.Valid.{Valid};
+ghost use Rattle.watch_command.specs.Owners.{owns};
 ghost use Rattle.watch_command.specs.Showing.{TakesRule, SomeTakes};
 
 use crate::owners::Owners;
@@ -83,9 +84,14 @@ pub(crate) fn rule_holds(rule: &Rule, view: &View<'_>, owners: &Owners) -> bool
 }
 
 /// Whether the sender owns a name, where there is one.
-fn is_from_owner(name: Option<&str>, sender: Option<&str>, owners: &Owners) -> bool {
-    match (name, sender) {
-        (Some(name), Some(sender)) => owners.owns(sender, name),
-        _ => false,
+fn is_from_owner(name: Option<&str>, sender: Option<&str>, owners: &Owners) -> bool
+    ensures { IfSome name.entry (λ name. owns owners.now (option_map (λ text. text.now) sender.entry) name.now ≡ result) }
+{
+    let Some(name) = name else {
+        return false;
+    };
+    match sender {
+        Some(sender) => owners.owns(sender, name),
+        None => false,
     }
 }

@@ -29,7 +29,7 @@ impl<'a> Options<'a> {
     ghost use Rattle.std.specs.Prelude.{◌≡◌, ◌<◌, List, true, false, Some, None, IfOk, IfSome, IfNone, IsSomeAnd, drop, option_map, option_and_then, slice_get, if◌then◌else◌};
     ghost use Rattle.std.specs.List.{list_any};
     ghost use Rattle.std.specs.Str.Parse.{digits_value};
-    ghost use Rattle.watch_command.specs.declared.words.Key.TheVariants.{Edition, Read};
+    ghost use Rattle.watch_command.specs.declared.words.Key.TheVariants.{Read};
     ghost use Rattle.watch_command.specs.Words.{Saying, sayings_in, texts};
     ghost use Rattle.watch_command.specs.Options.{has, word_of, names, excludes, needs_program, fits_source, fits_form, address_count, has_names, fits, has_value, edition_of};
 
@@ -75,7 +75,7 @@ impl<'a> Options<'a> {
 
     /// The edition of the program's images, if one is said.
     pub fn edition(&self) -> Option<Edition>
-        ensures { result ≡ option_and_then edition_of (word_of Edition self.now) }
+        ensures { result ≡ option_and_then edition_of (word_of Key.Edition self.now) }
     {
         edition_of(self.text_of(Key::Edition)?)
     }
@@ -95,10 +95,18 @@ impl<'a> Options<'a> {
         ensures { IfOk result (λ rules. texts rules.items ≡ drop (address_count self.now) (names self.now)) }
     {
         let mut rules = names_of(alloc, &self.words)?;
-        if !self.has(Key::Read) && !rules.is_empty() {
-            rules.remove(0);
+        if self.has(Key::Read) || rules.is_empty() {
+            return Ok(rules);
         }
+        rules.remove(0);
         Ok(rules)
+    }
+
+    /// How many of the words that are no options aren't rules: the address of a bus.
+    fn address_count(&self) -> usize
+        ensures { result ≡ address_count self.now }
+    {
+        if self.has(Key::Read) { 0 } else { 1 }
     }
 
     fn is_row(&self) -> bool
@@ -193,7 +201,7 @@ impl<'a> Options<'a> {
 
     /// Whether the word of `--edition` is one, where it is there.
     fn is_edition(&self) -> bool
-        ensures { result ≡ false → has Edition self.now ≡ true }
+        ensures { result ≡ false → has Key.Edition self.now ≡ true }
     {
         match self.text_of(Key::Edition) {
             Some(text) => edition_of(text).is_some(),
@@ -206,7 +214,7 @@ impl<'a> Options<'a> {
     fn has_names(&self) -> bool
         ensures { result ≡ has_names self.now }
     {
-        let others = if self.has(Key::Read) { 0 } else { 1 };
+        let others = self.address_count();
         let count = name_count(&self.words);
         if self.has(Key::Attach) || self.has(Key::Rules) {
             count == others

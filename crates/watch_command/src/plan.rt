@@ -36,37 +36,41 @@ impl<'a> Plan<'a> {
         files: &mut F,
     ) -> Result<Plan<'a>, Fault> {
         let is_monitor = options.has(Key::Monitor);
-        let mut plan = Plan {
-            filter: Filter {
-                rules: Vec::new(alloc),
-                program: None,
-                is_inverted: options.has(Key::Invert),
-            },
-            counted: Vec::new(alloc),
-            asked: Vec::new(alloc),
-            attached: None,
-        };
+        let is_inverted = options.has(Key::Invert);
+        let mut rules = Vec::new(alloc);
+        let mut asked = Vec::new(alloc);
         for text in options.rules(alloc)? {
-            plan.filter.rules.push(read_rule(alloc, text, is_monitor)?)?;
-            if !plan.filter.is_inverted {
-                plan.asked.push(text)?;
+            rules.push(read_rule(alloc, text, is_monitor)?)?;
+            if !is_inverted {
+                asked.push(text)?;
             }
         }
-        if let Some(file) = options.text_of(Key::Rules) {
-            plan.counted = read_rules(alloc, file, is_monitor, files)?;
-        }
+        let counted = match options.text_of(Key::Rules) {
+            Some(file) => read_rules(alloc, file, is_monitor, files)?,
+            None => Vec::new(alloc),
+        };
+        let mut program = None;
+        let mut attached = None;
         if let Some(file) = options.text_of(Key::Program) {
             let instructions = read_program(alloc, file, files)?;
             if options.has(Key::Attach) {
-                plan.attached = Some(encode(alloc, &instructions).map_err(
-                    command_line::Fault::from,
-                )?);
+                let code = encode(alloc, &instructions).map_err(command_line::Fault::from)?;
+                attached = Some(code);
             } else {
                 let edition = options.edition().unwrap_or(Edition::One);
-                plan.filter.program = Some(verified(instructions, edition)?);
+                program = Some(verified(instructions, edition)?);
             }
         }
-        Ok(plan)
+        Ok(Plan {
+            filter: Filter {
+                rules,
+                program,
+                is_inverted,
+            },
+            counted,
+            asked,
+            attached,
+        })
     }
 
     /// The well-known names that rules ask for as senders.

@@ -1,8 +1,8 @@
 // The words of the command, one after another.
 
-ghost use Rattle.std.specs.Prelude.{◌≡◌, IfOk, option_map};
+ghost use Rattle.std.specs.Prelude.{◌≡◌, IfOk, Some, None, option_map, if◌then◌else◌};
 ghost use Rattle.std.specs.List.{list_any};
-ghost use Rattle.watch_command.specs.Words.{key_of, takes_word, is_option, is_key, is_repeated, reading_by, reading_of, may_end, saying_of, sayings_of, sayings_in, texts, word_in, name_in, reading_by_step};
+ghost use Rattle.watch_command.specs.Words.{key_of, takes_word, is_option, is_key, is_repeated, reading_by, reading_of, may_end, with_saying, saying_of, sayings_of, sayings_in, texts, word_in, name_in, reading_by_step};
 
 use std::alloc::{AllocError, Global};
 
@@ -213,6 +213,20 @@ fn any_step<'a>(word: &'a str) -> Option<Step<'a>>
     }
 }
 
+/// Adds what a word says, if it says anything and isn't an option that was said before, and answers whether it isn't.
+fn put_word<'a>(said: &mut Vec<Word<'a>>, word: Option<Word<'a>>) -> Result<bool, AllocError>
+    ensures { IfOk result (λ is_new. with_saying (sayings_of said.old.items) (option_map saying_of word.entry) ≡ (if is_new then Some (sayings_of said.new.items) else None)) }
+{
+    let Some(word) = word else {
+        return Ok(true);
+    };
+    if word.is_repeated(said) {
+        return Ok(false);
+    }
+    said.push(word)?;
+    Ok(true)
+}
+
 /// What some words say, if each of them may stand where it does: options anywhere before `--`, each once at most.
 pub(crate) fn read_words<'a>(
     alloc: Global,
@@ -226,11 +240,8 @@ pub(crate) fn read_words<'a>(
         let Some(step) = awaited.step(words[i]) else {
             return Ok(None);
         };
-        if let Some(word) = step.said {
-            if word.is_repeated(&said) {
-                return Ok(None);
-            }
-            said.push(word)?;
+        if !put_word(&mut said, step.said)? {
+            return Ok(None);
         }
         awaited = step.awaited;
     }
