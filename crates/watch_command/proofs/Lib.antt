@@ -1,1 +1,2 @@
+pub mod SayingSteps
 pub mod Takes

@@ -10,7 +10,7 @@ use Rattle.watch_command.specs.Showing.{TakesRule, SomeTakes}
 pub agreed : (owners : Ownerships) (asked : Option (Bor (List ℕ))) (name sent sender : Option (List ℕ)) (r : Bool) → option_map (λ (text : Bor (List ℕ)). text.now) asked ≡ name → sent ≡ sender → IfSome asked (λ (text : Bor (List ℕ)). owns owners sent text.now ≡ r) → IfSome name (λ (text : List ℕ). owns owners sender text ≡ r)
 agreed owners asked name sent sender r is same found =
     subst (λ (s : Option (List ℕ)). IfSome name (λ (text : List ℕ). owns owners s text ≡ r)) same
-      (subst (λ (n : Option (List ℕ)). IfSome n (λ (text : List ℕ). owns owners sent text ≡ r)) is (go asked found))
+    (subst (λ (n : Option (List ℕ)). IfSome n (λ (text : List ℕ). owns owners sent text ≡ r)) is (go asked found))
   where
     go : (asked : Option (Bor (List ℕ))) → IfSome asked (λ (text : Bor (List ℕ)). owns owners sent text.now ≡ r) → IfSome (option_map (λ (text : Bor (List ℕ)). text.now) asked) (λ (text : List ℕ). owns owners sent text ≡ r)
     go None h = h
@@ -27,9 +27,10 @@ later owners m rule rules no (inr take) = take
 -- a rule that doesn't take the message is passed over
 pub passed : (owners : Ownerships) (m : Message) (rules : List RuleTree) (i : ℕ) (rule : RuleTree) → i < length rules → rule ≡ get_or rules i rule → (TakesRule owners m rule → ⊥) → (SomeTakes owners m (drop i rules) ↔ SomeTakes owners m rules) → (SomeTakes owners m (drop (i + 1) rules) ↔ SomeTakes owners m rules)
 passed owners m rules i rule h is no before =
-    let here = rest_at rules i rule h is in
-    ( λ (take : SomeTakes owners m (drop (i + 1) rules)). before.0 (subst (λ (l : List RuleTree). SomeTakes owners m l) (sym here) (inr take))
-    , λ (take : SomeTakes owners m rules). later owners m rule (drop (i + 1) rules) no (subst (λ (l : List RuleTree). SomeTakes owners m l) here (before.1 take)) )
+    let here = rest_at rules i rule h is in (
+      λ (take : SomeTakes owners m (drop (i + 1) rules)). before.0 (subst (λ (l : List RuleTree). SomeTakes owners m l) (sym here) (inr take)),
+      λ (take : SomeTakes owners m rules). later owners m rule (drop (i + 1) rules) no (subst (λ (l : List RuleTree). SomeTakes owners m l) here (before.1 take)),
+    )
 
 -- a rule that takes the message is one of all
 pub taken : (owners : Ownerships) (m : Message) (rules : List RuleTree) (i : ℕ) (rule : RuleTree) → i < length rules → rule ≡ get_or rules i rule → TakesRule owners m rule → (SomeTakes owners m (drop i rules) ↔ SomeTakes owners m rules) → SomeTakes owners m rules

@@ -11,8 +11,8 @@ loop-rule-init c = λ m valid. (λ take. take, λ take. take)
 pub loop-rule-preserved : goal.loop-rule-preserved
 loop-rule-preserved c = λ m valid.
     passed c.args.owners.now m c.args.rules.now c.loop-rule.rule-index c.rule-item.result c.loop-rule-test.true c.rule-item.is
-      (λ (takes : TakesRule c.args.owners.now m c.rule-item.result). let holds = (c.rule_holds.ensures m valid).1 takes in cc)
-      (c.loop-rule.invariant m valid)
+    (λ (takes : TakesRule c.args.owners.now m c.rule-item.result). let holds = (c.rule_holds.ensures m valid).1 takes in cc)
+    (c.loop-rule.invariant m valid)
 
 pub returns-then-rule_holds : goal.returns-then-rule_holds
 returns-then-rule_holds c = λ m valid. (
