@@ -1,2 +1,3 @@
-pub mod SayingSteps
+pub mod AnyOf
+pub mod SaidWords
 pub mod Takes

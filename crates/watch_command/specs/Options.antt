@@ -30,9 +30,12 @@ abbrev pub names : List Saying → List (List ℕ)
 names [] = []
 names (saying ∷ later) = name_before (name_in saying) (names later)
 
+abbrev pub is_said : List Saying → Key → Bool
+is_said said key = has key said
+
 -- if an option is said, none of the others is
 abbrev pub excludes : Key → List Key → List Saying → Bool
-excludes key others said = not (has key said) || not (list_any (λ other. has other said) others)
+excludes key others said = not (has key said) || not (list_any (is_said said) others)
 
 -- if an option is said, a program is
 abbrev pub needs_program : Key → List Saying → Bool

@@ -7,7 +7,7 @@ digit power n = 48 + n / power % 10
 
 -- microseconds
 abbrev pub six_digits : ℕ → List ℕ
-six_digits n = digit 100000 n ∷ digit 10000 n ∷ digit 1000 n ∷ digit 100 n ∷ digit 10 n ∷ 48 + n % 10 ∷ []
+six_digits n = digit 100000 n ∷ digit 10000 n ∷ digit 1000 n ∷ digit 100 n ∷ digit 10 n ∷ (48 + n % 10) ∷ []
 
 -- a time in nanoseconds since 1970, and a blank
 abbrev pub stamp : ℕ → List ℕ

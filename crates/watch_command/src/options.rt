@@ -31,7 +31,7 @@ impl<'a> Options<'a> {
     ghost use Rattle.std.specs.Str.Parse.{digits_value};
     ghost use Rattle.watch_command.specs.declared.words.Key.TheVariants.{Read};
     ghost use Rattle.watch_command.specs.Words.{Saying, sayings_in, texts};
-    ghost use Rattle.watch_command.specs.Options.{has, word_of, names, excludes, needs_program, fits_source, fits_form, address_count, has_names, fits, has_value, edition_of};
+    ghost use Rattle.watch_command.specs.Options.{has, is_said, word_of, names, excludes, needs_program, fits_source, fits_form, address_count, has_names, fits, has_value, edition_of};
 
     /// What some words ask for, if they are a row of the command line: `ADDRESS [RULE ..]` or `--read FILE [RULE ..]`, and
     /// options that go together.
@@ -172,7 +172,7 @@ impl<'a> Options<'a> {
 
     /// Whether one of some options is there.
     fn has_any(&self, keys: &[Key]) -> bool
-        ensures { result ≡ list_any (λ key. has key self.now) keys.now }
+        ensures { result ≡ list_any (is_said self.now) keys.now }
     {
         for key in keys {
             if self.has(*key) {
