@@ -21,7 +21,7 @@ use case_files::Tally;
 use frames::{Frames, Fronts};
 use headers::{HeaderFields, Messages};
 use lending::{Bodies, Lent};
-use lines::Lines;
+use lines::{JsonLines, Lines};
 use loads::Loads;
 use names::{Names, Signatures};
 use stamped::Stamped;
@@ -46,5 +46,6 @@ fn main(rt: HostRuntime) -> ExitCode {
     for file in ["signals.cases", "big_endian.cases", "kinds.cases"] {
         tally.judge(&rt, file, &Lines);
     }
+    tally.judge(&rt, "json.cases", &JsonLines);
     tally.end(&rt)
 }

@@ -1,77 +1,99 @@
 // The words of `watch`.
 
+use std::alloc::Global;
 use std::process::Abort;
-use watch_command::{Options, Wanted};
+use watch_command::{Key, Options};
 
-// That words ask for this rule of the bus `session`, with these options.
-fn is_rule(rt: &impl Abort, words: &[&str], rule: &str, is_hex: bool, count: Option<u64>) {
-    match Options::read(words) {
-        Some(options) => {
-            assert!(rt; options.address == "session");
-            assert!(rt; options.wanted == Wanted::Rule(rule));
-            assert!(rt; options.is_hex == is_hex);
-            assert!(rt; options.count == count);
-        }
-        None => assert!(rt; false),
+/// What words ask for, which have to be a row.
+fn options_of<'a, R: Abort>(rt: &R, alloc: Global, words: &[&'a str]) -> Options<'a> {
+    match Options::read(alloc, words) {
+        Ok(Some(options)) => options,
+        _ => panic!(rt; "no row, or no memory"),
     }
 }
 
-// That words ask for a program of the file `p` on the bus `session`.
-fn is_program(rt: &impl Abort, words: &[&str], edition: Option<u32>) {
-    match Options::read(words) {
-        Some(options) => {
-            assert!(rt; options.address == "session");
-            assert!(rt; options.wanted == Wanted::Program { file: "p", edition });
-        }
-        None => assert!(rt; false),
+/// That words ask for these rules of the bus `session`.
+fn expect_rules<R: Abort>(rt: &R, alloc: Global, words: &[&str], rules: &[&str]) {
+    let options = options_of(rt, alloc, words);
+    assert_eq!(rt; options.address(), Some("session"));
+    match options.rules(alloc) {
+        Ok(found) => assert_eq!(rt; found.as_slice(), rules),
+        Err(_) => panic!(rt; "no memory"),
     }
-}
-
-fn is_none(rt: &impl Abort, words: &[&str]) {
-    assert!(rt; Options::read(words).is_none());
 }
 
 #[test]
 fn rules(rt: HostRuntime) {
-    is_rule(&rt, &["session", ""], "", false, None);
-    is_rule(
-        &rt,
-        &["session", "type='signal'", "--hex"],
-        "type='signal'",
-        true,
-        None,
-    );
-    is_rule(&rt, &["--count", "3", "session", "a"], "a", false, Some(3));
-    is_rule(&rt, &["session", "--hex", "--", "-x"], "-x", true, None);
-    is_rule(&rt, &["session", "-"], "-", false, None);
+    let alloc = rt.alloc();
+    expect_rules(&rt, alloc, &["session", ""], &[""]);
+    expect_rules(&rt, alloc, &["session", "a", "--hex", "b"], &["a", "b"]);
+    expect_rules(&rt, alloc, &["--count", "3", "session", "a"], &["a"]);
+    expect_rules(&rt, alloc, &["session", "--hex", "--", "-x"], &["-x"]);
+    expect_rules(&rt, alloc, &["session", "-"], &["-"]);
+    expect_rules(&rt, alloc, &["session", "--monitor"], &[]);
 }
 
 #[test]
-fn programs(rt: HostRuntime) {
-    is_program(&rt, &["session", "--program", "p"], None);
-    is_program(
-        &rt,
-        &["--program", "p", "--edition", "2", "session"],
-        Some(2),
-    );
-    is_program(
-        &rt,
-        &["session", "--edition", "1", "--program", "p"],
-        Some(1),
-    );
+fn settings(rt: HostRuntime) {
+    let words = [
+        "--program",
+        "p",
+        "--edition",
+        "2",
+        "session",
+        "--count",
+        "3",
+        "--seconds",
+        "10",
+        "--json",
+    ];
+    let options = options_of(&rt, rt.alloc(), &words);
+    assert_eq!(rt; options.text_of(Key::Program), Some("p"));
+    assert_eq!(rt; options.number_of(Key::Count), Some(3));
+    assert_eq!(rt; options.number_of(Key::Seconds), Some(10));
+    assert!(rt; options.edition().is_some());
+    assert!(rt; options.has(Key::Json));
+    assert!(rt; !options.has(Key::Hex));
 }
 
+#[test]
+fn captures(rt: HostRuntime) {
+    let options = options_of(&rt, rt.alloc(), &["--read", "f", "a"]);
+    assert_eq!(rt; options.address(), None);
+    assert_eq!(rt; options.text_of(Key::Read), Some("f"));
+}
+
+// Words with blanks between them that are no row of the command line.
 #[test]
 fn no_command(rt: HostRuntime) {
-    is_none(&rt, &[]);
-    is_none(&rt, &["session"]);
-    is_none(&rt, &["session", "a", "b"]);
-    is_none(&rt, &["session", "a", "--count", "0"]);
-    is_none(&rt, &["session", "a", "--count", "+1"]);
-    is_none(&rt, &["session", "a", "--count"]);
-    is_none(&rt, &["session", "a", "--hex", "--hex"]);
-    is_none(&rt, &["session", "a", "--edition", "1"]);
-    is_none(&rt, &["session", "a", "--program", "p"]);
-    is_none(&rt, &["session", "--program", "p", "--edition", "3"]);
-    is_none(&rt, &["session", "a", "--other"]);
+    for line in [
+        "",
+        "session",
+        "session a --count 0",
+        "session a --count +1",
+        "session a --count",
+        "session a --seconds x",
+        "session a --hex --hex",
+        "session a --hex --json",
+        "session a --json --time",
+        "session a --edition 1",
+        "session --program p --edition 3",
+        "session --attach",
+        "session a --program p --attach",
+        "session --program p --attach --monitor",
+        "session a --rules f",
+        "session --rules f --json",
+        "--read f --monitor",
+        "--read f --seconds 1",
+        "session a --other",
+    ] {
+        let words: Vec<&str> = match line.split(' ').collect(rt.alloc()) {
+            Ok(words) => words,
+            Err(_) => panic!(rt; "no memory"),
+        };
+        assert!(rt;
+            matches!(Options::read(rt.alloc(), &words), Ok(None)),
+            "at {line}"
+        );
+    }
 }

@@ -22,6 +22,8 @@ pub(crate) struct ArgumentHelp {
 pub(crate) enum Form {
     /// A word of its own.
     Word,
+    /// Any number of words.
+    Words,
     /// `--name`.
     Flag,
     /// `--name VALUE`, by the name of its value.
@@ -108,17 +110,41 @@ pub(crate) static COMMANDS: [CommandHelp; 7] = [
             },
             ArgumentHelp {
                 name: "RULE",
-                form: Form::Word,
+                form: Form::Words,
                 is_required: false,
-                text: "A match rule; --program FILE in its place",
+                text: "Match rules: messages of which any of them holds",
             },
             ArgumentHelp {
                 name: "program",
                 form: Form::Value("FILE"),
                 is_required: false,
-                text: "A program as assembler text, which a bus of dbusfan's attaches",
+                text: "Only messages that this program accepts, which is assembler text and runs here",
             },
             EDITION,
+            ArgumentHelp {
+                name: "attach",
+                form: Form::Flag,
+                is_required: false,
+                text: "Has the bus run the program, which one of dbusfan's own can do",
+            },
+            ArgumentHelp {
+                name: "monitor",
+                form: Form::Flag,
+                is_required: false,
+                text: "Shows calls, answers and messages to others too; the bus may want root",
+            },
+            ArgumentHelp {
+                name: "invert",
+                form: Form::Flag,
+                is_required: false,
+                text: "Shows the messages that otherwise aren't shown",
+            },
+            ArgumentHelp {
+                name: "rules",
+                form: Form::Value("FILE"),
+                is_required: false,
+                text: "Says at the end how many messages each rule takes, of a file with one a line",
+            },
             ArgumentHelp {
                 name: "hex",
                 form: Form::Flag,
@@ -126,10 +152,34 @@ pub(crate) static COMMANDS: [CommandHelp; 7] = [
                 text: "Writes messages as hexadecimal digits, for match and run",
             },
             ArgumentHelp {
+                name: "json",
+                form: Form::Flag,
+                is_required: false,
+                text: "Writes messages as JSON, like busctl --json=short",
+            },
+            ArgumentHelp {
+                name: "time",
+                form: Form::Flag,
+                is_required: false,
+                text: "Writes the time before each message, in seconds since 1970",
+            },
+            ArgumentHelp {
+                name: "names",
+                form: Form::Flag,
+                is_required: false,
+                text: "Writes the names that a connection owns in place of :1.7",
+            },
+            ArgumentHelp {
                 name: "count",
                 form: Form::Value("N"),
                 is_required: false,
                 text: "Ends after N messages",
+            },
+            ArgumentHelp {
+                name: "seconds",
+                form: Form::Value("N"),
+                is_required: false,
+                text: "Ends after N seconds",
             },
             ArgumentHelp {
                 name: "write",
@@ -141,7 +191,7 @@ pub(crate) static COMMANDS: [CommandHelp; 7] = [
                 name: "read",
                 form: Form::Value("FILE"),
                 is_required: false,
-                text: "Shows a capture in place of ADDRESS, of RULE or whole",
+                text: "Reads messages from a capture, not from a bus, so ADDRESS is left out",
             },
         ],
     },

@@ -74,6 +74,7 @@ fn arg<'a>(alloc: Global, help: &ArgumentHelp) -> Arg<'a> {
         .help(help.text);
     match help.form {
         Form::Word => arg,
+        Form::Words => arg.action(ArgAction::Append),
         Form::Flag => arg.long(help.name).action(ArgAction::SetTrue),
         Form::Value(value) => arg.long(help.name).value_name(value),
     }

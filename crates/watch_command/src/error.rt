@@ -4,7 +4,7 @@ use bus_client::{AddressError, ClientError};
 use captures::CaptureError;
 use command_line::{Output, Writer};
 use message_value::MsgError;
-use std::alloc::{AllocError, Global};
+use std::alloc::{AllocError, AllocFailed, Global};
 use value_text::TextError;
 
 /// The names of errors by which a bus says that it has no method for programs.
@@ -13,6 +13,9 @@ const NO_METHOD: [&str; 3] = [
     "org.freedesktop.DBus.Error.UnknownInterface",
     "org.freedesktop.DBus.Error.UnknownObject",
 ];
+
+/// The name of the error by which a bus says that it isn't allowed.
+const ACCESS_DENIED: &str = "org.freedesktop.DBus.Error.AccessDenied";
 
 /// What the command is refused for.
 #[derive(Debug, Drop)]
@@ -29,15 +32,22 @@ pub enum Fault {
     Refused(String),
     /// The bus knows no programs, as it says by this error.
     NoPrograms(String),
+    /// The bus refuses to be monitored by this error.
+    NoMonitor(String),
 }
 
 impl Fault {
+    ghost use Rattle.std.specs.Prelude.{◌≡◌};
+    ghost use Rattle.watch_command.specs.Errors.{status_of};
+
     /// The status that the program ends with.
-    pub fn status(&self) -> u8 {
+    pub fn status(&self) -> u8
+        ensures { result ≡ status_of self.now }
+    {
         match self {
             Fault::Tool(fault) => fault.status(),
             Fault::Socket | Fault::Auth => 4,
-            Fault::Capture(_) | Fault::Refused(_) | Fault::NoPrograms(_) => 2,
+            Fault::Capture(_) | Fault::Refused(_) | Fault::NoPrograms(_) | Fault::NoMonitor(_) => 2,
         }
     }
 
@@ -45,6 +55,14 @@ impl Fault {
     pub(crate) fn of_attaching(error: ClientError) -> Fault {
         match error {
             ClientError::Answered(name) => Fault::of_program(name),
+            other => Fault::from(other),
+        }
+    }
+
+    /// What a call to become a monitor was refused for.
+    pub(crate) fn of_monitoring(error: ClientError) -> Fault {
+        match error {
+            ClientError::Answered(name) => Fault::NoMonitor(name),
             other => Fault::from(other),
         }
     }
@@ -74,6 +92,10 @@ impl Fault {
                     err,
                 );
             }
+            Fault::NoMonitor(name) => {
+                put_named(alloc, name.as_str(), "", err);
+                err.put(monitor_help(name.as_str()).as_bytes());
+            }
         }
         self.status()
     }
@@ -82,6 +104,17 @@ impl Fault {
 /// Whether a bus says by an error of this name that it has no method for programs.
 fn says_no_method(name: &str) -> bool {
     NO_METHOD.iter().any(|known| *known == name)
+}
+
+/// What helps where a bus refuses to be monitored by an error of this name.
+fn monitor_help(name: &str) -> &'static str {
+    if says_no_method(name) {
+        "dbusfan: this bus has no monitors: without --monitor its broadcasts are shown\n"
+    } else if name == ACCESS_DENIED {
+        "dbusfan: this bus lets root monitor it, and the user that it runs as: try it as one of them\n"
+    } else {
+        "dbusfan: without --monitor the broadcasts of this bus are shown\n"
+    }
 }
 
 /// Writes the line of an error that the bus answered.
@@ -120,6 +153,12 @@ impl From<command_line::Fault> for Fault {
 
 impl From<AllocError> for Fault {
     fn from(_refused: AllocError) -> Fault {
+        Fault::Tool(command_line::Fault::Memory)
+    }
+}
+
+impl<T: Drop> From<AllocFailed<T>> for Fault {
+    fn from(_refused: AllocFailed<T>) -> Fault {
         Fault::Tool(command_line::Fault::Memory)
     }
 }

@@ -1,17 +1,24 @@
-//! The command `dbusfan watch`: what goes over a bus, by a match rule or by a program of one's own,
-//! and what a capture has. The program above
-//! calls `watch` with the words after the command's name.
+//! The command `dbusfan watch`: what goes over a bus, by match rules or by a program of one's own, and what a capture has.
+//! The program above calls `watch` with the words after the command's name.
 #![tactic(auto)]
 
+mod asking;
+mod counts;
 mod entry;
 mod error;
+mod filter;
+mod form;
+mod live;
 mod options;
-mod printing;
+mod owners;
+mod plan;
 mod reading;
 mod selection;
 mod sink;
+mod stamp;
 mod words;
 
 pub use entry::watch;
 pub use error::Fault;
-pub use options::{CaptureOptions, Options, Wanted};
+pub use options::Options;
+pub use words::{Key, Word};

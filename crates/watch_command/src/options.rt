@@ -1,86 +1,302 @@
 // What the words of the command ask for.
 
-use crate::words::Words;
+ghost use Rattle.std.specs.Prelude.{◌≡◌, ◌<◌, IfOk, IfSome, length, option_map, slice_get};
+ghost use Rattle.std.specs.Str.Parse.{digits_value};
+ghost use Rattle.watch_command.specs.Words.{sayings_of, texts};
+ghost use Rattle.watch_command.specs.Options.{word_of, names, edition_of};
 
-/// What of a bus is wanted.
-#[derive(Clone, Copy, Debug, PartialEq, Eq)]
-pub enum Wanted<'a> {
-    /// What a match rule holds of.
-    Rule(&'a str),
-    /// What a program accepts, which is in this file and for images of this edition, or of the first where none is
-    /// said.
-    Program { file: &'a str, edition: Option<u32> },
-}
+use crate::words::{Key, Word, has, read_words};
+use std::alloc::{AllocError, Global};
+use std::marker::Model;
+use summary::Edition;
 
 /// What the words of the command ask for.
-#[derive(Clone, Copy, Debug, PartialEq, Eq)]
+#[derive(Debug, Drop)]
 pub struct Options<'a> {
-    /// An address as the standard has it, or `session` or `system`.
-    pub address: &'a str,
-    pub wanted: Wanted<'a>,
-    /// Whether messages are written as hexadecimal digits.
-    pub is_hex: bool,
-    /// After how many messages it ends.
-    pub count: Option<u64>,
-    /// The file that a capture is written to, in place of lines.
-    pub write: Option<&'a str>,
+    words: Vec<Word<'a>>,
 }
 
-/// What the words ask for that show a capture.
-#[derive(Clone, Copy, Debug, PartialEq, Eq)]
-pub struct CaptureOptions<'a> {
-    /// The file of the capture.
-    pub file: &'a str,
-    /// The rule of the messages that are shown, or nothing for all messages.
-    pub rule: Option<&'a str>,
-    pub is_hex: bool,
-    pub count: Option<u64>,
-    pub write: Option<&'a str>,
-}
+impl<'a> Model for Options<'a> {
+    ghost use Rattle.std.specs.Prelude.{List};
+    ghost use Rattle.watch_command.specs.Words.{Saying, sayings_of};
 
-impl<'a> CaptureOptions<'a> {
-    /// What some words ask for: `--read FILE [RULE] [--hex] [--count N] [--write FILE]`, `--hex` and `--write` not both.
-    pub fn read(words: &[&'a str]) -> Option<CaptureOptions<'a>> {
-        let words = Words::read(words)?;
-        if words.rule.is_some() || words.program.is_some() || words.edition.is_some() {
-            return None;
-        }
-        if words.is_hex && words.write.is_some() {
-            return None;
-        }
-        Some(CaptureOptions {
-            file: words.read?,
-            rule: words.address,
-            is_hex: words.is_hex,
-            count: words.count,
-            write: words.write,
-        })
-    }
+    ghost Value = { List Saying };
+
+    ghost view = { λ o. sayings_of o.words.items };
 }
 
 impl<'a> Options<'a> {
-    /// What some words ask for: `ADDRESS RULE [--hex] [--count N] [--write FILE]` or
-    /// `ADDRESS --program FILE [--edition 1|2] [--hex] [--count N] [--write FILE]`, the options in any place before a `--`,
-    /// once each, `--hex` and `--write` not both.
-    pub fn read(words: &[&'a str]) -> Option<Options<'a>> {
-        let words = Words::read(words)?;
-        if words.read.is_some() || (words.is_hex && words.write.is_some()) {
+    ghost use Rattle.std.specs.Prelude.{◌≡◌, ◌<◌, List, true, false, Some, None, IfOk, IfSome, IfNone, IsSomeAnd, drop, option_map, option_and_then, slice_get, if◌then◌else◌};
+    ghost use Rattle.std.specs.List.{list_any};
+    ghost use Rattle.std.specs.Str.Parse.{digits_value};
+    ghost use Rattle.watch_command.specs.declared.words.Key.TheVariants.{Read};
+    ghost use Rattle.watch_command.specs.Words.{Saying, sayings_in, texts};
+    ghost use Rattle.watch_command.specs.Options.{has, is_said, word_of, names, excludes, needs_program, fits_source, fits_form, address_count, has_names, fits, has_value, edition_of};
+
+    /// What some words ask for, if they are a row of the command line: `ADDRESS [RULE ..]` or `--read FILE [RULE ..]`, and
+    /// options that go together.
+    pub fn read(alloc: Global, words: &[&'a str]) -> Result<Option<Options<'a>>, AllocError>
+        // What they say is the options' value, and a row.
+        ensures found { IfOk result (λ read. IfSome read (λ options. (sayings_in (texts words.now) ≡ Some options) × (fits options ≡ true))) }
+        // Words that say a row are read, unless the word of an option is no number or edition.
+        ensures refused { IfOk result (λ read. IfNone read ((said : List Saying) → sayings_in (texts words.now) ≡ Some said → fits said ≡ true → has_value said ≡ true)) }
+    {
+        let Some(words) = read_words(alloc, words)? else {
+            return Ok(None);
+        };
+        let options = Options { words };
+        if options.is_row() {
+            Ok(Some(options))
+        } else {
+            Ok(None)
+        }
+    }
+
+    /// Whether an option is there.
+    pub fn has(&self, key: Key) -> bool
+        ensures { result ≡ has key self.now }
+    {
+        has(&self.words, key)
+    }
+
+    /// The word of an option, if it is there.
+    pub fn text_of(&self, key: Key) -> Option<&'a str>
+        ensures { option_map (λ text. text.now) result ≡ word_of key self.now }
+    {
+        word_of(&self.words, key)
+    }
+
+    /// The number of an option, if it is there and says one above 0.
+    pub fn number_of(&self, key: Key) -> Option<u64>
+        ensures { IfSome result (λ n. IsSomeAnd (word_of key self.now) (λ word. (n ≡ digits_value 10 word) × (0 < n))) }
+    {
+        number(self.text_of(key)?)
+    }
+
+    /// The edition of the program's images, if one is said.
+    pub fn edition(&self) -> Option<Edition>
+        ensures { result ≡ option_and_then edition_of (word_of Key.Edition self.now) }
+    {
+        edition_of(self.text_of(Key::Edition)?)
+    }
+
+    /// The address of the bus, if there is no capture.
+    pub fn address(&self) -> Option<&'a str>
+        ensures { option_map (λ text. text.now) result ≡ (if has Read self.now then None else slice_get (names self.now) 0) }
+    {
+        if self.has(Key::Read) {
             return None;
         }
-        let wanted = match (words.rule, words.program) {
-            (Some(rule), None) if words.edition.is_none() => Wanted::Rule(rule),
-            (None, Some(file)) => Wanted::Program {
-                file,
-                edition: words.edition,
-            },
-            _ => return None,
-        };
-        Some(Options {
-            address: words.address?,
-            wanted,
-            is_hex: words.is_hex,
-            count: words.count,
-            write: words.write,
-        })
+        first_name(&self.words)
+    }
+
+    /// The rules: the words that are no options, but for the address.
+    pub fn rules(&self, alloc: Global) -> Result<Vec<&'a str>, AllocError>
+        ensures { IfOk result (λ rules. texts rules.items ≡ drop (address_count self.now) (names self.now)) }
+    {
+        let mut rules = names_of(alloc, &self.words)?;
+        if self.has(Key::Read) || rules.is_empty() {
+            return Ok(rules);
+        }
+        rules.remove(0);
+        Ok(rules)
+    }
+
+    /// How many of the words that are no options aren't rules: the address of a bus.
+    fn address_count(&self) -> usize
+        ensures { result ≡ address_count self.now }
+    {
+        if self.has(Key::Read) { 0 } else { 1 }
+    }
+
+    fn is_row(&self) -> bool
+        ensures found { result ≡ true → fits self.now ≡ true }
+        ensures refused { result ≡ false → fits self.now ≡ true → has_value self.now ≡ true }
+    {
+        self.fits() && self.has_values()
+    }
+
+    /// Whether the options go together, and there are as many other words as there may be.
+    fn fits(&self) -> bool
+        ensures { result ≡ fits self.now }
+    {
+        self.fits_source() && self.fits_form() && self.has_names()
+    }
+
+    /// Whether the options go with a program that the bus runs, and with a capture.
+    fn fits_source(&self) -> bool
+        ensures { result ≡ fits_source self.now }
+    {
+        self.needs_program(Key::Edition)
+            && self.needs_program(Key::Attach)
+            && self.excludes(
+                Key::Attach,
+                &[Key::Monitor, Key::Invert, Key::Rules, Key::Read],
+            )
+            && self.excludes(Key::Read, &[Key::Monitor, Key::Seconds, Key::Names])
+    }
+
+    /// Whether the options go with those that say how messages are written.
+    fn fits_form(&self) -> bool
+        ensures { result ≡ fits_form self.now }
+    {
+        self.excludes(
+            Key::Rules,
+            &[
+                Key::Program,
+                Key::Invert,
+                Key::Time,
+                Key::Hex,
+                Key::Json,
+                Key::Write,
+                Key::Names,
+            ],
+        ) && self.excludes(Key::Hex, &[Key::Json, Key::Write, Key::Time, Key::Names])
+            && self.excludes(Key::Json, &[Key::Write, Key::Time, Key::Names])
+            && self.excludes(Key::Write, &[Key::Time, Key::Names])
+    }
+
+    /// Whether there is a program where an option is.
+    fn needs_program(&self, key: Key) -> bool
+        ensures { result ≡ needs_program key self.now }
+    {
+        !self.has(key) || self.has(Key::Program)
+    }
+
+    /// Whether no other option is there where an option is.
+    fn excludes(&self, key: Key, others: &[Key]) -> bool
+        ensures { result ≡ excludes key others.now self.now }
+    {
+        !self.has(key) || !self.has_any(others)
+    }
+
+    /// Whether one of some options is there.
+    fn has_any(&self, keys: &[Key]) -> bool
+        ensures { result ≡ list_any (is_said self.now) keys.now }
+    {
+        for key in keys {
+            if self.has(*key) {
+                return true;
+            }
+        }
+        false
+    }
+
+    /// Whether the words of options say what they have to.
+    fn has_values(&self) -> bool
+        ensures { result ≡ false → has_value self.now ≡ true }
+    {
+        self.is_number(Key::Count) && self.is_number(Key::Seconds) && self.is_edition()
+    }
+
+    /// Whether the word of an option is a number above 0, where it is there.
+    fn is_number(&self, key: Key) -> bool
+        ensures { result ≡ false → has key self.now ≡ true }
+    {
+        match self.text_of(key) {
+            Some(text) => number(text).is_some(),
+            None => true,
+        }
+    }
+
+    /// Whether the word of `--edition` is one, where it is there.
+    fn is_edition(&self) -> bool
+        ensures { result ≡ false → has Key.Edition self.now ≡ true }
+    {
+        match self.text_of(Key::Edition) {
+            Some(text) => edition_of(text).is_some(),
+            None => true,
+        }
+    }
+
+    /// Whether there are as many words that are no options as there may be: an address where there is no capture, and a
+    /// rule at least where nothing else says what is wanted.
+    fn has_names(&self) -> bool
+        ensures { result ≡ has_names self.now }
+    {
+        let others = self.address_count();
+        let count = name_count(&self.words);
+        if self.has(Key::Attach) || self.has(Key::Rules) {
+            count == others
+        } else if self.has(Key::Read) || self.has(Key::Program) || self.has(Key::Monitor) {
+            count >= others
+        } else {
+            count > others
+        }
+    }
+}
+
+/// The word of an option among some words.
+fn word_of<'a>(words: &[Word<'a>], key: Key) -> Option<&'a str>
+    ensures { option_map (λ text. text.now) result ≡ word_of key (sayings_of words.now) }
+{
+    for word in words {
+        if let Some(text) = word.text_of(key) {
+            return Some(text);
+        }
+    }
+    None
+}
+
+/// The first of the words that are no options.
+fn first_name<'a>(words: &[Word<'a>]) -> Option<&'a str>
+    ensures { option_map (λ text. text.now) result ≡ slice_get (names (sayings_of words.now)) 0 }
+{
+    for word in words {
+        if let Some(name) = word.name() {
+            return Some(name);
+        }
+    }
+    None
+}
+
+/// The words that are no options.
+fn names_of<'a>(alloc: Global, words: &[Word<'a>]) -> Result<Vec<&'a str>, AllocError>
+    ensures { IfOk result (λ found. texts found.items ≡ names (sayings_of words.now)) }
+{
+    let mut found = Vec::new(alloc);
+    for word in words {
+        if let Some(name) = word.name() {
+            found.push(name)?;
+        }
+    }
+    Ok(found)
+}
+
+/// How many words are no options.
+fn name_count(words: &[Word<'_>]) -> usize
+    ensures { result ≡ length (names (sayings_of words.now)) }
+{
+    let mut count = 0;
+    for word in words {
+        if word.name().is_some() {
+            count += 1;
+        }
+    }
+    count
+}
+
+/// A number above 0 in decimal digits.
+fn number(word: &str) -> Option<u64>
+    ensures { IfSome result (λ n. (n ≡ digits_value 10 word.now) × (0 < n)) }
+{
+    let first = *word.as_bytes().first()?;
+    if !first.is_ascii_digit() {
+        return None;
+    }
+    match word.parse::<u64>() {
+        Ok(0) | Err(_) => None,
+        Ok(number) => Some(number),
+    }
+}
+
+/// The edition that a word says.
+fn edition_of(word: &str) -> Option<Edition>
+    ensures { result ≡ edition_of word.now }
+{
+    match word {
+        "1" => Some(Edition::One),
+        "2" => Some(Edition::Two),
+        _ => None,
     }
 }

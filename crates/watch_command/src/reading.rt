@@ -2,7 +2,6 @@
 
 use crate::error::Fault;
 use crate::selection::Selection;
-use crate::sink::Sink;
 use captures::{Packets, Step};
 use command_line::Writer;
 use std::alloc::Global;
@@ -13,10 +12,10 @@ const PIECE_LEN: usize = 16_384;
 
 /// Hands on the messages of a capture that are selected. No more of the file is kept than a block, or a packet with its
 /// header, and one piece.
-pub(crate) fn show_capture<I: Read, K: Sink, E: Writer>(
+pub(crate) fn show_capture<I: Read, O: Writer, F: Writer, E: Writer>(
     alloc: Global,
     input: &mut I,
-    selection: &mut Selection<'_, '_, '_, K, E>,
+    selection: &mut Selection<'_, '_, '_, O, F, E>,
 ) -> Result<(), Fault> {
     let mut packets = Packets::new();
     let mut bytes = Vec::new(alloc);
@@ -37,11 +36,11 @@ pub(crate) fn show_capture<I: Read, K: Sink, E: Writer>(
 }
 
 /// Takes the packets that bytes begin with, and answers the bytes after them.
-fn take_packets<'b, K: Sink, E: Writer>(
+fn take_packets<'b, O: Writer, F: Writer, E: Writer>(
     alloc: Global,
     packets: &mut Packets,
     bytes: &'b [u8],
-    selection: &mut Selection<'_, '_, '_, K, E>,
+    selection: &mut Selection<'_, '_, '_, O, F, E>,
 ) -> Result<&'b [u8], Fault> {
     let mut rest = bytes;
     for _ in 0..u64::MAX {

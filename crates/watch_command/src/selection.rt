@@ -1,34 +1,37 @@
-// Which messages of a capture are shown.
+// The messages that are shown.
 
 use crate::error::Fault;
+use crate::filter::Filter;
+use crate::form::Seen;
+use crate::owners::{Change, Owners};
 use crate::sink::Sink;
 use captures::Packet;
 use command_line::{Output, Writer};
-use match_rule::Rule;
 use message_value::MsgError;
 use message_view::View;
 use std::alloc::Global;
 
-/// Which messages of a capture are shown, and what was found so far.
-pub(crate) struct Selection<'k, 'e, 'r, K, E> {
-    pub(crate) sink: &'k mut K,
-    pub(crate) err: &'e mut Output<E>,
-    /// Where it isn't there, all messages are.
-    pub(crate) rule: Option<&'r Rule>,
+/// Which messages are shown, and what was found so far.
+pub(crate) struct Selection<'o, 'e, 'f, O, F, E> {
+    sink: Sink<'o, O, F>,
+    err: &'e mut Output<E>,
+    filter: &'f Filter,
+    owners: Owners,
     /// How many messages may still be shown.
-    pub(crate) left: u64,
+    left: u64,
     /// The number of the packet before.
-    pub(crate) number: u64,
+    number: u64,
     /// How many packets of other link types were passed over.
-    pub(crate) passed_over: u64,
+    passed_over: u64,
 }
 
-impl<'k, 'e, 'r, K, E> Drop for Selection<'k, 'e, 'r, K, E> {
+impl<'o, 'e, 'f, O, F: Drop, E> Drop for Selection<'o, 'e, 'f, O, F, E> {
     fn drop(self) {
         let Selection {
             sink: _,
             err: _,
-            rule: _,
+            filter: _,
+            owners: _,
             left: _,
             number: _,
             passed_over: _,
@@ -36,13 +39,43 @@ impl<'k, 'e, 'r, K, E> Drop for Selection<'k, 'e, 'r, K, E> {
     }
 }
 
-impl<'k, 'e, 'r, K: Sink, E: Writer> Selection<'k, 'e, 'r, K, E> {
+impl<'o, 'e, 'f, O: Writer, F: Writer, E: Writer> Selection<'o, 'e, 'f, O, F, E> {
+    /// Nothing was shown yet, and as many messages may be as are counted, or all.
+    pub(crate) fn new(
+        sink: Sink<'o, O, F>,
+        err: &'e mut Output<E>,
+        filter: &'f Filter,
+        owners: Owners,
+        count: Option<u64>,
+    ) -> Selection<'o, 'e, 'f, O, F, E> {
+        Selection {
+            sink,
+            err,
+            filter,
+            owners,
+            left: count.unwrap_or(u64::MAX),
+            number: 0,
+            passed_over: 0,
+        }
+    }
+
+    /// Says what stands before all messages.
+    pub(crate) fn begin(&mut self) -> Result<(), Fault> {
+        self.sink.begin()
+    }
+
+    /// Says what stands after all messages, and how many packets of other link types were passed over.
+    pub(crate) fn end(&mut self, alloc: Global) -> Result<(), Fault> {
+        self.note_passed_over(alloc)?;
+        self.sink.end(alloc)
+    }
+
     /// Whether as many messages were shown as are wanted.
     pub(crate) fn is_done(&self) -> bool {
         self.left == 0
     }
 
-    /// Shows the message of a packet if the rule matches it. A packet that was cut, or whose bytes are no message, is
+    /// Shows the message of a packet if the filter takes it. A packet that was cut, or whose bytes are no message, is
     /// said and passed over.
     pub(crate) fn take_packet(
         &mut self,
@@ -55,19 +88,31 @@ impl<'k, 'e, 'r, K: Sink, E: Writer> Selection<'k, 'e, 'r, K, E> {
             return self.note_cut(alloc);
         }
         match View::read(message) {
-            Ok(view) => self.take_message(alloc, packet.time.unwrap_or(0), &view),
+            Ok(view) => self.show(alloc, packet.time.unwrap_or(0), &view),
             Err(fault) => self.note_fault(alloc, fault),
         }
     }
 
-    fn take_message(&mut self, alloc: Global, time: u64, view: &View<'_>) -> Result<(), Fault> {
-        if let Some(rule) = self.rule
-            && !rule.holds(view, false)
-        {
+    /// Shows a message of a bus if the filter takes it. A change of owners is known from the message on that tells of it.
+    pub(crate) fn take_message(
+        &mut self,
+        alloc: Global,
+        time: u64,
+        view: &View<'_>,
+    ) -> Result<(), Fault> {
+        if let Some(change) = Change::of(view) {
+            self.owners.put(alloc, change.name, change.owner)?;
+        }
+        self.show(alloc, time, view)
+    }
+
+    fn show(&mut self, alloc: Global, time: u64, view: &View<'_>) -> Result<(), Fault> {
+        let owners = &self.owners;
+        if !self.filter.takes(view, owners) {
             return Ok(());
         }
         self.left = self.left.saturating_sub(1);
-        self.sink.take(alloc, time, view)
+        self.sink.take(alloc, &Seen { view, time, owners })
     }
 
     fn note_cut(&mut self, alloc: Global) -> Result<(), Fault> {
@@ -90,7 +135,7 @@ impl<'k, 'e, 'r, K: Sink, E: Writer> Selection<'k, 'e, 'r, K, E> {
     }
 
     /// Says how many packets of other link types were passed over, if there are any.
-    pub(crate) fn note_passed_over(&mut self, alloc: Global) -> Result<(), Fault> {
+    fn note_passed_over(&mut self, alloc: Global) -> Result<(), Fault> {
         let count = self.passed_over;
         if count > 0 {
             let line = format!(in alloc; "dbusfan: packets of other link types: {count}\n")?;

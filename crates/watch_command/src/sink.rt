@@ -1,69 +1,81 @@
 // Where the messages go that are shown.
 
+use crate::counts::Counts;
 use crate::error::Fault;
+use crate::form::{Form, Seen};
 use captures::{MAX_TIME, TimeUnit, pcap_header, record_header};
 use command_line::{Output, Writer};
-use message_view::View;
 use std::alloc::Global;
-use value_text::{hex_line, message_line};
 
 /// What takes the messages that are shown.
-pub(crate) trait Sink {
-    /// Takes a message that was seen at a time in nanoseconds since 1970.
-    fn take(&mut self, alloc: Global, time: u64, message: &View<'_>) -> Result<(), Fault>;
+pub(crate) enum Sink<'o, O, F> {
+    /// A line for each message.
+    Lines(&'o mut Output<O>, Form),
+    /// A pcap file, on standard output.
+    Pcap(&'o mut Output<O>),
+    /// A pcap file.
+    PcapFile(Output<F>),
+    /// How many messages each of some rules takes.
+    Counts(&'o mut Output<O>, Counts),
 }
 
-/// A line for each message.
-pub(crate) struct Lines<'a, O> {
-    pub(crate) out: &'a mut Output<O>,
-    pub(crate) is_hex: bool,
-}
-
-impl<'a, O> Drop for Lines<'a, O> {
+impl<'o, O, F: Drop> Drop for Sink<'o, O, F> {
     fn drop(self) {
-        let Lines { out: _, is_hex: _ } = self;
+        match self {
+            Sink::Lines(_, _) => {}
+            Sink::Pcap(_) => {}
+            Sink::PcapFile(_) => {}
+            Sink::Counts(_, _) => {}
+        }
     }
 }
 
-impl<'a, O: Writer> Sink for Lines<'a, O> {
-    fn take(&mut self, alloc: Global, _time: u64, message: &View<'_>) -> Result<(), Fault> {
-        let line = if self.is_hex {
-            hex_line(alloc, message)?
-        } else {
-            message_line(alloc, message)?
-        };
-        put(self.out, &line)
+impl<'o, O: Writer, F: Writer> Sink<'o, O, F> {
+    /// Says what stands before all messages.
+    pub(crate) fn begin(&mut self) -> Result<(), Fault> {
+        match self {
+            Sink::Lines(_, _) | Sink::Counts(_, _) => Ok(()),
+            Sink::Pcap(out) => put(out, &pcap_header(TimeUnit::Micro)),
+            Sink::PcapFile(out) => put(out, &pcap_header(TimeUnit::Micro)),
+        }
+    }
+
+    /// Takes a message.
+    pub(crate) fn take(&mut self, alloc: Global, seen: &Seen<'_, '_, '_>) -> Result<(), Fault> {
+        match self {
+            Sink::Lines(out, form) => {
+                let line = form.line(alloc, seen)?;
+                put(out, &line)
+            }
+            Sink::Pcap(out) => put(out, &record_of(alloc, seen)?),
+            Sink::PcapFile(out) => put(out, &record_of(alloc, seen)?),
+            Sink::Counts(_, counts) => {
+                counts.take(seen.view, seen.owners);
+                Ok(())
+            }
+        }
+    }
+
+    /// Says what stands after all messages.
+    pub(crate) fn end(&mut self, alloc: Global) -> Result<(), Fault> {
+        match self {
+            Sink::Lines(_, _) | Sink::Pcap(_) | Sink::PcapFile(_) => Ok(()),
+            Sink::Counts(out, counts) => {
+                let report = counts.report(alloc)?;
+                put(out, report.as_bytes())
+            }
+        }
     }
 }
 
-/// A pcap file.
-pub(crate) struct PcapFile<'a, O> {
-    out: &'a mut Output<O>,
-}
-
-impl<'a, O> Drop for PcapFile<'a, O> {
-    fn drop(self) {
-        let PcapFile { out: _ } = self;
-    }
-}
-
-impl<'a, O: Writer> PcapFile<'a, O> {
-    /// A file that begins with its header.
-    pub(crate) fn new(out: &'a mut Output<O>) -> Result<PcapFile<'a, O>, Fault> {
-        put(out, &pcap_header(TimeUnit::Micro))?;
-        Ok(PcapFile { out })
-    }
-}
-
-impl<'a, O: Writer> Sink for PcapFile<'a, O> {
-    fn take(&mut self, alloc: Global, time: u64, message: &View<'_>) -> Result<(), Fault> {
-        let bytes = message.raw();
-        let len = u32::try_from(bytes.len()).unwrap_or(u32::MAX);
-        let header = record_header(TimeUnit::Micro, time.min(MAX_TIME), len);
-        let mut record = Vec::from_slice(alloc, &header)?;
-        record.extend_from_slice(bytes)?;
-        put(self.out, &record)
-    }
+/// A message as a record of a pcap file.
+fn record_of(alloc: Global, seen: &Seen<'_, '_, '_>) -> Result<Vec<u8>, Fault> {
+    let bytes = seen.view.raw();
+    let len = u32::try_from(bytes.len()).unwrap_or(u32::MAX);
+    let header = record_header(TimeUnit::Micro, seen.time.min(MAX_TIME), len);
+    let mut record = Vec::from_slice(alloc, &header)?;
+    record.extend_from_slice(bytes)?;
+    Ok(record)
 }
 
 /// Writes a text as a whole, and flushes it.

@@ -1,164 +1,272 @@
 // The words of the command, one after another.
 
+ghost use Rattle.std.specs.Prelude.{◌≡◌, IfOk, Some, None, option_map, if◌then◌else◌};
+ghost use Rattle.std.specs.List.{list_any};
+ghost use Rattle.watch_command.specs.Words.{key_of, takes_word, is_option, is_key, is_repeated, reading_by, reading_of, may_end, with_saying, saying_of, sayings_of, sayings_in, texts, word_in, name_in, reading_by_step};
+
+use std::alloc::{AllocError, Global};
+
+/// An option of the command.
+#[derive(Clone, Copy, Debug, PartialEq, Eq)]
+pub enum Key {
+    /// `--attach`: the bus runs the program.
+    Attach,
+    /// `--count N`: ends after N messages.
+    Count,
+    /// `--edition 1|2`: the edition of images that the program is for.
+    Edition,
+    /// `--hex`: messages as hexadecimal digits.
+    Hex,
+    /// `--invert`: the messages that otherwise aren't shown.
+    Invert,
+    /// `--json`: messages as JSON.
+    Json,
+    /// `--monitor`: asks for messages to others too.
+    Monitor,
+    /// `--names`: the names that are owned in place of their owners' unique names.
+    Names,
+    /// `--program FILE`: the messages that a program accepts.
+    Program,
+    /// `--read FILE`: a capture in place of a bus.
+    Read,
+    /// `--rules FILE`: how many messages each rule of a file takes.
+    Rules,
+    /// `--seconds N`: ends after N seconds.
+    Seconds,
+    /// `--time`: when a message came, in front of its line.
+    Time,
+    /// `--write FILE`: a capture in place of lines.
+    Write,
+}
+
+/// What a word of the command says, an option with the word after it where it takes one.
+#[derive(Clone, Copy, Debug, PartialEq, Eq)]
+pub enum Word<'a> {
+    /// An option that stands alone.
+    Flag(Key),
+    /// An option and its word.
+    Setting(Key, &'a str),
+    /// An address, or a rule.
+    Name(&'a str),
+}
+
 /// What the next word may be.
-#[derive(Clone, Copy)]
+#[derive(Clone, Copy, Debug, PartialEq, Eq)]
 enum Awaited {
     /// An option, `--` or a name.
     AnyWord,
-    /// The file of `--program`.
-    File,
-    /// The number of `--edition`.
-    Edition,
-    /// The number of `--count`.
-    Count,
-    /// The file of `--read`.
-    ReadFile,
-    /// The file of `--write`.
-    WriteFile,
+    /// The word of an option.
+    WordOf(Key),
     /// A name, after `--`.
     NameAlone,
 }
 
-/// What the words say so far.
+/// What a word says, if it says anything by itself, and what the next may be.
 #[derive(Clone, Copy)]
-pub(crate) struct Words<'a> {
-    pub(crate) address: Option<&'a str>,
-    pub(crate) rule: Option<&'a str>,
-    pub(crate) program: Option<&'a str>,
-    pub(crate) edition: Option<u32>,
-    pub(crate) is_hex: bool,
-    pub(crate) count: Option<u64>,
-    pub(crate) read: Option<&'a str>,
-    pub(crate) write: Option<&'a str>,
+struct Step<'a> {
+    said: Option<Word<'a>>,
     awaited: Awaited,
 }
 
-impl<'a> Words<'a> {
-    fn nothing() -> Words<'a> {
-        Words {
-            address: None,
-            rule: None,
-            program: None,
-            edition: None,
-            is_hex: false,
-            count: None,
-            read: None,
-            write: None,
-            awaited: Awaited::AnyWord,
-        }
-    }
-
-    /// What some words say, if each of them may stand where it does.
-    pub(crate) fn read(words: &[&'a str]) -> Option<Words<'a>> {
-        let mut so_far = Words::nothing();
-        for i in 0..words.len() {
-            so_far = so_far.with(words[i])?;
-        }
-        match so_far.awaited {
-            Awaited::AnyWord | Awaited::NameAlone => Some(so_far),
-            Awaited::File
-            | Awaited::Edition
-            | Awaited::Count
-            | Awaited::ReadFile
-            | Awaited::WriteFile => None,
-        }
-    }
-
-    fn with(self, word: &'a str) -> Option<Words<'a>> {
-        match self.awaited {
-            Awaited::AnyWord => self.with_any(word),
-            Awaited::File => Some(Words {
-                program: Some(word),
-                awaited: Awaited::AnyWord,
-                ..self
-            }),
-            Awaited::Edition => self.with_edition(word),
-            Awaited::Count => self.with_count(word),
-            Awaited::ReadFile => Some(Words {
-                read: Some(word),
-                awaited: Awaited::AnyWord,
-                ..self
-            }),
-            Awaited::WriteFile => Some(Words {
-                write: Some(word),
-                awaited: Awaited::AnyWord,
-                ..self
-            }),
-            Awaited::NameAlone => self.with_name(word),
-        }
-    }
-
-    fn with_any(self, word: &'a str) -> Option<Words<'a>> {
+impl Key {
+    /// The option that a word is.
+    fn of(word: &str) -> Option<Key>
+        ensures { result ≡ key_of word.now }
+    {
         match word {
-            "--" => Some(self.awaiting(Awaited::NameAlone)),
-            "--hex" if !self.is_hex => Some(Words {
-                is_hex: true,
-                ..self
-            }),
-            "--program" if self.program.is_none() => Some(self.awaiting(Awaited::File)),
-            "--edition" if self.edition.is_none() => Some(self.awaiting(Awaited::Edition)),
-            "--count" if self.count.is_none() => Some(self.awaiting(Awaited::Count)),
-            "--read" if self.read.is_none() => Some(self.awaiting(Awaited::ReadFile)),
-            "--write" if self.write.is_none() => Some(self.awaiting(Awaited::WriteFile)),
-            _ if is_option(word) => None,
-            _ => self.with_name(word),
+            "--attach" => Some(Key::Attach),
+            "--count" => Some(Key::Count),
+            "--edition" => Some(Key::Edition),
+            "--hex" => Some(Key::Hex),
+            "--invert" => Some(Key::Invert),
+            "--json" => Some(Key::Json),
+            "--monitor" => Some(Key::Monitor),
+            "--names" => Some(Key::Names),
+            "--program" => Some(Key::Program),
+            "--read" => Some(Key::Read),
+            "--rules" => Some(Key::Rules),
+            "--seconds" => Some(Key::Seconds),
+            "--time" => Some(Key::Time),
+            "--write" => Some(Key::Write),
+            _ => None,
         }
     }
 
-    fn awaiting(self, awaited: Awaited) -> Words<'a> {
-        Words { awaited, ..self }
-    }
-
-    fn with_edition(self, word: &str) -> Option<Words<'a>> {
-        let edition = match word {
-            "1" => 1,
-            "2" => 2,
-            _ => return None,
-        };
-        Some(Words {
-            edition: Some(edition),
-            awaited: Awaited::AnyWord,
-            ..self
-        })
-    }
-
-    fn with_count(self, word: &str) -> Option<Words<'a>> {
-        let count = number(word)?;
-        Some(Words {
-            count: Some(count),
-            awaited: Awaited::AnyWord,
-            ..self
-        })
-    }
-
-    fn with_name(self, word: &'a str) -> Option<Words<'a>> {
-        match (self.address, self.rule) {
-            (None, _) => Some(Words {
-                address: Some(word),
-                ..self
-            }),
-            (Some(_), None) => Some(Words {
-                rule: Some(word),
-                ..self
-            }),
-            (Some(_), Some(_)) => None,
+    /// Whether the option takes the word after it.
+    fn takes_word(self) -> bool
+        ensures { result ≡ takes_word self }
+    {
+        match self {
+            Key::Count
+            | Key::Edition
+            | Key::Program
+            | Key::Read
+            | Key::Rules
+            | Key::Seconds
+            | Key::Write => true,
+            Key::Attach
+            | Key::Hex
+            | Key::Invert
+            | Key::Json
+            | Key::Monitor
+            | Key::Names
+            | Key::Time => false,
         }
     }
 }
 
-/// A number above 0 in decimal digits.
-fn number(word: &str) -> Option<u64> {
-    let first = *word.as_bytes().first()?;
-    if !first.is_ascii_digit() {
-        return None;
+impl<'a> Word<'a> {
+    /// Whether this is an option, with or without its word.
+    pub(crate) fn is(&self, key: Key) -> bool
+        ensures { result ≡ is_key key (saying_of self.now) }
+    {
+        match self {
+            Word::Flag(own) | Word::Setting(own, _) => *own == key,
+            Word::Name(_) => false,
+        }
     }
-    match word.parse::<u64>() {
-        Ok(0) | Err(_) => None,
-        Ok(number) => Some(number),
+
+    /// Whether this is an option that was said before.
+    fn is_repeated(&self, before: &[Word<'_>]) -> bool
+        ensures { result ≡ is_repeated (sayings_of before.now) (saying_of self.now) }
+    {
+        match self {
+            Word::Flag(key) | Word::Setting(key, _) => has(before, *key),
+            Word::Name(_) => false,
+        }
     }
+
+    /// The word of an option, if this is it.
+    pub(crate) fn text_of(&self, key: Key) -> Option<&'a str>
+        ensures { option_map (λ text. text.now) result ≡ word_in key (saying_of self.now) }
+    {
+        match self {
+            Word::Setting(own, text) if *own == key => Some(*text),
+            _ => None,
+        }
+    }
+
+    /// The name, if this is one.
+    pub(crate) fn name(&self) -> Option<&'a str>
+        ensures { option_map (λ text. text.now) result ≡ name_in (saying_of self.now) }
+    {
+        match self {
+            Word::Name(name) => Some(*name),
+            _ => None,
+        }
+    }
+}
+
+impl Awaited {
+    /// The step of a word, if it may stand here.
+    fn step<'a>(self, word: &'a str) -> Option<Step<'a>>
+        ensures { option_map reading_by_step result ≡ reading_of self word.entry.now }
+    {
+        match self {
+            Awaited::AnyWord => any_step(word),
+            Awaited::WordOf(key) => Some(Step {
+                said: Some(Word::Setting(key, word)),
+                awaited: Awaited::AnyWord,
+            }),
+            Awaited::NameAlone => Some(Step {
+                said: Some(Word::Name(word)),
+                awaited: Awaited::NameAlone,
+            }),
+        }
+    }
+
+    /// Whether the words may end here.
+    fn may_end(self) -> bool
+        ensures { result ≡ may_end self }
+    {
+        match self {
+            Awaited::AnyWord | Awaited::NameAlone => true,
+            Awaited::WordOf(_) => false,
+        }
+    }
+}
+
+/// The step of a word before `--` that is no option's word.
+fn any_step<'a>(word: &'a str) -> Option<Step<'a>>
+    ensures { option_map reading_by_step result ≡ reading_of Awaited.AnyWord word.entry.now }
+{
+    if word == "--" {
+        return Some(Step {
+            said: None,
+            awaited: Awaited::NameAlone,
+        });
+    }
+    match Key::of(word) {
+        Some(key) if key.takes_word() => Some(Step {
+            said: None,
+            awaited: Awaited::WordOf(key),
+        }),
+        Some(key) => Some(Step {
+            said: Some(Word::Flag(key)),
+            awaited: Awaited::AnyWord,
+        }),
+        None if is_option(word) => None,
+        None => Some(Step {
+            said: Some(Word::Name(word)),
+            awaited: Awaited::AnyWord,
+        }),
+    }
+}
+
+/// Adds what a word says, if it says anything and isn't an option that was said before, and answers whether it isn't.
+fn put_word<'a>(said: &mut Vec<Word<'a>>, word: Option<Word<'a>>) -> Result<bool, AllocError>
+    ensures { IfOk result (λ is_new. with_saying (sayings_of said.old.items) (option_map saying_of word.entry) ≡ (if is_new then Some (sayings_of said.new.items) else None)) }
+{
+    let Some(word) = word else {
+        return Ok(true);
+    };
+    if word.is_repeated(said) {
+        return Ok(false);
+    }
+    said.push(word)?;
+    Ok(true)
+}
+
+/// What some words say, if each of them may stand where it does: options anywhere before `--`, each once at most.
+pub(crate) fn read_words<'a>(
+    alloc: Global,
+    words: &[&'a str],
+) -> Result<Option<Vec<Word<'a>>>, AllocError>
+    ensures { IfOk result (λ said. option_map (λ words. sayings_of words.items) said ≡ sayings_in (texts words.now)) }
+{
+    let mut said = Vec::new(alloc);
+    let mut awaited = Awaited::AnyWord;
+    for i in 0..words.len() {
+        let Some(step) = awaited.step(words[i]) else {
+            return Ok(None);
+        };
+        if !put_word(&mut said, step.said)? {
+            return Ok(None);
+        }
+        awaited = step.awaited;
+    }
+    if awaited.may_end() {
+        Ok(Some(said))
+    } else {
+        Ok(None)
+    }
+}
+
+/// Whether an option is among some words.
+pub(crate) fn has(words: &[Word<'_>], key: Key) -> bool
+    ensures { result ≡ list_any (is_key key) (sayings_of words.now) }
+{
+    for word in words {
+        if word.is(key) {
+            return true;
+        }
+    }
+    false
 }
 
 /// Whether a word begins with `-` and is more than that.
-fn is_option(word: &str) -> bool {
+fn is_option(word: &str) -> bool
+    ensures { result ≡ is_option word.now }
+{
     word.len() > 1 && word.as_bytes()[0] == b'-'
 }

@@ -1,0 +1,3 @@
+pub mod AnyOf
+pub mod SaidWords
+pub mod Takes

@@ -1,0 +1,37 @@
+-- Which rules take a message.
+use Rattle.std.proofs.Common.{◌≡◌, ◌↔◌, ℕ, ◌+◌, ◌<◌, Bool, List, ◌∷◌, Option, Some, None, length, get_or, drop, inl, inr, refl, sym, subst, ◌∙◌, ap, add-one, drop-cons, Bor, suc}
+use Rattle.std.specs.Prelude.{IfSome, option_map}
+use Rattle.message_view.specs.Message.{Message}
+use Rattle.match_rule.specs.RuleTree.{RuleTree}
+use Rattle.watch_command.specs.Owners.{Ownerships, owns}
+use Rattle.watch_command.specs.Showing.{TakesRule, SomeTakes}
+
+-- a rule's name of its sender is owned as far as the code found
+pub agreed : (owners : Ownerships) (asked : Option (Bor (List ℕ))) (name sent sender : Option (List ℕ)) (r : Bool) → option_map (λ (text : Bor (List ℕ)). text.now) asked ≡ name → sent ≡ sender → IfSome asked (λ (text : Bor (List ℕ)). owns owners sent text.now ≡ r) → IfSome name (λ (text : List ℕ). owns owners sender text ≡ r)
+agreed owners asked name sent sender r is same found =
+    subst (λ (s : Option (List ℕ)). IfSome name (λ (text : List ℕ). owns owners s text ≡ r)) same
+    (subst (λ (n : Option (List ℕ)). IfSome n (λ (text : List ℕ). owns owners sent text ≡ r)) is (go asked found))
+  where
+    go : (asked : Option (Bor (List ℕ))) → IfSome asked (λ (text : Bor (List ℕ)). owns owners sent text.now ≡ r) → IfSome (option_map (λ (text : Bor (List ℕ)). text.now) asked) (λ (text : List ℕ). owns owners sent text ≡ r)
+    go None h = h
+    go (Some text) h = h
+
+-- the rule at a place, and those after it
+pub rest_at : (rules : List RuleTree) (i : ℕ) (rule : RuleTree) → i < length rules → rule ≡ get_or rules i rule → drop i rules ≡ rule ∷ drop (i + 1) rules
+rest_at rules i rule h is = rw add-one (drop-cons rules i rule h ∙ ap (λ (r : RuleTree). r ∷ drop (suc i) rules) (sym is))
+
+later : (owners : Ownerships) (m : Message) (rule : RuleTree) (rules : List RuleTree) → (TakesRule owners m rule → ⊥) → SomeTakes owners m (rule ∷ rules) → SomeTakes owners m rules
+later owners m rule rules no (inl takes) = absurd (no takes)
+later owners m rule rules no (inr take) = take
+
+-- a rule that doesn't take the message is passed over
+pub passed : (owners : Ownerships) (m : Message) (rules : List RuleTree) (i : ℕ) (rule : RuleTree) → i < length rules → rule ≡ get_or rules i rule → (TakesRule owners m rule → ⊥) → (SomeTakes owners m (drop i rules) ↔ SomeTakes owners m rules) → (SomeTakes owners m (drop (i + 1) rules) ↔ SomeTakes owners m rules)
+passed owners m rules i rule h is no before =
+    let here = rest_at rules i rule h is in (
+      λ (take : SomeTakes owners m (drop (i + 1) rules)). before.0 (subst (λ (l : List RuleTree). SomeTakes owners m l) (sym here) (inr take)),
+      λ (take : SomeTakes owners m rules). later owners m rule (drop (i + 1) rules) no (subst (λ (l : List RuleTree). SomeTakes owners m l) here (before.1 take)),
+    )
+
+-- a rule that takes the message is one of all
+pub taken : (owners : Ownerships) (m : Message) (rules : List RuleTree) (i : ℕ) (rule : RuleTree) → i < length rules → rule ≡ get_or rules i rule → TakesRule owners m rule → (SomeTakes owners m (drop i rules) ↔ SomeTakes owners m rules) → SomeTakes owners m rules
+taken owners m rules i rule h is takes before = before.0 (subst (λ (l : List RuleTree). SomeTakes owners m l) (sym (rest_at rules i rule h is)) (inl takes))

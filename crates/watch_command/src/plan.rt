@@ -1,0 +1,144 @@
+// What the options come to: rules that are read and programs that are verified.
+
+use crate::counts::CountedRule;
+use crate::error::Fault;
+use crate::filter::{Filter, Program};
+use crate::options::Options;
+use crate::words::Key;
+use bpf_code::{Ins, encode};
+use bpf_text::assemble_bytes;
+use bpf_verify::verify;
+use command_line::Files;
+use match_rule::Rule;
+use std::alloc::Global;
+use summary::Edition;
+
+/// What stands before a monitor's rule, which is of messages to others too.
+const EAVESDROPPING: &str = "eavesdrop='true',";
+
+/// What the options come to.
+#[derive(Drop)]
+pub(crate) struct Plan<'a> {
+    pub(crate) filter: Filter,
+    /// The rules of `--rules`.
+    pub(crate) counted: Vec<CountedRule>,
+    /// The rules that the bus is asked for; none is all messages.
+    pub(crate) asked: Vec<&'a str>,
+    /// The byte form of the program that the bus is to run.
+    pub(crate) attached: Option<Vec<u8>>,
+}
+
+impl<'a> Plan<'a> {
+    /// Reads what the options name.
+    pub(crate) fn read<F: Files>(
+        alloc: Global,
+        options: &Options<'a>,
+        files: &mut F,
+    ) -> Result<Plan<'a>, Fault> {
+        let is_monitor = options.has(Key::Monitor);
+        let is_inverted = options.has(Key::Invert);
+        let mut rules = Vec::new(alloc);
+        let mut asked = Vec::new(alloc);
+        for text in options.rules(alloc)? {
+            rules.push(read_rule(alloc, text, is_monitor)?)?;
+            if !is_inverted {
+                asked.push(text)?;
+            }
+        }
+        let counted = match options.text_of(Key::Rules) {
+            Some(file) => read_rules(alloc, file, is_monitor, files)?,
+            None => Vec::new(alloc),
+        };
+        let mut program = None;
+        let mut attached = None;
+        if let Some(file) = options.text_of(Key::Program) {
+            let instructions = read_program(alloc, file, files)?;
+            if options.has(Key::Attach) {
+                let code = encode(alloc, &instructions).map_err(command_line::Fault::from)?;
+                attached = Some(code);
+            } else {
+                let edition = options.edition().unwrap_or(Edition::One);
+                program = Some(verified(instructions, edition)?);
+            }
+        }
+        Ok(Plan {
+            filter: Filter {
+                rules,
+                program,
+                is_inverted,
+            },
+            counted,
+            asked,
+            attached,
+        })
+    }
+
+    /// The well-known names that rules ask for as senders.
+    pub(crate) fn sender_names(&self, alloc: Global) -> Result<Vec<&str>, Fault> {
+        let mut names = Vec::new(alloc);
+        for rule in &self.filter.rules {
+            if let Some(name) = rule.sender_name() {
+                names.push(name)?;
+            }
+        }
+        for counted in &self.counted {
+            if let Some(name) = counted.rule.sender_name() {
+                names.push(name)?;
+            }
+        }
+        Ok(names)
+    }
+}
+
+/// The rule of a text. A monitor's is of messages to others too, unless it has `eavesdrop` itself.
+fn read_rule(alloc: Global, text: &str, is_monitor: bool) -> Result<Rule, Fault> {
+    let rule = Rule::read(alloc, text).map_err(command_line::Fault::from)?;
+    if is_monitor {
+        let mut monitored = String::from_str(alloc, EAVESDROPPING)?;
+        monitored.push_str(text)?;
+        if let Ok(rule) = Rule::read(alloc, monitored.as_str()) {
+            return Ok(rule);
+        }
+    }
+    Ok(rule)
+}
+
+/// The rules of a file, one a line; lines that are empty or begin with `#` are passed over.
+fn read_rules<F: Files>(
+    alloc: Global,
+    file: &str,
+    is_monitor: bool,
+    files: &mut F,
+) -> Result<Vec<CountedRule>, Fault> {
+    let bytes = files.read(alloc, file).map_err(command_line::Fault::from)?;
+    let text = String::from_utf8(bytes).map_err(|_| command_line::Fault::File)?;
+    let mut rules = Vec::new(alloc);
+    for line in text.as_str().lines() {
+        if !line.is_empty() && !line.starts_with("#") {
+            rules.push(CountedRule {
+                text: String::from_str(alloc, line)?,
+                rule: read_rule(alloc, line, is_monitor)?,
+                count: 0,
+            })?;
+        }
+    }
+    Ok(rules)
+}
+
+/// The instructions of the program in a file.
+fn read_program<F: Files>(
+    alloc: Global,
+    file: &str,
+    files: &mut F,
+) -> Result<Vec<Ins>, command_line::Fault> {
+    let text = files.read(alloc, file)?;
+    Ok(assemble_bytes(alloc, &text)?)
+}
+
+/// The program of some instructions, if it is accepted.
+fn verified(instructions: Vec<Ins>, edition: Edition) -> Result<Program, command_line::Fault> {
+    match verify(instructions) {
+        Ok(code) => Ok(Program { code, edition }),
+        Err((fault, _)) => Err(command_line::Fault::Program(fault)),
+    }
+}
