@@ -21,15 +21,15 @@ pub rest_at : (rules : List RuleTree) (i : ℕ) (rule : RuleTree) → i < length
 rest_at rules i rule h is = rw add-one (drop-cons rules i rule h ∙ ap (λ (r : RuleTree). r ∷ drop (suc i) rules) (sym is))
 
 later : (owners : Ownerships) (m : Message) (rule : RuleTree) (rules : List RuleTree) → (TakesRule owners m rule → ⊥) → SomeTakes owners m (rule ∷ rules) → SomeTakes owners m rules
-later owners m rule rules no (inl takes) = absurd (no takes)
-later owners m rule rules no (inr take) = take
+later owners m rule rules misses (inl takes) = absurd (misses takes)
+later owners m rule rules misses (inr take) = take
 
 -- a rule that doesn't take the message is passed over
 pub passed : (owners : Ownerships) (m : Message) (rules : List RuleTree) (i : ℕ) (rule : RuleTree) → i < length rules → rule ≡ get_or rules i rule → (TakesRule owners m rule → ⊥) → (SomeTakes owners m (drop i rules) ↔ SomeTakes owners m rules) → (SomeTakes owners m (drop (i + 1) rules) ↔ SomeTakes owners m rules)
-passed owners m rules i rule h is no before =
+passed owners m rules i rule h is misses before =
     let here = rest_at rules i rule h is in (
       λ (take : SomeTakes owners m (drop (i + 1) rules)). before.0 (subst (λ (l : List RuleTree). SomeTakes owners m l) (sym here) (inr take)),
-      λ (take : SomeTakes owners m rules). later owners m rule (drop (i + 1) rules) no (subst (λ (l : List RuleTree). SomeTakes owners m l) here (before.1 take)),
+      λ (take : SomeTakes owners m rules). later owners m rule (drop (i + 1) rules) misses (subst (λ (l : List RuleTree). SomeTakes owners m l) here (before.1 take)),
     )
 
 -- a rule that takes the message is one of all

@@ -1,5 +1,10 @@
 // Who owns which names.
 
+ghost use Rattle.std.specs.Prelude.{◌≡◌, map};
+ghost use Rattle.std.specs.List.{list_any};
+ghost use Rattle.watch_command.specs.Owners.{is_ownership};
+ghost use Rattle.watch_command.specs.KnownOwners.{pair_of};
+
 use message_view::{Kind, View};
 use std::alloc::{AllocError, Global};
 use std::marker::Model;
@@ -55,6 +60,18 @@ impl<'a> Change<'a> {
     }
 }
 
+/// Whether an owner's name is among some names with their owners.
+fn is_among(ownerships: &[Ownership], owner: &str, name: &str) -> bool
+    ensures { result ≡ list_any (is_ownership owner.now name.now) (map pair_of ownerships.now) }
+{
+    for ownership in ownerships {
+        if ownership.owner.as_str() == owner && ownership.name.as_str() == name {
+            return true;
+        }
+    }
+    false
+}
+
 impl Owners {
     ghost use Rattle.std.specs.Prelude.{◌≡◌, [], Some};
     ghost use Rattle.watch_command.specs.Owners.{owns};
@@ -84,12 +101,7 @@ impl Owners {
     pub(crate) fn owns(&self, owner: &str, name: &str) -> bool
         ensures { result ≡ owns self.now (Some owner.now) name.now }
     {
-        for ownership in &self.ownerships {
-            if ownership.owner.as_str() == owner && ownership.name.as_str() == name {
-                return true;
-            }
-        }
-        false
+        is_among(&self.ownerships, owner, name)
     }
 
     /// The names of an owner with commas between them, or its own name where it has none.

@@ -1,4 +1,4 @@
-use Rattle.std.proofs.Common.{ℕ, List, subst, refl}
+use Rattle.std.proofs.Common.{ℕ, List, subst, rules}
 use Rattle.bpf_code.specs.Steps.{Ends}
 use Rattle.watch_command.proofs.filter.Program.accepts.Goals as goal
 
