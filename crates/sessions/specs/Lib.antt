@@ -1,1 +1,7 @@
 pub mod Errors
+pub mod SessionState
+pub mod Hello
+pub mod Newcomers
+pub mod Steps
+pub mod Runs
+pub mod Ends

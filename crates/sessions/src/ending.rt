@@ -1,19 +1,33 @@
 // The end of a session.
 
+ghost use Rattle.sessions.specs.Ends.{Ends};
+
 use crossbeam_utils::rule::Protocol;
 use peers::{Bus, Command, Context, Leaving, Mailbox, Naming, Peer, Published, Shown};
 use routing::Carrier;
 use std::alloc::Global;
 use std::collections::LinkedList;
+use std::marker::Model;
 use std::sync::Wait;
 
-/// What is left of a session whose end was refused memory: its peer is still on the bus.
+/// What is left of a session whose end was refused memory: its peer is still on the bus. Contracts see the peer.
 #[derive(Drop)]
 pub struct Rest<B: Naming, M: Mailbox + Carrier>
 where
     Published: Protocol<Shown<B, M>, LinkedList<Command<M>>>,
 {
     peer: Peer<B, M>,
+}
+
+impl<B: Naming, M: Mailbox + Carrier> Model for Rest<B, M>
+where
+    Published: Protocol<Shown<B, M>, LinkedList<Command<M>>>,
+{
+    ghost use Rattle.peers.specs.PeerState.{PeerState};
+
+    ghost Value = { PeerState M };
+
+    ghost view = { λ r. r.peer };
 }
 
 impl<B: Naming, M: Mailbox + Carrier> Rest<B, M> {
@@ -23,7 +37,9 @@ impl<B: Naming, M: Mailbox + Carrier> Rest<B, M> {
         rt: &W,
         alloc: Global,
         bus: &Bus<B, M, R>,
-    ) -> Option<Rest<B, M>> {
+    ) -> Option<Rest<B, M>>
+        ensures { Ends M.outbox_of self result }
+    {
         let Rest { peer } = self;
         end(peer, &Context { rt, alloc, bus })
     }
@@ -33,7 +49,9 @@ impl<B: Naming, M: Mailbox + Carrier> Rest<B, M> {
 pub(crate) fn end<B: Naming, M: Mailbox + Carrier, W: Wait, R: Wait + Drop>(
     mut peer: Peer<B, M>,
     context: &Context<'_, B, M, W, R>,
-) -> Option<Rest<B, M>> {
+) -> Option<Rest<B, M>>
+    ensures { Ends M.outbox_of peer result }
+{
     match peer.leave(context) {
         Leaving::Refused => Some(Rest { peer }),
         Leaving::Done | Leaving::Ended => {

@@ -1,11 +1,18 @@
 // The first message of a session, which has to be Hello.
 
+ghost use Rattle.std.specs.Prelude.{◌≡◌, true, IfOk};
+ghost use Rattle.message_view.specs.Message.{Message, interface_of, member_of};
+ghost use Rattle.message_view.specs.Valid.{Valid};
+ghost use Rattle.peers.specs.Handling.{names_bus};
+ghost use Rattle.sessions.specs.Hello.{is_hello, is_hello_member};
+ghost use Rattle.sessions.specs.Newcomers.{HasJoined, IsNewcomer};
+
 use crate::error::SessionError;
 use bus_messages::Call;
 use message_view::View;
 use peers::{
     BUS_NAME, Context, Identity, Mailbox, Naming, OwnOutbox, Pass, Peer, Refused, Request,
-    is_for_bus, put_refusal,
+    is_for_bus, join, put_refusal,
 };
 use routing::Carrier;
 use std::sync::Wait;
@@ -21,7 +28,10 @@ pub(crate) fn greet<B: Naming, M: Mailbox + Carrier, W: Wait, R: Wait + Drop>(
     mut own: OwnOutbox<M>,
     identity: Identity,
     view: &View<'_>,
-) -> Result<Peer<B, M>, (SessionError, OwnOutbox<M>)> {
+) -> Result<Peer<B, M>, (SessionError, OwnOutbox<M>)>
+    ensures peer { IfOk result (λ peer. IsNewcomer peer) }
+    ensures hello { IfOk result (λ _. (m : Message) → Valid view.now m → is_hello m ≡ true) }
+{
     if !is_hello(view) {
         return Err((SessionError::NoHello, own));
     }
@@ -38,12 +48,28 @@ pub(crate) fn greet<B: Naming, M: Mailbox + Carrier, W: Wait, R: Wait + Drop>(
 }
 
 /// Whether a message is the call Hello of the bus, whatever its arguments.
-fn is_hello(view: &View<'_>) -> bool {
-    let has_interface = match view.interface() {
+fn is_hello(view: &View<'_>) -> bool
+    ensures { (m : Message) → Valid view.now m → result ≡ is_hello m }
+{
+    is_for_bus(view) && names_bus_interface(view) && names_hello(view)
+}
+
+fn names_bus_interface(view: &View<'_>) -> bool
+    ensures { (m : Message) → Valid view.now m → result ≡ names_bus (interface_of m) }
+{
+    match view.interface() {
         Some(interface) => interface == BUS_NAME,
         None => true,
-    };
-    is_for_bus(view) && has_interface && view.member() == Some("Hello")
+    }
+}
+
+fn names_hello(view: &View<'_>) -> bool
+    ensures { (m : Message) → Valid view.now m → result ≡ is_hello_member (member_of m) }
+{
+    match view.member() {
+        Some(member) => member == "Hello",
+        None => false,
+    }
 }
 
 // A pass with a connection whose messages go to the outbox.
@@ -51,15 +77,17 @@ fn connect_pass<B: Naming, M: Mailbox + Carrier, W: Wait, R: Wait + Drop>(
     context: &Context<'_, B, M, W, R>,
     own: &OwnOutbox<M>,
     view: &View<'_>,
-) -> Result<Pass<B, M>, Refused> {
+) -> Result<Pass<B, M>, Refused>
+    ensures { IfOk result (λ pass. HasJoined pass) }
+{
     let _ = Call::read(context.alloc, view)?;
-    let mailbox = own.share()?;
     let mut pass = context.bus.pass(context.rt)?;
-    match context.bus.connect(context.rt, &mut pass, mailbox) {
-        Ok(_) => Ok(pass),
-        Err(error) => {
+    let joined = join(&mut context.bus.control(context.rt), &mut pass, own);
+    match joined {
+        Ok(()) => Ok(pass),
+        Err(refused) => {
             context.give_back(pass);
-            Err(Refused::from(error))
+            Err(refused)
         }
     }
 }

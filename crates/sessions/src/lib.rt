@@ -1,20 +1,27 @@
 //! Sessions: what a client's bytes come to, from its first byte to its end. A session has no sockets and no threads of
 //! its own: whoever drives it feeds it bytes, lets it handle one message after the other, and has what it put written
-//! out. Its calls are proved safe and to return; what a session says is shown by tests.
+//! out. The layers above use that each message is handled once, in the order of the stream, by what a peer does with it,
+//! and that a session which ends has its peer leave the bus, or hands it on. What the talk before messages says is shown
+//! by tests.
 #![tactic(auto)]
 
+mod client;
 mod ending;
 mod error;
 mod greeting;
+mod laws;
 mod serving;
 mod session;
+mod step;
 mod talk;
 mod writing;
 
 pub use ending::Rest;
 pub use error::SessionError;
+pub use laws::handled_in_order;
 pub use serving::serve_one;
-pub use session::{Session, Step};
+pub use session::Session;
+pub use step::Step;
 
 // Passed on from the crates below, so that the crates above need not name those in crates.txt.
 pub use peers::{Bus, Command, IndexKey, Letterbox, Naming, Opened, Published, Shown};

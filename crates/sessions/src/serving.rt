@@ -2,7 +2,8 @@
 
 use crate::ending::Rest;
 use crate::error::SessionError;
-use crate::session::{Session, Step};
+use crate::session::Session;
+use crate::step::Step;
 use crate::writing::Writing;
 use peers::{Bus, Letterbox, Naming};
 use routing::Carrier;

@@ -1,82 +1,90 @@
 // A client's session.
 
-ghost use Rattle.std.specs.Prelude.{◌≡◌, None};
+ghost use Rattle.std.specs.Prelude.{◌≡◌, ◌∷◌, [], None, IfOk, is_some, false, true};
+ghost use Rattle.sessions.specs.Steps.{Feeds, Steps, TakesNext, TakesMessage, TakesLine};
+ghost use Rattle.sessions.specs.Ends.{EndsAny};
 
+use crate::client::Client;
 use crate::ending::{Rest, end};
 use crate::error::SessionError;
-use crate::greeting::greet;
+use crate::step::Step;
 use crate::talk::Talk;
 use crossbeam_utils::rule::Protocol;
 use frames::Frames;
-use message_view::{MsgError, View};
-use peers::{
-    Bus, Command, Context, Identity, Mailbox, Naming, OwnOutbox, Peer, Published, Request,
-    RouteLists, Shown,
-};
+use message_view::MsgError;
+use peers::{Bus, Command, Context, Identity, Mailbox, Naming, Published, Shown};
 use routing::Carrier;
 use std::alloc::Global;
 use std::collections::LinkedList;
+use std::marker::Model;
 use std::sync::Wait;
 
-/// What a step did.
-#[derive(Clone, Copy, Debug, PartialEq, Eq)]
-pub enum Step {
-    /// A line or a message was handled.
-    Done,
-    /// The next line or message isn't there whole.
-    Waits,
-}
-
 /// One client's session: the talk, then messages, of which the first is Hello. What it answers, and what others send to
-/// its client, waits in the outbox of its mailbox.
+/// its client, waits in the outbox of its mailbox. Contracts see the bytes that wait to be handled, the client's peer, and
+/// why the session ends.
 #[derive(Drop)]
 pub struct Session<B: Naming, M: Mailbox + Carrier>
 where
     Published: Protocol<Shown<B, M>, LinkedList<Command<M>>>,
 {
-    identity: Identity,
     talk: Talk,
     // What is read and not handled.
     input: Frames,
-    lists: RouteLists,
-    // The client's outbox before Hello, then its peer, which has the outbox.
-    own: Option<OwnOutbox<M>>,
-    peer: Option<Peer<B, M>>,
+    client: Client<B, M>,
     fault: Option<SessionError>,
+}
+
+impl<B: Naming, M: Mailbox + Carrier> Model for Session<B, M>
+where
+    Published: Protocol<Shown<B, M>, LinkedList<Command<M>>>,
+{
+    ghost use Rattle.std.specs.Prelude.{◌≡◌, None};
+    ghost use Rattle.sessions.specs.SessionState.{SessionState};
+
+    ghost Value = { SessionState M };
+
+    ghost view = { λ s. record { has_begun = s.talk.has_begun; unread = s.input.unread; peer = s.client; fault = s.fault } };
+
     // The faults of messages are kept in the session's own fault, and not in its frames.
-    ghost is_clean: { input.fault ≡ None },
+    ghost invariant = { λ s. s.input.fault ≡ None };
 }
 
 impl<B: Naming, M: Mailbox + Carrier> Session<B, M> {
     /// A session before its first byte, of a bus with this GUID. All that it says goes to the mailbox.
-    pub fn new(alloc: Global, guid: [u8; 32], mailbox: M) -> Session<B, M> {
+    pub fn new(alloc: Global, guid: [u8; 32], mailbox: M) -> Session<B, M>
+        ensures { result ≡ record { has_begun = false; unread = []; peer = None; fault = None } }
+    {
+        let identity = Identity {
+            guid,
+            machine_id: None,
+        };
         Session {
-            identity: Identity {
-                guid,
-                machine_id: None,
-            },
             talk: Talk::new(guid),
             input: Frames::new(alloc),
-            lists: RouteLists::new(),
-            own: Some(OwnOutbox::new(mailbox)),
-            peer: None,
+            client: Client::new(mailbox, identity),
             fault: None,
         }
     }
 
     /// Sets the machine's id, which GetMachineId answers once Hello came. Without one it is refused.
-    pub fn set_machine_id(&mut self, id: [u8; 32]) {
-        self.identity.machine_id = Some(id);
+    pub fn set_machine_id(&mut self, id: [u8; 32])
+        ensures { self.new ≡ self.old }
+    {
+        self.client.set_machine_id(id);
     }
 
     /// Whether the talk is over and messages are read.
-    pub fn has_begun(&self) -> bool {
+    pub fn has_begun(&self) -> bool
+        ensures { result ≡ self.now.has_begun }
+    {
         self.talk.has_begun()
     }
 
     /// Whether Hello was accepted.
-    pub fn is_connected(&self) -> bool {
-        self.peer.is_some()
+    pub fn is_connected(&self) -> bool
+        ensures { result ≡ is_some self.now.peer }
+    {
+        self.client.is_connected()
     }
 
     /// Keeps the client's next bytes.
@@ -84,7 +92,9 @@ impl<B: Naming, M: Mailbox + Carrier> Session<B, M> {
     /// # Errors
     ///
     /// `NoMemory`, or what a step answered.
-    pub fn feed(&mut self, bytes: &[u8]) -> Result<(), SessionError> {
+    pub fn feed(&mut self, bytes: &[u8]) -> Result<(), SessionError>
+        ensures { Feeds bytes.now self.old result self.new }
+    {
         if let Some(fault) = self.fault {
             return Err(fault);
         }
@@ -104,46 +114,49 @@ impl<B: Naming, M: Mailbox + Carrier> Session<B, M> {
         rt: &W,
         alloc: Global,
         bus: &Bus<B, M, R>,
-    ) -> Result<Step, SessionError> {
+    ) -> Result<Step, SessionError>
+        ensures { Steps M.outbox_of self.old result self.new }
+    {
         if let Some(fault) = self.fault {
             return Err(fault);
         }
-        if self.is_shut() {
+        if self.client.is_shut() {
             return Err(self.fail(SessionError::Slow));
         }
-        let context = Context { rt, alloc, bus };
-        let outcome = if self.talk.has_begun() {
-            self.take_message(&context)
-        } else {
-            self.take_line(&context)
-        };
-        match outcome {
+        match self.take_next(&Context { rt, alloc, bus }) {
             Ok(step) => Ok(step),
             Err(error) => Err(self.fail(error)),
         }
     }
 
-    fn fail(&mut self, error: SessionError) -> SessionError {
+    fn fail(&mut self, error: SessionError) -> SessionError
+        ensures error { result ≡ error }
+        ensures ended { self.new ≡ record self.old { fault = Some error } }
+    {
         self.fault = Some(error);
         error
     }
 
-    // Whether the client's outbox was shut, since a message found no room.
-    fn is_shut(&mut self) -> bool {
-        if let Some(own) = &mut self.own {
-            return own.is_shut();
-        }
-        match &mut self.peer {
-            Some(peer) => peer.is_shut(),
-            None => false,
+    fn take_next<W: Wait, R: Wait + Drop>(
+        &mut self,
+        context: &Context<'_, B, M, W, R>,
+    ) -> Result<Step, SessionError>
+        ensures { TakesNext self.old.has_begun M.outbox_of self.old result self.new }
+    {
+        if self.talk.has_begun() {
+            self.take_message(context)
+        } else {
+            self.take_line(context)
         }
     }
 
     fn take_line<W: Wait, R: Wait + Drop>(
         &mut self,
         context: &Context<'_, B, M, W, R>,
-    ) -> Result<Step, SessionError> {
-        let Some(own) = &mut self.own else {
+    ) -> Result<Step, SessionError>
+        ensures { TakesLine self.old result self.new }
+    {
+        let Some(own) = &mut self.client.own else {
             return Ok(Step::Waits);
         };
         if self.input.is_empty() {
@@ -158,32 +171,25 @@ impl<B: Naming, M: Mailbox + Carrier> Session<B, M> {
     fn take_message<W: Wait, R: Wait + Drop>(
         &mut self,
         context: &Context<'_, B, M, W, R>,
-    ) -> Result<Step, SessionError> {
+    ) -> Result<Step, SessionError>
+        ensures { TakesMessage M.outbox_of self.old result self.new }
+    {
         let view = match self.input.front() {
             Ok(Some(view)) => view,
             Ok(None) => return Ok(Step::Waits),
             Err(fault) => return Err(SessionError::Message(fault)),
         };
         let len = view.raw().len();
-        match &mut self.peer {
-            Some(peer) => peer.handle(context, &mut self.lists, &view)?,
-            None => {
-                let identity = self.identity;
-                arrive(context, &mut self.own, &mut self.peer, identity, &view)?;
-            }
-        }
+        self.client.handle(context, &view)?;
         self.input.skip(len);
         Ok(Step::Done)
     }
 
     /// Writes out what the session has put, its own outbox's and that of others.
-    pub fn push_out<W: Wait>(&mut self, rt: &W) {
-        if let Some(own) = &mut self.own {
-            own.push_out(rt);
-        }
-        if let Some(peer) = &mut self.peer {
-            peer.push_out(rt);
-        }
+    pub fn push_out<W: Wait>(&mut self, rt: &W)
+        ensures { self.new ≡ self.old }
+    {
+        self.client.push_out(rt);
     }
 
     /// What the end of the client's bytes means here.
@@ -191,7 +197,9 @@ impl<B: Naming, M: Mailbox + Carrier> Session<B, M> {
     /// # Errors
     ///
     /// `Auth` before BEGIN, `Message(Short)` inside a message, or what a step answered.
-    pub fn end_of_input(&self) -> Result<(), SessionError> {
+    pub fn end_of_input(&self) -> Result<(), SessionError>
+        ensures { IfOk result (λ _. (self.now.fault ≡ None) × (self.now.has_begun ≡ true) × (self.now.unread ≡ [])) }
+    {
         if let Some(fault) = self.fault {
             return Err(fault);
         }
@@ -212,35 +220,13 @@ impl<B: Naming, M: Mailbox + Carrier> Session<B, M> {
         rt: &W,
         alloc: Global,
         bus: &Bus<B, M, R>,
-    ) -> Option<Rest<B, M>> {
-        let Session { peer, .. } = self;
-        match peer {
+    ) -> Option<Rest<B, M>>
+        ensures { EndsAny M.outbox_of self.peer result }
+    {
+        let Session { client, .. } = self;
+        match client.into_peer() {
             Some(peer) => end(peer, &Context { rt, alloc, bus }),
             None => None,
-        }
-    }
-}
-
-/// Makes the peer that the first message asks for, and answers it.
-fn arrive<B: Naming, M: Mailbox + Carrier, W: Wait, R: Wait + Drop>(
-    context: &Context<'_, B, M, W, R>,
-    own: &mut Option<OwnOutbox<M>>,
-    peer: &mut Option<Peer<B, M>>,
-    identity: Identity,
-    view: &View<'_>,
-) -> Result<(), SessionError> {
-    let Some(outbox) = own.take() else {
-        return Ok(());
-    };
-    match greet(context, outbox, identity, view) {
-        Ok(mut newcomer) => {
-            let registered = newcomer.register(context, Request::of(view));
-            *peer = Some(newcomer);
-            Ok(registered?)
-        }
-        Err((error, outbox)) => {
-            *own = Some(outbox);
-            Err(error)
         }
     }
 }

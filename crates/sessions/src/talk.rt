@@ -1,6 +1,6 @@
 // The talk before messages begin.
 
-ghost use Rattle.std.specs.Prelude.{◌≡◌, ◌≤◌, None, length, IfOk};
+ghost use Rattle.std.specs.Prelude.{◌≡◌, ◌≤◌, None, length, IfOk, false};
 
 use crate::error::SessionError;
 use auth::Auth;
@@ -19,7 +19,9 @@ pub(crate) struct Talk {
 }
 
 impl Talk {
-    pub(crate) fn new(guid: [u8; 32]) -> Talk {
+    pub(crate) fn new(guid: [u8; 32]) -> Talk
+        ensures { result.has_begun ≡ false }
+    {
         Talk {
             auth: Auth::new(guid),
             has_begun: false,
@@ -27,7 +29,9 @@ impl Talk {
     }
 
     /// Whether BEGIN came: what follows are messages.
-    pub(crate) fn has_begun(&self) -> bool {
+    pub(crate) fn has_begun(&self) -> bool
+        ensures { result ≡ self.now.has_begun }
+    {
         self.has_begun
     }
 

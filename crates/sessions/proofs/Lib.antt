@@ -1,0 +1,3 @@
+pub mod Runs
+pub mod Stepping
+pub mod Endings

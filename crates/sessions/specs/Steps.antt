@@ -1,0 +1,76 @@
+-- What a session does with its client's bytes (D-Bus Specification, "Message Format" and "Message Bus Message Routing").
+use Rattle.std.specs.Prelude.{ℕ, ◌≡◌, ◌⊎◌, ◌++◌, Bool, true, false, List, Option, Some, None, Result, Ok, Err, IsErr}
+use Rattle.outbox.specs.Seated.{OutboxId}
+use Rattle.message_view.specs.Message.{Message}
+use Rattle.message_view.specs.Valid.{Valid}
+use Rattle.frames.specs.Stream.{IsMessage, BeginsWithMessage, IsFault}
+use Rattle.peers.specs.declared.error.AnswerError.{AnswerError}
+use Rattle.peers.specs.declared.request.Request.{Request}
+use Rattle.peers.specs.Arrival.{Registers}
+use Rattle.peers.specs.Handling.{Handles}
+use Rattle.peers.specs.Passing.{IsRequestOf}
+use Rattle.peers.specs.PeerState.{PeerState}
+use Rattle.sessions.specs.Errors.{error_of_answer}
+use Rattle.sessions.specs.Hello.{is_hello}
+use Rattle.sessions.specs.Newcomers.{IsNewcomer}
+use Rattle.sessions.specs.SessionState.{SessionState}
+use Rattle.sessions.specs.declared.error.SessionError.{SessionError}
+use Rattle.sessions.specs.declared.error.SessionError.TheVariants.{Message as faulty, NoMemory, Slow}
+use Rattle.sessions.specs.declared.step.Step.{Step}
+use Rattle.sessions.specs.declared.step.Step.TheVariants.{Done, Waits}
+
+-- whether the session goes on after its client was answered, or could not be
+abbrev pub outcome_of : Result (Unit {0}) AnswerError → Result (Unit {0}) SessionError
+outcome_of (Ok _) = Ok tt
+outcome_of (Err error) = Err (error_of_answer error)
+
+-- the bytes in a message's place have this fault
+abbrev pub IsFaultOf : List ℕ → SessionError → Type 0
+IsFaultOf unread (faulty fault) = IsFault unread fault
+IsFaultOf unread _ = ⊥
+
+module _ {M : Type 0} where
+  -- A message is handled by the client's peer. The first one makes the peer, whose name it is answered with, if it is Hello;
+  -- or it makes none, and the session ends.
+  abbrev pub Takes : (M → OutboxId) → List ℕ → Option (PeerState M) → Result (Unit {0}) SessionError → Option (PeerState M) → Type 0
+  Takes outbox_of message (Some v) result peer = (w : PeerState M) × (handled : Result (Unit {0}) AnswerError) × Handles outbox_of message v handled w × (peer ≡ Some w) × (result ≡ outcome_of handled)
+  Takes outbox_of message None result None = IsErr result
+  Takes outbox_of message None result (Some w) =
+      (v : PeerState M) × (request : Request) × (registered : Result (Unit {0}) AnswerError)
+      × IsNewcomer v × ((m : Message) → Valid message m → (is_hello m ≡ true) × IsRequestOf m request) × Registers outbox_of request v registered w × (result ≡ outcome_of registered)
+
+  -- this message comes next in the client's bytes; it is handled, and then taken from them
+  abbrev pub HandlesNext : (M → OutboxId) → List ℕ → SessionState M → SessionState M → Type 0
+  HandlesNext outbox_of message v w = IsMessage message × (v.unread ≡ message ++ w.unread) × Takes outbox_of message v.peer (Ok tt) w.peer × (w ≡ record v { unread = w.unread; peer = w.peer })
+
+  -- The next message is handled; no whole one is there; or the session ends, by the
+  -- fault of the bytes in a message's place, or by what handling the message came to.
+  abbrev pub TakesMessage : (M → OutboxId) → SessionState M → Result Step SessionError → SessionState M → Type 0
+  TakesMessage outbox_of v (Ok Done) w = (message : List ℕ) × HandlesNext outbox_of message v w
+  TakesMessage outbox_of v (Ok Waits) w = (BeginsWithMessage v.unread → ⊥) × (w ≡ v)
+  TakesMessage outbox_of v (Err error) w =
+      (IsFaultOf v.unread error × (w ≡ v))
+      ⊎ ((message rest : List ℕ) × IsMessage message × (v.unread ≡ message ++ rest) × Takes outbox_of message v.peer (Err error) w.peer × (w ≡ record v { peer = w.peer }))
+
+  -- the next line of the talk is treated, and is then no longer there; or there is none
+  abbrev pub TakesLine : SessionState M → Result Step SessionError → SessionState M → Type 0
+  TakesLine v (Ok Done) w = (line : List ℕ) × (v.unread ≡ line ++ w.unread) × (w ≡ record v { has_begun = w.has_begun; unread = w.unread })
+  TakesLine v (Ok Waits) w = w ≡ v
+  TakesLine v (Err error) w = w ≡ record v { has_begun = w.has_begun }
+
+  -- messages once the talk is over, and lines before
+  abbrev pub TakesNext : Bool → (M → OutboxId) → SessionState M → Result Step SessionError → SessionState M → Type 0
+  TakesNext true outbox_of v result w = TakesMessage outbox_of v result w
+  TakesNext false outbox_of v result w = TakesLine v result w
+
+  -- The next line or message is handled. What ends the session is answered then, and always after.
+  abbrev pub Steps : (M → OutboxId) → SessionState M → Result Step SessionError → SessionState M → Type 0
+  Steps outbox_of v (Ok step) w = (v.fault ≡ None) × TakesNext v.has_begun outbox_of v (Ok step) w
+  Steps outbox_of v (Err error) w =
+      ((v.fault ≡ Some error) × (w ≡ v))
+      ⊎ ((v.fault ≡ None) × (mid : SessionState M) × (w ≡ record mid { fault = Some error }) × (((error ≡ Slow) × (mid ≡ v)) ⊎ TakesNext v.has_begun outbox_of v (Err error) mid))
+
+  -- bytes are added to those that were fed, or memory was refused, and the session ends
+  abbrev pub Feeds : List ℕ → SessionState M → Result (Unit {0}) SessionError → SessionState M → Type 0
+  Feeds bytes v (Ok _) w = (v.fault ≡ None) × (w ≡ record v { unread = v.unread ++ bytes })
+  Feeds bytes v (Err error) w = ((v.fault ≡ Some error) × (w ≡ v)) ⊎ ((v.fault ≡ None) × (error ≡ NoMemory) × (w ≡ record v { fault = Some error }))

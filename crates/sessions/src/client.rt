@@ -1,0 +1,155 @@
+// The client that a session serves.
+
+ghost use Rattle.std.specs.Prelude.{◌≡◌, None, is_some};
+ghost use Rattle.sessions.specs.Steps.{Takes, outcome_of};
+
+use crate::error::SessionError;
+use crate::greeting::greet;
+use crossbeam_utils::rule::Protocol;
+use message_view::View;
+use peers::{
+    AnswerError, Command, Context, Identity, Mailbox, Naming, OwnOutbox, Peer, Published, Request,
+    RouteLists, Shown,
+};
+use routing::Carrier;
+use std::collections::LinkedList;
+use std::marker::Model;
+use std::sync::Wait;
+
+/// A client: its outbox before Hello, then its peer, which has the outbox. Contracts see the peer.
+#[derive(Drop)]
+pub(crate) struct Client<B: Naming, M: Mailbox + Carrier>
+where
+    Published: Protocol<Shown<B, M>, LinkedList<Command<M>>>,
+{
+    pub(crate) own: Option<OwnOutbox<M>>,
+    pub(crate) peer: Option<Peer<B, M>>,
+    identity: Identity,
+    lists: RouteLists,
+}
+
+impl<B: Naming, M: Mailbox + Carrier> Model for Client<B, M>
+where
+    Published: Protocol<Shown<B, M>, LinkedList<Command<M>>>,
+{
+    ghost use Rattle.std.specs.Prelude.{Option};
+    ghost use Rattle.peers.specs.PeerState.{PeerState};
+
+    ghost Value = { Option (PeerState M) };
+
+    ghost view = { λ c. c.peer };
+}
+
+impl<B: Naming, M: Mailbox + Carrier> Client<B, M> {
+    /// A client that has said nothing. All that it gets goes to the mailbox.
+    pub(crate) fn new(mailbox: M, identity: Identity) -> Client<B, M>
+        ensures { result ≡ None }
+    {
+        Client {
+            own: Some(OwnOutbox::new(mailbox)),
+            peer: None,
+            identity,
+            lists: RouteLists::new(),
+        }
+    }
+
+    /// Sets the machine's id, which GetMachineId answers once Hello came.
+    pub(crate) fn set_machine_id(&mut self, id: [u8; 32])
+        ensures { self.new ≡ self.old }
+    {
+        self.identity.machine_id = Some(id);
+    }
+
+    /// Whether Hello was accepted.
+    pub(crate) fn is_connected(&self) -> bool
+        ensures { result ≡ is_some self.now }
+    {
+        self.peer.is_some()
+    }
+
+    /// Whether the client's outbox was shut, since a message found no room.
+    pub(crate) fn is_shut(&mut self) -> bool
+        ensures { self.new ≡ self.old }
+    {
+        if let Some(own) = &mut self.own {
+            return own.is_shut();
+        }
+        match &mut self.peer {
+            Some(peer) => peer.is_shut(),
+            None => false,
+        }
+    }
+
+    /// Handles a message of the client, which is the first one where it has no peer.
+    ///
+    /// # Errors
+    ///
+    /// Why the session ends.
+    pub(crate) fn handle<W: Wait, R: Wait + Drop>(
+        &mut self,
+        context: &Context<'_, B, M, W, R>,
+        view: &View<'_>,
+    ) -> Result<(), SessionError>
+        ensures { Takes M.outbox_of view.now self.old result self.new }
+    {
+        match &mut self.peer {
+            Some(peer) => {
+                let handled = peer.handle(context, &mut self.lists, view);
+                outcome_of(handled)
+            }
+            None => self.arrive(context, view),
+        }
+    }
+
+    // Makes the peer that the first message asks for, and answers it.
+    fn arrive<W: Wait, R: Wait + Drop>(
+        &mut self,
+        context: &Context<'_, B, M, W, R>,
+        view: &View<'_>,
+    ) -> Result<(), SessionError>
+        requires { self.old ≡ None }
+        ensures { Takes M.outbox_of view.now None result self.new }
+    {
+        let Some(own) = self.own.take() else {
+            return Err(SessionError::NoHello);
+        };
+        match greet(context, own, self.identity, view) {
+            Ok(mut peer) => {
+                let registered = peer.register(context, Request::of(view));
+                self.peer = Some(peer);
+                outcome_of(registered)
+            }
+            Err((error, own)) => {
+                self.own = Some(own);
+                Err(error)
+            }
+        }
+    }
+
+    /// Writes out what was put, to the client and to others.
+    pub(crate) fn push_out<W: Wait>(&mut self, rt: &W)
+        ensures { self.new ≡ self.old }
+    {
+        if let Some(own) = &mut self.own {
+            own.push_out(rt);
+        }
+        if let Some(peer) = &mut self.peer {
+            peer.push_out(rt);
+        }
+    }
+
+    /// Gives up the client, and keeps its peer.
+    pub(crate) fn into_peer(self) -> Option<Peer<B, M>>
+        ensures { result ≡ self }
+    {
+        let Client { peer, .. } = self;
+        peer
+    }
+}
+
+/// Whether the session goes on after its client was answered, or couldn't be.
+fn outcome_of(answered: Result<(), AnswerError>) -> Result<(), SessionError>
+    ensures { result ≡ outcome_of answered }
+{
+    Ok(answered?)
+}
