@@ -1,7 +1,7 @@
 -- What is found of a capture that is read in pieces.
 use Rattle.std.proofs.Common.{◌≡◌, ℕ, ◌+◌, ◌≤◌, Bool, true, false, List, [], ◌++◌, length, drop, Option, Some, Result, Ok, Err, refl, sym, ap, subst, ◌∙◌, append_assoc, append-nil}
 use Rattle.std.specs.Prelude.{string_bytes}
-use Rattle.std.specs.Result.{result_err}
+use Rattle.std.specs.Result.{result_err, IsErrAnd, MatchResult}
 use Rattle.captures.specs.declared.error.CaptureError.{CaptureError}
 use Rattle.captures.specs.Reading.{Reading, start, end_of}
 use Rattle.captures.specs.Contents.{contents}
@@ -169,3 +169,8 @@ module _ (judge : Judge) (words : Wording) (each : Bool) (beginning : Beginning)
       (so.written, so.puts_lines, (so.found, broken reads (are_first judge so.came so.found so.passed reading rest so.at), written_are judge words each beginning gives tally so.written so.found so.passed so.tally_is so.none_left))
   piece_fails of_file.Memory reads =
       (so.written, so.puts_lines, (so.found, short reads (are_first judge so.came so.found so.passed reading rest so.at), written_are judge words each beginning gives tally so.written so.found so.passed so.tally_is so.none_left))
+
+-- a step's fault is handed on
+pub broke : (judge : Judge) (words : Wording) (each : Bool) (beginning : Beginning) (gave : Content → Type 0) (written : List ℕ) (result : Result CaptureEnd Fault) (fault : Fault) → IsErrAnd result (λ f. f ≡ fault) → BreaksCapture judge words each written gave fault → MatchResult result (EndsCapture judge words each beginning written gave) (BreaksCapture judge words each written gave)
+broke judge words each beginning gave written (Ok end) fault is breaks = absurd is
+broke judge words each beginning gave written (Err f) fault is breaks = subst (λ (f : Fault). BreaksCapture judge words each written gave f) (sym is) breaks

@@ -23,7 +23,10 @@ use Rattle.command_line.specs.declared.files.FileError.{FileError}
 use Rattle.command_line.specs.declared.hex_text.HexError.{HexError}
 use Rattle.command_line.specs.declared.hex_text.HexError.TheVariants as of_hex
 use Rattle.command_line.specs.Errors.{fault_of_file, fault_of_hex}
-use Rattle.command_line.specs.Files.{Content, Whole, Begun, Broken, ReadsFile}
+use Rattle.bpf_code.specs.declared.instruction.Ins.{Ins}
+use Rattle.bpf_code.specs.Program.{WellFormed}
+use Rattle.summary.specs.declared.edition.Edition.{Edition}
+use Rattle.command_line.specs.Files.{Content, Whole, Begun, Broken, ReadsFile, MadeReads, two_reads}
 use Rattle.command_line.specs.HexText.{bytes_of_hex}
 use Rattle.dbusfan_tool.specs.declared.answer.Answer.{Answer}
 use Rattle.dbusfan_tool.specs.declared.answer.Answer.TheVariants.{Fault as Failing}
@@ -32,7 +35,10 @@ use Rattle.dbusfan_tool.specs.declared.capturing.CaptureEnd.{CaptureEnd}
 use Rattle.dbusfan_tool.specs.declared.finding.Finding.{Finding}
 use Rattle.dbusfan_tool.specs.declared.wording.Wording.{Wording}
 use Rattle.dbusfan_tool.specs.Answer.{Said, after_output, failing}
-use Rattle.dbusfan_tool.specs.Judges.{Judge, IsOutcome, IsJudgement}
+use Rattle.dbusfan_tool.specs.Judges.{Judge, by_program, IsOutcome, IsJudgement}
+use Rattle.dbusfan_tool.specs.Program.{Assembles}
+use Rattle.dbusfan_tool.specs.Tool.{Runs, ran}
+use Rattle.dbusfan_tool.proofs.Programs.{assembled_as}
 use Rattle.dbusfan_tool.specs.Findings.{Report, Reports, AreFirst}
 use Rattle.dbusfan_tool.specs.Reports.{words_of, lines_of, said_of_capture, said_of_outcome}
 use Rattle.dbusfan_tool.specs.FileJudgements.{bytes_of, of_message, of_capture, Found, Finds, no_file, no_hex, no_message, message, capture, BreaksOff, broken, short, SaysOfFile}
@@ -98,23 +104,23 @@ module _ (gave : Content → Type 0) (judge : Judge) where
 
   -- it can't be read
   pub not_read : (each : Bool) (fault : Fault) → FailsToRead gave fault → SaysAfter (SaysOfFile gave judge each) [] (Failing fault)
-  not_read each fault (inl fails) =
-      let says : SaysOfFile gave judge each (failing File) = inl (Err File, no_file fails.2, refl) in
-      inl (subst (λ (f : Fault). SaysOfFile gave judge each (failing f)) (sym fails.1) says)
-  not_read each fault (inr short) = inr (refl, ap failing short)
+  not_read each fault (inl unread) =
+      let says : SaysOfFile gave judge each (failing File) = inl (Err File, no_file unread.2, refl) in
+      inl (subst (λ (f : Fault). SaysOfFile gave judge each (failing f)) (sym unread.1) says)
+  not_read each fault (inr memory) = inr (refl, ap failing memory)
 
   -- its one message was judged
   pub said_of_message : (each : Bool) (outcome : Outcome) (words : Wording) (answer : Answer) → each ≡ false → words ≡ words_of judge → Finds gave judge false (Ok (of_message outcome)) → ((said_by answer ≡ said_of_outcome words outcome) ⊎ (said_by answer ≡ failing Memory)) → SaysAfter (SaysOfFile gave judge each) [] answer
   said_of_message each outcome words answer one words_are finds (inl said) =
       let found : Finds gave judge each (Ok (of_message outcome)) = subst (λ (e : Bool). Finds gave judge e (Ok (of_message outcome))) (sym one) finds in
       inl (inl (Ok (of_message outcome), found, nothing_before (said_by answer) ∙ said ∙ ap (λ (w : Wording). said_of_outcome w outcome) words_are))
-  said_of_message each outcome words answer one words_are finds (inr short) = inr (refl, short)
+  said_of_message each outcome words answer one words_are finds (inr memory) = inr (refl, memory)
 
   pub fault_of_message : (each : Bool) (fault : Fault) → each ≡ false → Fails fault → SaysAfter (SaysOfFile gave judge each) [] (Failing fault)
   fault_of_message each fault one (inl finds) =
       let found : Finds gave judge each (Err fault) = subst (λ (e : Bool). Finds gave judge e (Err fault)) (sym one) finds in
       inl (inl (Err fault, found, refl))
-  fault_of_message each fault one (inr short) = inr (refl, ap failing short)
+  fault_of_message each fault one (inr memory) = inr (refl, ap failing memory)
 
   -- its messages were judged
   capture_still : (each : Bool) (beginning : Beginning) (bytes : List ℕ) → (each || is_capture beginning.bytes.items) ≡ true → (each ≡ false → IsSure beginning) → Continues beginning.is_open beginning.bytes.items bytes → (each || is_capture bytes) ≡ true
@@ -163,3 +169,9 @@ breaks_as as_well (short {content} g first) = short (as_well content g) first
 pub says_as : (gave gives : Content → Type 0) (judge : Judge) (each : Bool) (said : Said) → ((content : Content) → gave content → gives content) → SaysOfFile gave judge each said → SaysOfFile gives judge each said
 says_as gave gives judge each said as_well (inl found) = inl (found.0, finds_as as_well found.1, found.2)
 says_as gave gives judge each said as_well (inr breaks) = inr (breaks.0, breaks.1, breaks.2, breaks_as as_well breaks.3, breaks.4)
+
+-- a program was read, and then the file
+pub ran_after : {F : Type 0} (gives : F → List ℕ → Content → F → Type 0) (before between after : F) (program file : List ℕ) (edition : Edition) (each : Bool) (code : List Ins) (said : Said) → Assembles (λ content. gives before program content between) (Ok code) → WellFormed code → SaysOfFile (λ next. gives between file next after) (by_program code edition) each said → Runs (MadeReads gives before after) program file edition each said
+ran_after gives before between after program file edition each code said reads fine says =
+    ran fine (says_as (λ next. gives between file next after) (λ next. Assembles (λ content. MadeReads gives before after (two_reads program content file next)) (Ok code)) (by_program code edition) each said
+      (λ next second. assembled_as (λ content first. (between, first, second)) reads) says)

@@ -37,6 +37,10 @@ TakesTo judge words each came written bytes reading tally (Until len) =
 TakesTo judge words each came written bytes reading tally (Faulty fault) =
     (found : List Finding) × (passed : ℕ) × IsTally words each tally written found passed × ((more : List ℕ) → IsReport judge (contents (came ++ more)) (record { findings = found; passed_over = passed; fault = Some fault }))
 
+abbrev pub TakesWithin : List ℕ → Taken → Type 0
+TakesWithin bytes (Until len) = len ≤ length bytes
+TakesWithin bytes (Faulty fault) = Unit {0}
+
 -- what came of a file, of which more may come where it is open
 abbrev pub so_far : Bool → List ℕ → Content
 so_far true came = Begun came

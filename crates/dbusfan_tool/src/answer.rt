@@ -1,10 +1,9 @@
 // What a command has to say.
 
-ghost use Rattle.std.specs.Prelude.{◌≡◌, ◌++◌, ℕ, List};
-ghost use Rattle.dbusfan_tool.specs.Answer.{Tells, after_output};
+ghost use Rattle.std.specs.Prelude.{◌≡◌};
+ghost use Rattle.dbusfan_tool.specs.Answer.{Tells};
 ghost use Rattle.dbusfan_tool.specs.Views.{said_by};
-ghost use Rattle.command_line.specs.declared.output.Output.{Output};
-ghost use Rattle.command_line.specs.Output.{Puts, PutsParts};
+ghost use Rattle.command_line.specs.Output.{Puts};
 
 use command_line::{Fault, Output, Writer};
 
@@ -43,11 +42,10 @@ impl Answer {
         }
     }
 
-    /// Writes the answer on `out`, after what was written there, and answers the status. A failure of `out` is a fault of
-    /// its own, which is written on `err`.
+    /// Writes the answer on `out`, and answers the status. A failure of `out` is a fault of its own, which is written
+    /// on `err`.
     pub(crate) fn tell<O: Writer, E: Writer>(&self, out: &mut Output<O>, err: &mut Output<E>) -> u8
-        ensures { (before : Output O) (written : List ℕ) → PutsParts O.takes O.flushes O.may_fail before out.old written
-            → Tells (after_output written (said_by self.now)) (PutsParts O.takes O.flushes O.may_fail before out.new)
+        ensures { Tells (said_by self.now) (Puts O.takes O.flushes O.may_fail out.old out.new)
             (Puts E.takes E.flushes E.may_fail err.old err.new) out.new.has_failed result }
     {
         out.put(self.output());

@@ -10,7 +10,7 @@ ghost use Rattle.dbusfan_tool.specs.Judges.{Judge};
 ghost use Rattle.dbusfan_tool.specs.Filters.{Serves};
 ghost use Rattle.dbusfan_tool.specs.Findings.{IsFinding, Report, Reports};
 ghost use Rattle.dbusfan_tool.specs.Tallies.{IsTally};
-ghost use Rattle.dbusfan_tool.specs.CaptureSteps.{IsAt, TakesTo, so_far};
+ghost use Rattle.dbusfan_tool.specs.CaptureSteps.{IsAt, TakesTo, TakesWithin, so_far};
 ghost use Rattle.dbusfan_tool.specs.FirstBytes.{EndsCapture, BreaksCapture};
 
 use crate::beginning::Beginning;
@@ -98,7 +98,8 @@ fn take_packets(
     bytes: &[u8],
     tally: &mut Tally,
 ) -> Result<Taken, AllocError>
-    ensures { IfOk result (λ taken. (judge : Judge) (words : Wording) (each : Bool) (came written : List ℕ) (found : List Finding) (passed : ℕ) → Serves judge filter.now
+    ensures within { IfOk result (TakesWithin bytes.now) }
+    ensures takes { IfOk result (λ taken. (judge : Judge) (words : Wording) (each : Bool) (came written : List ℕ) (found : List Finding) (passed : ℕ) → Serves judge filter.now
         → IsTally words each tally.old written found passed → IsAt judge came found passed packets.old bytes.now
         → TakesTo judge words each came written bytes.now packets.new tally.new taken) }
 {

@@ -121,19 +121,36 @@ impl Tally {
         ensures { (words : Wording) (each : Bool) (written : List ℕ) (found : List Finding) (passed : ℕ) → IsTally words each self written found passed
             → (after_output written (said_by result) ≡ said_of_capture words each (record { findings = found; passed_over = passed; fault = fault })) ⊎ (said_by result ≡ failing Fault.Memory) }
     {
-        let Tally { words, each, lines, notes, judged, accepted, passed_over, .. } = self;
-        let mut output = lines;
-        let mut notes = notes;
-        if put_last_line(&mut output, words, each, accepted, judged).is_err()
-            || put_notes(&mut notes, passed_over, fault).is_err()
-        {
-            return Answer::Fault(Fault::Memory);
+        match self.report(fault) {
+            Ok(report) => report,
+            Err(_) => Answer::Fault(Fault::Memory),
         }
-        Answer::Report {
-            output,
+    }
+
+    fn report(self, fault: Option<CaptureError>) -> Result<Answer, AllocError>
+        ensures { IfOk result (λ answer. (words : Wording) (each : Bool) (written : List ℕ) (found : List Finding) (passed : ℕ) → IsTally words each self written found passed
+            → after_output written (said_by answer) ≡ said_of_capture words each (record { findings = found; passed_over = passed; fault = fault })) }
+    {
+        let Tally {
+            words,
+            each,
+            lines,
             notes,
-            status: capture_status(fault, accepted),
-        }
+            judged,
+            accepted,
+            passed_over,
+            ..
+        } = self;
+        let mut output = lines;
+        put_last_line(&mut output, words, each, accepted, judged)?;
+        let mut errors = notes;
+        put_notes(&mut errors, passed_over, fault)?;
+        let status = capture_status(fault, accepted);
+        Ok(Answer::Report {
+            output,
+            notes: errors,
+            status,
+        })
     }
 }
 

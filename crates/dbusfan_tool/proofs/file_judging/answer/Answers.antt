@@ -13,17 +13,17 @@ returns-then-is_taken g c judge serves =
     let taken = rw c.deref.ensures.value at (sym c.is_taken.ensures ∙ c.if-is_taken.true) in
     c.capture_answer.ensures judge _ _ serves begun.0 taken begun.1
 
-pub returns-in-Ok-2 : goal.returns-in-Ok-2
-returns-in-Ok-2 g c judge serves =
+pub returns-in-Ok-outcome : goal.returns-in-Ok-outcome
+returns-in-Ok-outcome g c judge serves =
     let begun = c.in-Ok.ensures.found in
     let not_taken = rw c.deref.ensures.value at (sym c.is_taken.ensures ∙ c.if-is_taken.false) in
     let one = neither _ _ not_taken in
-    let finds = c.in-Ok-2.ensures judge _ _ serves begun.0 one.1 (begun.1 one.0) in
+    let finds = c.in-Ok-outcome.ensures judge _ _ serves begun.0 one.1 (begun.1 one.0) in
     ([], none, said_of_message _ judge c.args.each _ _ _ one.0 (words_are judge _ serves) finds c.answer_of_outcome.ensures)
 
-pub returns-in-Err-2 : goal.returns-in-Err-2
-returns-in-Err-2 g c judge serves =
+pub returns-in-Err-outcome : goal.returns-in-Err-outcome
+returns-in-Err-outcome g c judge serves =
     let begun = c.in-Ok.ensures.found in
     let not_taken = rw c.deref.ensures.value at (sym c.is_taken.ensures ∙ c.if-is_taken.false) in
     let one = neither _ _ not_taken in
-    ([], none, fault_of_message _ judge c.args.each _ one.0 (c.in-Err-2.ensures judge _ _ serves begun.0 one.1 (begun.1 one.0)))
+    ([], none, fault_of_message _ judge c.args.each _ one.0 (c.in-Err-outcome.ensures judge _ _ serves begun.0 one.1 (begun.1 one.0)))

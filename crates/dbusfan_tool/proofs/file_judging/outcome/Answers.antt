@@ -11,7 +11,7 @@ pub returns-in_err-bytes : goal.returns-in_err-bytes
 returns-in_err-bytes g c judge before name serves gives other sure =
     let read = c.in_ok-text.ensures before name gives in
     let none = rw c.deref.ensures.value at c.in_err-bytes.ensures.hex in
-    hands_on _ judge _ _ c.from_residual-in_err-bytes.ensures.1 (of_hex_fault _ judge c.in_err-bytes.field-0.0 c.in_ok-text.text.items read.0 (kind_stays _ _ sure read.1 ∙ other) none)
+    hands_on _ judge _ _ c.from_residual-in_err-bytes.ensures.1 (of_hex_fault _ judge c.in_err-bytes.field-0.0 c.in_ok-text.text.items read.0 (kind_stays c.args.beginning _ sure read.1 ∙ other) none)
 
 pub returns-in_err-outcome : goal.returns-in_err-outcome
 returns-in_err-outcome g c judge before name serves gives other sure =
