@@ -69,7 +69,7 @@ returns-then-not-is_open g c judge before name serves gives =
     let takes = rw c.in-Until.is at (all judge c.args.filter.now.words c.args.each so.came so.written so.found so.passed serves so.tally_is so.at) in
     let now = took judge c.args.filter.now.words c.args.each c.args.beginning gave puts after_puts c.loop.packets c.take_packets.new.packets c.loop.tally c.take_packets.new.tally c.put_lines.new.self c.loop.bytes.items c.loop.is_open so (λ written puts. c.put_lines.ensures.put c.args.out.now written puts) (λ written found passed is. c.put_lines.ensures.same c.args.filter.now.words c.args.each written found passed is) c.put_lines.ensures.none_left c.in-Until.len takes in
     let closed = rw c.if-not-is_open.true at now in
-    rw (c.err-fault.ensures.value, c.end.ensures, c.deref-2.ensures.value, c.in_ok-bytes.ensures) (ended judge c.args.filter.now.words c.args.each c.args.beginning gave after_puts c.take_packets.new.packets c.put_lines.new.self (drop c.in-Until.len c.loop.bytes.items) closed takes.5)
+    rw (c.err-fault.ensures.value, c.end.ensures, c.deref-then-not-is_open.ensures.value, c.in_ok-bytes.ensures) (ended judge c.args.filter.now.words c.args.each c.args.beginning gave after_puts c.take_packets.new.packets c.put_lines.new.self (drop c.in-Until.len c.loop.bytes.items) closed takes.5)
 
 pub returns-in_err-is_open : goal.returns-in_err-is_open
 returns-in_err-is_open g c judge before name serves gives =
@@ -82,7 +82,7 @@ returns-in_err-is_open g c judge before name serves gives =
     let now = took judge c.args.filter.now.words c.args.each c.args.beginning gave puts after_puts c.loop.packets c.take_packets.new.packets c.loop.tally c.take_packets.new.tally c.put_lines.new.self c.loop.bytes.items c.loop.is_open so (λ written puts. c.put_lines.ensures.put c.args.out.now written puts) (λ written found passed is. c.put_lines.ensures.same c.args.filter.now.words c.args.each written found passed is) c.put_lines.ensures.none_left c.in-Until.len takes in
     let open_still = rw (sym c.in_ok-bytes.ensures, c.if-not-is_open.false) at now in
     let later : Content → Type 0 = λ content. g.F.Files.gives before name content c.read_piece.new.self in
-    let short = piece_fails judge c.args.filter.now.words c.args.each c.args.beginning gave later after_puts _ _ _ _ open_still c.in_err-is_open.field-0.0 (c.in_err-is_open.ensures before name open_still.came open_still.gives) in
+    let short = piece_fails judge c.args.filter.now.words c.args.each c.args.beginning gave later after_puts _ _ _ c.loop.bytes.items open_still c.in_err-is_open.field-0.0 (c.in_err-is_open.ensures before name open_still.came open_still.gives) in
     (short.0, short.1, broke judge c.args.filter.now.words c.args.each c.args.beginning later short.0 _ _ c.from_residual-in_err-is_open.ensures.1 short.2)
 
 pub loop-preserved : goal.loop-preserved

@@ -19,7 +19,7 @@ returns-in-Ok-outcome g c judge serves =
     let not_taken = rw c.deref.ensures.value at (sym c.is_taken.ensures ∙ c.if-is_taken.false) in
     let one = neither _ _ not_taken in
     let finds = c.in-Ok-outcome.ensures judge _ _ serves begun.0 one.1 (begun.1 one.0) in
-    ([], none, said_of_message _ judge c.args.each _ _ _ one.0 (words_are judge _ serves) finds c.answer_of_outcome.ensures)
+    ([], none, said_of_message _ judge c.args.each _ _ c.answer_of_outcome.result one.0 (words_are judge _ serves) finds c.answer_of_outcome.ensures)
 
 pub returns-in-Err-outcome : goal.returns-in-Err-outcome
 returns-in-Err-outcome g c judge serves =
