@@ -106,33 +106,39 @@ module _ (judge : Judge) (words : Wording) (each : Bool) (beginning : Beginning)
 
     pub met_fault : (fault : CaptureError) → TakesTo judge words each so.came so.written bytes after counted (Faulty fault) → (written : List ℕ) × after_puts written × EndsCapture judge words each beginning written gave (record { tally = left; fault = Some fault })
     met_fault fault takes =
-        let report : Report = record { findings = takes.0; passed_over = takes.1; fault = Some fault } in
-        (so.written ++ string_bytes counted.lines, put so.written so.puts_lines, record {
-          content = so_far is_open so.came;
-          found = takes.0;
-          passed = takes.1;
-          gives = so.gives;
-          goes_on = goes_on_to is_open so.came so.goes_on;
-          tally = same so.written takes.0 takes.1 takes.2;
-          none_left = empty;
-          reports = reports_of is_open so.came report takes.3;
-          first = firsts is_open so.came takes.0 (λ more. all_are_first judge so.came more takes.0 takes.1 fault (takes.3 more));
-        })
+        let report : Report = record { findings = takes.0; passed_over = takes.1; fault = Some fault } in (
+          so.written ++ string_bytes counted.lines,
+          put so.written so.puts_lines,
+          record {
+            content = so_far is_open so.came;
+            found = takes.0;
+            passed = takes.1;
+            gives = so.gives;
+            goes_on = goes_on_to is_open so.came so.goes_on;
+            tally = same so.written takes.0 takes.1 takes.2;
+            none_left = empty;
+            reports = reports_of is_open so.came report takes.3;
+            first = firsts is_open so.came takes.0 (λ more. all_are_first judge so.came more takes.0 takes.1 fault (takes.3 more));
+          },
+        )
 
   -- the file has ended
   pub ended : (puts : List ℕ → Type 0) (reading : Reading) (tally : Tally) (rest : List ℕ) → SoFar puts reading tally rest false → Waits reading rest → (written : List ℕ) × puts written × EndsCapture judge words each beginning written gave (record { tally = tally; fault = result_err (end_of reading rest) })
-  ended puts reading tally rest so waits =
-      (so.written, so.puts_lines, record {
-        content = Whole so.came;
-        found = so.found;
-        passed = so.passed;
-        gives = so.gives;
-        goes_on = so.goes_on;
-        tally = so.tally_is;
-        none_left = so.none_left;
-        reports = has_ended judge so.came so.found so.passed reading rest so.at waits;
-        first = are_first judge so.came so.found so.passed reading rest so.at;
-      })
+  ended puts reading tally rest so waits = (
+    so.written,
+    so.puts_lines,
+    record {
+      content = Whole so.came;
+      found = so.found;
+      passed = so.passed;
+      gives = so.gives;
+      goes_on = so.goes_on;
+      tally = so.tally_is;
+      none_left = so.none_left;
+      reports = has_ended judge so.came so.found so.passed reading rest so.at waits;
+      first = are_first judge so.came so.found so.passed reading rest so.at;
+    },
+  )
 
 module _ (judge : Judge) (words : Wording) (each : Bool) (beginning : Beginning) (gave gives : Content → Type 0) (puts : List ℕ → Type 0) (reading : Reading) (tally : Tally) (rest after : List ℕ) (so : SoFar judge words each beginning gave puts reading tally rest true) where
   -- the next piece of the file

@@ -174,4 +174,4 @@ says_as gave gives judge each said as_well (inr breaks) = inr (breaks.0, breaks.
 pub ran_after : {F : Type 0} (gives : F → List ℕ → Content → F → Type 0) (before between after : F) (program file : List ℕ) (edition : Edition) (each : Bool) (code : List Ins) (said : Said) → Assembles (λ content. gives before program content between) (Ok code) → WellFormed code → SaysOfFile (λ next. gives between file next after) (by_program code edition) each said → Runs (MadeReads gives before after) program file edition each said
 ran_after gives before between after program file edition each code said reads fine says =
     ran fine (says_as (λ next. gives between file next after) (λ next. Assembles (λ content. MadeReads gives before after (two_reads program content file next)) (Ok code)) (by_program code edition) each said
-      (λ next second. assembled_as (λ content first. (between, first, second)) reads) says)
+    (λ next second. assembled_as (λ content first. (between, first, second)) reads) says)

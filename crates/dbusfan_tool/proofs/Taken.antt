@@ -17,8 +17,8 @@ module _ (judge : Judge) (came : List ℕ) (found : List Finding) (passed : ℕ)
   takes_message packet finding e is =
       subst (λ (left : List ℕ). IsAt judge came (found ++ finding ∷ []) passed after left) (drop-drop packet.len taken bytes)
       (finds judge came found passed reading after (drop taken bytes) at packet finding
-        (subst (λ (r : List ℕ). step_at reading r ≡ Ok (record { step = Message packet; after = after })) same e)
-        (subst (λ (r : List ℕ). IsFinding judge (message_in packet r) finding) same is))
+      (subst (λ (r : List ℕ). step_at reading r ≡ Ok (record { step = Message packet; after = after })) same e)
+      (subst (λ (r : List ℕ). IsFinding judge (message_in packet r) finding) same is))
 
   pub takes_other : (len link_type : ℕ) → step_at reading rest ≡ Ok (record { step = Other len link_type; after = after }) → IsAt judge came found (passed + 1) after (drop (taken + len) bytes)
   takes_other len link_type e =

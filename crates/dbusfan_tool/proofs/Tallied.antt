@@ -65,30 +65,30 @@ module _ (words : Wording) (each : Bool) (written : List ℕ) (found : List Find
   one_more old between counted finding number tally number_is lines notes puts counts =
       let place : number ≡ 1 + length found = omega (arith, number_is, tally.packets_are) in
       let line : (if old.each then verdict_line old.words number finding else []) ≡ (if each then verdict_line words (1 + length found) finding else []) =
-        ap (λ (b : Bool). if b then verdict_line old.words number finding else []) tally.each_is
-        ∙ ap (λ (w : Wording). if each then verdict_line w number finding else []) tally.words_are
-        ∙ ap (λ (n : ℕ). if each then verdict_line words n finding else []) place in
+      ap (λ (b : Bool). if b then verdict_line old.words number finding else []) tally.each_is
+      ∙ ap (λ (w : Wording). if each then verdict_line w number finding else []) tally.words_are
+      ∙ ap (λ (n : ℕ). if each then verdict_line words n finding else []) place in
       record {
         words_are = ap (λ (t : Tally). t.words) counts ∙ ap (λ (t : Tally). t.words) puts ∙ tally.words_are;
         each_is = ap (λ (t : Tally). t.each) counts ∙ ap (λ (t : Tally). t.each) puts ∙ tally.each_is;
         lines_are =
-          ap (λ (t : Tally). written ++ string_bytes t.lines) counts ∙ ap (λ (text : List ℕ). written ++ text) lines
-          ∙ sym (append_assoc written (string_bytes old.lines) (if old.each then verdict_line old.words number finding else []))
-          ∙ ap (λ (text : List ℕ). text ++ (if old.each then verdict_line old.words number finding else [])) tally.lines_are
-          ∙ ap (λ (text : List ℕ). lines_of words each found ++ text) line
-          ∙ sym (either_line words each found finding);
+            ap (λ (t : Tally). written ++ string_bytes t.lines) counts ∙ ap (λ (text : List ℕ). written ++ text) lines
+            ∙ sym (append_assoc written (string_bytes old.lines) (if old.each then verdict_line old.words number finding else []))
+            ∙ ap (λ (text : List ℕ). text ++ (if old.each then verdict_line old.words number finding else [])) tally.lines_are
+            ∙ ap (λ (text : List ℕ). lines_of words each found ++ text) line
+            ∙ sym (either_line words each found finding);
         notes_are =
-          ap (λ (t : Tally). string_bytes t.notes) counts ∙ notes
-          ∙ ap (λ (text : List ℕ). text ++ note_line number finding) tally.notes_are
-          ∙ ap (λ (n : ℕ). note_lines 1 found ++ note_line n finding) place
-          ∙ sym (one_more_note 1 found finding);
+            ap (λ (t : Tally). string_bytes t.notes) counts ∙ notes
+            ∙ ap (λ (text : List ℕ). text ++ note_line number finding) tally.notes_are
+            ∙ ap (λ (n : ℕ). note_lines 1 found ++ note_line n finding) place
+            ∙ sym (one_more_note 1 found finding);
         packets_are = let e : number ≡ length (found ++ finding ∷ []) = simp length-append (omega (arith, place)) in e;
         judged_are =
-          ap (λ (t : Tally). t.judged) counts ∙ ap (λ (t : Tally). t.judged + judged_count (finding ∷ [])) puts
-          ∙ ap (λ (n : ℕ). n + judged_count (finding ∷ [])) tally.judged_are ∙ sym (one_more_judged found finding);
+            ap (λ (t : Tally). t.judged) counts ∙ ap (λ (t : Tally). t.judged + judged_count (finding ∷ [])) puts
+            ∙ ap (λ (n : ℕ). n + judged_count (finding ∷ [])) tally.judged_are ∙ sym (one_more_judged found finding);
         accepted_are =
-          ap (λ (t : Tally). t.accepted) counts ∙ ap (λ (t : Tally). t.accepted + accepted_count (finding ∷ [])) puts
-          ∙ ap (λ (n : ℕ). n + accepted_count (finding ∷ [])) tally.accepted_are ∙ sym (one_more_accepted found finding);
+            ap (λ (t : Tally). t.accepted) counts ∙ ap (λ (t : Tally). t.accepted + accepted_count (finding ∷ [])) puts
+            ∙ ap (λ (n : ℕ). n + accepted_count (finding ∷ [])) tally.accepted_are ∙ sym (one_more_accepted found finding);
         passed_over_are = ap (λ (t : Tally). t.passed_over) counts ∙ ap (λ (t : Tally). t.passed_over) puts ∙ tally.passed_over_are;
       }
 
@@ -125,18 +125,18 @@ module _ (words : Wording) (each : Bool) (written : List ℕ) (found : List Find
       → after_output written (record { output = output; error = notes; status = status }) ≡ said_of_capture words each (record { findings = found; passed_over = passed; fault = fault })
   said_at_end tally fault output notes status is output_is notes_is status_is =
       let last : last_line tally.words tally.each tally.accepted tally.judged ≡ last_line words each (accepted_count found) (judged_count found) =
-        ap (λ (w : Wording). last_line w tally.each tally.accepted tally.judged) is.words_are
-        ∙ ap (λ (b : Bool). last_line words b tally.accepted tally.judged) is.each_is
-        ∙ ap (λ (n : ℕ). last_line words each n tally.judged) is.accepted_are
-        ∙ ap (λ (n : ℕ). last_line words each (accepted_count found) n) is.judged_are in
+      ap (λ (w : Wording). last_line w tally.each tally.accepted tally.judged) is.words_are
+      ∙ ap (λ (b : Bool). last_line words b tally.accepted tally.judged) is.each_is
+      ∙ ap (λ (n : ℕ). last_line words each n tally.judged) is.accepted_are
+      ∙ ap (λ (n : ℕ). last_line words each (accepted_count found) n) is.judged_are in
       let all : written ++ output ≡ lines_of words each found ++ last_line words each (accepted_count found) (judged_count found) =
-        ap (λ (text : List ℕ). written ++ text) output_is
-        ∙ sym (append_assoc written (string_bytes tally.lines) (last_line tally.words tally.each tally.accepted tally.judged))
-        ∙ ap (λ (text : List ℕ). text ++ last_line tally.words tally.each tally.accepted tally.judged) is.lines_are
-        ∙ ap (λ (text : List ℕ). lines_of words each found ++ text) last in
+      ap (λ (text : List ℕ). written ++ text) output_is
+      ∙ sym (append_assoc written (string_bytes tally.lines) (last_line tally.words tally.each tally.accepted tally.judged))
+      ∙ ap (λ (text : List ℕ). text ++ last_line tally.words tally.each tally.accepted tally.judged) is.lines_are
+      ∙ ap (λ (text : List ℕ). lines_of words each found ++ text) last in
       let noted : notes ≡ note_lines 1 found ++ passed_over_line passed ++ capture_line fault =
-        notes_is ∙ ap (λ (text : List ℕ). text ++ passed_over_line tally.passed_over ++ capture_line fault) is.notes_are
-        ∙ ap (λ (n : ℕ). note_lines 1 found ++ passed_over_line n ++ capture_line fault) is.passed_over_are in
+      notes_is ∙ ap (λ (text : List ℕ). text ++ passed_over_line tally.passed_over ++ capture_line fault) is.notes_are
+      ∙ ap (λ (n : ℕ). note_lines 1 found ++ passed_over_line n ++ capture_line fault) is.passed_over_are in
       let ended : status ≡ capture_status fault (accepted_count found) = status_is ∙ ap (λ (n : ℕ). capture_status fault n) is.accepted_are in
       ap (λ (o : List ℕ). let s : Said = record { output = o; error = notes; status = status } in s) all
       ∙ ap (λ (e : List ℕ). let s : Said = record { output = lines_of words each found ++ last_line words each (accepted_count found) (judged_count found); error = e; status = status } in s) noted

@@ -54,7 +54,10 @@ pub(crate) fn judge_capture<F: Files, O: Writer>(
 {
     let mut packets = Packets::new();
     let mut tally = Tally::new(alloc, filter.words, each);
-    let Beginning { mut bytes, mut is_open } = beginning;
+    let Beginning {
+        mut bytes,
+        mut is_open,
+    } = beginning;
     for _ in 0..u64::MAX {
         let taken = take_packets(filter, &mut packets, &bytes, &mut tally)?;
         tally.put_lines(out);

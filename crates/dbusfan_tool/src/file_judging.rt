@@ -55,12 +55,7 @@ fn is_taken(each: bool, bytes: &[u8]) -> bool
 }
 
 /// Opens a file, and reads its first bytes unless it is taken for a capture anyway.
-fn begin<F: Files>(
-    alloc: Global,
-    file: &str,
-    each: bool,
-    files: &mut F,
-) -> Result<Beginning, Fault>
+fn begin<F: Files>(alloc: Global, file: &str, each: bool, files: &mut F) -> Result<Beginning, Fault>
     ensures found { IfOk result (λ beginning. F.gives files.old file.now (so_far beginning.is_open beginning.bytes.items) files.new × (each ≡ false → IsSure beginning)) }
     ensures fault { IfErr result (FailsToRead (λ content. F.gives files.old file.now content files.new)) }
 {

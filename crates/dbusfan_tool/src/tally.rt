@@ -13,9 +13,7 @@ ghost use Rattle.dbusfan_tool.specs.Views.{said_by};
 
 use crate::answer::Answer;
 use crate::finding::Finding;
-use crate::report::{
-    capture_status, put_last_line, put_note_line, put_notes, put_verdict_line,
-};
+use crate::report::{capture_status, put_last_line, put_note_line, put_notes, put_verdict_line};
 use crate::wording::Wording;
 use captures::CaptureError;
 use command_line::{Fault, Output, Writer};

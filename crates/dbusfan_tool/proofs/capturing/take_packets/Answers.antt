@@ -8,9 +8,12 @@ loop-packet-preserved-in-Ok-Message c =
     let within = rw c.in-Ok-Message.field-0-is at c.in-Ok-Message.ensures.within in
     let left : length c.after-rest.result.now ≡ length c.args.bytes.now - c.loop-packet.taken = ap length c.after-rest.ensures ∙ length-drop c.loop-packet.taken c.args.bytes.now in (
       λ judge words each came written found passed serves tally at.
-        let so = c.loop-packet.invariant.0 judge words each came written found passed serves tally at in
-        (so.0 ++ c.finding_of.result ∷ [], so.1, c.in_ok-take-in-Ok-Message.ensures words each written so.0 so.1 so.2,
-          takes_message judge came so.0 so.1 c.loop-packet.packets c.next.new.self c.args.bytes.now c.after-rest.result.now c.loop-packet.taken so.3 c.after-rest.ensures c.in-Ok-Message.packet c.finding_of.result gives (c.finding_of.ensures judge serves)),
+          let so = c.loop-packet.invariant.0 judge words each came written found passed serves tally at in (
+            so.0 ++ c.finding_of.result ∷ [],
+            so.1,
+            c.in_ok-take-in-Ok-Message.ensures words each written so.0 so.1 so.2,
+            takes_message judge came so.0 so.1 c.loop-packet.packets c.next.new.self c.args.bytes.now c.after-rest.result.now c.loop-packet.taken so.3 c.after-rest.ensures c.in-Ok-Message.packet c.finding_of.result gives (c.finding_of.ensures judge serves),
+          ),
       omega (arith, left, within.3, c.loop-packet.invariant.1),
     )
 
@@ -20,9 +23,12 @@ loop-packet-preserved-in-Ok-Other c =
     let within = rw c.in-Ok-Other.field-0-is at c.in-Ok-Other.ensures.within in
     let left : length c.after-rest.result.now ≡ length c.args.bytes.now - c.loop-packet.taken = ap length c.after-rest.ensures ∙ length-drop c.loop-packet.taken c.args.bytes.now in (
       λ judge words each came written found passed serves tally at.
-        let so = c.loop-packet.invariant.0 judge words each came written found passed serves tally at in
-        (so.0, so.1 + 1, c.in_ok-pass_over-in-Ok-Other.ensures words each written so.0 so.1 so.2,
-          takes_other judge came so.0 so.1 c.loop-packet.packets c.next.new.self c.args.bytes.now c.after-rest.result.now c.loop-packet.taken so.3 c.after-rest.ensures c.in-Ok-Other.len _ gives),
+          let so = c.loop-packet.invariant.0 judge words each came written found passed serves tally at in (
+            so.0,
+            so.1 + 1,
+            c.in_ok-pass_over-in-Ok-Other.ensures words each written so.0 so.1 so.2,
+            takes_other judge came so.0 so.1 c.loop-packet.packets c.next.new.self c.args.bytes.now c.after-rest.result.now c.loop-packet.taken so.3 c.after-rest.ensures c.in-Ok-Other.len _ gives,
+          ),
       omega (arith, left, within.0, within.1, c.loop-packet.invariant.1),
     )
 
@@ -32,8 +38,8 @@ loop-packet-preserved c =
     let within = rw c.in-Ok-Skip.field-0-is at c.in-Ok-Skip.ensures.within in
     let left : length c.after-rest.result.now ≡ length c.args.bytes.now - c.loop-packet.taken = ap length c.after-rest.ensures ∙ length-drop c.loop-packet.taken c.args.bytes.now in (
       λ judge words each came written found passed serves tally at.
-        let so = c.loop-packet.invariant.0 judge words each came written found passed serves tally at in
-        (so.0, so.1, so.2, takes_skip judge came so.0 so.1 c.loop-packet.packets c.next.new.self c.args.bytes.now c.after-rest.result.now c.loop-packet.taken so.3 c.after-rest.ensures c.in-Ok-Skip.len gives),
+          let so = c.loop-packet.invariant.0 judge words each came written found passed serves tally at in
+          (so.0, so.1, so.2, takes_skip judge came so.0 so.1 c.loop-packet.packets c.next.new.self c.args.bytes.now c.after-rest.result.now c.loop-packet.taken so.3 c.after-rest.ensures c.in-Ok-Skip.len gives),
       omega (arith, left, within.0, within.1, c.loop-packet.invariant.1),
     )
 

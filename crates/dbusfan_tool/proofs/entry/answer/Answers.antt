@@ -17,6 +17,9 @@ returns-in-Some-Check-clause-row g c asked row =
 
 pub returns-in-Some-Compile-clause-row : goal.returns-in-Some-Compile-clause-row
 returns-in-Some-Compile-clause-row g c asked row =
-    let e = rw c.in-Some-Compile.field-0-is at (c.in-Some-Compile.ensures.only asked row) in
-    ([], none, says_of_row (MadeReads g.F.Files.gives c.args.files.now c.args.files.now) (to_compile c.in-Some-Compile.rule.now) asked c.answer-in-Some-Compile.result e
-      (elim c.answer-in-Some-Compile.ensures [ inl said ↦ inl (said.0, said.1, refl, said.2) | inr short ↦ inr short ]))
+    let e = rw c.in-Some-Compile.field-0-is at (c.in-Some-Compile.ensures.only asked row) in (
+      [],
+      none,
+      says_of_row (MadeReads g.F.Files.gives c.args.files.now c.args.files.now) (to_compile c.in-Some-Compile.rule.now) asked c.answer-in-Some-Compile.result e
+          (elim c.answer-in-Some-Compile.ensures [ inl said ↦ inl (said.0, said.1, refl, said.2) | inr short ↦ inr short ]),
+    )
