@@ -10,9 +10,8 @@ use Rattle.auth.specs.declared.stage.Reply.{Reply}
 use Rattle.auth.specs.declared.stage.Reply.TheVariants.{Rejected}
 use Rattle.auth.specs.Lines.{max_line_len, pieces_of, len_through, through_line}
 use Rattle.auth.specs.LineStates.{whole_piece, ended_piece}
-use Rattle.auth.specs.Commands.{command_of}
 use Rattle.auth.specs.Stages.{max_rejections, is_over, row_of, reply_bytes}
-use Rattle.auth.specs.Talk.{Standing, Outcome, at_stage, no_answer, refusal, row_answer, hear, wait, after, by_pieces, talk_in, by_lines}
+use Rattle.auth.specs.Talk.{Standing, Outcome, at_stage, no_answer, refusal, row_answer, command_at, hear, wait, after, by_pieces, talk_in, by_lines}
 use Rattle.auth.proofs.LineEnds.{continue_line, pieces_of-append, first_len}
 use Rattle.auth.proofs.Talks.{over_stays, with_line, lines_in_cuts}
 
@@ -21,7 +20,7 @@ use Rattle.auth.proofs.Talks.{over_stays, with_line, lines_in_cuts}
 row_answer_line : (s : Standing) (reply : Reply) (stage : Stage) → (row_answer s (record { reply = reply; stage = stage })).standing.line ≡ []
 row_answer_line s Rejected stage = go (nat_lt s.rejections max_rejections)
   where
-    go : (t : Bool) → (cond t (record { standing = record { guid = s.guid; stage = stage; rejections = s.rejections + 1; line = [] }; answers = reply_bytes s.guid Rejected }) (refusal s)).standing.line ≡ []
+    go : (t : Bool) → (cond t (record { standing = record { terms = s.terms; stage = stage; rejections = s.rejections + 1; line = [] }; answers = reply_bytes s.terms Rejected }) (refusal s)).standing.line ≡ []
     go true = refl
     go false = refl
 row_answer_line s _ stage = refl
@@ -29,9 +28,9 @@ row_answer_line s _ stage = refl
 hear_line : (s : Standing) (line : List ℕ) → is_over s.stage ≡ false → (hear s line).standing.line ≡ []
 hear_line s line on = rw on (go (nat_lt max_line_len (length line + 2)))
   where
-    go : (long : Bool) → (cond long (refusal s) (row_answer s (row_of s.stage (command_of line)))).standing.line ≡ []
+    go : (long : Bool) → (cond long (refusal s) (row_answer s (row_of s.stage (command_at s line)))).standing.line ≡ []
     go true = refl
-    go false = row_answer_line s (row_of s.stage (command_of line)).reply (row_of s.stage (command_of line)).stage
+    go false = row_answer_line s (row_of s.stage (command_at s line)).reply (row_of s.stage (command_at s line)).stage
 
 wait_none : (s : Standing) → s.line ≡ [] → wait s [] ≡ no_answer s
 wait_none s none = go (is_over s.stage)

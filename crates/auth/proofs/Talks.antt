@@ -5,14 +5,13 @@ use Rattle.std.proofs.lemmas.Bool.Decides.{nat_tests}
 use Rattle.auth.specs.declared.command.Command.{Command}
 use Rattle.auth.specs.declared.command.Command.TheVariants.{AskExternal, Begin}
 use Rattle.auth.specs.declared.stage.Stage.{Stage}
-use Rattle.auth.specs.declared.stage.Stage.TheVariants.{Opening, Start, Data, Ready, Begun, Failed}
+use Rattle.auth.specs.declared.stage.Stage.TheVariants.{Opening, Start, Data, Challenged, Ready, Begun, Failed}
 use Rattle.auth.specs.declared.stage.Reply.{Reply}
 use Rattle.auth.specs.declared.stage.Reply.TheVariants.{Nothing, Rejected}
 use Rattle.auth.specs.Lines.{max_line_len, Pieces, pieces_of}
 use Rattle.auth.specs.LineStates.{whole_piece}
-use Rattle.auth.specs.Commands.{command_of}
-use Rattle.auth.specs.Stages.{max_rejections, is_over, start_row, data_row, ready_row, row_of, reply_bytes}
-use Rattle.auth.specs.Talk.{Standing, Outcome, at_stage, no_answer, refusal, row_answer, hear, wait, after, by_pieces, talk_in, by_lines, start_of, talk}
+use Rattle.auth.specs.Stages.{max_rejections, is_over, start_row, data_row, challenged_row, ready_row, row_of, reply_bytes}
+use Rattle.auth.specs.Talk.{Standing, Outcome, at_stage, no_answer, refusal, row_answer, command_at, hear, wait, after, by_pieces, talk_in, by_lines, start_of, talk}
 use Rattle.auth.proofs.LineEnds.{continue_line, pieces_of-append, LastIsOpen, last_open, first_len, first_whole}
 
 -- ---- a talk that is over
@@ -25,7 +24,7 @@ over_stays s piece (next ∷ later) over = rw over (over_stays s next later over
 
 -- the bytes that came of the next line aren't looked at
 abbrev pub with_line : Standing → List ℕ → Standing
-with_line s line = record { guid = s.guid; stage = s.stage; rejections = s.rejections; line = line }
+with_line s line = record { terms = s.terms; stage = s.stage; rejections = s.rejections; line = line }
 
 line_aside : (s : Standing) (line piece : List ℕ) (later : List (List ℕ)) → is_over s.stage ≡ false → by_pieces s piece later ≡ by_pieces (with_line s line) piece later
 line_aside s line piece [] on = rw on refl
@@ -87,6 +86,10 @@ data_opened : (command : Command) → is_opening (data_row command).stage ≡ fa
 data_opened AskExternal = refl
 data_opened _ = refl
 
+challenged_opened : (command : Command) → is_opening (challenged_row command).stage ≡ false
+challenged_opened AskExternal = refl
+challenged_opened _ = refl
+
 ready_opened : (command : Command) → is_opening (ready_row command).stage ≡ false
 ready_opened AskExternal = refl
 ready_opened _ = refl
@@ -95,6 +98,7 @@ row_opened : (stage : Stage) (command : Command) → is_opening stage ≡ false 
 row_opened Opening command is = is
 row_opened Start command is = start_opened command
 row_opened Data command is = data_opened command
+row_opened Challenged command is = challenged_opened command
 row_opened Ready command is = ready_opened command
 row_opened Begun command is = refl
 row_opened Failed command is = refl
@@ -102,7 +106,7 @@ row_opened Failed command is = refl
 row_answer_opened : (s : Standing) (reply : Reply) (stage : Stage) → is_opening stage ≡ false → is_opening (row_answer s (record { reply = reply; stage = stage })).standing.stage ≡ false
 row_answer_opened s Rejected stage is = go (nat_lt s.rejections max_rejections)
   where
-    go : (t : Bool) → is_opening (cond t (record { standing = record { guid = s.guid; stage = stage; rejections = s.rejections + 1; line = [] }; answers = reply_bytes s.guid Rejected }) (refusal s)).standing.stage ≡ false
+    go : (t : Bool) → is_opening (cond t (record { standing = record { terms = s.terms; stage = stage; rejections = s.rejections + 1; line = [] }; answers = reply_bytes s.terms Rejected }) (refusal s)).standing.stage ≡ false
     go true = is
     go false = refl
 row_answer_opened s _ stage is = is
@@ -110,10 +114,10 @@ row_answer_opened s _ stage is = is
 hear_opened : (s : Standing) (line : List ℕ) → is_opening s.stage ≡ false → is_opening (hear s line).standing.stage ≡ false
 hear_opened s line is = go (is_over s.stage) (nat_lt max_line_len (length line + 2))
   where
-    go : (over long : Bool) → is_opening (cond over (no_answer s) (cond long (refusal s) (row_answer s (row_of s.stage (command_of line))))).standing.stage ≡ false
+    go : (over long : Bool) → is_opening (cond over (no_answer s) (cond long (refusal s) (row_answer s (row_of s.stage (command_at s line))))).standing.stage ≡ false
     go true long = is
     go false true = refl
-    go false false = row_answer_opened s (row_of s.stage (command_of line)).reply (row_of s.stage (command_of line)).stage (row_opened s.stage (command_of line) is)
+    go false false = row_answer_opened s (row_of s.stage (command_at s line)).reply (row_of s.stage (command_at s line)).stage (row_opened s.stage (command_at s line) is)
 
 wait_opened : (s : Standing) (rest : List ℕ) → is_opening s.stage ≡ false → is_opening (wait s rest).standing.stage ≡ false
 wait_opened s rest is = go (is_over s.stage) (nat_le max_line_len (length rest))
@@ -136,6 +140,7 @@ lines_talk s bytes is = go s.stage refl is
     go Opening at is = absurd cc
     go Start at is = rw at refl
     go Data at is = rw at refl
+    go Challenged at is = rw at refl
     go Ready at is = rw at refl
     go Begun at is = let over : is_over s.stage ≡ true = rw at refl in over_stays s (pieces_of (s.line ++ bytes)).first (pieces_of (s.line ++ bytes)).later over ∙ rw at refl
     go Failed at is = let over : is_over s.stage ≡ true = rw at refl in over_stays s (pieces_of (s.line ++ bytes)).first (pieces_of (s.line ++ bytes)).later over ∙ rw at refl
@@ -169,6 +174,7 @@ in_cuts s front back = go s.stage refl
     go Opening at = opening_cuts s front back at
     go Start at = by_line_talk (rw at refl)
     go Data at = by_line_talk (rw at refl)
+    go Challenged at = by_line_talk (rw at refl)
     go Ready at = by_line_talk (rw at refl)
     go Begun at = by_line_talk (rw at refl)
     go Failed at = by_line_talk (rw at refl)
@@ -183,6 +189,10 @@ data_failed : (command : Command) → (data_row command).stage ≡ Failed → (d
 data_failed Begin e = refl
 data_failed _ e = absurd cc
 
+challenged_failed : (command : Command) → (challenged_row command).stage ≡ Failed → (challenged_row command).reply ≡ Nothing
+challenged_failed Begin e = refl
+challenged_failed _ e = absurd cc
+
 ready_failed : (command : Command) → (ready_row command).stage ≡ Failed → (ready_row command).reply ≡ Nothing
 ready_failed Begin e = refl
 ready_failed _ e = absurd cc
@@ -191,6 +201,7 @@ pub row_failed : (stage : Stage) (command : Command) → (row_of stage command).
 row_failed Opening command e = refl
 row_failed Start command e = start_failed command e
 row_failed Data command e = data_failed command e
+row_failed Challenged command e = challenged_failed command e
 row_failed Ready command e = ready_failed command e
 row_failed Begun command e = refl
 row_failed Failed command e = refl

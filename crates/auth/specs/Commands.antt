@@ -4,7 +4,7 @@ use Rattle.std.specs.List.{list_all}
 use Rattle.std.specs.Char.{is_ascii_hexdigit}
 use Rattle.std.specs.Str.{bytes_eq}
 use Rattle.auth.specs.declared.command.Command.{Command}
-use Rattle.auth.specs.declared.command.Command.TheVariants.{AskExternal, Claim, OtherAuth, Response, OtherData, Begin, Cancel, Complaint, Unknown}
+use Rattle.auth.specs.declared.command.Command.TheVariants.{AskExternal, Claim, Trace, AskCookie, OtherAuth, Response, OtherData, Begin, Cancel, Complaint, Unknown}
 
 abbrev pub space : ℕ
 space = 32
@@ -35,7 +35,8 @@ by_text bare hexadecimal other (Some text) = if is_hexadecimal text then hexadec
 abbrev pub mechanism : Words → Command
 mechanism words =
     if bytes_eq words.word (codes "EXTERNAL") then by_text AskExternal Claim OtherAuth words.more
-    else if bytes_eq words.word (codes "ANONYMOUS") then by_text Claim Claim OtherAuth words.more
+    else if bytes_eq words.word (codes "ANONYMOUS") then by_text Trace Trace OtherAuth words.more
+    else if bytes_eq words.word (codes "DBUS_COOKIE_SHA1") then by_text OtherAuth AskCookie OtherAuth words.more
     else OtherAuth
 
 abbrev pub auth_command : Option (List ℕ) → Command
@@ -59,3 +60,19 @@ command_in words =
 -- the command of a line
 abbrev pub command_of : List ℕ → Command
 command_of line = command_in (words_of line)
+
+-- what follows a word; no byte where nothing does
+abbrev pub text_in : Option (List ℕ) → List ℕ
+text_in None = []
+text_in (Some text) = text
+
+abbrev pub claim_after : Option (List ℕ) → List ℕ
+claim_after None = []
+claim_after (Some text) = text_in (words_of text).more
+
+-- what a line says after its word, and where that is AUTH after the mechanism
+abbrev pub claim_in : Words → List ℕ
+claim_in words = if bytes_eq words.word (codes "AUTH") then claim_after words.more else text_in words.more
+
+abbrev pub claim_of : List ℕ → List ℕ
+claim_of line = claim_in (words_of line)

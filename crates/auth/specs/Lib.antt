@@ -1,5 +1,7 @@
 pub mod Lines
 pub mod Commands
+pub mod Challenges
+pub mod Admissions
 pub mod Stages
 pub mod Talk
 pub mod Feeding

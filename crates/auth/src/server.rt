@@ -1,14 +1,16 @@
 // The server's side of a talk.
 
 ghost use Rattle.std.specs.Prelude.{◌≡◌, ◌+◌, ◌≢◌, ◌<◌, ◌≤◌, ◌↔◌, ◌++◌, false, List, ℕ, [], take, length, IsTrue, IsErr, IfOk};
-ghost use Rattle.auth.specs.Talk.{Standing, opening, hear, by_lines, talk, taken_of, after};
+ghost use Rattle.auth.specs.Talk.{Standing, opening, opening_with, hear, by_lines, talk, taken_of, after};
 ghost use Rattle.auth.specs.Lines.{through_line};
 ghost use Rattle.auth.specs.Feeding.{answer_in};
 ghost use Rattle.auth.specs.Stages.{is_over};
 
-use crate::command::Command;
+use crate::admission::Admission;
+use crate::command::{Command, claim};
 use crate::line::{LineState, MAX_LINE_LEN, add, without_end};
-use crate::stage::{Reply, Stage, StageRow};
+use crate::stage::{ANSWER_LEN, Reply, Stage, StageRow};
+use crate::terms::Terms;
 use arrayvec::ArrayVec;
 use std::error::Error;
 use std::fmt;
@@ -40,7 +42,7 @@ pub struct Fed {
     /// How many bytes were taken.
     pub taken: usize,
     /// What is to be sent to the client.
-    pub answer: ArrayVec<u8, 64>,
+    pub answer: ArrayVec<u8, ANSWER_LEN>,
     /// Whether BEGIN was taken: the bytes that weren't taken are messages.
     pub begun: bool,
 }
@@ -48,7 +50,7 @@ pub struct Fed {
 /// The server's side of one authentication talk. It takes no memory.
 #[derive(Drop)]
 pub struct Auth {
-    guid: [u8; 32],
+    terms: Terms,
     stage: Stage,
     rejections: u8,
     line: ArrayVec<u8, MAX_LINE_LEN>,
@@ -60,7 +62,7 @@ impl Model for Auth {
 
     ghost Value = { Standing };
 
-    ghost view = { λ a. record { guid = a.guid; stage = a.stage; rejections = a.rejections; line = a.line.items } };
+    ghost view = { λ a. record { terms = a.terms; stage = a.stage; rejections = a.rejections; line = a.line.items } };
 
     ghost invariant = { λ a. IsKept a.rejections a.line.items };
 }
@@ -70,24 +72,27 @@ impl Model for Auth {
 struct LineAnswer {
     stage: Stage,
     rejections: u8,
-    answer: ArrayVec<u8, 64>,
+    answer: ArrayVec<u8, ANSWER_LEN>,
 }
 
-fn answer_line(guid: &[u8; 32], stage: Stage, rejections: u8, line: &[u8]) -> LineAnswer
+fn answer_line(terms: &Terms, stage: Stage, rejections: u8, line: &[u8]) -> LineAnswer
     requires goes_on { is_over stage ≡ false }
     requires short { length line.now + 2 ≤ MAX_LINE_LEN }
     requires sent { rejections ≤ MAX_REJECTIONS }
-    ensures answer { hear (record { guid = guid.now; stage = stage; rejections = rejections; line = [] }) line.now
-        ≡ record { standing = record { guid = guid.now; stage = result.stage; rejections = result.rejections; line = [] }; answers = result.answer.items } }
+    ensures answer { hear (record { terms = terms.now; stage = stage; rejections = rejections; line = [] }) line.now
+        ≡ record { standing = record { terms = terms.now; stage = result.stage; rejections = result.rejections; line = [] }; answers = result.answer.items } }
     ensures sent { result.rejections ≤ MAX_REJECTIONS }
     ensures refusal { result.stage ≡ Stage.Failed → result.answer.items ≡ [] }
 {
-    let row = StageRow::of(stage, Command::of(line));
+    let command = terms
+        .admission
+        .admitted(stage, claim(line), Command::of(line));
+    let row = StageRow::of(stage, command);
     if row.reply != Reply::Rejected {
         return LineAnswer {
             stage: row.stage,
             rejections,
-            answer: row.reply.bytes(guid),
+            answer: row.reply.bytes(terms),
         };
     }
     if rejections == MAX_REJECTIONS {
@@ -100,17 +105,25 @@ fn answer_line(guid: &[u8; 32], stage: Stage, rejections: u8, line: &[u8]) -> Li
     LineAnswer {
         stage: row.stage,
         rejections: rejections + 1,
-        answer: Reply::Rejected.bytes(guid),
+        answer: Reply::Rejected.bytes(terms),
     }
 }
 
 impl Auth {
-    /// A talk before its first byte, with the server's GUID as 32 hexadecimal digits.
+    /// A talk before its first byte, with the server's GUID as 32 hexadecimal digits. It admits EXTERNAL for anybody, and
+    /// ANONYMOUS.
     pub fn new(guid: [u8; 32]) -> Auth
         ensures { result ≡ opening guid }
     {
+        Auth::admitting(guid, Admission::any())
+    }
+
+    /// The same of a talk that admits what is asked for.
+    pub fn admitting(guid: [u8; 32], admission: Admission) -> Auth
+        ensures { result ≡ opening_with (record { guid = guid; admission = admission }) }
+    {
         Auth {
-            guid,
+            terms: Terms { guid, admission },
             stage: Stage::Opening,
             rejections: 0,
             line: ArrayVec::new(),
@@ -202,7 +215,7 @@ impl Auth {
             }
             LineState::Ended => {
                 let text = without_end(self.line.as_slice());
-                let line_answer = answer_line(&self.guid, self.stage, self.rejections, text);
+                let line_answer = answer_line(&self.terms, self.stage, self.rejections, text);
                 let LineAnswer {
                     stage,
                     rejections,
