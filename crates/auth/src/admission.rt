@@ -69,7 +69,7 @@ impl External {
 
 impl Admission {
     /// What the table of a talk says: EXTERNAL for anybody, and ANONYMOUS.
-    pub(crate) fn any() -> Admission
+    pub fn any() -> Admission
         ensures { result ≡ any_admission }
     {
         Admission {

@@ -7,8 +7,10 @@ mod escapes;
 mod link;
 mod listener;
 mod socket_file;
+mod socket_lock;
 
 pub use address::Address;
 pub use escapes::{escape, respell, unescape};
 pub use link::Link;
 pub use listener::Listener;
+pub use socket_file::SocketFile;

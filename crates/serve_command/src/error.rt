@@ -112,6 +112,20 @@ impl Refusal {
         )
     }
 
+    pub(crate) fn no_user() -> Refusal {
+        Refusal::of_sentence(
+            Fault::File,
+            "the bus's own user can't be read, since there is no /proc/self",
+        )
+    }
+
+    pub(crate) fn no_mechanism() -> Refusal {
+        Refusal::of_sentence(
+            Fault::Socket,
+            "over TCP nobody gets in without --allow-external or --allow-anonymous",
+        )
+    }
+
     pub(crate) fn closed_output() -> Refusal {
         Refusal::of_sentence(Fault::File, "standard output can't be written")
     }

@@ -20,6 +20,7 @@ pub(crate) fn reason_of_address<R: Files + Net>(
     error: &io::Error,
 ) -> Option<&'static str> {
     match (address, error.kind()) {
+        (Address::Unix { .. }, ErrorKind::ResourceBusy) => Some("a bus is there"),
         (Address::Unix { path }, ErrorKind::AddrInUse) => Some(occupant(rt, alloc, path)),
         (Address::Unix { .. }, ErrorKind::InvalidInput) => {
             Some("a socket's path is UTF-8 and has 107 bytes at most")

@@ -56,7 +56,7 @@ impl<J: Naming> Connection<J> {
         let member = Member::new(alloc, Arc::try_clone(&link)?, post, token)?;
         let member = Arc::new(alloc, member)?;
         let mail = Mail::new(Arc::try_clone(&member)?);
-        let mut session = Session::new(alloc, hub.identity.guid, mail);
+        let mut session = Session::admitting(alloc, hub.identity.guid, hub.mechanisms.admission(), mail);
         if let Some(machine) = hub.identity.machine {
             session.set_machine_id(machine);
         }

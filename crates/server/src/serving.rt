@@ -5,6 +5,7 @@ ghost use Rattle.std.specs.Prelude.{◌≡◌};
 use crate::accepting::accept_all;
 use crate::hub::{Hub, Identity};
 use crate::limits::Limits;
+use crate::mechanisms::Mechanisms;
 use crate::worker::{Desk, work};
 use endpoints::Listener;
 use members::Mail;
@@ -25,6 +26,7 @@ pub fn serve<R>(
     alloc: Global,
     key: IndexKey,
     identity: Identity,
+    mechanisms: Mechanisms,
     limits: Limits,
     listener: &Listener,
     count: Option<u64>,
@@ -36,6 +38,7 @@ where
     let start = Start {
         key,
         identity,
+        mechanisms,
         limits,
         count,
     };
@@ -47,6 +50,7 @@ where
 struct Start {
     key: IndexKey,
     identity: Identity,
+    mechanisms: Mechanisms,
     limits: Limits,
     count: Option<u64>,
 }
@@ -65,7 +69,7 @@ where
     let Ok(bus) = Bus::<J, Mail, &R>::new(rt, alloc, start.key, opened) else {
         return Err(ErrorKind::OutOfMemory.into());
     };
-    let hub = Hub::new(alloc, bus, start.identity, start.limits)?;
+    let hub = Hub::new(alloc, bus, start.identity, start.mechanisms, start.limits)?;
     run(rt, alloc, &hub, listener, start.count)
 }
 

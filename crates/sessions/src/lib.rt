@@ -17,4 +17,5 @@ pub use serving::serve_one;
 pub use session::{Session, Step};
 
 // Passed on from the crates below, so that the crates above need not name those in crates.txt.
+pub use auth::{Admission, CookieChallenge, External};
 pub use peers::{Bus, Command, IndexKey, Letterbox, Naming, Opened, Published, Shown};

@@ -6,6 +6,7 @@ use crate::ending::{Rest, end};
 use crate::error::SessionError;
 use crate::greeting::greet;
 use crate::talk::Talk;
+use auth::Admission;
 use crossbeam_utils::rule::Protocol;
 use frames::Frames;
 use message_view::{MsgError, View};
@@ -48,14 +49,25 @@ where
 }
 
 impl<B: Naming, M: Mailbox + Carrier> Session<B, M> {
-    /// A session before its first byte, of a bus with this GUID. All that it says goes to the mailbox.
+    /// A session before its first byte, of a bus with this GUID. It admits EXTERNAL for anybody, and ANONYMOUS. All that
+    /// it says goes to the mailbox.
     pub fn new(alloc: Global, guid: [u8; 32], mailbox: M) -> Session<B, M> {
+        Session::admitting(alloc, guid, Admission::any(), mailbox)
+    }
+
+    /// The same of a session that admits what is asked for.
+    pub fn admitting(
+        alloc: Global,
+        guid: [u8; 32],
+        admission: Admission,
+        mailbox: M,
+    ) -> Session<B, M> {
         Session {
             identity: Identity {
                 guid,
                 machine_id: None,
             },
-            talk: Talk::new(guid),
+            talk: Talk::admitting(guid, admission),
             input: Frames::new(alloc),
             lists: RouteLists::new(),
             own: Some(OwnOutbox::new(mailbox)),

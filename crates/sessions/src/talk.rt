@@ -3,7 +3,7 @@
 ghost use Rattle.std.specs.Prelude.{◌≡◌, ◌≤◌, None, length, IfOk};
 
 use crate::error::SessionError;
-use auth::Auth;
+use auth::{Admission, Auth};
 use bytes::Bytes;
 use outbox::Item;
 use peers::{Mailbox, OwnOutbox};
@@ -19,9 +19,9 @@ pub(crate) struct Talk {
 }
 
 impl Talk {
-    pub(crate) fn new(guid: [u8; 32]) -> Talk {
+    pub(crate) fn admitting(guid: [u8; 32], admission: Admission) -> Talk {
         Talk {
-            auth: Auth::new(guid),
+            auth: Auth::admitting(guid, admission),
             has_begun: false,
         }
     }
