@@ -4,7 +4,7 @@ _dbusfan_options() {
     match) echo --owns --each --help ;;
     run) echo --edition --help ;;
     asm | check | compile) echo --help ;;
-    serve) echo --listen --guid --connections --print-address --session --nofork --help ;;
+    serve) echo --listen --guid --connections --print-address --session --nofork --allow-anonymous --allow-external --help ;;
     watch) echo --program --edition --hex --count --read --write --help ;;
     esac
 }

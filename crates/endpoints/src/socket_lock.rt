@@ -49,9 +49,11 @@ impl SocketLock {
         Err(io::Error::from(ErrorKind::ResourceBusy))
     }
 
-    /// Removes the file, and gives the lock back after that, so that nobody locks a file that is gone unseen.
+    /// Removes the file, if it is still there, and gives the lock back after that: who locks it then sees that it is gone.
     pub(crate) fn release<R: Files>(self, rt: &R) {
-        let _ = fs::remove_file(rt, self.path.as_str());
+        if is_at(rt, &self.file, self.path.as_str()) {
+            let _ = fs::remove_file(rt, self.path.as_str());
+        }
     }
 }
 

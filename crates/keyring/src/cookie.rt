@@ -1,6 +1,6 @@
 // Cookies, each a line of a keyring's file.
 
-ghost use Rattle.std.specs.Prelude.{◌≡◌, ◌×◌, ◌++◌, ◌&&◌, ◌-◌, ◌<◌, ◌^◌, nat_le, List, ℕ, IfSome, IfOk};
+ghost use Rattle.std.specs.Prelude.{◌≡◌, ◌++◌, ◌&&◌, ◌-◌, ◌<◌, ◌^◌, nat_le, List, ℕ, IfSome, IfOk};
 ghost use Rattle.keyring.specs.Cookies.{IsNumber, Spells, is_kept, is_fresh};
 
 use std::fmt;

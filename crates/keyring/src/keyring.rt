@@ -3,6 +3,7 @@
 use crate::cookie::{Cookie, DIGITS};
 use crate::error::KeyringError;
 use crate::lock::{Lock, OWNER_ALONE};
+use auth::{CONTEXT, CookieChallenge};
 use std::alloc::{AllocError, Global};
 use std::fs::{DirBuilder, File, Files, OpenOptions};
 use std::io::{ErrorKind, Write};
@@ -21,7 +22,7 @@ const OTHERS: u32 = 0o077;
 /// How many cookies a file has at most.
 const COOKIES: usize = 256;
 
-/// The cookies of one name in a user's folder.
+/// The bus's cookies in a user's folder.
 #[derive(Drop)]
 pub struct Keyring {
     folder: String,
@@ -35,14 +36,10 @@ pub struct Keyring {
 }
 
 impl Keyring {
-    /// The cookies of a name, which is no path, in the home folder of this user.
-    pub fn of_home(
-        alloc: Global,
-        home: &str,
-        name: &str,
-        user: u32,
-    ) -> Result<Keyring, KeyringError> {
+    /// The bus's cookies in the home folder of this user.
+    pub fn of_home(alloc: Global, home: &str, user: u32) -> Result<Keyring, KeyringError> {
         let home = home.trim_end_matches('/');
+        let name = CONTEXT;
         Ok(Keyring {
             folder: format!(in alloc; "{home}/.dbus-keyrings")?,
             file: format!(in alloc; "{home}/.dbus-keyrings/{name}")?,
@@ -58,18 +55,30 @@ impl Keyring {
         self.folder.as_str()
     }
 
-    /// The number of the user whose keyring it is.
-    pub fn user(&self) -> u32 {
-        self.user
-    }
-
-    /// A cookie that clients may be asked for now. Where the file has none that is fresh, one is made, and old ones are
-    /// dropped.
+    /// What a client is asked that claims to be the user: a cookie that is fresh, by a nonce that nobody was given before.
     ///
     /// # Errors
     ///
     /// Each of `KeyringError`.
-    pub fn cookie<R>(&self, rt: &R, alloc: Global) -> Result<Cookie, KeyringError>
+    pub fn challenge<R>(&self, rt: &R, alloc: Global) -> Result<CookieChallenge, KeyringError>
+    where
+        R: Files + Wait + Clock + RandomSource,
+    {
+        let Cookie { id, digits, .. } = self.cookie(rt, alloc)?;
+        let mut bytes = [0u8; 16];
+        rt.fill_bytes(&mut bytes)?;
+        let mut nonce = [0; 32];
+        let _ = hex::encode_to_slice(bytes.as_slice(), &mut nonce);
+        Ok(CookieChallenge {
+            user: self.user,
+            id,
+            cookie: digits,
+            nonce,
+        })
+    }
+
+    /// A fresh cookie. Where the file has none, one is made, and old ones are dropped.
+    fn cookie<R>(&self, rt: &R, alloc: Global) -> Result<Cookie, KeyringError>
     where
         R: Files + Wait + Clock + RandomSource,
     {

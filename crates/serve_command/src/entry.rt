@@ -110,7 +110,7 @@ fn announce_and_serve<R: System, O: Writer>(
     guid: Guid,
     out: &mut Output<O>,
 ) -> Result<(), Refusal> {
-    let mechanisms = mechanisms_of(rt, options, listener)?;
+    let mechanisms = mechanisms_of(rt, alloc, options, listener)?;
     match listener.address(asked) {
         Ok(taken) => announce(rt, alloc, options.announcement, taken, guid, out)?,
         Err(error) => return Err(Refusal::of_place(alloc, &asked, &error, None)),

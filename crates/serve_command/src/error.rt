@@ -6,6 +6,7 @@ ghost use Rattle.serve_command.specs.Status.{IsStatus};
 
 use crate::words::WordFault;
 use command_line::{Output, Writer};
+use keyring::KeyringError;
 use std::alloc::{AllocError, Global};
 use std::io::ErrorKind;
 use std::{fmt, io};
@@ -119,11 +120,26 @@ impl Refusal {
         )
     }
 
-    pub(crate) fn no_mechanism() -> Refusal {
+    pub(crate) fn not_local() -> Refusal {
         Refusal::of_sentence(
             Fault::Socket,
-            "over TCP nobody gets in without --allow-external or --allow-anonymous",
+            "an address that other machines reach is taken with --allow-external or --allow-anonymous alone",
         )
+    }
+
+    pub(crate) fn no_home() -> Refusal {
+        Refusal::of_sentence(
+            Fault::Socket,
+            "HOME names no folder for the cookies by which TCP clients log in",
+        )
+    }
+
+    /// There is no cookie in the folder.
+    pub(crate) fn of_keyring(alloc: Global, folder: &str, error: &KeyringError) -> Refusal {
+        match error {
+            KeyringError::NoMemory => Refusal::memory(),
+            error => Refusal::of_text(Fault::Socket, format!(in alloc; "{folder}: {error}")),
+        }
     }
 
     pub(crate) fn closed_output() -> Refusal {

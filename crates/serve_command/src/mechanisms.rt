@@ -2,14 +2,46 @@
 
 use crate::error::Refusal;
 use crate::options::Options;
+use crate::system::System;
 use endpoints::Listener;
+use keyring::Keyring;
 use server::{External, Mechanisms};
-use std::fs;
+use std::alloc::Global;
+use std::env::VarError;
 use std::fs::Files;
 use std::os::unix::fs::MetadataExt;
+use std::{env, fs};
 
 /// The folder of this process's numbers, which belongs to its user.
 const OWN_PROCESS: &str = "/proc/self";
+
+/// The variable that names the user's folder.
+const HOME: &str = "HOME";
+
+/// By what the clients of a listener may log in: at a Unix socket EXTERNAL as the bus's own user, over TCP the user's cookie,
+/// and what is asked for.
+pub(crate) fn mechanisms_of<R: System>(
+    rt: &R,
+    alloc: Global,
+    options: Options<'_>,
+    listener: &Listener,
+) -> Result<Mechanisms, Refusal> {
+    let anonymous = options.allows_anonymous;
+    let external = match listener {
+        _ if options.allows_external => External::Anybody,
+        Listener::Unix(_, _) => External::User(own_user(rt)?),
+        Listener::Tcp(_) => External::Nobody,
+    };
+    let keyring = match external {
+        External::Nobody if !anonymous => Some(own_keyring(rt, alloc, listener)?),
+        _ => None,
+    };
+    Ok(Mechanisms {
+        external,
+        keyring,
+        anonymous,
+    })
+}
 
 /// The number of the bus's own user.
 fn own_user<R: Files>(rt: &R) -> Result<u32, Refusal> {
@@ -19,20 +51,22 @@ fn own_user<R: Files>(rt: &R) -> Result<u32, Refusal> {
     }
 }
 
-/// What a listener's clients may log in by: at a Unix socket EXTERNAL as the bus's own user, elsewhere what is asked for.
-pub(crate) fn mechanisms_of<R: Files>(
-    rt: &R,
-    options: Options<'_>,
-    listener: &Listener,
-) -> Result<Mechanisms, Refusal> {
-    let external = match listener {
-        _ if options.allows_external => External::Anybody,
-        Listener::Unix(_, _) => External::User(own_user(rt)?),
-        Listener::Tcp(_) if options.allows_anonymous => External::Nobody,
-        Listener::Tcp(_) => return Err(Refusal::no_mechanism()),
+/// The keyring of that user, which is of use on this machine alone.
+fn own_keyring<R: System>(rt: &R, alloc: Global, listener: &Listener) -> Result<Keyring, Refusal> {
+    if !listener.is_local().unwrap_or(false) {
+        return Err(Refusal::not_local());
+    }
+    let home = match env::var(rt, HOME) {
+        Ok(home) if home.as_str().starts_with('/') => home,
+        Err(VarError::OutOfMemory) => return Err(Refusal::memory()),
+        _ => return Err(Refusal::no_home()),
     };
-    Ok(Mechanisms {
-        external,
-        anonymous: options.allows_anonymous,
-    })
+    let user = own_user(rt)?;
+    let Ok(keyring) = Keyring::of_home(alloc, home.as_str(), user) else {
+        return Err(Refusal::memory());
+    };
+    match keyring.challenge(rt, alloc) {
+        Ok(_) => Ok(keyring),
+        Err(error) => Err(Refusal::of_keyring(alloc, keyring.folder(), &error)),
+    }
 }

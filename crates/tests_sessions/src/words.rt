@@ -4,6 +4,7 @@ use command_line::Output;
 use serve_command::{System, serve};
 use std::alloc::Global;
 use std::fs;
+use std::fs::File;
 use std::net::TcpListener;
 use std::os::unix::net::UnixListener;
 use std::process::Abort;
@@ -31,13 +32,17 @@ fn expect_error<R: System + Abort>(
 
 #[test]
 fn words_that_are_no_row(rt: HostRuntime) {
-    let rows: [(&[&str], &str); 14] = [
+    let rows: [(&[&str], &str); 15] = [
         (&["--verbose"], "  unknown option --verbose"),
         (&["--verbose=1"], "  unknown option --verbose"),
         (&["bus"], "  bus is no option"),
         (&["--listen"], "  --listen has no value"),
         (&["--guid", GUID, "--guid", GUID], "  --guid is given twice"),
         (&["--session=1"], "  --session takes no value"),
+        (
+            &["--allow-external=yes"],
+            "  --allow-external takes no value",
+        ),
         (
             &["--guid", "0123456789abcdef0123456789abcdeg"],
             "  --guid 0123456789abcdef0123456789abcdeg: 32 hexadecimal digits are wanted",
@@ -118,6 +123,18 @@ fn places_that_cannot_be_bound(rt: HostRuntime) {
     expect_refused(&rt, alloc, "unix:path=.", "a folder is there");
     let _other = UnixListener::bind(&rt, "other.sock").expect(&rt, "a socket");
     expect_refused(&rt, alloc, "unix:path=other.sock", "a bus answers there");
+    let lock = File::create(&rt, "taken.sock.lock").expect(&rt, "a file");
+    lock.lock().expect(&rt, "the lock");
+    expect_refused(&rt, alloc, "unix:path=taken.sock", "a bus is there");
+    let reached = ["--listen", "tcp:host=0.0.0.0,port=0"];
+    expect_error(
+        &rt,
+        alloc,
+        reached.as_slice(),
+        4,
+        "dbusfan: socket",
+        "  an address that other machines reach is taken with --allow-external or --allow-anonymous alone",
+    );
     let other = TcpListener::bind(&rt, "127.0.0.1:0").expect(&rt, "a port");
     let port = other.local_addr().expect(&rt, "an address").port();
     let listen = format!(in alloc; "tcp:host=127.0.0.1,port={port}").expect(&rt, "memory");
