@@ -1,7 +1,7 @@
 // The lock by which buses tell each other that a path is taken.
 
 use std::alloc::Global;
-use std::fs::{File, Files, OpenFile, OpenOptions, TryLockError};
+use std::fs::{File, Files, OpenOptions, TryLockError};
 use std::io::ErrorKind;
 use std::os::unix::fs::{MetadataExt, OpenOptionsExt};
 use std::{fs, io};

@@ -4,7 +4,7 @@ use crate::cookie::{Cookie, DIGITS};
 use crate::error::KeyringError;
 use crate::lock::{Lock, OWNER_ALONE};
 use auth::{CONTEXT, CookieChallenge};
-use std::alloc::{AllocError, Global};
+use std::alloc::Global;
 use std::fs::{DirBuilder, File, Files, OpenOptions};
 use std::io::{ErrorKind, Write};
 use std::os::unix::fs::{DirBuilderExt, MetadataExt, OpenOptionsExt};
@@ -109,7 +109,9 @@ impl Keyring {
     fn make_folder<R: Files>(&self, rt: &R) -> Result<(), KeyringError> {
         let folder = self.folder.as_str();
         match DirBuilder::new().mode(OWNER_ENTERS).create(rt, folder) {
-            Err(error) if error.kind() != ErrorKind::AlreadyExists => return Err(error.into()),
+            Err(error) if error.kind() != ErrorKind::AlreadyExists => return Err(KeyringError::from(
+                error,
+            )),
             _ => {}
         }
         let metadata = fs::metadata(rt, folder)?;
@@ -126,8 +128,10 @@ impl Keyring {
         R: Files + RandomSource,
     {
         let mut cookies = self.kept(rt, alloc, now)?;
-        if let Some(cookie) = cookies.iter().find(|cookie| cookie.is_fresh(now)) {
-            return Ok(*cookie);
+        for cookie in cookies.iter() {
+            if cookie.is_fresh(now) {
+                return Ok(*cookie);
+            }
         }
         let cookie = new_cookie(rt, cookies.as_slice(), now)?;
         cookies.push(cookie)?;
@@ -142,7 +146,7 @@ impl Keyring {
             Ok(text) => text,
             // There are no cookies yet, or none that are texts.
             Err(error) if is_without_text(&error) => return Ok(kept),
-            Err(error) => return Err(error.into()),
+            Err(error) => return Err(KeyringError::from(error)),
         };
         for line in text.as_str().lines() {
             if let Some(cookie) = Cookie::read(line)
@@ -214,10 +218,11 @@ fn new_cookie<R: RandomSource>(rt: &R, others: &[Cookie], now: u64) -> io::Resul
 }
 
 /// The lines of some cookies.
-fn text_of(alloc: Global, cookies: &[Cookie]) -> Result<String, AllocError> {
+fn text_of(alloc: Global, cookies: &[Cookie]) -> Result<String, KeyringError> {
     let mut text = String::new(alloc);
     for cookie in cookies {
-        write!(text, "{cookie}\n")?;
+        let line = format!(in alloc; "{cookie}\n")?;
+        text.push_str(line.as_str())?;
     }
     Ok(text)
 }
