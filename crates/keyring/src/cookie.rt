@@ -1,7 +1,7 @@
 // Cookies, each a line of a keyring's file.
 
-ghost use Rattle.std.specs.Prelude.{◌≡◌, ◌++◌, ◌&&◌, ◌-◌, ◌<◌, ◌^◌, nat_le, List, ℕ, IfSome, IfOk};
-ghost use Rattle.keyring.specs.Cookies.{IsNumber, Spells, is_kept, is_fresh};
+ghost use Rattle.std.specs.Prelude.{◌≡◌, ◌∷◌, ◌++◌, ◌&&◌, ◌-◌, ◌<◌, ◌^◌, nat_le, List, ℕ, IfSome, IfOk};
+ghost use Rattle.keyring.specs.Cookies.{IsNumber, Spells, space, is_kept, is_fresh};
 
 use std::fmt;
 
@@ -33,8 +33,8 @@ impl Cookie {
     pub fn read(line: &str) -> Option<Cookie>
         ensures { IfSome result (λ cookie. Spells cookie line.now) }
     {
-        let (id, rest) = line.split_once(' ')?;
-        let (time, digits) = rest.split_once(' ')?;
+        let (id, rest) = at_space(line)?;
+        let (time, digits) = at_space(rest)?;
         let id = read_id(id)?;
         let time = read_time(time)?;
         let digits = read_digits(digits)?;
@@ -54,6 +54,13 @@ impl Cookie {
     {
         now.saturating_sub(self.time) <= FRESH && self.time.saturating_sub(now) <= AHEAD
     }
+}
+
+/// The texts before and after the first space.
+fn at_space<'a>(text: &'a str) -> Option<(&'a str, &'a str)>
+    ensures { IfSome result (λ parts. text.entry.now ≡ parts.0.now ++ space ∷ parts.1.now) }
+{
+    text.split_once(' ')
 }
 
 fn read_id(text: &str) -> Option<u32>
