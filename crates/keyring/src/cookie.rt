@@ -33,11 +33,11 @@ impl Cookie {
     pub fn read(line: &str) -> Option<Cookie>
         ensures { IfSome result (λ cookie. Spells cookie line.now) }
     {
-        let (id, rest) = at_space(line)?;
-        let (time, digits) = at_space(rest)?;
-        let id = read_id(id)?;
-        let time = read_time(time)?;
-        let digits = read_digits(digits)?;
+        let (id_text, rest) = at_space(line)?;
+        let (time_text, digits_text) = at_space(rest)?;
+        let id = read_id(id_text)?;
+        let time = read_time(time_text)?;
+        let digits = read_digits(digits_text)?;
         Some(Cookie { id, time, digits })
     }
 
