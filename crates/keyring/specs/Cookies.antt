@@ -1,5 +1,5 @@
 -- Cookies and the lines in which they stand (D-Bus Specification, "DBUS_COOKIE_SHA1").
-use Rattle.std.specs.Prelude.{◌≡◌, ◌<◌, ◌-◌, ◌^◌, ◌&&◌, nat_le, Bool, ℕ, List, [], ◌∷◌, ◌++◌, codes}
+use Rattle.std.specs.Prelude.{◌≡◌, ◌<◌, ◌-◌, ◌^◌, ◌&&◌, nat_le, Bool, ℕ, List, ◌∷◌, ◌++◌}
 use Rattle.std.specs.Str.Parse.{IsNumeral, digits_value}
 use Rattle.keyring.specs.declared.cookie.Cookie.{Cookie}
 
