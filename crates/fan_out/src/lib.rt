@@ -17,6 +17,6 @@ mod workers;
 
 pub use error::FanError;
 pub use gate::Gate;
-pub use many::{MAX_WORKERS, select_many};
+pub use many::{MAX_WORKERS, select_many, select_piece};
 pub use reach::may_reach;
-pub use selection::{Counted, MAX_RECIPIENTS, select, select_counted, select_into, select_piece};
+pub use selection::{Counted, MAX_RECIPIENTS, select, select_counted, select_into};

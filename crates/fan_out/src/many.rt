@@ -1,17 +1,18 @@
-// The recipients of a message, found by several workers.
+// The recipients of a message that workers find, each among the connections of one piece.
 
 ghost use Rattle.std.specs.Prelude.{◌≡◌, ◌<◌, ◌≤◌, ◌↔◌, ◌⊎◌, IfOk, IfErr};
 ghost use Rattle.message_view.specs.Message.{Message};
 ghost use Rattle.message_view.specs.Valid.{Valid};
 ghost use Rattle.program_table.specs.Recipients.{AreRecipients};
 ghost use Rattle.fan_out.specs.Joining.{FindsRecipients};
+ghost use Rattle.fan_out.specs.Pieces.{ArePieceRecipients};
 ghost use Rattle.fan_out.specs.declared.error.FanError.TheVariants as errors;
 
 use crate::error::FanError;
 use crate::gate::Gate;
 use crate::marks::{MAX_RECIPIENTS, Marks};
 use crate::piece::Piece;
-use crate::recipients::mark_recipients;
+use crate::recipients::{list_recipients, mark_recipients};
 use crate::workers::{Work, all_pieces};
 use arrayvec::ArrayVec;
 use message_view::View;
@@ -89,4 +90,21 @@ pub fn select_many<'a, M: Mailbox + Sync, G: Gate, R: Threads + Wait>(
     let mut recipients = ArrayVec::new();
     marks.list(state.connections(), &mut recipients);
     Ok(recipients)
+}
+
+/// The recipients among the connections whose number leaves `part` - 1 when divided by `of`.
+pub fn select_piece<'a, M: Mailbox>(
+    state: &'a BusState<M>,
+    sender: Option<u64>,
+    view: &View<'a>,
+    part: u32,
+    of: u32,
+) -> ArrayVec<u64, MAX_RECIPIENTS>
+    requires from { 0 < part }
+    requires within { part ≤ of }
+    ensures { (m : Message) → Valid view.now m → ArePieceRecipients state.now sender m part of result.items }
+{
+    let mut recipients = ArrayVec::new();
+    list_recipients(state, sender, view, Piece { part, of }, &mut recipients);
+    recipients
 }

@@ -372,6 +372,7 @@ pub(crate) fn list_recipients<'a, M: Mailbox>(
     ensures exact { (m : Message) → Valid view.entry.now m → ArePieceRecipients state.entry.now sender m piece.part piece.of recipients.new.items }
     ensures most { (m : Message) → Valid view.entry.now m → result ≤ length (candidates state.entry.now m) }
     ensures least { length recipients.new.items ≤ result }
+    ensures state { IsState state.entry.now }
 {
     let mut marks = Marks::new();
     let runs = mark_recipients(state, sender, view, piece, &mut marks);

@@ -1,9 +1,9 @@
-ghost use Rattle.std.specs.Prelude.{◌≡◌, ◌<◌, ◌≤◌, [], length};
+ghost use Rattle.std.specs.Prelude.{◌≡◌, ◌≤◌, [], length};
 ghost use Rattle.message_view.specs.Message.{Message};
 ghost use Rattle.message_view.specs.Valid.{Valid};
 ghost use Rattle.program_table.specs.Recipients.{AreRecipients};
 ghost use Rattle.program_table.specs.Candidates.{candidates};
-ghost use Rattle.fan_out.specs.Pieces.{ArePieceRecipients};
+ghost use Rattle.program_table.specs.IsState.{IsState};
 
 pub use crate::marks::MAX_RECIPIENTS;
 use crate::piece::Piece;
@@ -34,7 +34,9 @@ pub fn select_into<'a, M: Mailbox>(
     recipients: &mut ArrayVec<u64, MAX_RECIPIENTS>,
 )
     requires { recipients.old.items ≡ [] }
-    ensures { (m : Message) → Valid view.now m → AreRecipients state.now sender m recipients.new.items }
+    ensures recipients { (m : Message) → Valid view.now m → AreRecipients state.now sender m recipients.new.items }
+    // Entries are of connections.
+    ensures state { IsState state.now }
 {
     list_recipients(state, sender, view, Piece { part: 1, of: 1 }, recipients);
 }
@@ -66,21 +68,4 @@ pub fn select_counted<'a, M: Mailbox>(
         &mut recipients,
     );
     Counted { recipients, runs }
-}
-
-/// The recipients among the connections whose number leaves `part` - 1 when divided by `of`.
-pub fn select_piece<'a, M: Mailbox>(
-    state: &'a BusState<M>,
-    sender: Option<u64>,
-    view: &View<'a>,
-    part: u32,
-    of: u32,
-) -> ArrayVec<u64, MAX_RECIPIENTS>
-    requires from { 0 < part }
-    requires within { part ≤ of }
-    ensures { (m : Message) → Valid view.now m → ArePieceRecipients state.now sender m part of result.items }
-{
-    let mut recipients = ArrayVec::new();
-    list_recipients(state, sender, view, Piece { part, of }, &mut recipients);
-    recipients
 }

@@ -156,11 +156,30 @@ impl ClaimList {
         }
     }
 
-    /// Takes away the connection's claim on the name that has the slot, or with no slot all its claims.
-    pub(crate) fn remove(&mut self, slot: Option<u16>, connection: u64)
+    /// Whether the connection has a claim on the name that has the slot, or with no slot any claim.
+    fn has_leaving(&self, slot: Option<u16>, connection: u64) -> bool
+        ensures { result ≡ list_any (is_leaving slot connection) self.now }
+    {
+        match slot {
+            Some(slot) => self.has(slot, connection),
+            None => self.as_slice().iter().any(|claim| claim.connection == connection),
+        }
+    }
+
+    // Puts the claims that stay anew, each of which is hashed for it.
+    fn keep_staying(&mut self, slot: Option<u16>, connection: u64)
         ensures { self.new ≡ filter (λ c. not (is_leaving slot connection c)) self.old }
     {
         put_staying(&mut self.cleared, self.claims.as_slice(), slot, connection);
         exchange(&mut self.claims, &mut self.cleared);
+    }
+
+    /// Takes away the connection's claim on the name that has the slot, or with no slot all its claims.
+    pub(crate) fn remove(&mut self, slot: Option<u16>, connection: u64)
+        ensures { self.new ≡ filter (λ c. not (is_leaving slot connection c)) self.old }
+    {
+        if self.has_leaving(slot, connection) {
+            self.keep_staying(slot, connection);
+        }
     }
 }

@@ -21,4 +21,4 @@ pub use answer::{Change, Dropped, NameReply, Named};
 pub use claims::{Claims, MAX_CLAIMS, MAX_NAMES, MAX_RULES};
 pub use error::ClaimError;
 pub use queue::Queue;
-pub use well_known::WellKnown;
+pub use well_known::{WellKnown, is_unique};

@@ -72,7 +72,8 @@ impl WellKnown {
     }
 }
 
-fn is_unique(text: &str) -> bool
+/// Whether a text begins with `:`, as unique names do.
+pub fn is_unique(text: &str) -> bool
     ensures { result ≡ is_unique text.now }
 {
     match text.as_bytes() {

@@ -2,16 +2,16 @@
 use Rattle.std.proofs.Common.{◌≡◌, ℕ, inl, inr, Bool, false, [], ◌∷◌, ◌++◌, refl, sym, ap, ◌∙◌, subst}
 use Rattle.std.specs.Prelude.{Result, Ok, Err, IfOk, if◌then◌else◌}
 use Rattle.match_rule.specs.RuleTree.{RuleTree}
-use Rattle.lookups.specs.CompiledRule.{CompiledRule, IsFit}
-use Rattle.lookups.specs.Command.{Command}
-use Rattle.lookups.specs.Command.TheVariants.{AddRule}
-use Rattle.lookups.specs.Reply.{Reply}
-use Rattle.lookups.specs.Reply.TheVariants.{Refused}
-use Rattle.lookups.specs.Does.{is_accepted, reply_to}
-use Rattle.lookups.specs.History.{after, IsHistory}
-use Rattle.lookups.specs.RuleSlots.{add_of}
-use Rattle.lookups.specs.Publication.{Publication, with_next}
-use Rattle.lookups.proofs.Refused.{refused}
+use Rattle.entry_table.specs.CompiledRule.{CompiledRule, IsFit}
+use Rattle.program_table.specs.declared.command.Command.{Command}
+use Rattle.program_table.specs.declared.command.Command.TheVariants.{AddRule}
+use Rattle.program_table.specs.declared.command.Reply.{Reply}
+use Rattle.program_table.specs.declared.command.Reply.TheVariants.{Refused}
+use Rattle.program_table.specs.Does.{is_accepted, reply_to}
+use Rattle.program_table.specs.History.{after, IsHistory}
+use Rattle.program_table.specs.RuleSlots.{add_of}
+use Rattle.published.specs.Publication.{Publication, with_next}
+use Rattle.published.proofs.Refused.{refused}
 use Rattle.passes.specs.declared.error.BusError.{BusError}
 use Rattle.passes.specs.Passes.{PassState, HasTaken}
 use Rattle.passes.specs.Calls.{IsStopped, Answers}

@@ -2,10 +2,10 @@
 use Rattle.std.proofs.Common.{◌≡◌, ℕ, inl, inr, false, List, [], ◌∷◌, ◌++◌, refl, sym, ap, ◌∙◌, subst, arith, append_assoc}
 use Rattle.std.specs.Prelude.{Result, Ok, Err}
 use mathlib.Core.List.{IsPrefix}
-use Rattle.lookups.specs.Command.{Command}
-use Rattle.lookups.specs.Reply.{Reply}
-use Rattle.lookups.specs.History.{own_commands, IsHistory}
-use Rattle.lookups.specs.Publication.{Publication}
+use Rattle.program_table.specs.declared.command.Command.{Command}
+use Rattle.program_table.specs.declared.command.Reply.{Reply}
+use Rattle.program_table.specs.History.{own_commands, IsHistory}
+use Rattle.published.specs.Publication.{Publication}
 use Rattle.passes.specs.declared.error.BusError.{BusError}
 use Rattle.passes.specs.Passes.{PassState, HasTaken}
 use Rattle.passes.specs.Calls.{IsShutOut, unconnected, closed, ended, others, fewer, Answers}

@@ -2,16 +2,16 @@
 use Rattle.std.proofs.Common.{◌≡◌, ℕ, ◌+◌, ◌^◌, ◌<◌, ◌≤◌, Bool, true, false, List, [], ◌∷◌, ◌++◌, length, sym, ap, ◌∙◌, subst, arith, length-append}
 use Rattle.std.specs.Prelude.{if◌then◌else◌}
 use mathlib.Core.List.{IsPrefix}
-use Rattle.lookups.specs.Command.{Command}
-use Rattle.lookups.specs.Reply.{Reply}
-use Rattle.lookups.specs.Reply.TheVariants.{Refused}
-use Rattle.lookups.specs.Refusal.{Refusal}
-use Rattle.lookups.specs.Connections.{commands_of}
-use Rattle.lookups.specs.Does.{is_accepted, reply_to}
-use Rattle.lookups.specs.History.{after, own_commands, is_command_of, IsHistory}
-use Rattle.lookups.specs.Publication.{Publication, with_next}
-use Rattle.lookups.proofs.Histories.{accepted_room}
-use Rattle.lookups.proofs.Refused.{accepted, refused}
+use Rattle.program_table.specs.declared.command.Command.{Command}
+use Rattle.program_table.specs.declared.command.Reply.{Reply}
+use Rattle.program_table.specs.declared.command.Reply.TheVariants.{Refused}
+use Rattle.program_table.specs.declared.refusal.Refusal.{Refusal}
+use Rattle.program_table.specs.Connections.{commands_of}
+use Rattle.program_table.specs.Does.{is_accepted, reply_to}
+use Rattle.program_table.specs.History.{after, own_commands, is_command_of, IsHistory}
+use Rattle.published.specs.Publication.{Publication, with_next}
+use Rattle.published.proofs.Histories.{accepted_room}
+use Rattle.published.proofs.Refused.{accepted, refused}
 use Rattle.passes.specs.declared.error.BusError.{BusError}
 use Rattle.passes.specs.Errors.{error_of}
 use Rattle.passes.specs.Passes.{PassState, HasTaken}

@@ -1,104 +1,104 @@
 -- Unicast messages.
-use Rattle.std.proofs.Common.{◌≡◌, ◌⊎◌, inl, inr, ℕ, ◌==◌, true, false, true≢false, List, [], ◌∷◌, Option, Some, None, refl, sym, ap, subst, ◌∙◌, eqb-true}
-use Rattle.std.specs.Prelude.{Result, Ok, Err, IfOk, IfErr, MatchResult}
-use Rattle.std.proofs.lemmas.Bool.{or_cases}
+use Rattle.std.proofs.Common.{◌≡◌, ◌⊎◌, inl, inr, ℕ, ◌==◌, ◌&&◌, ◌++◌, append-nil, Bool, true, false, cond, List, [], ◌∷◌, Option, Some, None, refl, sym, ap, subst, ◌∙◌}
+use Rattle.std.specs.Prelude.{Result, Ok, Err, IfOk, IfErr, MatchOption, MatchResult}
 use mathlib.Core.List.{IsPrefix}
+use Rattle.outbox.specs.Items.{Item}
 use Rattle.outbox.specs.Seated.{OutboxId}
-use Rattle.lookups.specs.Command.{Command}
-use Rattle.lookups.specs.Connections.{is_connected}
-use Rattle.lookups.specs.History.{after}
-use Rattle.lookups.specs.State.{State}
-use Rattle.routing.specs.SenderView.{RecipientView, StopView, SenderView}
-use Rattle.routing.specs.Stops.{is_in, shut_at, AllFit}
-use Rattle.lookups.specs.NameOwners.{IsOwner}
-use Rattle.lookups.specs.Addressees.{AreListed, IsAddressee}
-use Rattle.lookups.proofs.Newcomers.{is_in-connected}
+use Rattle.program_table.specs.declared.command.Command.{Command}
+use Rattle.program_table.specs.History.{after}
+use Rattle.program_table.specs.NameOwners.{IsOwner}
+use Rattle.program_table.specs.State.{State}
+use Rattle.routing.specs.SenderView.{SenderView}
+use Rattle.routing.specs.Stops.{puts_at, shut_at, HasStop, AllFit, Keeps, Unrouted, SentTo}
 use Rattle.passes.specs.declared.error.BusError.{BusError}
 use Rattle.passes.specs.declared.error.BusError.TheVariants as errors
 use Rattle.passes.specs.declared.unicasts.Sent.{Sent}
 use Rattle.passes.specs.declared.unicasts.Sent.TheVariants.{Put, NoOwner, Full}
+use Rattle.passes.specs.Deliveries.{IsDelivered}
 use Rattle.passes.specs.Passes.{PassState}
 use Rattle.passes.specs.Routes.{Sends, HasPut, HasNotPut}
-use Rattle.passes.specs.Sending.{sending, AreReachable, KeepsThose, PutThose, UnroutedThose, stays, IsDelivered}
+use Rattle.passes.specs.Seats.{KeepsThere, NothingPut}
+use Rattle.passes.specs.Sending.{sending}
 use Rattle.passes.specs.Unicasts.{Unicasts, IsUnsent}
-use Rattle.passes.proofs.Sending.{Turn, turned, saw, Reaches, sends_to, has_not_put, has_seen}
+use Rattle.passes.proofs.Seating.{keeps_on, nothing_on, kept, unrouted}
+use Rattle.passes.proofs.Sending.{Turn, turned, own_keeps, own_nothing, sends_to, has_not_put}
+
+and_true : (b : Bool) → (b && true) ≡ b
+and_true true = refl
+and_true false = refl
+
+and_false : (b : Bool) → (b && false) ≡ false
+and_false true = refl
+and_false false = refl
+
+-- a message that was refused was put nowhere
+full_unrouted : (n : ℕ) (bytes : List ℕ) (old new : SenderView) → SentTo n bytes false old new → Unrouted old new
+full_unrouted n bytes old new s = record {
+  count_is = s.count_is;
+  puts = λ m. s.puts m ∙ ap (λ (b : Bool). puts_at m old.stops ++ cond b (s.item ∷ []) []) (and_false (n == m)) ∙ append-nil (puts_at m old.stops);
+}
+
+unrouted_same : (old new : SenderView) → new ≡ old → Unrouted old new
+unrouted_same old new e = record { count_is = ap (λ (v : SenderView). v.count) e; puts = λ n. ap (λ (v : SenderView). puts_at n v.stops) e }
 
 module _ {M : Type 0} where
-  -- what became of the message, if an owner was found
-  pub delivered : (outbox_of : M → OutboxId) (to bytes : List ℕ) (v p q w : PassState M) (old new : SenderView) (n : ℕ) (newcomers : List RecipientView) (connected : Option (List ℕ)) (r : Result Sent BusError)
-      → Turn v p q w old new → IsPrefix p.seen q.seen → IsAddressee outbox_of (after q.seen) to old.stops n newcomers connected → KeepsThose connected newcomers old new → AllFit new.origin new.count new.stops
-      → IfOk r (IsDelivered connected n bytes old new) → IfErr r (λ e. (e ≡ errors.NoMemory) × UnroutedThose connected old new)
+  -- what became of a unicast message
+  pub delivered : {E : Type 0} (outbox_of : M → OutboxId) (to bytes : List ℕ) (v u p q w : PassState M) (l : List (Command M)) (s : State M) (old mid new : SenderView) (found : Result (Option ℕ) E) (r : Result Sent BusError)
+      → Turn v u p q w l s old new → IfOk found (λ owner. MatchOption owner ((n : ℕ) → IsOwner s to n → ⊥) (λ n. IsOwner s to n × HasStop n mid.stops))
+      → KeepsThere outbox_of s old mid → NothingPut s old mid → Keeps [] mid new → AllFit new.origin new.count new.stops
+      → IfOk r (IsDelivered found bytes mid new) → IfErr r (λ e. (e ≡ errors.NoMemory) × Unrouted mid new)
       → MatchResult r (λ sent. Unicasts outbox_of to bytes v sent w) (λ e. IsUnsent outbox_of e v w)
-  delivered outbox_of to bytes v p q w old new n newcomers connected r t begins found k fits = go r
+  delivered outbox_of to bytes v u p q w l s old mid new found r t owners k n on fits ok err = go r ok err
     where
-      is : w ≡ record v { seen = q.seen; count = new.count; stops = new.stops }
-      is = turned v p q w old new t
+      is : w ≡ record v { seen = l; count = new.count; stops = new.stops }
+      is = turned v u p q w l s old new t
 
-      listed_stays : (c : Option (List ℕ)) → AreListed (after q.seen) c → (m : ℕ) → is_connected m (after q.seen).connections ≡ true → stays c m ≡ true
-      listed_stays None a m e = refl
-      listed_stays (Some numbers) a m e = ap (is_in m) a ∙ is_in-connected m (after q.seen).connections ∙ e
+      nothing : NothingPut (after l) (sending v) mid
+      nothing = own_nothing v u p q w l s old new mid t n
 
-      reaches : Reaches outbox_of q.seen newcomers connected
-      reaches = record { stay = listed_stays connected found.listed; theirs = found.new.theirs }
+      all : KeepsThere outbox_of (after l) (sending v) new
+      all = keeps_on outbox_of (after l) (sending v) mid new (own_keeps outbox_of v u p q w l s old new mid t k) (kept outbox_of (after l) mid new on)
 
-      keeps : KeepsThose connected newcomers (sending v) new
-      keeps = let K : SenderView → Type 0 = λ s. KeepsThose connected newcomers s new in subst K t.is k
+      not_put : Unrouted mid new → HasNotPut outbox_of v w
+      not_put un = has_not_put outbox_of v w l new is t.begins all (nothing_on (after l) (sending v) mid new nothing (unrouted (after l) mid new un)) fits
 
-      not_put : UnroutedThose connected old new → HasNotPut outbox_of v w
-      not_put u =
-          let U : SenderView → Type 0 = λ s. UnroutedThose connected s new in
-          has_not_put outbox_of v w q.seen new newcomers connected is (saw v p q w old new t begins) reaches keeps fits (subst U t.is u)
+      owner : (m : ℕ) → found ≡ Ok (Some m) → IsOwner (after w.seen) to m
+      owner m e =
+          let F : Result (Option ℕ) _ → Type 0 = λ x. IfOk x (λ owner. MatchOption owner ((n : ℕ) → IsOwner s to n → ⊥) (λ n. IsOwner s to n × HasStop n mid.stops)) in
+          let its = subst F e owners in
+          let S : State M → Type 0 = λ x. IsOwner x to m in
+          let W : PassState M → Type 0 = λ x. IsOwner (after x.seen) to m in
+          subst W (sym is) (subst S t.state its.0)
 
-      owner : IsOwner (after w.seen) to n
-      owner = let O : PassState M → Type 0 = λ x. IsOwner (after x.seen) to n in subst O (sym is) found.owner
+      nobody : found ≡ Ok None → (m : ℕ) → IsOwner (after w.seen) to m → ⊥
+      nobody e =
+          let F : Result (Option ℕ) _ → Type 0 = λ x. IfOk x (λ owner. MatchOption owner ((n : ℕ) → IsOwner s to n → ⊥) (λ n. IsOwner s to n × HasStop n mid.stops)) in
+          let none = subst F e owners in
+          let S : State M → Type 0 = λ x. (m : ℕ) → IsOwner x to m → ⊥ in
+          let W : PassState M → Type 0 = λ x. (m : ℕ) → IsOwner (after x.seen) to m → ⊥ in
+          subst W (sym is) (subst S t.state none)
 
-      put : (new.count ≡ old.count) × PutThose connected (λ m. n == m) bytes None old new → Sends outbox_of v w × (w.count ≡ v.count) × HasPut (λ m. n == m) bytes None v w
-      put h =
-          let S : SenderView → Type 0 = λ s. (new.count ≡ s.count) × PutThose connected (λ m. n == m) bytes None s new in
-          let those = subst S t.is h in
-          let P : PassState M → Type 0 = λ x. Sends outbox_of v x × (x.count ≡ v.count) × HasPut (λ m. n == m) bytes None v x in
-          subst P (sym is) (
-            sends_to outbox_of v q.seen new newcomers connected (saw v p q w old new t begins) reaches keeps fits,
-            those.0,
-            record { item = those.1.item; bytes_are = those.1.bytes_are; mark_is = those.1.mark_is; puts = λ m there. those.1.puts m (reaches.stay m there) },
+      put : (m : ℕ) → SentTo m bytes true mid new → Sends outbox_of v w × (w.count ≡ v.count) × HasPut (λ j. m == j) bytes None v w
+      put m sent =
+          let W : PassState M → Type 0 = λ x. Sends outbox_of v x × (x.count ≡ v.count) × HasPut (λ j. m == j) bytes None v x in
+          subst W (sym is) (
+            sends_to outbox_of v l new t.begins all fits,
+            sent.count_is ∙ nothing.count_is,
+            record {
+              item = sent.item;
+              bytes_are = sent.bytes_are;
+              mark_is = sent.mark_is;
+              puts = λ j there.
+                  sent.puts j ∙ ap (λ (x : List Item). x ++ cond ((m == j) && true) (sent.item ∷ []) []) (nothing.puts j there)
+                  ∙ ap (λ (b : Bool). puts_at j v.stops ++ cond b (sent.item ∷ []) []) (and_true (m == j));
+            },
           )
 
-      go : (r : Result Sent BusError) → IfOk r (IsDelivered connected n bytes old new) → IfErr r (λ e. (e ≡ errors.NoMemory) × UnroutedThose connected old new) → MatchResult r (λ sent. Unicasts outbox_of to bytes v sent w) (λ e. IsUnsent outbox_of e v w)
-      go (Ok Put) ok err = let done = put ok in (n, owner, done.0, done.1, done.2)
-      go (Ok NoOwner) ok err = absurd ok
-      go (Ok Full) ok err = let T : PassState M → Type 0 = λ x. shut_at n x.stops ≡ true in (not_put ok.0, n, owner, subst T (sym is) ok.1)
+      shut : (m : ℕ) → shut_at m new.stops ≡ true → shut_at m w.stops ≡ true
+      shut m e = let W : PassState M → Type 0 = λ x. shut_at m x.stops ≡ true in subst W (sym is) e
+
+      go : (r : Result Sent BusError) → IfOk r (IsDelivered found bytes mid new) → IfErr r (λ e. (e ≡ errors.NoMemory) × Unrouted mid new) → MatchResult r (λ sent. Unicasts outbox_of to bytes v sent w) (λ e. IsUnsent outbox_of e v w)
+      go (Ok Put) ok err = let done = put ok.0 ok.2 in (ok.0, owner ok.0 ok.1, done.0, done.1, done.2)
+      go (Ok Full) ok err = (not_put (full_unrouted ok.0 bytes mid new ok.2.0), ok.0, owner ok.0 ok.1, shut ok.0 ok.2.1)
+      go (Ok NoOwner) ok err = (not_put (unrouted_same mid new ok.1), nobody ok.0)
       go (Err e) ok err = inr (err.0, not_put err.1)
-
-  -- nobody owns the name
-  pub unowned : (outbox_of : M → OutboxId) (to bytes : List ℕ) (v p q w : PassState M) (old : SenderView) → Turn v p q w old old → AllFit old.origin old.count old.stops → IsPrefix p.seen q.seen → ((n : ℕ) → IsOwner (after q.seen) to n → ⊥) → Unicasts outbox_of to bytes v NoOwner w
-  unowned outbox_of to bytes v p q w old t fits begins none =
-      let O : SenderView → Type 0 = λ s. w ≡ record v { seen = q.seen; count = s.count; stops = s.stops } in
-      let A : SenderView → Type 0 = λ s. AllFit s.origin s.count s.stops in
-      let N : PassState M → Type 0 = λ x. (n : ℕ) → IsOwner (after x.seen) to n → ⊥ in
-      (has_seen outbox_of v w q.seen (subst O t.is (turned v p q w old old t)) (saw v p q w old old t begins) (subst A t.is fits), subst N (sym (turned v p q w old old t)) none)
-
-  -- nothing was found
-  pub unsent : (outbox_of : M → OutboxId) (v p q w : PassState M) (old : SenderView) (e : BusError) → Turn v p q w old old → AllFit old.origin old.count old.stops → ((e ≡ errors.Closed) × (q.seen ≡ p.seen)) ⊎ ((e ≡ errors.NoMemory) × IsPrefix p.seen q.seen) → IsUnsent outbox_of e v w
-  unsent outbox_of v p q w old e t fits (inl (is, same)) =
-      let S : List (Command M) → Type 0 = λ l. w ≡ record v { seen = l; count = v.count; stops = v.stops } in
-      let O : SenderView → Type 0 = λ s. w ≡ record v { seen = q.seen; count = s.count; stops = s.stops } in
-      inl (is, subst S (same ∙ ap (λ (x : PassState M). x.seen) t.taken) (subst O t.is (turned v p q w old old t)))
-  unsent outbox_of v p q w old e t fits (inr (is, begins)) =
-      let O : SenderView → Type 0 = λ s. w ≡ record v { seen = q.seen; count = s.count; stops = s.stops } in
-      let A : SenderView → Type 0 = λ s. AllFit s.origin s.count s.stops in
-      inr (is, has_seen outbox_of v w q.seen (subst O t.is (turned v p q w old old t)) (saw v p q w old old t begins) (subst A t.is fits))
-
-  -- the owner's seat isn't given up, and it is among the newcomers where it has none
-  pub owner_reachable : (outbox_of : M → OutboxId) (s : State M) (to : List ℕ) (stops : List StopView) (n : ℕ) (newcomers : List RecipientView) (connected : Option (List ℕ)) → IsAddressee outbox_of s to stops n newcomers connected → AreReachable connected (n ∷ []) newcomers stops
-  owner_reachable outbox_of s to stops n newcomers connected found = record {
-    stay = λ m e. pick m (or_cases (n == m) false e);
-    all = found.new.all;
-  }
-    where
-      listed_stays : (c : Option (List ℕ)) → AreListed s c → stays c n ≡ true
-      listed_stays None a = refl
-      listed_stays (Some numbers) a = ap (is_in n) a ∙ is_in-connected n s.connections ∙ found.owner.1
-
-      pick : (m : ℕ) → ((n == m) ≡ true) ⊎ (false ≡ true) → stays connected m ≡ true
-      pick m (inl e) = let P : ℕ → Type 0 = λ j. stays connected j ≡ true in subst P (eqb-true n m e) (listed_stays connected found.listed)
-      pick m (inr e) = absurd (true≢false (sym e))

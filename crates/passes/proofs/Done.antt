@@ -2,14 +2,14 @@
 use Rattle.std.proofs.Common.{◌≡◌, ◌≢◌, ℕ, ◌+◌, ◌<◌, ◌≤◌, Bool, true, false, List, [], ◌∷◌, ◌++◌, length, Option, Some, None, refl, sym, ap, ◌∙◌, subst, arith, length-append}
 use Rattle.std.specs.Prelude.{if◌then◌else◌, MatchOption}
 use mathlib.Core.List.{IsPrefix}
-use Rattle.lookups.specs.Command.{Command}
-use Rattle.lookups.specs.Reply.{Reply}
-use Rattle.lookups.specs.Connections.{is_connected, commands_of}
-use Rattle.lookups.specs.Does.{is_accepted, reply_to}
-use Rattle.lookups.specs.History.{after, own_commands, is_command_of, IsHistory}
-use Rattle.lookups.specs.Publication.{Publication}
-use Rattle.lookups.proofs.Counted.{commands-owned}
-use Rattle.lookups.proofs.Fronts.{prefix_self}
+use Rattle.program_table.specs.declared.command.Command.{Command}
+use Rattle.program_table.specs.declared.command.Reply.{Reply}
+use Rattle.program_table.specs.Connections.{is_connected, commands_of}
+use Rattle.program_table.specs.Does.{is_accepted, reply_to}
+use Rattle.program_table.specs.History.{after, own_commands, is_command_of, IsHistory}
+use Rattle.published.specs.Publication.{Publication}
+use Rattle.published.proofs.Counted.{commands-owned}
+use Rattle.published.proofs.Fronts.{prefix_self}
 use Rattle.passes.specs.Passes.{PassState, HasTaken}
 use Rattle.passes.specs.Calls.{IsDone, KeepsOwn}
 use Rattle.passes.proofs.Owned.{own-push, own_grows, own_same}

@@ -2,20 +2,20 @@
 use Rattle.std.proofs.Common.{◌≡◌, ℕ, ◌+◌, ◌==◌, ◌^◌, ◌<◌, ◌≤◌, ◌⊎◌, ⊎_elim, inl, inr, Bool, true, false, List, [], ◌∷◌, ◌++◌, length, refl, sym, ap, ◌∙◌, subst, arith, length-append}
 use Rattle.std.specs.Prelude.{Ok, Err, nat_le, if◌then◌else◌}
 use Rattle.std.proofs.lemmas.Bool.Decides.{nat_tests}
-use Rattle.lookups.specs.Command.{Command}
-use Rattle.lookups.specs.Command.TheVariants.{Connect}
-use Rattle.lookups.specs.Reply.{Reply}
-use Rattle.lookups.specs.Reply.TheVariants.{Connected, Refused}
-use Rattle.lookups.specs.Refusal.{Refusal}
-use Rattle.lookups.specs.Refusal.TheVariants as refusals
-use Rattle.lookups.specs.Refusals.{◌>>=◌, refuse_if}
-use Rattle.lookups.specs.Connections.{max_connections}
-use Rattle.lookups.specs.State.{State}
-use Rattle.lookups.specs.Does.{is_accepted, reply_to, reply_of, max_commands}
-use Rattle.lookups.specs.History.{after, own_commands, is_command_of, IsHistory}
-use Rattle.lookups.proofs.OwnCounts.{own_commands_new}
-use Rattle.lookups.specs.Publication.{Publication, with_next}
-use Rattle.lookups.proofs.Refused.{refused}
+use Rattle.program_table.specs.declared.command.Command.{Command}
+use Rattle.program_table.specs.declared.command.Command.TheVariants.{Connect}
+use Rattle.program_table.specs.declared.command.Reply.{Reply}
+use Rattle.program_table.specs.declared.command.Reply.TheVariants.{Connected, Refused}
+use Rattle.program_table.specs.declared.refusal.Refusal.{Refusal}
+use Rattle.program_table.specs.declared.refusal.Refusal.TheVariants as refusals
+use Rattle.program_table.specs.Refusals.{◌>>=◌, refuse_if}
+use Rattle.program_table.specs.Connections.{max_connections}
+use Rattle.program_table.specs.State.{State}
+use Rattle.program_table.specs.Does.{is_accepted, reply_to, reply_of, max_commands}
+use Rattle.program_table.specs.History.{after, own_commands, is_command_of, IsHistory}
+use Rattle.program_table.proofs.OwnCounts.{own_commands_new}
+use Rattle.published.specs.Publication.{Publication, with_next}
+use Rattle.published.proofs.Refused.{refused}
 use Rattle.passes.specs.declared.error.BusError.{BusError}
 use Rattle.passes.specs.Errors.{error_of}
 use Rattle.passes.specs.Passes.{PassState, HasTaken}

@@ -3,6 +3,7 @@ pub mod Done
 pub mod Commands
 pub mod Joining
 pub mod Finding
+pub mod Seating
 pub mod Sending
 pub mod Admitted
 pub mod Adding

@@ -2,10 +2,10 @@
 use Rattle.std.proofs.Common.{◌≡◌, ℕ, ◌+◌, ◌≤◌, Bool, true, false, List, [], ◌∷◌, ◌++◌, length, fold, refl, sym, ap, ◌∙◌, arith, length-append}
 use Rattle.std.specs.Prelude.{if◌then◌else◌}
 use mathlib.Core.List.{IsPrefix}
-use Rattle.lookups.specs.Command.{Command}
-use Rattle.lookups.specs.State.{State, opening}
-use Rattle.lookups.specs.Does.{next_of}
-use Rattle.lookups.specs.History.{after, is_command_of, own_from, own_commands}
+use Rattle.program_table.specs.declared.command.Command.{Command}
+use Rattle.program_table.specs.State.{State, opening}
+use Rattle.program_table.specs.Does.{next_of}
+use Rattle.program_table.specs.History.{after, is_command_of, own_from, own_commands}
 
 module _ {M : Type 0} where
   glue : (b : Bool) (x : Command M) (xs ys : List (Command M)) → (if b then x ∷ (xs ++ ys) else xs ++ ys) ≡ (if b then x ∷ xs else xs) ++ ys

@@ -1,9 +1,9 @@
 -- Whether a pass may ask for something (own).
 use Rattle.std.specs.Prelude.{◌≡◌, ◌≢◌, false}
 use mathlib.Core.List.{IsPrefix}
-use Rattle.lookups.specs.Connections.{commands_of}
-use Rattle.lookups.specs.History.{after}
-use Rattle.lookups.specs.Publication.{Publication}
+use Rattle.program_table.specs.Connections.{commands_of}
+use Rattle.program_table.specs.History.{after}
+use Rattle.published.specs.Publication.{Publication}
 use Rattle.passes.specs.Passes.{PassState}
 
 module _ {M : Type 0} where

@@ -3,11 +3,13 @@
 use Rattle.std.specs.Prelude.{◌≡◌, ◌⊎◌, ℕ, ◌<◌, ◌≤◌, List, Option, Result, Ok, Err}
 use mathlib.Core.List.{IsPrefix}
 use Rattle.arrayvec.specs.ArrayVec.{ArrayVec}
-use Rattle.lookups.specs.FanError.TheVariants as fan_errors
-use Rattle.lookups.specs.Command.{Command}
-use Rattle.lookups.specs.State.{State}
-use Rattle.lookups.specs.History.{after}
-use Rattle.lookups.specs.Broadcasts.{AreRecipientsOf}
+use Rattle.message_view.specs.Message.{Message}
+use Rattle.message_view.specs.Valid.{Valid}
+use Rattle.fan_out.specs.declared.error.FanError.TheVariants as fan_errors
+use Rattle.program_table.specs.declared.command.Command.{Command}
+use Rattle.program_table.specs.State.{State}
+use Rattle.program_table.specs.History.{after}
+use Rattle.program_table.specs.Recipients.{AreRecipients}
 use Rattle.passes.specs.declared.error.BusError.{BusError}
 use Rattle.passes.specs.declared.error.BusError.TheVariants as errors
 
@@ -20,6 +22,10 @@ module _ {M : Type 0} where
   abbrev pub Tells : {A : Type 0} → List (Command M) → (State M → A → Type 0) → Result A BusError → List (Command M) → Type 0
   Tells seen P (Ok found) later = IsPrefix seen later × P (after later) found
   Tells seen P (Err error) later = ((error ≡ errors.Closed) × (later ≡ seen)) ⊎ ((error ≡ errors.NoMemory) × IsPrefix seen later)
+
+  -- these are the recipients of the message of these bytes
+  abbrev pub AreRecipientsOf : State M → Option ℕ → List ℕ → List ℕ → Type 0
+  AreRecipientsOf s sender bytes found = (m : Message) → Valid bytes m → AreRecipients s sender m found
 
   -- Recipients that this many workers find. Their number is looked at before all else.
   abbrev pub TellsByWorkers : List (Command M) → Option ℕ → List ℕ → ℕ → Result (ArrayVec ℕ) BusError → List (Command M) → Type 0

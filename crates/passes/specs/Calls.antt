@@ -1,15 +1,15 @@
 -- What the calls of a pass do, under the lock of the bus (own).
 use Rattle.std.specs.Prelude.{◌≡◌, ◌≢◌, ◌⊎◌, ◌+◌, ◌<◌, Bool, true, false, [], ◌∷◌, ◌++◌, length, Result, Ok, Err}
 use mathlib.Core.List.{IsPrefix}
-use Rattle.lookups.specs.Command.{Command}
-use Rattle.lookups.specs.Command.TheVariants.{Connect}
-use Rattle.lookups.specs.Reply.{Reply}
-use Rattle.lookups.specs.Reply.TheVariants.{Connected, Refused}
-use Rattle.lookups.specs.Refusal.{Refusal}
-use Rattle.lookups.specs.Connections.{commands_of}
-use Rattle.lookups.specs.Does.{is_accepted, reply_to}
-use Rattle.lookups.specs.History.{after, own_commands}
-use Rattle.lookups.specs.Publication.{Publication}
+use Rattle.program_table.specs.declared.command.Command.{Command}
+use Rattle.program_table.specs.declared.command.Command.TheVariants.{Connect}
+use Rattle.program_table.specs.declared.command.Reply.{Reply}
+use Rattle.program_table.specs.declared.command.Reply.TheVariants.{Connected, Refused}
+use Rattle.program_table.specs.declared.refusal.Refusal.{Refusal}
+use Rattle.program_table.specs.Connections.{commands_of}
+use Rattle.program_table.specs.Does.{is_accepted, reply_to}
+use Rattle.program_table.specs.History.{after, own_commands}
+use Rattle.published.specs.Publication.{Publication}
 use Rattle.passes.specs.declared.error.BusError.{BusError}
 use Rattle.passes.specs.declared.error.BusError.TheVariants as errors
 use Rattle.passes.specs.Errors.{error_of}

@@ -4,12 +4,12 @@ use Rattle.match_rule.specs.RuleTree.{RuleTree, weight_of}
 use Rattle.bpf_code.specs.declared.instruction.Ins.{Ins}
 use Rattle.rule_compile.specs.declared.error.CompileError.{CompileError}
 use Rattle.rule_compile.specs.declared.error.CompileError.TheVariants as compile_errors
-use Rattle.lookups.specs.CompiledRule.{CompiledRule, IsFit}
-use Rattle.lookups.specs.Reply.TheVariants.{Refused}
-use Rattle.lookups.specs.Refusal.{Refusal}
-use Rattle.lookups.specs.State.{State}
-use Rattle.lookups.specs.Does.{is_accepted, reply_to}
-use Rattle.lookups.specs.RuleSlots.{add_of}
+use Rattle.entry_table.specs.CompiledRule.{CompiledRule, IsFit}
+use Rattle.program_table.specs.declared.command.Reply.TheVariants.{Refused}
+use Rattle.program_table.specs.declared.refusal.Refusal.{Refusal}
+use Rattle.program_table.specs.State.{State}
+use Rattle.program_table.specs.Does.{is_accepted, reply_to}
+use Rattle.program_table.specs.RuleSlots.{add_of}
 use Rattle.passes.specs.declared.error.BusError.{BusError}
 use Rattle.passes.specs.declared.error.BusError.TheVariants as errors
 use Rattle.passes.specs.Errors.{error_of}

@@ -1,7 +1,7 @@
 -- The errors of a bus (own).
 use Rattle.std.specs.Prelude.{ℕ}
-use Rattle.lookups.specs.Refusal.{Refusal}
-use Rattle.lookups.specs.Refusal.TheVariants as refusals
+use Rattle.program_table.specs.declared.refusal.Refusal.{Refusal}
+use Rattle.program_table.specs.declared.refusal.Refusal.TheVariants as refusals
 use Rattle.passes.specs.declared.error.BusError.{BusError}
 use Rattle.passes.specs.declared.error.BusError.TheVariants as errors
 

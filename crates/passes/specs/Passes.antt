@@ -1,7 +1,7 @@
 -- What a pass has seen and done (own).
 use Rattle.std.specs.Prelude.{◌≡◌, ◌≢◌, ℕ, ◌≤◌, ◌<◌, Bool, false, List, [], length, Option, Some, None}
-use Rattle.lookups.specs.Command.{Command}
-use Rattle.lookups.specs.History.{own_commands}
+use Rattle.program_table.specs.declared.command.Command.{Command}
+use Rattle.program_table.specs.History.{own_commands}
 use Rattle.routing.specs.SenderView.{StopView}
 use Rattle.passes.specs.declared.reading.Source.{Source}
 use Rattle.passes.specs.declared.reading.Source.TheVariants.{Own, Bus}

@@ -1,7 +1,7 @@
 -- Inner: what a pass that is admitted has seen.
 use Rattle.std.specs.Prelude.{◌≡◌, Result, Ok, Err}
-use Rattle.lookups.specs.History.{IsHistory}
-use Rattle.lookups.specs.Publication.{Publication}
+use Rattle.program_table.specs.History.{IsHistory}
+use Rattle.published.specs.Publication.{Publication}
 use Rattle.passes.specs.declared.error.BusError.{BusError}
 use Rattle.passes.specs.declared.error.BusError.TheVariants as errors
 use Rattle.passes.specs.Passes.{PassState, HasTaken}

@@ -10,15 +10,15 @@ use Rattle.match_rule.specs.Grammar.{ReadsAs}
 use Rattle.match_rule.specs.Reading.{rule_at}
 use Rattle.match_rule.specs.RuleTree.{RuleTree, sender_name_of, weight_of}
 use Rattle.summary.specs.declared.edition.Edition.{Edition}
-use Rattle.lookups.specs.CompiledRule.{CompiledRule, IsFit}
-use Rattle.lookups.specs.Command.TheVariants.{AddRule, RemoveRule, Attach}
-use Rattle.lookups.specs.Reply.{Reply}
-use Rattle.lookups.specs.Answers.{slot_asked}
-use Rattle.lookups.specs.State.{State}
-use Rattle.lookups.specs.Does.{is_accepted}
-use Rattle.lookups.specs.History.{after}
-use Rattle.lookups.specs.RuleSlots.{add_of}
-use Rattle.lookups.specs.Publication.{Publication}
+use Rattle.entry_table.specs.CompiledRule.{CompiledRule, IsFit}
+use Rattle.program_table.specs.declared.command.Command.TheVariants.{AddRule, RemoveRule, Attach}
+use Rattle.program_table.specs.declared.command.Reply.{Reply}
+use Rattle.program_table.specs.Answers.{slot_asked}
+use Rattle.program_table.specs.State.{State}
+use Rattle.program_table.specs.Does.{is_accepted}
+use Rattle.program_table.specs.History.{after}
+use Rattle.program_table.specs.RuleSlots.{add_of}
+use Rattle.published.specs.Publication.{Publication}
 use Rattle.passes.specs.declared.error.BusError.{BusError}
 use Rattle.passes.specs.declared.error.BusError.TheVariants as errors
 use Rattle.passes.specs.Passes.{PassState}

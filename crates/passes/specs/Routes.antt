@@ -5,11 +5,11 @@ use Rattle.message_view.specs.Message.{Message}
 use Rattle.message_view.specs.Valid.{Valid}
 use Rattle.outbox.specs.Items.{Item}
 use Rattle.outbox.specs.Seated.{OutboxId}
-use Rattle.lookups.specs.Connections.{is_connected}
-use Rattle.lookups.specs.History.{after}
-use Rattle.lookups.specs.Recipients.{AreRecipients}
+use Rattle.program_table.specs.Connections.{is_connected, mailbox_of}
+use Rattle.program_table.specs.History.{after}
+use Rattle.program_table.specs.Recipients.{AreRecipients}
+use Rattle.program_table.specs.State.{State}
 use Rattle.routing.specs.Stops.{RisesFrom, puts_at, outbox_at, shut_at, is_in, is_put, AllFit}
-use Rattle.lookups.specs.Newcomers.{IsOutboxOf}
 use Rattle.passes.specs.declared.error.BusError.{BusError}
 use Rattle.passes.specs.declared.error.BusError.TheVariants as errors
 use Rattle.passes.specs.declared.reading.Source.{Source}
@@ -20,6 +20,10 @@ abbrev pub max_count : ℕ
 max_count = 18446744073709551615
 
 module _ {M : Type 0} where
+  -- the outbox is that of the connection's mailbox
+  abbrev pub IsOutboxOf : (M → OutboxId) → State M → ℕ → OutboxId → Type 0
+  IsOutboxOf outbox_of s n outbox = (m : M) × (mailbox_of n s.connections ≡ Some m) × (outbox_of m ≡ outbox)
+
   -- the connection is there in what the pass has seen
   abbrev pub is_there : ℕ → PassState M → Bool
   is_there n w = is_connected n (after w.seen).connections

@@ -1,9 +1,9 @@
 -- Unicast messages of a pass (own).
 use Rattle.std.specs.Prelude.{◌≡◌, ◌⊎◌, ◌==◌, ℕ, true, List, None}
 use Rattle.outbox.specs.Seated.{OutboxId}
-use Rattle.lookups.specs.History.{after}
+use Rattle.program_table.specs.History.{after}
 use Rattle.routing.specs.Stops.{shut_at}
-use Rattle.lookups.specs.NameOwners.{IsOwner}
+use Rattle.program_table.specs.NameOwners.{IsOwner}
 use Rattle.passes.specs.declared.error.BusError.{BusError}
 use Rattle.passes.specs.declared.error.BusError.TheVariants as errors
 use Rattle.passes.specs.declared.unicasts.Sent.{Sent}

@@ -8,8 +8,10 @@ use crate::error::BusError;
 use crate::pass::Pass;
 use crate::reading::Source;
 use arrayvec::ArrayVec;
-use lookups::{FanError, Gate, MAX_RECIPIENTS, MAX_WORKERS, Mailbox, Naming};
+use fan_out::{FanError, Gate, MAX_RECIPIENTS, MAX_WORKERS, select_many};
 use message_view::View;
+use program_table::Mailbox;
+use published::Naming;
 use std::sync::Wait;
 use std::thread::Threads;
 
@@ -35,10 +37,13 @@ impl<J: Naming, M: Mailbox + Sync> Pass<J, M> {
         if workers == 0 || workers > MAX_WORKERS {
             return Err(BusError::Fan(FanError::Workers));
         }
-        if self.connection() == 0 || (source == Source::Own && self.is_closed()) {
-            return Err(BusError::Closed);
-        }
+        let visit = self.enter(source)?;
         let sender = source.sender(self.connection());
-        self.let_workers_look(rt, sender, view, workers, gate)
+        let found = select_many(rt, visit.state(), sender, view, workers, gate);
+        self.leave(visit);
+        match found {
+            Ok(found) => Ok(found),
+            Err(error) => Err(BusError::Fan(error)),
+        }
     }
 }

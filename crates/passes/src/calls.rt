@@ -1,13 +1,14 @@
 // The calls that publish a command of a pass's connection.
 
 ghost use Rattle.std.specs.Prelude.{true, false};
-ghost use Rattle.lookups.specs.Command.TheVariants.{Detach, Request, Release, DropOne, Close};
+ghost use Rattle.program_table.specs.declared.command.Command.TheVariants.{Detach, Request, Release, DropOne, Close};
 ghost use Rattle.passes.specs.Calls.{Answers};
 
 use crate::control::Control;
 use crate::error::BusError;
 use crate::pass::Pass;
-use lookups::{Command, Mailbox, Naming, Reply};
+use program_table::{Command, Mailbox, Reply};
+use published::Naming;
 use owners::WellKnown;
 use std::sync::Wait;
 

@@ -2,9 +2,9 @@
 
 ghost use Rattle.std.specs.Prelude.{◌≡◌, ◌<◌, false, true, length, MatchResult, IfOk};
 ghost use mathlib.Core.List.{IsPrefix};
-ghost use Rattle.lookups.specs.State.{State};
-ghost use Rattle.lookups.specs.History.{after, is_command_of, IsHistory};
-ghost use Rattle.lookups.specs.Publication.{Publication, nothing_published};
+ghost use Rattle.program_table.specs.State.{State};
+ghost use Rattle.program_table.specs.History.{after, is_command_of, IsHistory};
+ghost use Rattle.published.specs.Publication.{Publication, nothing_published};
 ghost use Rattle.passes.specs.Passes.{PassState, new_pass};
 ghost use Rattle.passes.specs.Calls.{Answers, Connects};
 ghost use Rattle.passes.specs.Readiness.{Admits, IsReady};
@@ -12,12 +12,11 @@ ghost use Rattle.passes.specs.Readiness.{Admits, IsReady};
 use crate::error::BusError;
 use crate::pass::Pass;
 use crossbeam_utils::rule::Protocol;
+use entry_table::IndexKey;
 use left_right::Absorb;
 use logbook::Rule;
-use lookups::{
-    BusState, Command, Entry, Front, IndexKey, Law, Mailbox, Naming, Opened, PublishError,
-    Published, Publisher, Reply, Shown,
-};
+use program_table::{BusState, Command, Mailbox, Reply};
+use published::{Entry, Front, Law, Naming, Opened, PublishError, Published, Publisher, Shown};
 use std::alloc::{AllocError, Global};
 use std::collections::LinkedList;
 use std::marker::Model;
@@ -49,7 +48,7 @@ where
     Shown<J, M>: Absorb<Entry<J, M>, State = LinkedList<Command<M>>>,
     Law: Rule<Command<M>, u64>,
 {
-    ghost use Rattle.lookups.specs.Publication.{Publication};
+    ghost use Rattle.published.specs.Publication.{Publication};
 
     ghost Value = { Publication M };
 

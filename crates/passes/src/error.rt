@@ -6,8 +6,9 @@ ghost use Rattle.passes.specs.Compiling.{compile_error};
 ghost use Rattle.passes.specs.Readings.{rule_error};
 
 use bpf_verify::VerifyError;
-use lookups::{FanError, Refusal};
+use fan_out::FanError;
 use match_rule::RuleError;
+use program_table::Refusal;
 use rule_compile::CompileError;
 use std::error::Error;
 use std::fmt;

@@ -4,7 +4,8 @@ ghost use Rattle.std.specs.Prelude.{◌≡◌, None, IfOk};
 
 use crate::pass::Pass;
 use bytes::Bytes;
-use lookups::{Mailbox, Naming};
+use program_table::Mailbox;
+use published::Naming;
 use outbox::Item;
 use routing::Carrier;
 use std::alloc::{AllocError, Global};

@@ -5,7 +5,8 @@ ghost use Rattle.passes.specs.Passes.{max_kept, new_pass};
 
 use crate::pass::Pass;
 use crossbeam_utils::rule::Protocol;
-use lookups::{Command, Mailbox, Naming, Published, Shown, Sight};
+use program_table::{Command, Mailbox};
+use published::{Naming, Published, Shown, Sight};
 use std::alloc::{AllocError, Global};
 use std::collections::LinkedList;
 use std::marker::Model;
@@ -28,7 +29,7 @@ where
 {
     ghost use Rattle.std.specs.Prelude.{◌≤◌, List};
     ghost use Rattle.std.specs.Vec.{vec_capacity};
-    ghost use Rattle.lookups.specs.Command.{Command};
+    ghost use Rattle.program_table.specs.declared.command.Command.{Command};
     ghost use Rattle.passes.specs.Passes.{max_kept};
 
     ghost Value = { List (List (Command M)) };

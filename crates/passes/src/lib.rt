@@ -15,6 +15,7 @@ mod pass;
 mod reading;
 mod route_lists;
 mod routes;
+mod seating;
 mod texts;
 mod unicasts;
 
@@ -27,7 +28,7 @@ pub use route_lists::RouteLists;
 pub use unicasts::Sent;
 
 // Passed on from the crates below, so that the crates above need not name those in crates.txt.
-pub use lookups::{
-    Command, Front, IndexKey, MAX_RECIPIENTS, Mailbox, Naming, Opened, Published, Refusal, Reply,
-    Shown,
-};
+pub use entry_table::IndexKey;
+pub use fan_out::MAX_RECIPIENTS;
+pub use program_table::{Command, Mailbox, Refusal, Reply};
+pub use published::{Front, Naming, Opened, Published, Shown};

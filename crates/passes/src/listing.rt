@@ -2,16 +2,19 @@
 
 ghost use Rattle.std.specs.Prelude.{◌≡◌};
 ghost use Rattle.owners.specs.Queues.{queue_of};
-ghost use Rattle.lookups.specs.Connections.{numbers_of};
-ghost use Rattle.lookups.specs.Names.{AreNames};
+ghost use Rattle.program_table.specs.Connections.{numbers_of};
+ghost use Rattle.program_table.specs.Names.{AreNames};
 ghost use Rattle.passes.specs.Passes.{PassState};
 ghost use Rattle.passes.specs.Asking.{Tells};
 
 use crate::error::BusError;
 use crate::pass::Pass;
+use crate::reading::Source;
 use arrayvec::ArrayVec;
-use lookups::{MAX_RECIPIENTS, Mailbox, Naming};
+use fan_out::MAX_RECIPIENTS;
 use owners::WellKnown;
+use program_table::Mailbox;
+use published::Naming;
 use std::alloc::Global;
 
 impl<J: Naming, M: Mailbox> Pass<J, M> {
@@ -29,10 +32,14 @@ impl<J: Naming, M: Mailbox> Pass<J, M> {
         ensures found { Tells self.old.seen (λ s found. (found.0.items ≡ numbers_of s.connections) × AreNames s.registrations.claims found.1.items) result self.new.seen }
         ensures same { self.new ≡ record self.old { seen = self.new.seen } }
     {
-        if self.connection() == 0 || self.is_closed() {
-            return Err(BusError::Closed);
+        let visit = self.enter(Source::Own)?;
+        let numbers = visit.state().numbers();
+        let names = visit.state().names(alloc);
+        self.leave(visit);
+        match names {
+            Ok(names) => Ok((numbers, names)),
+            Err(_) => Err(BusError::NoMemory),
         }
-        self.look_for_names(alloc)
     }
 
     /// The connections that own a name or wait for it, in order, the primary owner first, after a history that begins
@@ -46,9 +53,12 @@ impl<J: Naming, M: Mailbox> Pass<J, M> {
         ensures found { Tells self.old.seen (λ s found. found.items ≡ queue_of name.now s.registrations.claims) result self.new.seen }
         ensures same { self.new ≡ record self.old { seen = self.new.seen } }
     {
-        if self.connection() == 0 || self.is_closed() {
-            return Err(BusError::Closed);
+        let visit = self.enter(Source::Own)?;
+        let found = visit.state().queue_of(name.as_str()).collect(alloc);
+        self.leave(visit);
+        match found {
+            Ok(found) => Ok(found),
+            Err(_) => Err(BusError::NoMemory),
         }
-        self.look_for_queue(alloc, name)
     }
 }

@@ -1,38 +1,20 @@
 // What one user of the bus has seen and done.
 
-ghost use Rattle.std.specs.Prelude.{ℕ, ◌≡◌, ◌≢◌, ◌⊎◌, ◌+◌, ◌≤◌, ◌<◌, ◌^◌, [], true, length, IfOk, MatchOption, MatchResult, option_map};
+ghost use Rattle.std.specs.Prelude.{◌≡◌, ◌≢◌, ◌⊎◌, ◌+◌, ◌≤◌, ◌<◌, ◌^◌, [], true, length, MatchResult};
 ghost use mathlib.Core.List.{IsPrefix};
-ghost use Rattle.message_view.specs.Message.{Message};
-ghost use Rattle.message_view.specs.Valid.{Valid};
-ghost use Rattle.owners.specs.Queues.{owner_of, queue_of};
-ghost use Rattle.lookups.specs.Connections.{is_connected, numbers_of};
-ghost use Rattle.lookups.specs.History.{after, own_commands};
-ghost use Rattle.lookups.specs.Recipients.{AreRecipients};
-ghost use Rattle.lookups.specs.Reach.{TellsReach};
+ghost use Rattle.program_table.specs.History.{own_commands};
 ghost use Rattle.passes.specs.Passes.{PassState, HasTaken, new_pass};
 ghost use Rattle.passes.specs.Sending.{sending};
-ghost use Rattle.lookups.specs.NameOwners.{IsOwner};
-ghost use Rattle.lookups.specs.Addressees.{IsAddressee};
-ghost use Rattle.lookups.specs.Broadcasts.{AreFound, IsFound};
-ghost use Rattle.lookups.specs.Names.{AreNames};
-ghost use Rattle.passes.specs.Asking.{Tells, TellsByWorkers};
 
 use crate::error::BusError;
-use arrayvec::ArrayVec;
+use crate::reading::Source;
 use crossbeam_utils::rule::Protocol;
-use lookups::{
-    Addressee, Audience, Command, FanError, Front, Gate, MAX_RECIPIENTS, MAX_WORKERS, Mailbox,
-    Names, Naming, Published, Shown, Sight, found_addressee, found_by_workers, found_connection,
-    found_mailboxes, found_names, found_owner, found_queue, found_reach, found_recipients,
-};
-use message_view::View;
-use owners::WellKnown;
-use routing::{Carrier, Sender};
-use std::alloc::{AllocError, Global};
+use program_table::{Command, Mailbox};
+use published::{Front, Naming, Published, Shown, Sight, Visit};
+use routing::Sender;
+use std::alloc::Global;
 use std::collections::LinkedList;
 use std::marker::Model;
-use std::sync::Wait;
-use std::thread::Threads;
 
 /// One user of the bus: what it has seen of the history, its connection, and how many of its calls were accepted.
 #[derive(Drop)]
@@ -181,151 +163,27 @@ impl<J: Naming, M: Mailbox> Pass<J, M> {
         sight
     }
 
-    // Enters the published state, and lists the recipients.
-    pub(crate) fn look_for_recipients(
-        &mut self,
-        sender: Option<u64>,
-        view: &View<'_>,
-        recipients: &mut ArrayVec<u64, MAX_RECIPIENTS>,
-    ) -> Result<(), BusError>
-        requires { recipients.old.items ≡ [] }
-        ensures found { MatchResult result
-            (λ _. IsPrefix self.old.seen self.new.seen × ((m : Message) → Valid view.now m → AreRecipients (after self.new.seen) sender m recipients.new.items))
-            (λ error. (error ≡ BusError.Closed) × (self.new.seen ≡ self.old.seen)) }
-        ensures same { self.new ≡ record self.old { seen = self.new.seen } }
+    /// Enters the published state for a message of this source, or for a question of the pass's own: the history that the
+    /// state comes of begins with what was seen.
+    ///
+    /// # Errors
+    ///
+    /// `Closed` where the pass was never connected, or was closed and the message isn't the bus's, or the bus is gone.
+    pub(crate) fn enter(&mut self, source: Source) -> Result<Visit<J, M>, BusError>
+        ensures visit { MatchResult result (λ visit. IsPrefix self.old.seen visit × (self.old.connection ≢ 0)) (λ error. error ≡ BusError.Closed) }
+        ensures same { self.new ≡ self.old }
     {
-        let found = found_recipients(&mut self.sight, sender, view, recipients);
-        found.ok_or(BusError::Closed)
-    }
-
-    // Enters the published state for whether a message with these texts may reach anybody.
-    pub(crate) fn look_for_reach(&mut self, view: &View<'_>) -> Result<bool, BusError>
-        ensures found { MatchResult result
-            (λ found. IsPrefix self.old.seen self.new.seen × ((m : Message) → Valid view.now m → TellsReach (after self.new.seen) m found))
-            (λ error. (error ≡ BusError.Closed) × (self.new.seen ≡ self.old.seen)) }
-        ensures same { self.new ≡ record self.old { seen = self.new.seen } }
-    {
-        let found = found_reach(&mut self.sight, view);
-        found.ok_or(BusError::Closed)
-    }
-
-    // Enters the published state for a name's owner.
-    pub(crate) fn look_for_owner(&mut self, name: &WellKnown) -> Result<Option<u64>, BusError>
-        ensures found { MatchResult result
-            (λ found. IsPrefix self.old.seen self.new.seen × (found ≡ owner_of name.now (after self.new.seen).registrations.claims))
-            (λ error. (error ≡ BusError.Closed) × (self.new.seen ≡ self.old.seen)) }
-        ensures same { self.new ≡ record self.old { seen = self.new.seen } }
-    {
-        let found = found_owner(&mut self.sight, name);
-        found.ok_or(BusError::Closed)
-    }
-
-    // Enters the published state for a connection's number.
-    pub(crate) fn look_for_connection(&mut self, number: u64) -> Result<bool, BusError>
-        ensures found { MatchResult result
-            (λ found. IsPrefix self.old.seen self.new.seen × (found ≡ is_connected number (after self.new.seen).connections))
-            (λ error. (error ≡ BusError.Closed) × (self.new.seen ≡ self.old.seen)) }
-        ensures same { self.new ≡ record self.old { seen = self.new.seen } }
-    {
-        let found = found_connection(&mut self.sight, number);
-        found.ok_or(BusError::Closed)
-    }
-
-    // Enters the published state for the connections and names.
-    pub(crate) fn look_for_names(&mut self, alloc: Global) -> Result<Names, BusError>
-        ensures found { Tells self.old.seen (λ s found. (found.0.items ≡ numbers_of s.connections) × AreNames s.registrations.claims found.1.items) result self.new.seen }
-        ensures same { self.new ≡ record self.old { seen = self.new.seen } }
-    {
-        let found = found_names(&mut self.sight, alloc);
-        match found {
-            Some(Ok(found)) => Ok(found),
-            Some(Err(_)) => Err(BusError::NoMemory),
-            None => Err(BusError::Closed),
+        if self.connection == 0 || (source == Source::Own && self.is_closed) {
+            return Err(BusError::Closed);
         }
+        self.sight.enter().ok_or(BusError::Closed)
     }
 
-    // Enters the published state for a name's queue.
-    pub(crate) fn look_for_queue(
-        &mut self,
-        alloc: Global,
-        name: &WellKnown,
-    ) -> Result<Vec<u64>, BusError>
-        ensures found { Tells self.old.seen (λ s found. found.items ≡ queue_of name.now s.registrations.claims) result self.new.seen }
-        ensures same { self.new ≡ record self.old { seen = self.new.seen } }
+    /// Leaves the published state, whose history is then seen.
+    pub(crate) fn leave(&mut self, visit: Visit<J, M>)
+        requires { IsPrefix self.old.seen visit }
+        ensures { self.new ≡ record self.old { seen = visit } }
     {
-        let found = found_queue(&mut self.sight, alloc, name);
-        match found {
-            Some(Ok(found)) => Ok(found),
-            Some(Err(_)) => Err(BusError::NoMemory),
-            None => Err(BusError::Closed),
-        }
-    }
-}
-
-impl<J: Naming, M: Mailbox + Sync> Pass<J, M> {
-    // Enters the published state for the recipients, which workers find.
-    pub(crate) fn let_workers_look<G: Gate, R: Threads + Wait>(
-        &mut self,
-        rt: &R,
-        sender: Option<u64>,
-        view: &View<'_>,
-        workers: u32,
-        gate: &G,
-    ) -> Result<ArrayVec<u64, MAX_RECIPIENTS>, BusError>
-        requires { (0 < workers) × (workers ≤ MAX_WORKERS) }
-        ensures found { TellsByWorkers self.old.seen sender view.now workers result self.new.seen }
-        ensures same { self.new ≡ record self.old { seen = self.new.seen } }
-    {
-        let found = found_by_workers(rt, &mut self.sight, sender, view, workers, gate);
-        match found {
-            Some(Ok(found)) => Ok(found),
-            Some(Err(error)) => Err(BusError::Fan(error)),
-            None => Err(BusError::Closed),
-        }
-    }
-}
-
-impl<J: Naming, M: Mailbox + Carrier> Pass<J, M> {
-    // Enters the published state, lists the recipients, and finds what the sender needs for them.
-    pub(crate) fn look_for_mailboxes(
-        &mut self,
-        alloc: Global,
-        sender: &Sender<M>,
-        from: Option<u64>,
-        view: &View<'_>,
-        recipients: &mut ArrayVec<u64, MAX_RECIPIENTS>,
-    ) -> Result<Audience<M>, BusError>
-        requires { recipients.old.items ≡ [] }
-        ensures found { MatchResult result
-            (λ found. IsPrefix self.old.seen self.new.seen × IsFound M.outbox_of (after self.new.seen) from view.now sender.now.stops recipients.new.items found.newcomers.items (option_map (λ v. v.items) found.connected))
-            (λ error. ((error ≡ BusError.Closed) × (self.new.seen ≡ self.old.seen)) ⊎ ((error ≡ BusError.NoMemory) × IsPrefix self.old.seen self.new.seen)) }
-        ensures same { self.new ≡ record self.old { seen = self.new.seen } }
-    {
-        let found = found_mailboxes(&mut self.sight, alloc, sender, from, view, recipients);
-        match found {
-            Some(Ok(found)) => Ok(found),
-            Some(Err(_)) => Err(BusError::NoMemory),
-            None => Err(BusError::Closed),
-        }
-    }
-
-    // Enters the published state for the owner of a name and what the sender needs for it.
-    pub(crate) fn look_for_addressee(
-        &mut self,
-        alloc: Global,
-        sender: &Sender<M>,
-        name: &str,
-    ) -> Result<Option<Addressee<M>>, BusError>
-        ensures found { MatchResult result
-            (λ found. IsPrefix self.old.seen self.new.seen × MatchOption found ((n : ℕ) → IsOwner (after self.new.seen) name.now n → ⊥) (λ a. IsAddressee M.outbox_of (after self.new.seen) name.now sender.now.stops a.number a.newcomers.items (option_map (λ v. v.items) a.connected)))
-            (λ error. ((error ≡ BusError.Closed) × (self.new.seen ≡ self.old.seen)) ⊎ ((error ≡ BusError.NoMemory) × IsPrefix self.old.seen self.new.seen)) }
-        ensures same { self.new ≡ record self.old { seen = self.new.seen } }
-    {
-        let found = found_addressee(&mut self.sight, alloc, sender, name);
-        match found {
-            Some(Ok(found)) => Ok(found),
-            Some(Err(_)) => Err(BusError::NoMemory),
-            None => Err(BusError::Closed),
-        }
+        self.sight.leave(visit);
     }
 }

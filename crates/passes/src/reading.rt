@@ -5,18 +5,20 @@ ghost use mathlib.Core.List.{IsPrefix};
 ghost use Rattle.message_view.specs.Message.{Message};
 ghost use Rattle.message_view.specs.Valid.{Valid};
 ghost use Rattle.owners.specs.Queues.{owner_of};
-ghost use Rattle.lookups.specs.Connections.{is_connected};
-ghost use Rattle.lookups.specs.History.{after};
-ghost use Rattle.lookups.specs.Recipients.{AreRecipients};
-ghost use Rattle.lookups.specs.Reach.{TellsReach};
+ghost use Rattle.program_table.specs.Connections.{is_connected};
+ghost use Rattle.program_table.specs.History.{after};
+ghost use Rattle.program_table.specs.Recipients.{AreRecipients};
+ghost use Rattle.fan_out.specs.Reach.{TellsReach};
 ghost use Rattle.passes.specs.Passes.{PassState, sender_of};
 
 use crate::error::BusError;
 use crate::pass::Pass;
 use arrayvec::ArrayVec;
-use lookups::{MAX_RECIPIENTS, Mailbox, Naming};
+use fan_out::{MAX_RECIPIENTS, may_reach, select_into};
 use message_view::View;
 use owners::WellKnown;
+use program_table::Mailbox;
+use published::Naming;
 
 /// Whose message a pass asks for.
 #[derive(Clone, Copy, Debug, PartialEq, Eq)]
@@ -56,12 +58,11 @@ impl<J: Naming, M: Mailbox> Pass<J, M> {
             (λ error. (error ≡ BusError.Closed) × (self.new.seen ≡ self.old.seen)) }
         ensures same { self.new ≡ record self.old { seen = self.new.seen } }
     {
-        if self.connection() == 0 || (source == Source::Own && self.is_closed()) {
-            return Err(BusError::Closed);
-        }
+        let visit = self.enter(source)?;
         let sender = source.sender(self.connection());
         let mut recipients = ArrayVec::new();
-        self.look_for_recipients(sender, view, &mut recipients)?;
+        select_into(visit.state(), sender, view, &mut recipients);
+        self.leave(visit);
         Ok(recipients)
     }
 
@@ -78,10 +79,10 @@ impl<J: Naming, M: Mailbox> Pass<J, M> {
             (λ error. (error ≡ BusError.Closed) × (self.new.seen ≡ self.old.seen)) }
         ensures same { self.new ≡ record self.old { seen = self.new.seen } }
     {
-        if self.connection() == 0 || self.is_closed() {
-            return Err(BusError::Closed);
-        }
-        self.look_for_reach(view)
+        let visit = self.enter(Source::Own)?;
+        let found = may_reach(visit.state(), view);
+        self.leave(visit);
+        Ok(found)
     }
 
     /// The primary owner of a name, after a history that begins with what was seen, and is seen then.
@@ -95,10 +96,10 @@ impl<J: Naming, M: Mailbox> Pass<J, M> {
             (λ error. (error ≡ BusError.Closed) × (self.new.seen ≡ self.old.seen)) }
         ensures same { self.new ≡ record self.old { seen = self.new.seen } }
     {
-        if self.connection() == 0 || self.is_closed() {
-            return Err(BusError::Closed);
-        }
-        self.look_for_owner(name)
+        let visit = self.enter(Source::Own)?;
+        let found = visit.state().owner_of(name.as_str());
+        self.leave(visit);
+        Ok(found)
     }
 
     /// Whether there is a connection of this number, after a history that begins with what was seen, and is seen then.
@@ -112,9 +113,9 @@ impl<J: Naming, M: Mailbox> Pass<J, M> {
             (λ error. (error ≡ BusError.Closed) × (self.new.seen ≡ self.old.seen)) }
         ensures same { self.new ≡ record self.old { seen = self.new.seen } }
     {
-        if self.connection() == 0 || self.is_closed() {
-            return Err(BusError::Closed);
-        }
-        self.look_for_connection(number)
+        let visit = self.enter(Source::Own)?;
+        let found = visit.state().is_connected(number);
+        self.leave(visit);
+        Ok(found)
     }
 }

@@ -3,7 +3,7 @@
 ghost use Rattle.std.specs.Prelude.{◌≡◌, []};
 
 use arrayvec::ArrayVec;
-use lookups::MAX_RECIPIENTS;
+use fan_out::MAX_RECIPIENTS;
 
 /// The recipients of a broadcast, and those whose outbox refused it, by rising number. Each list has room for all
 /// connections of a bus, two kilobytes, so whoever sends many messages keeps the lists from one to the next: they needn't

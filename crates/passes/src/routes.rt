@@ -1,78 +1,43 @@
 // Broadcasts of a pass.
 
-ghost use Rattle.std.specs.Prelude.{◌≡◌, ◌⊎◌, [], IfErr, OnOk, MatchResult, map, option_map};
-ghost use Rattle.routing.specs.Stops.{RisesFrom, number_of, AllHave};
-ghost use Rattle.passes.specs.Sending.{kept_stops, AreReachable, KeepsThose, UnroutedThose, RoutedThose};
+ghost use Rattle.std.specs.Prelude.{◌≡◌, ◌⊎◌, [], IfErr, OnOk, MatchResult};
+ghost use Rattle.routing.specs.Stops.{RisesFrom, AllHave, Keeps, Routed, Unrouted};
 ghost use Rattle.passes.specs.Routes.{HasRouted, IsUnrouted};
 
 use crate::error::BusError;
 use crate::pass::Pass;
 use crate::reading::Source;
 use crate::route_lists::RouteLists;
+use crate::seating::seat_recipients;
 use arrayvec::ArrayVec;
 use bytes::Bytes;
-use lookups::{Audience, MAX_RECIPIENTS, Mailbox, Naming};
+use fan_out::MAX_RECIPIENTS;
 use message_view::View;
-use routing::{Carrier, Gate, Recipient, RouteError, Sender};
+use program_table::Mailbox;
+use published::Naming;
+use routing::{Carrier, Gate, OpenGate, RouteError, Sender};
 use std::alloc::{AllocError, Global};
 use std::sync::Wait;
 
-/// A gate that holds nothing back.
-struct OpenGate;
-
-impl Gate for OpenGate {
-    fn before(&self, _piece: u32) {}
-
-    fn after(&self, _piece: u32) {}
-}
-
-// Gives up the seats of those who aren't connected, where it is told who is.
-fn give_up<M: Carrier>(sender: &mut Sender<M>, connected: Option<Vec<u64>>)
-    ensures { sender.new ≡ record sender.old { stops = kept_stops (option_map (λ v. v.items) connected) sender.old.stops } }
-{
-    match connected {
-        Some(connected) => sender.retain(connected.as_slice()),
-        None => {}
-    }
-}
-
-/// Gives up seats, and takes the newcomers' seats.
-pub(crate) fn prepare<M: Carrier>(
-    sender: &mut Sender<M>,
-    connected: Option<Vec<u64>>,
-    newcomers: Vec<Recipient<M>>,
-) -> Result<(), AllocError>
-    ensures keeps { KeepsThose (option_map (λ v. v.items) connected) newcomers.items sender.old sender.new }
-    ensures unrouted { UnroutedThose (option_map (λ v. v.items) connected) sender.old sender.new }
-    ensures all { OnOk result (AllHave (map number_of newcomers.items) sender.new.stops) }
-{
-    give_up(sender, connected);
-    sender.take_seats(newcomers)
-}
-
-// Puts a broadcast to those who were found.
-fn broadcast<M: Carrier, W: Wait, G: Gate>(
+// Puts a broadcast to its recipients, once the sender has its seats.
+fn route<M: Carrier, W: Wait, G: Gate>(
     rt: &W,
     alloc: Global,
     sender: &mut Sender<M>,
+    seated: Result<(), AllocError>,
     recipients: &ArrayVec<u64, MAX_RECIPIENTS>,
-    found: Audience<M>,
     bytes: &Bytes,
     gate: &G,
     refused: &mut ArrayVec<u64, MAX_RECIPIENTS>,
 ) -> Result<(), BusError>
     requires none { refused.old.items ≡ [] }
-    requires reachable { AreReachable (option_map (λ v. v.items) found.connected) recipients.now.items found.newcomers.items sender.old.stops }
     requires rising { RisesFrom 0 recipients.now.items }
-    ensures keeps { KeepsThose (option_map (λ v. v.items) found.connected) found.newcomers.items sender.old sender.new }
-    ensures ok { OnOk result (RoutedThose (option_map (λ v. v.items) found.connected) bytes.now recipients.now.items refused.new.items sender.old sender.new) }
-    ensures err { IfErr result (λ error. ((error ≡ BusError.NoMemory) ⊎ ((error ≡ BusError.Counts) × (sender.old.count ≡ u64.MAX))) × UnroutedThose (option_map (λ v. v.items) found.connected) sender.old sender.new) }
+    requires seats { OnOk seated (AllHave recipients.now.items sender.old.stops) }
+    ensures keeps { Keeps [] sender.old sender.new }
+    ensures ok { OnOk result (Routed bytes.now recipients.now.items refused.new.items sender.old sender.new) }
+    ensures err { IfErr result (λ error. ((error ≡ BusError.NoMemory) ⊎ ((error ≡ BusError.Counts) × (sender.old.count ≡ u64.MAX))) × Unrouted sender.old sender.new) }
 {
-    let Audience {
-        newcomers,
-        connected,
-    } = found;
-    match prepare(sender, connected, newcomers) {
+    match seated {
         Ok(()) => {}
         Err(_) => return Err(BusError::NoMemory),
     }
@@ -126,34 +91,25 @@ impl<J: Naming, M: Mailbox + Carrier> Pass<J, M> {
         ensures { MatchResult result (λ _. HasRouted M.outbox_of source bytes.now self.old lists.new.recipients.items lists.new.refused.items self.new) (λ error. IsUnrouted M.outbox_of error self.old self.new) }
     {
         lists.clear();
-        let connection = self.connection();
-        if connection == 0 || (source == Source::Own && self.is_closed()) {
-            return Err(BusError::Closed);
-        }
+        let visit = self.enter(source)?;
         let mut sender = self.take_sender(alloc);
+        let from = source.sender(self.connection());
+        let recipients = &mut lists.recipients;
+        let seated = seat_recipients(visit.state(), view, from, &mut sender, recipients);
+        self.leave(visit);
+        let answer = route(
+            rt,
+            alloc,
+            &mut sender,
+            seated,
+            &lists.recipients,
+            bytes,
+            gate,
+            &mut lists.refused,
+        );
         let _ = sender.seats();
-        let from = source.sender(connection);
-        match self.look_for_mailboxes(alloc, &sender, from, view, &mut lists.recipients) {
-            Ok(found) => {
-                let answer = broadcast(
-                    rt,
-                    alloc,
-                    &mut sender,
-                    &lists.recipients,
-                    found,
-                    bytes,
-                    gate,
-                    &mut lists.refused,
-                );
-                let _ = sender.seats();
-                self.put_back(sender);
-                answer
-            }
-            Err(error) => {
-                self.put_back(sender);
-                Err(error)
-            }
-        }
+        self.put_back(sender);
+        answer
     }
 
     /// Writes out what stands in each outbox into which the pass has put since the last call. Nothing is held any more.

@@ -2,7 +2,7 @@
 
 ghost use Rattle.std.specs.Prelude.{◌≡◌, ◌⊎◌, ◌<◌, true, MatchResult, IfOk};
 ghost use Rattle.bpf_code.specs.declared.instruction.Ins.{Ins};
-ghost use Rattle.lookups.specs.History.{after};
+ghost use Rattle.program_table.specs.History.{after};
 ghost use Rattle.passes.specs.Readings.{AddsMatch, AddsRule, RemovesMatch, Attaches};
 ghost use Rattle.passes.specs.Compiling.{Compiles};
 
@@ -11,8 +11,10 @@ use crate::error::BusError;
 use crate::pass::Pass;
 use bpf_code::Ins;
 use bpf_verify::verify;
-use lookups::{Attachment, Command, Mailbox, Naming, Reply, RuleProgram};
+use entry_table::{Attachment, RuleProgram};
 use match_rule::Rule;
+use program_table::{Command, Mailbox, Reply};
+use published::Naming;
 use std::alloc::Global;
 use std::sync::Wait;
 use summary::Edition;

@@ -1,16 +1,19 @@
 // Unicast messages of a pass.
 
-ghost use Rattle.std.specs.Prelude.{◌≡◌, ◌∷◌, [], IfOk, IfErr, MatchResult, option_map};
-ghost use Rattle.passes.specs.Sending.{AreReachable, KeepsThose, UnroutedThose, IsDelivered};
+ghost use Rattle.std.specs.Prelude.{◌≡◌, [], IfOk, IfErr, IfSome, MatchResult};
+ghost use Rattle.routing.specs.Stops.{HasStop, Keeps, Unrouted};
+ghost use Rattle.passes.specs.Deliveries.{IsDelivered};
 ghost use Rattle.passes.specs.Unicasts.{Unicasts, IsUnsent};
 
 use crate::error::BusError;
 use crate::pass::Pass;
-use crate::routes::prepare;
+use crate::reading::Source;
+use crate::seating::seat_owner;
 use bytes::Bytes;
-use lookups::{Addressee, Mailbox, Naming};
+use program_table::Mailbox;
+use published::Naming;
 use routing::{Carrier, Sender, Sent as PutOrFull};
-use std::alloc::Global;
+use std::alloc::{AllocError, Global};
 use std::sync::Wait;
 
 /// What became of a unicast message.
@@ -23,28 +26,24 @@ pub enum Sent {
     Full,
 }
 
-// Puts a message to the connection that was found.
+// Puts a message to the connection that was found, if one was, once the sender has its seat there.
 fn deliver<M: Carrier, W: Wait>(
     rt: &W,
     alloc: Global,
     sender: &mut Sender<M>,
-    addressee: Addressee<M>,
+    seated: Result<Option<u64>, AllocError>,
     bytes: &Bytes,
 ) -> Result<Sent, BusError>
-    requires { AreReachable (option_map (λ v. v.items) addressee.connected) (addressee.number ∷ []) addressee.newcomers.items sender.old.stops }
-    ensures keeps { KeepsThose (option_map (λ v. v.items) addressee.connected) addressee.newcomers.items sender.old sender.new }
-    ensures sent { IfOk result (IsDelivered (option_map (λ v. v.items) addressee.connected) addressee.number bytes.now sender.old sender.new) }
-    ensures err { IfErr result (λ error. (error ≡ BusError.NoMemory) × UnroutedThose (option_map (λ v. v.items) addressee.connected) sender.old sender.new) }
+    requires { IfOk seated (λ owner. IfSome owner (λ n. HasStop n sender.old.stops)) }
+    ensures keeps { Keeps [] sender.old sender.new }
+    ensures sent { IfOk result (IsDelivered seated bytes.now sender.old sender.new) }
+    ensures err { IfErr result (λ error. (error ≡ BusError.NoMemory) × Unrouted sender.old sender.new) }
 {
-    let Addressee {
-        number,
-        newcomers,
-        connected,
-    } = addressee;
-    match prepare(sender, connected, newcomers) {
-        Ok(()) => {}
+    let number = match seated {
+        Ok(Some(number)) => number,
+        Ok(None) => return Ok(Sent::NoOwner),
         Err(_) => return Err(BusError::NoMemory),
-    }
+    };
     match sender.unicast(rt, alloc, number, bytes) {
         Ok(PutOrFull::Put) => Ok(Sent::Put),
         Ok(PutOrFull::Full) => Ok(Sent::Full),
@@ -69,26 +68,13 @@ impl<J: Naming, M: Mailbox + Carrier> Pass<J, M> {
     ) -> Result<Sent, BusError>
         ensures { MatchResult result (λ sent. Unicasts M.outbox_of to.now bytes.now self.old sent self.new) (λ error. IsUnsent M.outbox_of error self.old self.new) }
     {
-        if self.connection() == 0 || self.is_closed() {
-            return Err(BusError::Closed);
-        }
+        let visit = self.enter(Source::Own)?;
         let mut sender = self.take_sender(alloc);
+        let seated = seat_owner(visit.state(), &mut sender, to);
+        self.leave(visit);
+        let answer = deliver(rt, alloc, &mut sender, seated, bytes);
         let _ = sender.seats();
-        match self.look_for_addressee(alloc, &sender, to) {
-            Ok(Some(addressee)) => {
-                let answer = deliver(rt, alloc, &mut sender, addressee, bytes);
-                let _ = sender.seats();
-                self.put_back(sender);
-                answer
-            }
-            Ok(None) => {
-                self.put_back(sender);
-                Ok(Sent::NoOwner)
-            }
-            Err(error) => {
-                self.put_back(sender);
-                Err(error)
-            }
-        }
+        self.put_back(sender);
+        answer
     }
 }

@@ -15,3 +15,4 @@ mod Gone
 pub mod OwnCounts
 mod SlotNumbers
 mod RuleSlots
+mod NameOrder

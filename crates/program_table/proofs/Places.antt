@@ -1,5 +1,5 @@
 -- What follows where the place of a connection is known.
-use Rattle.std.proofs.Common.{◌≡◌, ◌≢◌, ℕ, zero, suc, ◌+◌, ◌<◌, ◌≤◌, ◌==◌, Bool, true, false, not, cond, List, [], ◌∷◌, ◌++◌, length, get_or, set, map, filter, Option, Some, None, refl, sym, ap, subst, ◌∙◌, arith, length-append, length-set}
+use Rattle.std.proofs.Common.{◌≡◌, ◌≢◌, ℕ, zero, suc, ◌+◌, ◌<◌, ◌≤◌, ◌==◌, Bool, true, false, not, cond, List, [], ◌∷◌, ◌++◌, length, get_or, set, map, filter, Option, Some, None, refl, sym, ap, subst, ◌∙◌, arith, length-append, length-set, eqb-true}
 use Rattle.std.specs.Prelude.{find, remove, is_some, slice_get, MatchOption, All}
 use Rattle.std.specs.List.Sorted.{IsStrictlyIncreasing}
 use Rattle.std.proofs.lemmas.Bool.{eq-eqb, ne_eqb}
@@ -181,3 +181,12 @@ module _ {M : Type 0} where
   pub place_told : (n : ℕ) (cs : List (Connection M)) (r : Option ℕ) → MatchOption r (HaveOtherNumbers n cs) (IsPlaceOf n cs) → MatchOption r (is_connected n cs ≡ false) (λ place. slice_get (numbers_of cs) place ≡ Some n)
   place_told n cs None h = ap is_some (find-none n cs h)
   place_told n cs (Some k) p = number_here n k cs p
+
+  -- a connection's number isn't above the last one that was given
+  pub number_within : (n last : ℕ) (cs : List (Connection M)) → All (λ m. m ≤ last) (numbers_of cs) → is_connected n cs ≡ true → n ≤ last
+  number_within n last [] all e = absurd (let h : false ≡ true = e in cc)
+  number_within n last (c ∷ cs) all e = pick (c.number == n) refl e (λ k. number_within n last cs (λ j d lt. all (suc j) d (omega (arith, lt))) k)
+    where
+      pick : (b : Bool) → (c.number == n) ≡ b → is_some (cond b (Some c) (connection_of n cs)) ≡ true → (is_connected n cs ≡ true → n ≤ last) → n ≤ last
+      pick true is e later = let first : c.number ≤ last = all 0 0 (omega arith) in let same = eqb-true c.number n is in omega (arith, first, same)
+      pick false is e later = later e

@@ -19,3 +19,5 @@ pub mod Senders
 pub mod Removal
 pub mod Recipients
 pub mod Candidates
+pub mod Names
+pub mod NameOwners

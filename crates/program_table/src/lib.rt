@@ -2,6 +2,7 @@
 //! above use what `answer` and `apply` ensure, which is the table of commands.
 #![tactic(auto)]
 
+mod bus_names;
 mod command;
 mod connection;
 mod connections;

@@ -35,7 +35,7 @@ impl<M: Mailbox> Model for BusState<M> {
 }
 
 impl<M: Mailbox> BusState<M> {
-    ghost use Rattle.std.specs.Prelude.{◌≡◌, ◌<◌, ◌≤◌, ℕ, length, true, false, None, IfOk, IfErr, IfSome, MatchResult, MatchOption, option_map, option_copied, slice_get};
+    ghost use Rattle.std.specs.Prelude.{◌≡◌, ◌<◌, ◌≤◌, ◌^◌, ℕ, length, true, false, None, IfOk, IfErr, IfSome, MatchResult, MatchOption, option_map, option_copied, slice_get};
     ghost use Rattle.message_view.specs.Message.{Message};
     ghost use Rattle.message_view.specs.Valid.{Valid};
     ghost use Rattle.summary.specs.Sets.{has_slot, IsSet};
@@ -253,13 +253,21 @@ impl<M: Mailbox> BusState<M> {
         self.connections.as_slice()
     }
 
-    /// How many connections there are, at most 256.
+    /// How many connections there are, at most 256, each of which has a number of at most 64 bits.
     pub fn connection_count(&self) -> usize
         ensures count { result ≡ length self.now.connections }
         ensures few { result ≤ max_connections }
+        ensures numbers { (n : ℕ) → is_connected n self.now.connections ≡ true → n < 2 ^ 64 }
     {
         let _ = self.connections.last();
         self.connections().len()
+    }
+
+    /// Whether there is a connection of this number.
+    pub fn is_connected(&self, number: u64) -> bool
+        ensures { result ≡ is_connected number self.now.connections }
+    {
+        self.connections.contains(number)
     }
 
     /// Where a connection stands in that list.

@@ -1,7 +1,7 @@
 // Senders.
 
-ghost use Rattle.std.specs.Prelude.{◌≡◌, ◌<◌, ◌≤◌, [], ◌↔◌, true, IfOk, OnOk, OnErr, None, filter, is_some, length, map};
-ghost use Rattle.routing.specs.Stops.{RisesFrom, number_of, is_in, stop_at, shut_at, HasStop, AllHave, AllFit, Keeps, Routed, SentTo, Unrouted, is_sent};
+ghost use Rattle.std.specs.Prelude.{◌≡◌, ◌<◌, ◌≤◌, [], ◌∷◌, ◌↔◌, true, IfOk, OnOk, OnErr, None, filter, is_some, length};
+ghost use Rattle.routing.specs.Stops.{RisesFrom, is_in, stop_at, shut_at, HasStop, AllHave, AllFit, Keeps, Routed, SentTo, Unrouted, is_sent};
 ghost use Rattle.routing.specs.Puts.{RoutedTo, PutOnce};
 
 use crate::carrier::Carrier;
@@ -9,7 +9,7 @@ use crate::error::RouteError;
 use crate::events::{begin, end};
 use crate::gate::{Gate, OpenGate};
 use crate::recipient::Recipient;
-use crate::stops::{Stop, place_of, push_out_all, put_all, put_at, retain, take_seats};
+use crate::stops::{Stop, place_of, push_out_all, put_all, put_at, retain, take_seat};
 use arrayvec::ArrayVec;
 use bytes::Bytes;
 use outbox::{Item, Releases};
@@ -74,13 +74,13 @@ impl<C: Carrier> Sender<C> {
         place_of(self.stops.as_slice(), recipient).is_some()
     }
 
-    /// Takes a seat at each newcomer's outbox.
-    pub fn take_seats(&mut self, newcomers: Vec<Recipient<C>>) -> Result<(), AllocError>
-        ensures keeps { Keeps newcomers.items self.old self.new }
+    /// Takes a seat at the recipient's outbox, where it has none there.
+    pub fn take_seat(&mut self, recipient: Recipient<C>) -> Result<(), AllocError>
+        ensures keeps { Keeps (recipient ∷ []) self.old self.new }
         ensures unrouted { Unrouted self.old self.new }
-        ensures all { OnOk result (AllHave (map number_of newcomers.items) self.new.stops) }
+        ensures has { OnOk result (HasStop recipient.number self.new.stops) }
     {
-        take_seats(&mut self.stops, newcomers)
+        take_seat(&mut self.stops, recipient)
     }
 
     /// Puts a broadcast with these bytes into the outboxes of its recipients, whose numbers rise, and answers those whose

@@ -1,9 +1,9 @@
 // A sender's seats at the outboxes of its recipients.
 
-ghost use Rattle.std.specs.Prelude.{◌≡◌, ◌+◌, ◌<◌, ◌≤◌, ◌++◌, ◌∷◌, [], ℕ, cond, IfOk, OnOk, IfSome, IsSomeAnd, filter, length, map, position};
+ghost use Rattle.std.specs.Prelude.{◌≡◌, ◌+◌, ◌<◌, ◌≤◌, ◌++◌, ◌∷◌, [], ℕ, cond, IfOk, OnOk, IfSome, IsSomeAnd, filter, length, position};
 ghost use Rattle.outbox.specs.Views.{Follows, blank};
-ghost use Rattle.routing.specs.SenderView.{StopView, RecipientView};
-ghost use Rattle.routing.specs.Stops.{RisesFrom, is_for, is_in, stop_at, number_of, HasStop, AllHave};
+ghost use Rattle.routing.specs.SenderView.{StopView};
+ghost use Rattle.routing.specs.Stops.{RisesFrom, is_for, is_in, stop_at, HasStop, AllHave};
 ghost use Rattle.routing.specs.Puts.{PutThere, PutAt, PutTo, SeatsTaken};
 
 use crate::carrier::Carrier;
@@ -128,20 +128,6 @@ pub(crate) fn take_seat<C: Carrier>(
     }
     let stop = Stop::at(recipient)?;
     stops.push(stop)?;
-    Ok(())
-}
-
-/// Takes a seat at each newcomer's outbox.
-pub(crate) fn take_seats<C: Carrier>(
-    stops: &mut Vec<Stop<C>>,
-    mut newcomers: Vec<Recipient<C>>,
-) -> Result<(), AllocError>
-    ensures taken { SeatsTaken newcomers.items stops.old.items stops.new.items }
-    ensures all { OnOk result (AllHave (map number_of newcomers.items) stops.new.items) }
-{
-    while let Some(newcomer) = newcomers.pop() {
-        take_seat(stops, newcomer)?;
-    }
     Ok(())
 }
 

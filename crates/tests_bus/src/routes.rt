@@ -53,22 +53,19 @@ fn line_to<R: Abort>(rt: &R, alloc: Global, outbox: &Outbox) -> Line {
 // Takes a seat at the recipient's outbox.
 fn take_seat<R: Abort>(
     rt: &R,
-    alloc: Global,
     sender: &mut Sender<Line>,
     recipient: u64,
     line: Line,
 ) {
-    let mut newcomers = Vec::new(alloc);
-    newcomers
-        .push(Recipient::new(recipient, line))
+    sender
+        .take_seat(Recipient::new(recipient, line))
         .expect(rt, "memory");
-    sender.take_seats(newcomers).expect(rt, "memory");
 }
 
 // A sender with a seat at the outbox, which is the recipient 3's.
 fn sender_to<R: Abort>(rt: &R, alloc: Global, outbox: &Outbox) -> Sender<Line> {
     let mut sender = Sender::new(alloc, 1);
-    take_seat(rt, alloc, &mut sender, 3, line_to(rt, alloc, outbox));
+    take_seat(rt, &mut sender, 3, line_to(rt, alloc, outbox));
     sender
 }
 
@@ -98,7 +95,7 @@ fn send<R: Wait>(rt: &R, alloc: Global, sender: &mut Sender<Line>, broadcasts: u
 // Sends `BROADCASTS` broadcasts of an origin to a recipient.
 fn send_all<R: Wait + Abort>(rt: &R, alloc: Global, origin: u64, outbox: &Outbox) -> u64 {
     let mut sender = Sender::new(alloc, origin);
-    take_seat(rt, alloc, &mut sender, 3, line_to(rt, alloc, outbox));
+    take_seat(rt, &mut sender, 3, line_to(rt, alloc, outbox));
     let put = send(rt, alloc, &mut sender, BROADCASTS);
     forget(sender);
     put
@@ -174,7 +171,7 @@ fn full_outbox(rt: HostRuntime) {
     let full = new_outbox(&rt, alloc);
     let other = new_outbox(&rt, alloc);
     let mut sender = sender_to(&rt, alloc, &full);
-    take_seat(&rt, alloc, &mut sender, 5, line_to(&rt, alloc, &other));
+    take_seat(&rt, &mut sender, 5, line_to(&rt, alloc, &other));
     expect_sent(&rt, alloc, &mut sender, 1024, 1024);
     refuse_one(&rt, alloc, &mut sender);
     expect_message(&rt, alloc, &other, b"one more", Some((1, 1025)));
@@ -222,7 +219,7 @@ fn written_out_once(rt: HostRuntime) {
         pushed: pushed.clone().expect(&rt, "a count"),
     };
     let mut sender = Sender::new(alloc, 1);
-    take_seat(&rt, alloc, &mut sender, 3, line);
+    take_seat(&rt, &mut sender, 3, line);
     push_out(&rt, &mut sender, &pushed, 0);
     expect_sent(&rt, alloc, &mut sender, 2, 2);
     push_out(&rt, &mut sender, &pushed, 1);
@@ -328,7 +325,7 @@ fn held_until_the_last_put(rt: HostRuntime) {
     let first = new_outbox(&rt, alloc);
     let last = new_outbox(&rt, alloc);
     let mut sender = sender_to(&rt, alloc, &first);
-    take_seat(&rt, alloc, &mut sender, 5, line_to(&rt, alloc, &last));
+    take_seat(&rt, &mut sender, 5, line_to(&rt, alloc, &last));
     route_and_look(&rt, alloc, &mut sender, &first);
     expect_message(&rt, alloc, &last, b"signal", Some((1, 1)));
     forget(sender);

@@ -1,11 +1,11 @@
 use Rattle.std.proofs.Common.{◌≡◌, ◌++◌, ◌∷◌, [], Bool, true, sym, ap, ◌∙◌, inl, refl}
 use Rattle.std.specs.Prelude.{if◌then◌else◌}
-use Rattle.lookups.specs.Command.TheVariants.{Connect}
-use Rattle.lookups.specs.Reply.TheVariants.{Connected}
-use Rattle.lookups.specs.Does.{is_accepted, reply_to}
-use Rattle.lookups.specs.History.{after}
-use Rattle.lookups.specs.Publication.{Publication, with_next}
-use Rattle.lookups.proofs.Refused.{accepted}
+use Rattle.program_table.specs.declared.command.Command.TheVariants.{Connect}
+use Rattle.program_table.specs.declared.command.Reply.TheVariants.{Connected}
+use Rattle.program_table.specs.Does.{is_accepted, reply_to}
+use Rattle.program_table.specs.History.{after}
+use Rattle.published.specs.Publication.{Publication, with_next}
+use Rattle.published.proofs.Refused.{accepted}
 use Rattle.passes.specs.Passes.{PassState}
 use Rattle.passes.proofs.Commands.{IsTold, seen_all}
 use Rattle.passes.proofs.Joining.{IsFresh, room_for_one, first_own, joined, next_number, not_none}

@@ -1,7 +1,7 @@
 use Rattle.std.proofs.Common.{sym, ap, ◌∙◌, inl, inr}
-use Rattle.lookups.specs.Does.{reply_to}
-use Rattle.lookups.specs.History.{after}
-use Rattle.lookups.specs.Publication.{Publication, with_next}
+use Rattle.program_table.specs.Does.{reply_to}
+use Rattle.program_table.specs.History.{after}
+use Rattle.published.specs.Publication.{Publication, with_next}
 use Rattle.passes.specs.Passes.{PassState}
 use Rattle.passes.proofs.Commands.{IsGained, turned_down, gained, goes_on, room, one_more, finished}
 use Rattle.passes.proofs.Admitted.{told_self, counted_self, counted_at}

@@ -1,6 +1,6 @@
 use Rattle.std.proofs.Common.{◌≡◌, refl, ap, sym, subst, List}
 use mathlib.Core.List.{IsPrefix}
-use Rattle.lookups.specs.Command.{Command}
+use Rattle.program_table.specs.declared.command.Command.{Command}
 use Rattle.passes.specs.Passes.{PassState}
 use Rattle.passes.specs.Sending.{count_in, stops_in}
 use Rattle.passes.proofs.Done.{still_taken}

@@ -1,5 +1,0 @@
-use Rattle.lookups.proofs.NameOwners.{has_number}
-use Rattle.lookups.proofs.name_owner.named_in.Goals as goal
-
-pub returns-then-names : goal.returns-then-names
-returns-then-names g c = (c.names.ensures.0 c.if-names.true, has_number c.args.connections.now c.loop-connection.connection-index c.connection-item.result c.loop-connection-test.true c.connection-item.is)

@@ -1,0 +1,121 @@
+// The seats that a sender needs for its recipients.
+
+ghost use Rattle.std.specs.Prelude.{◌≡◌, ℕ, true, [], IfOk, OnOk, MatchOption};
+ghost use Rattle.message_view.specs.Message.{Message};
+ghost use Rattle.message_view.specs.Valid.{Valid};
+ghost use Rattle.program_table.specs.Connections.{is_connected};
+ghost use Rattle.program_table.specs.NameOwners.{IsOwner};
+ghost use Rattle.program_table.specs.Recipients.{AreRecipients};
+ghost use Rattle.routing.specs.Stops.{is_in, HasStop, AllHave};
+ghost use Rattle.passes.specs.Routes.{IsOutboxOf};
+ghost use Rattle.passes.specs.Seats.{KeepsThere, NothingPut, AreThere};
+
+use arrayvec::ArrayVec;
+use fan_out::{MAX_RECIPIENTS, select_into};
+use message_view::View;
+use program_table::{BusState, Mailbox};
+use routing::{Carrier, Recipient, Sender};
+use std::alloc::AllocError;
+
+/// A sender with this many seats gives up those at the outboxes of closed connections.
+const MANY_SEATS: usize = 256;
+
+// Gives up the seats at the outboxes of closed connections, where the sender has many.
+fn give_up_closed<M: Mailbox + Carrier>(state: &BusState<M>, sender: &mut Sender<M>)
+    ensures keeps { KeepsThere M.outbox_of state.now sender.old sender.new }
+    ensures put { NothingPut state.now sender.old sender.new }
+{
+    if sender.seats() > MANY_SEATS {
+        let numbers = state.numbers();
+        sender.retain(numbers.as_slice());
+    }
+}
+
+// A connection with a share of its mailbox.
+fn recipient<M: Mailbox + Carrier>(
+    state: &BusState<M>,
+    number: u64,
+) -> Result<Recipient<M>, AllocError>
+    requires { is_connected number state.now.connections ≡ true }
+    ensures { IfOk result (λ r. (r.number ≡ number) × IsOutboxOf M.outbox_of state.now number r.outbox) }
+{
+    match state.mailbox_of(number) {
+        Some(mailbox) => Ok(Recipient::new(number, mailbox.share()?)),
+        None => unreachable!(),
+    }
+}
+
+// Takes a seat at the connection's outbox, where the sender has none there.
+fn take_seat<M: Mailbox + Carrier>(
+    state: &BusState<M>,
+    sender: &mut Sender<M>,
+    number: u64,
+) -> Result<(), AllocError>
+    requires { is_connected number state.now.connections ≡ true }
+    ensures keeps { KeepsThere M.outbox_of state.now sender.old sender.new }
+    ensures put { NothingPut state.now sender.old sender.new }
+    ensures has { OnOk result (HasStop number sender.new.stops) }
+{
+    if sender.has(number) {
+        return Ok(());
+    }
+    let recipient = recipient(state, number)?;
+    sender.take_seat(recipient)
+}
+
+// Takes a seat at each of these connections' outboxes, where the sender has none there.
+fn take_seats<M: Mailbox + Carrier>(
+    state: &BusState<M>,
+    sender: &mut Sender<M>,
+    numbers: &[u64],
+) -> Result<(), AllocError>
+    requires { (n : ℕ) → is_in n numbers.now ≡ true → is_connected n state.now.connections ≡ true }
+    ensures keeps { KeepsThere M.outbox_of state.now sender.old sender.new }
+    ensures put { NothingPut state.now sender.old sender.new }
+    ensures all { OnOk result (AllHave numbers.now sender.new.stops) }
+{
+    for number in numbers {
+        take_seat(state, sender, *number)?;
+    }
+    Ok(())
+}
+
+/// Lists the recipients of a broadcast, and takes the seats that the sender needs for them.
+pub(crate) fn seat_recipients<'a, M: Mailbox + Carrier>(
+    state: &'a BusState<M>,
+    view: &View<'a>,
+    from: Option<u64>,
+    sender: &mut Sender<M>,
+    recipients: &mut ArrayVec<u64, MAX_RECIPIENTS>,
+) -> Result<(), AllocError>
+    requires { recipients.old.items ≡ [] }
+    ensures recipients { (m : Message) → Valid view.now m → AreRecipients state.now from m recipients.new.items }
+    ensures there { AreThere state.now recipients.new.items }
+    ensures keeps { KeepsThere M.outbox_of state.now sender.old sender.new }
+    ensures put { NothingPut state.now sender.old sender.new }
+    ensures all { OnOk result (AllHave recipients.new.items sender.new.stops) }
+{
+    let _ = view.raw();
+    select_into(state, from, view, recipients);
+    give_up_closed(state, sender);
+    take_seats(state, sender, recipients.as_slice())
+}
+
+/// Finds the connection that owns a name, and takes the seat that the sender needs for it. None where nobody owns the
+/// name.
+pub(crate) fn seat_owner<M: Mailbox + Carrier>(
+    state: &BusState<M>,
+    sender: &mut Sender<M>,
+    name: &str,
+) -> Result<Option<u64>, AllocError>
+    ensures owner { IfOk result (λ owner. MatchOption owner ((n : ℕ) → IsOwner state.now name.now n → ⊥) (λ n. IsOwner state.now name.now n × HasStop n sender.new.stops)) }
+    ensures keeps { KeepsThere M.outbox_of state.now sender.old sender.new }
+    ensures put { NothingPut state.now sender.old sender.new }
+{
+    let Some(number) = state.connection_named(name) else {
+        return Ok(None);
+    };
+    give_up_closed(state, sender);
+    take_seat(state, sender, number)?;
+    Ok(Some(number))
+}
