@@ -16,6 +16,7 @@ mod step;
 mod talk;
 mod writing;
 
+pub use auth::{Admission, CookieChallenge, External};
 pub use ending::Rest;
 pub use error::SessionError;
 pub use laws::handled_in_order;
@@ -24,5 +25,4 @@ pub use session::Session;
 pub use step::Step;
 
 // Passed on from the crates below, so that the crates above need not name those in crates.txt.
-pub use auth::{Admission, CookieChallenge, External};
 pub use peers::{Bus, Command, IndexKey, Letterbox, Naming, Opened, Published, Shown};
