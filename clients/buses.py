@@ -21,7 +21,7 @@ class Bus:
     """A bus in a process of its own, on a Unix socket or a TCP port (dbus-broker on a Unix socket alone). Ours has a worker for
     each processor that it may run on when it begins, or as many as are asked for."""
 
-    def __init__(self, kind, transport="unix", limit=None, workers=None):
+    def __init__(self, kind, transport="unix", limit=None, workers=None, options=None, home=None):
         self.kind = kind
         self.controller = None
         self.folder = tempfile.mkdtemp(prefix="dbusfan-clients-")
@@ -32,8 +32,11 @@ class Bus:
             self.address = wanted
             self.process, self.controller = broker.start(socket, self.log)
             return
+        if options is None:
+            options = ["--allow-external"] if transport == "tcp" else []
+        environment = {**os.environ, "HOME": home} if home else None
         if kind == "dbusfan":
-            words = [program(), "--listen", wanted, "--guid", GUID]
+            words = [program(), "--listen", wanted, "--guid", GUID, *options]
         else:
             words = ["dbus-daemon", f"--config-file={self.config(wanted)}", "--nofork", "--print-address"]
         if limit:
@@ -41,7 +44,7 @@ class Bus:
         processors = os.sched_getaffinity(0)
         if workers:
             os.sched_setaffinity(0, sorted(processors)[:workers])
-        self.process = subprocess.Popen(words, stdout=subprocess.PIPE, stderr=self.log, text=True)
+        self.process = subprocess.Popen(words, stdout=subprocess.PIPE, stderr=self.log, text=True, env=environment)
         line = self.process.stdout.readline().strip()
         os.sched_setaffinity(0, processors)
         self.address = line.removeprefix("listening ").split(",guid=")[0]

@@ -2,16 +2,13 @@
 #![tactic(auto)]
 
 use command_line::{Fault, Output, Stream, Writer, args};
+use serve_command::System;
 pub use serve_command::serve;
 use std::alloc::Global;
 use std::io;
 use std::io::Lock;
-use std::net::{Net, TcpListener, TcpStream};
 use std::process::ExitCode;
-use std::random::RandomSource;
 use std::rt::Runtime;
-use std::sync::Wait;
-use std::thread::Threads;
 
 fn main(rt: HostRuntime) -> ExitCode {
     let mut err = Output::new(Stream::new(rt.stderr().lock()));
@@ -28,12 +25,7 @@ fn main(rt: HostRuntime) -> ExitCode {
 /// Serves a bus as the words after the program's name ask for. An `Err` says that there are none to read.
 fn run<R, E: Writer>(rt: &R, err: &mut Output<E>) -> Result<u8, Fault>
 where
-    R: Runtime<A = Global>
-        + Net<Listener = TcpListener, Stream = TcpStream>
-        + Threads
-        + Wait
-        + RandomSource
-        + Sync,
+    R: Runtime<A = Global> + System,
 {
     let args = args(rt)?;
     let words: Vec<&str> = args

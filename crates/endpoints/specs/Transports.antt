@@ -19,7 +19,7 @@ transport_of_place in_runtime = over_unix
 
 abbrev pub transport_of_listener : Listener → Transport
 transport_of_listener (listeners.Tcp listener) = over_tcp
-transport_of_listener (listeners.Unix listener) = over_unix
+transport_of_listener (listeners.Unix listener file) = over_unix
 
 abbrev pub transport_of_link : Link → Transport
 transport_of_link (links.Tcp stream) = over_tcp

@@ -7,9 +7,9 @@ ghost use Rattle.endpoints.specs.Transports.{IsTakenFor, transport_of_place, tra
 use crate::address::Address;
 use crate::escapes::{unescape, unescaped_bytes};
 use crate::link::Link;
-use crate::socket_file;
+use crate::socket_file::SocketFile;
 use std::alloc::Global;
-use std::fs::Files;
+use std::fs::{File, Files};
 use std::io;
 use std::io::ErrorKind;
 use std::net::{Net, TcpListener, TcpStream};
@@ -19,7 +19,7 @@ use std::os::unix::net::{SocketAddr, SocketAddrExt, UnixListener};
 #[derive(Drop)]
 pub enum Listener {
     Tcp(TcpListener),
-    Unix(UnixListener),
+    Unix(UnixListener, Option<SocketFile>),
 }
 
 impl Listener {
@@ -30,7 +30,7 @@ impl Listener {
     /// `Unsupported` where the address names no socket, and what the system refuses.
     pub fn bind<R>(rt: &R, alloc: Global, address: Address<'_>) -> io::Result<Listener>
     where
-        R: Files + Net<Listener = TcpListener, Stream = TcpStream>,
+        R: Files<File = File> + Net<Listener = TcpListener, Stream = TcpStream>,
         ensures { IfOk result (λ listener. transport_of_listener listener ≡ transport_of_place (place_of address.entry)) }
     {
         match address {
@@ -40,12 +40,13 @@ impl Listener {
             }
             Address::Unix { path } => {
                 let path = unescape(alloc, path)?;
-                Ok(Listener::Unix(socket_file::bind(rt, path.as_str())?))
+                let (listener, file) = SocketFile::bind(rt, alloc, path.as_str())?;
+                Ok(Listener::Unix(listener, Some(file)))
             }
             Address::Abstract { name } => {
                 let name = unescaped_bytes(alloc, name)?;
                 let place = SocketAddr::from_abstract_name(name.as_slice())?;
-                Ok(Listener::Unix(UnixListener::bind_addr(rt, &place)?))
+                Ok(Listener::Unix(UnixListener::bind_addr(rt, &place)?, None))
             }
             Address::Folder { .. } | Address::Runtime => {
                 Err(io::Error::from(ErrorKind::Unsupported))
@@ -76,17 +77,25 @@ impl Listener {
                 let _ = stream.set_nodelay(true);
                 Ok(Link::Tcp(stream))
             }
-            Listener::Unix(listener) => Ok(Link::Unix(listener.accept()?.0)),
+            Listener::Unix(listener, _) => Ok(Link::Unix(listener.accept()?.0)),
         }
     }
 
-    /// Stops listening, and removes the file of a Unix socket.
-    pub fn close<R: Files>(self, rt: &R, alloc: Global, address: Address<'_>) {
-        drop(self);
-        if let Address::Unix { path } = address
-            && let Ok(path) = unescape(alloc, path)
-        {
-            socket_file::remove(rt, path.as_str());
+    /// Whether only this machine reaches it.
+    pub fn is_local(&self) -> io::Result<bool> {
+        match self {
+            Listener::Tcp(listener) => Ok(listener.local_addr()?.ip().is_loopback()),
+            Listener::Unix(_, _) => Ok(true),
+        }
+    }
+
+    /// Stops listening, and removes the file of a Unix socket, if it is still the one that was made.
+    pub fn close<R: Files>(self, rt: &R) {
+        if let Listener::Unix(listener, file) = self {
+            drop(listener);
+            if let Some(file) = file {
+                file.remove(rt);
+            }
         }
     }
 }

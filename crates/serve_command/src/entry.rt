@@ -6,20 +6,16 @@ use crate::error::Refusal;
 use crate::guid::Guid;
 use crate::listening::{announce, bind, say};
 use crate::machine::machine_id;
+use crate::mechanisms::mechanisms_of;
 use crate::options::Options;
 use crate::place::Place;
+use crate::system::System;
 use command_line::{Output, Writer, text_for};
 use endpoints::{Address, Listener};
-use server::{Identity, IndexKey, Limits};
+use server::{Identity, IndexKey, Limits, Mechanisms};
 use std::alloc::Global;
-use std::fs::Files;
-use std::net::{Net, TcpListener, TcpStream};
 use std::random::RandomSource;
-use std::rt::Env;
-use std::sync::Wait;
 use std::thread;
-use std::thread::Threads;
-use std::time::Clock;
 
 /// The words that ask for this command's help.
 const HELP: [&str; 2] = ["serve", "--help"];
@@ -28,23 +24,13 @@ const HELP: [&str; 2] = ["serve", "--help"];
 /// connections as they name were accepted and have ended, 3 for words that are no such options, 4 where the address
 /// can't be listened at or `out` can't be written, 5 for want of memory. The line that says where it listens is written
 /// and flushed before the first accept.
-pub fn serve<R, O: Writer, E: Writer>(
+pub fn serve<R: System, O: Writer, E: Writer>(
     rt: &R,
     alloc: Global,
     words: &[&str],
     out: &mut Output<O>,
     err: &mut Output<E>,
 ) -> u8
-where
-    R: Files
-        + Env
-        + Net<Listener = TcpListener, Stream = TcpStream>
-        + Threads
-        + Wait
-        + Clock
-        + RandomSource
-        + Sync
-        + Alloc,
     ensures { IsStatus result }
 {
     match serve_words(rt, alloc, words, out) {
@@ -53,23 +39,12 @@ where
     }
 }
 
-fn serve_words<R, O: Writer>(
+fn serve_words<R: System, O: Writer>(
     rt: &R,
     alloc: Global,
     words: &[&str],
     out: &mut Output<O>,
-) -> Result<(), Refusal>
-where
-    R: Files
-        + Env
-        + Net<Listener = TcpListener, Stream = TcpStream>
-        + Threads
-        + Wait
-        + Clock
-        + RandomSource
-        + Sync
-        + Alloc,
-{
+) -> Result<(), Refusal> {
     if asks_for_help(words) {
         return help(alloc, out);
     }
@@ -92,23 +67,12 @@ fn help<O: Writer>(alloc: Global, out: &mut Output<O>) -> Result<(), Refusal> {
 }
 
 /// Serves at the address that is asked for, or at the usual place.
-fn serve_as_asked<R, O: Writer>(
+fn serve_as_asked<R: System, O: Writer>(
     rt: &R,
     alloc: Global,
     options: Options<'_>,
     out: &mut Output<O>,
-) -> Result<(), Refusal>
-where
-    R: Files
-        + Env
-        + Net<Listener = TcpListener, Stream = TcpStream>
-        + Threads
-        + Wait
-        + Clock
-        + RandomSource
-        + Sync
-        + Alloc,
-{
+) -> Result<(), Refusal> {
     let place = match options.address {
         Some(Address::Folder { path }) => Place::new_in(rt, alloc, path)?,
         Some(Address::Runtime) => Place::of_runtime(rt, alloc)?,
@@ -123,34 +87,35 @@ where
     served
 }
 
-fn listen_and_serve<R, O: Writer>(
+fn listen_and_serve<R: System, O: Writer>(
     rt: &R,
     alloc: Global,
     options: Options<'_>,
     asked: Address<'_>,
     out: &mut Output<O>,
-) -> Result<(), Refusal>
-where
-    R: Files
-        + Net<Listener = TcpListener, Stream = TcpStream>
-        + Threads
-        + Wait
-        + Clock
-        + RandomSource
-        + Sync
-        + Alloc,
-{
+) -> Result<(), Refusal> {
     let guid = guid_of(rt, options)?;
     let listener = bind(rt, alloc, asked)?;
-    let served = match listener.address(asked) {
-        Ok(taken) => match announce(rt, alloc, options.announcement, taken, guid, out) {
-            Ok(()) => serve_at(rt, alloc, options.connections, guid, &listener),
-            Err(refusal) => Err(refusal),
-        },
-        Err(error) => Err(Refusal::of_place(alloc, &asked, &error, None)),
-    };
-    listener.close(rt, alloc, asked);
+    let served = announce_and_serve(rt, alloc, options, asked, &listener, guid, out);
+    listener.close(rt);
     served
+}
+
+fn announce_and_serve<R: System, O: Writer>(
+    rt: &R,
+    alloc: Global,
+    options: Options<'_>,
+    asked: Address<'_>,
+    listener: &Listener,
+    guid: Guid,
+    out: &mut Output<O>,
+) -> Result<(), Refusal> {
+    let mechanisms = mechanisms_of(rt, alloc, options, listener)?;
+    match listener.address(asked) {
+        Ok(taken) => announce(rt, alloc, options.announcement, taken, guid, out)?,
+        Err(error) => return Err(Refusal::of_place(alloc, &asked, &error, None)),
+    }
+    serve_at(rt, alloc, options.connections, guid, mechanisms, listener)
 }
 
 /// The id that is asked for, or a new one.
@@ -161,16 +126,14 @@ fn guid_of<R: RandomSource>(rt: &R, options: Options<'_>) -> Result<Guid, Refusa
     }
 }
 
-fn serve_at<R>(
+fn serve_at<R: System>(
     rt: &R,
     alloc: Global,
     connections: Option<u32>,
     guid: Guid,
+    mechanisms: Mechanisms,
     listener: &Listener,
-) -> Result<(), Refusal>
-where
-    R: Files + Net + Threads + Wait + Clock + RandomSource + Sync + Alloc,
-{
+) -> Result<(), Refusal> {
     let key = index_key(rt)?;
     let digits = guid.digits;
     let machine = machine_id(rt);
@@ -183,7 +146,9 @@ where
         .unwrap_or(1);
     let limits = Limits::with_workers(workers);
     let count = connections.map(u64::from);
-    match server::serve(rt, alloc, key, identity, limits, listener, count) {
+    match server::serve(
+        rt, alloc, key, identity, mechanisms, limits, listener, count,
+    ) {
         Ok(()) => Ok(()),
         Err(_) => Err(Refusal::no_thread()),
     }

@@ -4,8 +4,10 @@ ghost use Rattle.std.specs.Prelude.{◌≡◌};
 ghost use Rattle.serve_command.specs.Faults.{status_of};
 ghost use Rattle.serve_command.specs.Status.{IsStatus};
 
+use crate::reasons::NO_USER;
 use crate::words::WordFault;
 use command_line::{Output, Writer};
+use keyring::KeyringError;
 use std::alloc::{AllocError, Global};
 use std::io::ErrorKind;
 use std::{fmt, io};
@@ -110,6 +112,32 @@ impl Refusal {
             Fault::Socket,
             "unix:runtime=yes: XDG_RUNTIME_DIR names no folder",
         )
+    }
+
+    pub(crate) fn no_user() -> Refusal {
+        Refusal::of_sentence(Fault::File, NO_USER)
+    }
+
+    pub(crate) fn not_local() -> Refusal {
+        Refusal::of_sentence(
+            Fault::Socket,
+            "an address that other machines reach is taken with --allow-external or --allow-anonymous alone",
+        )
+    }
+
+    pub(crate) fn no_home() -> Refusal {
+        Refusal::of_sentence(
+            Fault::Socket,
+            "HOME names no folder for the cookies by which TCP clients log in",
+        )
+    }
+
+    /// There is no cookie in the folder.
+    pub(crate) fn of_keyring(alloc: Global, folder: &str, error: &KeyringError) -> Refusal {
+        match error {
+            KeyringError::NoMemory => Refusal::memory(),
+            error => Refusal::of_text(Fault::Socket, format!(in alloc; "{folder}: {error}")),
+        }
     }
 
     pub(crate) fn closed_output() -> Refusal {

@@ -8,9 +8,12 @@ mod error;
 mod guid;
 mod listening;
 mod machine;
+mod mechanisms;
 mod options;
 mod place;
 mod reasons;
+mod system;
 mod words;
 
 pub use entry::serve;
+pub use system::System;

@@ -8,7 +8,7 @@ use command_line::{Output, Writer};
 use endpoints::{Address, Listener, respell};
 use os::FromRawFd;
 use std::alloc::Global;
-use std::fs::{Files, OpenOptions};
+use std::fs::{File, Files, OpenOptions};
 use std::io;
 use std::io::Write;
 use std::net::{Net, TcpListener, TcpStream};
@@ -17,7 +17,7 @@ use std::os::fd::OwnedFd;
 /// Listens at an address.
 pub(crate) fn bind<R>(rt: &R, alloc: Global, address: Address<'_>) -> Result<Listener, Refusal>
 where
-    R: Files + Net<Listener = TcpListener, Stream = TcpStream>,
+    R: Files<File = File> + Net<Listener = TcpListener, Stream = TcpStream>,
 {
     match Listener::bind(rt, alloc, address) {
         Ok(listener) => Ok(listener),

@@ -33,6 +33,10 @@ pub(crate) struct Options<'a> {
     /// The bus's id, if it is said.
     pub(crate) guid: Option<Guid>,
     pub(crate) announcement: Announcement,
+    /// Whether EXTERNAL lets in whoever claims any user.
+    pub(crate) allows_external: bool,
+    /// Whether ANONYMOUS is a way in.
+    pub(crate) allows_anonymous: bool,
     /// After how many connections to end; at least one.
     pub(crate) connections: Option<u32>,
 }
@@ -50,6 +54,8 @@ impl<'a> Options<'a> {
             },
             guid: words.guid,
             announcement: words.announcement.unwrap_or(Announcement::Listening),
+            allows_external: words.allows_external,
+            allows_anonymous: words.allows_anonymous,
             connections: words.connections,
         })
     }

@@ -1,6 +1,6 @@
 // Why a place can't be listened at, in words.
 
-use endpoints::{Address, unescape};
+use endpoints::{Address, is_of_descriptors, unescape};
 use std::alloc::Global;
 use std::fs::Files;
 use std::io::ErrorKind;
@@ -9,8 +9,8 @@ use std::os::unix::fs::FileTypeExt;
 use std::os::unix::net::UnixStream;
 use std::{fs, io};
 
-/// The system's numbers for a process, and a system, that has no descriptor left (errno(3): EMFILE, ENFILE).
-const NO_DESCRIPTOR: [i32; 2] = [24, 23];
+/// Why the number of the bus's own user isn't known.
+pub(crate) const NO_USER: &str = "the bus's own user can't be read, since there is no /proc/self";
 
 /// Why an address can't be listened at, where there are words for it.
 pub(crate) fn reason_of_address<R: Files + Net>(
@@ -20,7 +20,12 @@ pub(crate) fn reason_of_address<R: Files + Net>(
     error: &io::Error,
 ) -> Option<&'static str> {
     match (address, error.kind()) {
+        (Address::Unix { .. }, ErrorKind::ResourceBusy) => Some("a bus is there"),
         (Address::Unix { path }, ErrorKind::AddrInUse) => Some(occupant(rt, alloc, path)),
+        (Address::Unix { .. }, ErrorKind::AlreadyExists) => {
+            Some("the file .lock or the folder .d beside it isn't this user's alone")
+        }
+        (Address::Unix { .. }, ErrorKind::Unsupported) => Some(NO_USER),
         (Address::Unix { .. }, ErrorKind::InvalidInput) => {
             Some("a socket's path is UTF-8 and has 107 bytes at most")
         }
@@ -76,8 +81,7 @@ pub(crate) fn reason_of_folder(error: &io::Error) -> Option<&'static str> {
 }
 
 fn reason_of_any(error: &io::Error) -> Option<&'static str> {
-    let number = error.raw_os_error()?;
-    if NO_DESCRIPTOR.contains(&number) {
+    if is_of_descriptors(error) {
         Some("no descriptor is left")
     } else {
         None

@@ -93,6 +93,8 @@ pub(crate) struct Words<'a> {
     pub(crate) connections: Option<u32>,
     pub(crate) announcement: Option<Announcement>,
     pub(crate) is_session: bool,
+    pub(crate) allows_external: bool,
+    pub(crate) allows_anonymous: bool,
     awaited: Awaited,
 }
 
@@ -104,6 +106,8 @@ impl<'a> Words<'a> {
             connections: None,
             announcement: None,
             is_session: false,
+            allows_external: false,
+            allows_anonymous: false,
             awaited: Awaited::Option,
         }
     }
@@ -150,7 +154,9 @@ impl<'a> Words<'a> {
         }
         match name {
             "--print-address" => self.with_print_address(value),
-            "--session" | "--nofork" => self.with_flag(name, value),
+            "--session" | "--nofork" | "--allow-external" | "--allow-anonymous" => {
+                self.with_flag(name, value)
+            }
             _ => Err(WordFault::UnknownOption(name)),
         }
     }
@@ -203,13 +209,16 @@ impl<'a> Words<'a> {
         Ok(words)
     }
 
-    /// `--session` says where to listen if no address does, and `--nofork` what `serve` does anyway.
+    /// `--session` says where to listen if no address does, `--nofork` what `serve` does anyway, and the others whom the
+    /// bus lets in.
     fn with_flag(self, name: &'a str, value: Option<&str>) -> Result<Words<'a>, WordFault<'a>> {
         if value.is_some() {
             return Err(WordFault::HasNoValue(name));
         }
         Ok(Words {
             is_session: self.is_session || name == "--session",
+            allows_external: self.allows_external || name == "--allow-external",
+            allows_anonymous: self.allows_anonymous || name == "--allow-anonymous",
             awaited: Awaited::Option,
             ..self
         })

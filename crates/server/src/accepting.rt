@@ -1,18 +1,20 @@
 // Accepting connections.
 
 use crate::hub::Hub;
-use endpoints::{Link, Listener};
+use crate::reserve::Reserve;
+use endpoints::{Link, Listener, is_of_descriptors};
 use members::{Arrival, Post};
 use sessions::Naming;
+use std::fs::{File, Files};
 use std::sync::{Arc, Wait};
 use std::thread;
 use std::time::{Clock, Duration};
 
-/// How many milliseconds to wait after an accept that failed, as where the system has no descriptor left.
+/// How many milliseconds to wait after an accept that failed.
 const PAUSE: u64 = 50;
 
 /// Accepts as many connections as are asked for, or without end, and hands them to the workers in turn.
-pub(crate) fn accept_all<J: Naming, R: Wait + Drop, W: Wait + Clock>(
+pub(crate) fn accept_all<J: Naming, R: Wait + Drop, W: Files<File = File> + Wait + Clock>(
     rt: &W,
     listener: &Listener,
     count: Option<u64>,
@@ -22,9 +24,10 @@ pub(crate) fn accept_all<J: Naming, R: Wait + Drop, W: Wait + Clock>(
     if posts.is_empty() {
         return;
     }
+    let mut reserve = Reserve::new(rt);
     for number in 1..=count.unwrap_or(u64::MAX) {
         hub.entries.take(rt);
-        let link = accept(rt, listener);
+        let link = accept(rt, listener, &mut reserve);
         let post = &posts[(number % posts.len() as u64) as usize];
         if post.hand_in(rt, Arrival { link }).is_err() {
             hub.entries.give_back(rt);
@@ -32,12 +35,21 @@ pub(crate) fn accept_all<J: Naming, R: Wait + Drop, W: Wait + Clock>(
     }
 }
 
-/// The next connection. An accept that fails is tried again: a connection that was reset in the queue is gone, and
-/// descriptors come back.
-fn accept<W: Wait + Clock>(rt: &W, listener: &Listener) -> Link {
+/// The next connection. An accept that fails is tried again, since a connection that was reset in the queue is gone; a
+/// connection for which no descriptor is left is closed.
+fn accept<W: Files<File = File> + Wait + Clock>(
+    rt: &W,
+    listener: &Listener,
+    reserve: &mut Reserve,
+) -> Link {
     for _ in rt.forever() {
         match listener.accept() {
             Ok(link) => return link,
+            Err(error) if is_of_descriptors(&error) && reserve.is_there(rt) => {
+                if let Some(link) = reserve.accept(rt, listener) {
+                    return link;
+                }
+            }
             Err(_) => thread::sleep(rt, Duration::from_millis(PAUSE)),
         }
     }

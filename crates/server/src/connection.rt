@@ -4,7 +4,7 @@ use crate::hub::Hub;
 use endpoints::Link;
 use members::{Mail, Member, Post};
 use mio::Token;
-use sessions::{Naming, Session, SessionError, Step};
+use sessions::{Admission, Naming, Session, SessionError, Step};
 use std::alloc::Global;
 use std::io;
 use std::io::ErrorKind;
@@ -50,13 +50,14 @@ impl<J: Naming> Connection<J> {
         post: Arc<Post>,
         token: Token,
         begun: Instant,
+        admission: Admission,
     ) -> io::Result<Connection<J>> {
         link.set_nonblocking()?;
         let link = Arc::new(alloc, link)?;
         let member = Member::new(alloc, Arc::try_clone(&link)?, post, token)?;
         let member = Arc::new(alloc, member)?;
         let mail = Mail::new(Arc::try_clone(&member)?);
-        let mut session = Session::new(alloc, hub.identity.guid, mail);
+        let mut session = Session::admitting(alloc, hub.identity.guid, admission, mail);
         if let Some(machine) = hub.identity.machine {
             session.set_machine_id(machine);
         }

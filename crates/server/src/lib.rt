@@ -6,12 +6,15 @@ mod accepting;
 mod connection;
 mod hub;
 mod limits;
+mod mechanisms;
+mod reserve;
 mod serving;
 mod worker;
 
 pub use hub::Identity;
 pub use limits::Limits;
+pub use mechanisms::Mechanisms;
 pub use serving::serve;
 
 // Passed on from the crates below, so that the crates above need not name those in crates.txt.
-pub use sessions::IndexKey;
+pub use sessions::{External, IndexKey};

@@ -5,14 +5,17 @@ ghost use Rattle.std.specs.Prelude.{◌≡◌};
 use crate::accepting::accept_all;
 use crate::hub::{Hub, Identity};
 use crate::limits::Limits;
+use crate::mechanisms::Mechanisms;
 use crate::worker::{Desk, work};
 use endpoints::Listener;
 use members::Mail;
 use sessions::{Bus, IndexKey, Naming, Opened};
 use std::alloc::Global;
+use std::fs::{File, Files};
 use std::io::ErrorKind;
 use std::marker::Brand;
 use std::net::Net;
+use std::random::RandomSource;
 use std::sync::Wait;
 use std::thread::{Builder, Threads};
 use std::time::Clock;
@@ -25,17 +28,19 @@ pub fn serve<R>(
     alloc: Global,
     key: IndexKey,
     identity: Identity,
+    mechanisms: Mechanisms,
     limits: Limits,
     listener: &Listener,
     count: Option<u64>,
 ) -> io::Result<()>
 where
-    R: Threads + Wait + Clock + Net + Sync,
+    R: Files<File = File> + RandomSource + Threads + Wait + Clock + Net + Sync,
 {
     let opened = Opened::<Mail>::new();
     let start = Start {
         key,
         identity,
+        mechanisms,
         limits,
         count,
     };
@@ -43,10 +48,11 @@ where
 }
 
 /// What a server begins with.
-#[derive(Clone, Copy)]
+#[derive(Drop)]
 struct Start {
     key: IndexKey,
     identity: Identity,
+    mechanisms: Mechanisms,
     limits: Limits,
     count: Option<u64>,
 }
@@ -59,14 +65,21 @@ fn serve_on<J: Naming + Send + Sync, R>(
     listener: &Listener,
 ) -> io::Result<()>
 where
-    R: Threads + Wait + Clock + Net + Sync,
+    R: Files<File = File> + RandomSource + Threads + Wait + Clock + Net + Sync,
     requires { opened ≡ J.book }
 {
-    let Ok(bus) = Bus::<J, Mail, &R>::new(rt, alloc, start.key, opened) else {
+    let Start {
+        key,
+        identity,
+        mechanisms,
+        limits,
+        count,
+    } = start;
+    let Ok(bus) = Bus::<J, Mail, &R>::new(rt, alloc, key, opened) else {
         return Err(ErrorKind::OutOfMemory.into());
     };
-    let hub = Hub::new(alloc, bus, start.identity, start.limits)?;
-    run(rt, alloc, &hub, listener, start.count)
+    let hub = Hub::new(alloc, bus, identity, mechanisms, limits)?;
+    run(rt, alloc, &hub, listener, count)
 }
 
 /// Starts the workers, accepts, and waits for the workers to end.
@@ -78,7 +91,7 @@ fn run<J: Naming + Send + Sync, R>(
     count: Option<u64>,
 ) -> io::Result<()>
 where
-    R: Threads + Wait + Clock + Net + Sync,
+    R: Files<File = File> + RandomSource + Threads + Wait + Clock + Net + Sync,
 {
     let mut posts = Vec::with_capacity(alloc, hub.limits.workers)?;
     thread::scope(thread::scope_env(), rt, |scope| {

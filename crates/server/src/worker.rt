@@ -8,7 +8,9 @@ use mio::{Events, Poll, Token};
 use sessions::Naming;
 use slab::Slab;
 use std::alloc::{AllocError, Global};
+use std::fs::Files;
 use std::net::Net;
+use std::random::RandomSource;
 use std::sync::{Arc, Wait};
 use std::time::{Clock, Duration, Instant};
 use std::{io, mem, thread};
@@ -70,7 +72,7 @@ pub(crate) struct Worker<'a, J: Naming, R: Wait + Drop> {
 }
 
 /// Serves until no more connections come and all have ended.
-pub(crate) fn work<J: Naming, R: Wait + Drop, W: Wait + Clock>(
+pub(crate) fn work<J: Naming, R: Wait + Drop, W: Files + RandomSource + Wait + Clock>(
     rt: &W,
     alloc: Global,
     hub: &Hub<J, R>,
@@ -111,7 +113,7 @@ impl<'a, J: Naming, R: Wait + Drop> Worker<'a, J, R> {
     }
 
     /// Does what the poll told of.
-    fn answer<W: Wait + Clock>(&mut self, rt: &W, events: &Events) {
+    fn answer<W: Files + RandomSource + Wait + Clock>(&mut self, rt: &W, events: &Events) {
         for event in events.iter() {
             if event.token() == BELL {
                 self.take_in(rt);
@@ -123,7 +125,7 @@ impl<'a, J: Naming, R: Wait + Drop> Worker<'a, J, R> {
     }
 
     /// Whether no more connections come, and all have ended.
-    fn is_done<W: Wait + Clock>(&mut self, rt: &W) -> bool {
+    fn is_done<W: Files + RandomSource + Wait + Clock>(&mut self, rt: &W) -> bool {
         if !self.post.is_finished() {
             return false;
         }
@@ -144,7 +146,7 @@ impl<'a, J: Naming, R: Wait + Drop> Worker<'a, J, R> {
     }
 
     /// Takes in the connections that were handed over. Where memory runs out, a connection is closed.
-    fn take_in<W: Wait + Clock>(&mut self, rt: &W) {
+    fn take_in<W: Files + RandomSource + Wait + Clock>(&mut self, rt: &W) {
         for arrival in self.post.take_arrivals(rt, self.alloc) {
             self.hub.retry_rests(rt, self.alloc);
             if self.welcome(rt, arrival.link).is_err() {
@@ -153,12 +155,18 @@ impl<'a, J: Naming, R: Wait + Drop> Worker<'a, J, R> {
         }
     }
 
-    fn welcome<W: Clock>(&mut self, rt: &W, link: Link) -> io::Result<()> {
+    fn welcome<W>(&mut self, rt: &W, link: Link) -> io::Result<()>
+    where
+        W: Files + RandomSource + Wait + Clock,
+    {
+        let admission = self.hub.mechanisms.admission(rt, self.alloc);
         let begun = Instant::now(rt)?;
         self.connections.reserve(1)?;
         let token = Token(self.connections.vacant_key());
         let post = Arc::try_clone(&self.post)?;
-        let connection = Connection::new(self.alloc, self.hub, link, post, token, begun)?;
+        let connection = Connection::new(
+            self.alloc, self.hub, link, post, token, begun, admission,
+        )?;
         self.post.register(connection.link(), token)?;
         self.connections.insert_reserved(connection);
         self.newcomers = self.newcomers.saturating_add(1);

@@ -1,12 +1,19 @@
 -- What clauses see of a session (own).
-use Rattle.std.specs.Prelude.{Bool, ℕ, List, Option}
+use Rattle.std.specs.Prelude.{Bool, false, ℕ, List, [], Option, None}
+use Rattle.auth.specs.Talk.{Standing, opening_with}
+use Rattle.auth.specs.declared.terms.Terms.{Terms}
 use Rattle.peers.specs.PeerState.{PeerState}
 use Rattle.sessions.specs.declared.error.SessionError.{SessionError}
 
--- whether the talk is over; the bytes that were fed and not handled; the client's peer, once Hello made it; and why the
--- session ends
+-- where the talk stands, and whether it is over; the bytes that were fed and not handled; the client's peer, once Hello made
+-- it; and why the session ends
 pub record SessionState (M : Type 0) : Type 0 where
+  pub standing : Standing
   pub has_begun : Bool
   pub unread : List ℕ
   pub peer : Option (PeerState M)
   pub fault : Option SessionError
+
+-- before the first byte, on these terms
+abbrev pub new_session : {M : Type 0} → Terms → SessionState M
+new_session terms = record { standing = opening_with terms; has_begun = false; unread = []; peer = None; fault = None }

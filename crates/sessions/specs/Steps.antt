@@ -1,5 +1,7 @@
 -- What a session does with its client's bytes (D-Bus Specification, "Message Format" and "Message Bus Message Routing").
-use Rattle.std.specs.Prelude.{ℕ, ◌≡◌, ◌⊎◌, ◌++◌, Bool, true, false, List, Option, Some, None, Result, Ok, Err, IsErr}
+use Rattle.std.specs.Prelude.{ℕ, ◌≡◌, ◌⊎◌, ◌↔◌, ◌++◌, take, IsTrue, Bool, true, false, List, Option, Some, None, Result, Ok, Err, IsErr}
+use Rattle.auth.specs.Talk.{Standing, talk, taken_of}
+use Rattle.auth.specs.declared.stage.Stage.TheVariants.{Begun}
 use Rattle.outbox.specs.Seated.{OutboxId}
 use Rattle.message_view.specs.Message.{Message}
 use Rattle.message_view.specs.Valid.{Valid}
@@ -29,6 +31,10 @@ abbrev pub IsFaultOf : List ℕ → SessionError → Type 0
 IsFaultOf unread (faulty fault) = IsFault unread fault
 IsFaultOf unread _ = ⊥
 
+-- a line leads the talk from where it stands to where it then stands, and messages come next exactly where it then is over
+abbrev pub Hears : List ℕ → Standing → Standing → Bool → Type 0
+Hears line standing later has_begun = ((talk standing line).standing ≡ later) × (IsTrue has_begun ↔ (later.stage ≡ Begun))
+
 module _ {M : Type 0} where
   -- A message is handled by the client's peer. The first one makes the peer, whose name it is answered with, if it is Hello;
   -- or it makes none, and the session ends.
@@ -52,11 +58,14 @@ module _ {M : Type 0} where
       (IsFaultOf v.unread error × (w ≡ v))
       ⊎ ((message rest : List ℕ) × IsMessage message × (v.unread ≡ message ++ rest) × Takes outbox_of message v.peer (Err error) w.peer × (w ≡ record v { peer = w.peer }))
 
-  -- the next line of the talk is treated, and is then no longer there; or there is none
+  -- The next line of the talk is heard, and is then no longer there: as many bytes as the talk takes. Or there is none; or
+  -- the session ends.
   abbrev pub TakesLine : SessionState M → Result Step SessionError → SessionState M → Type 0
-  TakesLine v (Ok Done) w = (line : List ℕ) × (v.unread ≡ line ++ w.unread) × (w ≡ record v { has_begun = w.has_begun; unread = w.unread })
+  TakesLine v (Ok Done) w =
+      (line : List ℕ) × (v.unread ≡ line ++ w.unread) × (line ≡ take (taken_of v.standing v.unread) v.unread)
+      × Hears line v.standing w.standing w.has_begun × (w ≡ record v { standing = w.standing; has_begun = w.has_begun; unread = w.unread })
   TakesLine v (Ok Waits) w = w ≡ v
-  TakesLine v (Err error) w = w ≡ record v { has_begun = w.has_begun }
+  TakesLine v (Err error) w = w ≡ record v { standing = w.standing; has_begun = w.has_begun }
 
   -- messages once the talk is over, and lines before
   abbrev pub TakesNext : Bool → (M → OutboxId) → SessionState M → Result Step SessionError → SessionState M → Type 0

@@ -1,8 +1,8 @@
 //! Sessions: what a client's bytes come to, from its first byte to its end. A session has no sockets and no threads of
 //! its own: whoever drives it feeds it bytes, lets it handle one message after the other, and has what it put written
-//! out. The layers above use that each message is handled once, in the order of the stream, by what a peer does with it,
-//! and that a session which ends has its peer leave the bus, or hands it on. What the talk before messages says is shown
-//! by tests.
+//! out. The layers above use that messages begin where the talk is over, that each is handled once, in the order of the
+//! stream, by what a peer does with it, and that a session which ends has its peer leave the bus, or hands it on. What the
+//! talk says is shown by tests.
 #![tactic(auto)]
 
 mod client;
@@ -16,6 +16,7 @@ mod step;
 mod talk;
 mod writing;
 
+pub use auth::{Admission, CookieChallenge, External};
 pub use ending::Rest;
 pub use error::SessionError;
 pub use laws::handled_in_order;

@@ -1,14 +1,17 @@
 // A client's session.
 
-ghost use Rattle.std.specs.Prelude.{◌≡◌, ◌∷◌, [], None, IfOk, is_some, false, true};
+ghost use Rattle.std.specs.Prelude.{◌≡◌, [], None, IfOk, is_some, true};
+ghost use Rattle.auth.specs.Admissions.{any_admission};
 ghost use Rattle.sessions.specs.Steps.{Feeds, Steps, TakesNext, TakesMessage, TakesLine};
 ghost use Rattle.sessions.specs.Ends.{EndsAny};
+ghost use Rattle.sessions.specs.SessionState.{new_session};
 
 use crate::client::Client;
 use crate::ending::{Rest, end};
 use crate::error::SessionError;
 use crate::step::Step;
 use crate::talk::Talk;
+use auth::Admission;
 use crossbeam_utils::rule::Protocol;
 use frames::Frames;
 use message_view::MsgError;
@@ -20,8 +23,8 @@ use std::marker::Model;
 use std::sync::Wait;
 
 /// One client's session: the talk, then messages, of which the first is Hello. What it answers, and what others send to
-/// its client, waits in the outbox of its mailbox. Contracts see the bytes that wait to be handled, the client's peer, and
-/// why the session ends.
+/// its client, waits in the outbox of its mailbox. Contracts see where the talk stands, the bytes that wait to be handled,
+/// the client's peer, and why the session ends.
 #[derive(Drop)]
 pub struct Session<B: Naming, M: Mailbox + Carrier>
 where
@@ -43,23 +46,36 @@ where
 
     ghost Value = { SessionState M };
 
-    ghost view = { λ s. record { has_begun = s.talk.has_begun; unread = s.input.unread; peer = s.client; fault = s.fault } };
+    ghost view = { λ s. record { standing = s.talk.auth; has_begun = s.talk.has_begun; unread = s.input.unread; peer = s.client; fault = s.fault } };
 
     // The faults of messages are kept in the session's own fault, and not in its frames.
     ghost invariant = { λ s. s.input.fault ≡ None };
 }
 
 impl<B: Naming, M: Mailbox + Carrier> Session<B, M> {
-    /// A session before its first byte, of a bus with this GUID. All that it says goes to the mailbox.
+    /// A session before its first byte, of a bus with this GUID. It admits EXTERNAL for anybody, and ANONYMOUS. All that
+    /// it says goes to the mailbox.
     pub fn new(alloc: Global, guid: [u8; 32], mailbox: M) -> Session<B, M>
-        ensures { result ≡ record { has_begun = false; unread = []; peer = None; fault = None } }
+        ensures { result ≡ new_session (record { guid = guid; admission = any_admission }) }
+    {
+        Session::admitting(alloc, guid, Admission::any(), mailbox)
+    }
+
+    /// The same of a session that admits what is asked for.
+    pub fn admitting(
+        alloc: Global,
+        guid: [u8; 32],
+        admission: Admission,
+        mailbox: M,
+    ) -> Session<B, M>
+        ensures { result ≡ new_session (record { guid = guid; admission = admission }) }
     {
         let identity = Identity {
             guid,
             machine_id: None,
         };
         Session {
-            talk: Talk::new(guid),
+            talk: Talk::admitting(guid, admission),
             input: Frames::new(alloc),
             client: Client::new(mailbox, identity),
             fault: None,

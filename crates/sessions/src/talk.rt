@@ -1,9 +1,11 @@
 // The talk before messages begin.
 
-ghost use Rattle.std.specs.Prelude.{◌≡◌, ◌≤◌, None, length, IfOk, false};
+ghost use Rattle.std.specs.Prelude.{◌≡◌, ◌≤◌, None, length, take, IfOk, false};
+ghost use Rattle.auth.specs.Talk.{opening_with, taken_of};
+ghost use Rattle.sessions.specs.Steps.{Hears};
 
 use crate::error::SessionError;
-use auth::Auth;
+use auth::{Admission, Auth};
 use bytes::Bytes;
 use outbox::Item;
 use peers::{Mailbox, OwnOutbox};
@@ -19,11 +21,12 @@ pub(crate) struct Talk {
 }
 
 impl Talk {
-    pub(crate) fn new(guid: [u8; 32]) -> Talk
-        ensures { result.has_begun ≡ false }
+    pub(crate) fn admitting(guid: [u8; 32], admission: Admission) -> Talk
+        ensures standing { result.auth ≡ opening_with (record { guid = guid; admission = admission }) }
+        ensures begun { result.has_begun ≡ false }
     {
         Talk {
-            auth: Auth::new(guid),
+            auth: Auth::admitting(guid, admission),
             has_begun: false,
         }
     }
@@ -48,7 +51,9 @@ impl Talk {
         own: &mut OwnOutbox<M>,
         bytes: &[u8],
     ) -> Result<usize, SessionError>
-        ensures { IfOk result (λ taken. taken ≤ length bytes.now) }
+        ensures within { IfOk result (λ taken. taken ≤ length bytes.now) }
+        ensures taken { IfOk result (λ taken. taken ≡ taken_of self.old.auth bytes.now) }
+        ensures heard { IfOk result (λ taken. Hears (take taken bytes.now) self.old.auth self.new.auth self.new.has_begun) }
     {
         let Ok(fed) = self.auth.feed(bytes) else {
             return Err(SessionError::Auth);

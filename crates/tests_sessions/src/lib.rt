@@ -1,7 +1,9 @@
-//! Tests of the bus's own messages (the bytes that the public examples give, and a call of each method), and of the command
-//! `serve`: a bus and its clients in one process, over sockets of both kinds.
+//! Tests of the bus's own messages (the bytes that the public examples give, and a call of each method), of talks that
+//! don't admit everybody, and of the command `serve`: a bus and its clients in one process, over sockets of both kinds.
 #![tactic(auto)]
 
+#[cfg(test)]
+mod admissions;
 #[cfg(test)]
 mod announced;
 #[cfg(test)]

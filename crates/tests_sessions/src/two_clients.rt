@@ -3,18 +3,15 @@
 use crate::announced::{Announced, Announcer};
 use crate::client::{S1_STAMPED, talk};
 use command_line::Output;
-use serve_command::serve;
+use serve_command::{System, serve};
 use std::alloc::Global;
 use std::fs;
-use std::fs::Files;
-use std::net::{Net, TcpListener, TcpStream};
+use std::net::{Net, TcpStream};
 use std::os::unix::net::UnixStream;
 use std::process::Abort;
-use std::random::RandomSource;
-use std::rt::Env;
 use std::sync::Wait;
-use std::thread::{Threads, join};
-use std::time::{Clock, Duration};
+use std::thread::join;
+use std::time::Duration;
 
 const GUID: &str = "0123456789abcdef0123456789abcdef";
 
@@ -52,30 +49,36 @@ fn over_unix<R: Net + Wait + Abort>(rt: &R, announced: &Announced, path: &str) -
 }
 
 /// A server of two connections, which may have to write this line, and its two clients: over TCP, unless a path is given.
-fn serve_two<R>(rt: &R, alloc: Global, listen: &str, path: Option<&str>, line: Option<&str>)
-where
-    R: Files
-        + Env
-        + Net<Listener = TcpListener, Stream = TcpStream>
-        + Threads
-        + Wait
-        + Clock
-        + RandomSource
-        + Sync
-        + Alloc
-        + Abort,
-{
+fn serve_two<R: System + Abort>(
+    rt: &R,
+    alloc: Global,
+    listen: &str,
+    path: Option<&str>,
+    line: Option<&str>,
+) {
     let announced = Announced::new(alloc);
     let mut out = Output::new(Announcer { rt, to: &announced });
     let mut err = Output::new(Vec::new(alloc));
-    let words = ["--listen", listen, "--guid", GUID, "--connections", "2"];
+    let words = [
+        "--listen",
+        listen,
+        "--guid",
+        GUID,
+        "--connections",
+        "2",
+        "--allow-external",
+    ];
+    let words = match path {
+        Some(_) => &words[..6],
+        None => words.as_slice(),
+    };
     let (got, status) = join(
         rt,
         || match path {
             Some(path) => over_unix(rt, &announced, path),
             None => over_tcp(rt, &announced),
         },
-        || serve(rt, alloc, words.as_slice(), &mut out, &mut err),
+        || serve(rt, alloc, words, &mut out, &mut err),
     );
     assert_eq!(rt; got, *S1_STAMPED);
     assert_eq!(rt; status, 0);

@@ -1,35 +1,26 @@
 // What the words of `serve` are answered.
 
 use command_line::Output;
-use serve_command::serve;
+use serve_command::{System, serve};
 use std::alloc::Global;
 use std::fs;
-use std::fs::Files;
-use std::net::{Net, TcpListener, TcpStream};
+use std::fs::{DirBuilder, File, Permissions};
+use std::net::TcpListener;
+use std::os::unix::fs::{DirBuilderExt, PermissionsExt, symlink};
 use std::os::unix::net::UnixListener;
 use std::process::Abort;
-use std::random::RandomSource;
-use std::rt::Env;
-use std::sync::Wait;
-use std::thread::Threads;
-use std::time::Clock;
 
 const GUID: &str = "0123456789abcdef0123456789abcdef";
 
 // The words end at once with this status, with this first line of the error and with this sentence below it.
-fn expect_error<R>(rt: &R, alloc: Global, words: &[&str], status: u8, line: &str, sentence: &str)
-where
-    R: Files
-        + Env
-        + Net<Listener = TcpListener, Stream = TcpStream>
-        + Threads
-        + Wait
-        + Clock
-        + RandomSource
-        + Sync
-        + Alloc
-        + Abort,
-{
+fn expect_error<R: System + Abort>(
+    rt: &R,
+    alloc: Global,
+    words: &[&str],
+    status: u8,
+    line: &str,
+    sentence: &str,
+) {
     let mut out = Output::new(Vec::new(alloc));
     let mut err = Output::new(Vec::new(alloc));
     assert_eq!(rt; serve(rt, alloc, words, &mut out, &mut err), status);
@@ -42,13 +33,17 @@ where
 
 #[test]
 fn words_that_are_no_row(rt: HostRuntime) {
-    let rows: [(&[&str], &str); 14] = [
+    let rows: [(&[&str], &str); 15] = [
         (&["--verbose"], "  unknown option --verbose"),
         (&["--verbose=1"], "  unknown option --verbose"),
         (&["bus"], "  bus is no option"),
         (&["--listen"], "  --listen has no value"),
         (&["--guid", GUID, "--guid", GUID], "  --guid is given twice"),
         (&["--session=1"], "  --session takes no value"),
+        (
+            &["--allow-external=yes"],
+            "  --allow-external takes no value",
+        ),
         (
             &["--guid", "0123456789abcdef0123456789abcdeg"],
             "  --guid 0123456789abcdef0123456789abcdeg: 32 hexadecimal digits are wanted",
@@ -91,19 +86,7 @@ fn words_that_are_no_row(rt: HostRuntime) {
     }
 }
 
-fn expect_refused<R>(rt: &R, alloc: Global, listen: &str, reason: &str)
-where
-    R: Files
-        + Env
-        + Net<Listener = TcpListener, Stream = TcpStream>
-        + Threads
-        + Wait
-        + Clock
-        + RandomSource
-        + Sync
-        + Alloc
-        + Abort,
-{
+fn expect_refused<R: System + Abort>(rt: &R, alloc: Global, listen: &str, reason: &str) {
     let sentence = format!(in alloc; "  {listen}: {reason}").expect(rt, "memory");
     let words = ["--listen", listen];
     expect_error(
@@ -141,6 +124,18 @@ fn places_that_cannot_be_bound(rt: HostRuntime) {
     expect_refused(&rt, alloc, "unix:path=.", "a folder is there");
     let _other = UnixListener::bind(&rt, "other.sock").expect(&rt, "a socket");
     expect_refused(&rt, alloc, "unix:path=other.sock", "a bus answers there");
+    let lock = File::create(&rt, "taken.sock.lock").expect(&rt, "a file");
+    lock.lock().expect(&rt, "the lock");
+    expect_refused(&rt, alloc, "unix:path=taken.sock", "a bus is there");
+    let reached = ["--listen", "tcp:host=0.0.0.0,port=0"];
+    expect_error(
+        &rt,
+        alloc,
+        reached.as_slice(),
+        4,
+        "dbusfan: socket",
+        "  an address that other machines reach is taken with --allow-external or --allow-anonymous alone",
+    );
     let other = TcpListener::bind(&rt, "127.0.0.1:0").expect(&rt, "a port");
     let port = other.local_addr().expect(&rt, "an address").port();
     let listen = format!(in alloc; "tcp:host=127.0.0.1,port={port}").expect(&rt, "memory");
@@ -149,5 +144,26 @@ fn places_that_cannot_be_bound(rt: HostRuntime) {
         alloc,
         listen.as_str(),
         "a program listens at that port",
+    );
+}
+
+#[test]
+fn what_others_put_beside_a_path(rt: HostRuntime) {
+    let alloc = rt.alloc();
+    let reason = "the file .lock or the folder .d beside it isn't this user's alone";
+    fs::create_dir(&rt, "entered.sock.d").expect(&rt, "a folder");
+    fs::set_permissions(&rt, "entered.sock.d", Permissions::from_mode(0o755)).expect(&rt, "a mode");
+    expect_refused(&rt, alloc, "unix:path=entered.sock", reason);
+    DirBuilder::new()
+        .mode(0o700)
+        .create(&rt, "private")
+        .expect(&rt, "a folder");
+    symlink(&rt, "private", "folder.sock.d").expect(&rt, "a link");
+    expect_refused(&rt, alloc, "unix:path=folder.sock", reason);
+    symlink(&rt, "made", "lock.sock.lock").expect(&rt, "a link");
+    expect_refused(&rt, alloc, "unix:path=lock.sock", reason);
+    assert!(rt;
+        fs::symlink_metadata(&rt, "made").is_err(),
+        "nothing is made through a link"
     );
 }

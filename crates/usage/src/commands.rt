@@ -91,6 +91,18 @@ pub(crate) static COMMANDS: [CommandHelp; 7] = [
                 text: "Changes nothing; dbus-run-session gives it",
             },
             ArgumentHelp {
+                name: "allow-anonymous",
+                form: Form::Flag,
+                is_required: false,
+                text: "Lets in clients that don't say who they are",
+            },
+            ArgumentHelp {
+                name: "allow-external",
+                form: Form::Flag,
+                is_required: false,
+                text: "Lets in clients that claim any user, over TCP too",
+            },
+            ArgumentHelp {
                 name: "connections",
                 form: Form::Value("N"),
                 is_required: false,
