@@ -1,5 +1,5 @@
 #!/usr/bin/env python3
-"""Writes the cases of captures: what `match` says of those in examples/captures, whole, cut, and with lengths that lie.
+"""Writes the cases of captures: what `match` and `run` say of those in examples/captures, whole, cut, and with lengths that lie.
 
     clients/capture_cases.py > crates/cases_tool/data/captures.cases
 
@@ -32,6 +32,10 @@ RULES = [
 ]
 
 
+# a program that accepts signals, with verdict 7, and ends after three steps
+SIGNALS = "ld [4]\njeq #4, yes, no\nyes: ret #7\nno: ret #0\n"
+
+
 def frames(name, display):
     """Number, captured and original length of the frames that a display filter shows."""
     command = ["tshark", "-r", str(CAPTURES / name), "-Y", display, "-T", "fields", "-e", "frame.number", "-e", "frame.cap_len", "-e", "frame.len"]
@@ -43,9 +47,19 @@ def spelled(data):
     return "".join(chr(byte) if 32 < byte < 127 and byte not in b"\\" else f"\\x{byte:02x}" for byte in data)
 
 
-def case(name, words, data, output, error, status):
+def case(name, words, data, output, error, status, command="match", program=""):
     wanted = output + ("!" if error else "") + error + f"[{status}]"
-    print("\t".join([name, "|".join(["dbusfan", "match", *words]), "F=" + spelled(data), "", wanted.replace("\n", "\\n")]))
+    columns = [name, "|".join(["dbusfan", command, *words]), "F=" + spelled(data), program, wanted]
+    print("\t".join(column.replace("\n", "\\n") for column in columns))
+
+
+def program_cases(name, data, every, cut, notes):
+    accepted = {number for number, _, _ in frames(name, "dbus.message_type == 4")} - cut
+    lines = [f"{number} verdict {7 if number in accepted else 0} steps 3\n" for number, _, _ in every if number not in cut]
+    count = f"{len(accepted)} of {len(lines)} accepted\n"
+    status = 0 if accepted else 1
+    case(f"{name}.program.each", ["P", "F", "--each"], data, "".join(lines) + count, notes, status, "run", "P=" + SIGNALS)
+    case(f"{name}.program.any", ["P", "F"], data, count, notes, status, "run", "P=" + SIGNALS)
 
 
 def whole_files():
@@ -61,6 +75,7 @@ def whole_files():
             status = 0 if matches else 1
             case(f"{name}.{word}.each", [rule, "F", "--each"], data, "".join(lines) + f"{len(matches)} of {len(lines)} match\n", notes, status)
             case(f"{name}.{word}.any", [rule, "F"], data, "match\n" if matches else "no match\n", notes, status)
+        program_cases(name, data, every, cut, notes)
 
 
 def short(name, data, ends):
@@ -100,6 +115,7 @@ def pcap_files():
     bad("pcap.length_above_a_message", with_word(data, 24 + 8, 2 ** 27 + 1), "RecordLength")
     bad("pcap.length_beyond_the_file", with_word(data, 24 + 8, len(data) - 24 - 16 + 1), "Short")
     bad("pcap.garbage_after_a_record", data + b"\xff" * 16, "RecordLength", 1)
+    case("pcap.other_link_type.program", ["P", "F", "--each"], with_word(data, 20, 1), "0 of 0 accepted\n", "dbusfan: capture LinkType 1\n", 2, "run", "P=" + SIGNALS)
     bad("zeros", b"\0" * 64, "Magic")
     bad("hexadecimal_text", b"6c04", "Magic")
 

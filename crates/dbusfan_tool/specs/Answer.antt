@@ -1,7 +1,6 @@
 -- What a command has to say, and how it is said (own).
-use Rattle.std.specs.Prelude.{◌≡◌, ℕ, Bool, true, false, List, [], ◌++◌, codes, decimal, Result, Ok, Err, if◌then◌else◌, ◌==◌}
+use Rattle.std.specs.Prelude.{◌≡◌, ℕ, Bool, true, false, List, [], ◌++◌, codes, decimal, Result, Ok, Err}
 use Rattle.bpf_code.specs.declared.instruction.Ins.{Ins}
-use Rattle.bpf_machine.specs.declared.machine.Outcome.{Outcome}
 use Rattle.command_line.specs.declared.error.Fault.{Fault}
 use Rattle.command_line.specs.declared.error.Fault.TheVariants.{File}
 use Rattle.command_line.specs.Errors.{line_end, fault_line, fault_status}
@@ -17,10 +16,6 @@ pub record Said : Type 0 where
 abbrev pub failing : Fault → Said
 failing fault = record { output = []; error = fault_line fault; status = fault_status fault }
 
-abbrev pub said_of_match : Bool → Said
-said_of_match true = record { output = codes "match" ++ line_end; error = []; status = 0 }
-said_of_match false = record { output = codes "no match" ++ line_end; error = []; status = 1 }
-
 -- a text on standard output
 abbrev pub saying : List ℕ → Said
 saying text = record { output = text; error = []; status = 0 }
@@ -33,10 +28,9 @@ said_of_asm program = saying (listing_of program)
 abbrev pub said_of_check : ℕ → Said
 said_of_check count = saying (codes "ok " ++ decimal count ++ line_end)
 
--- a program's verdict, which is a match where it isn't 0, and the number of its steps
-abbrev pub said_of_run : Outcome → Said
-said_of_run outcome =
-    record { output = codes "verdict " ++ decimal outcome.verdict ++ codes " steps " ++ decimal outcome.steps ++ line_end; error = []; status = if outcome.verdict == 0 then 1 else 0 }
+-- what is said after some output
+abbrev pub after_output : List ℕ → Said → Said
+after_output written said = record said { output = written ++ said.output }
 
 -- how what was found is said
 abbrev pub said_of : {A : Type 0} → (A → Said) → Result A Fault → Said
