@@ -1,5 +1,5 @@
 -- What is found of a capture, step by step, whatever bytes come later.
-use Rattle.std.proofs.Common.{◌≡◌, ℕ, suc, ◌+◌, ◌-◌, true, List, [], ◌∷◌, ◌++◌, drop, Some, Result, Ok, Err, refl, sym, ap, subst, ◌∙◌, arith, append_assoc, append-nil}
+use Rattle.std.proofs.Common.{◌≡◌, ℕ, suc, ◌+◌, ◌-◌, List, [], ◌∷◌, ◌++◌, drop, Some, Result, Ok, Err, refl, sym, ap, subst, ◌∙◌, arith, append_assoc, append-nil}
 use Rattle.std.specs.Result.{result_err}
 use Rattle.captures.specs.declared.error.CaptureError.{CaptureError}
 use Rattle.captures.specs.declared.error.CaptureError.TheVariants as faults

@@ -1,16 +1,16 @@
 -- What is found of a capture that is read in pieces.
-use Rattle.std.proofs.Common.{◌≡◌, ℕ, ◌+◌, ◌≤◌, Bool, true, false, List, [], ◌++◌, length, drop, Option, Some, Result, Ok, Err, refl, sym, ap, subst, ◌∙◌, append_assoc, append-nil}
+use Rattle.std.proofs.Common.{◌≡◌, ℕ, Bool, true, false, List, [], ◌++◌, drop, Some, Result, Ok, Err, refl, sym, ap, subst, ◌∙◌, append_assoc, append-nil}
 use Rattle.std.specs.Prelude.{string_bytes}
 use Rattle.std.specs.Result.{result_err, IsErrAnd, MatchResult}
 use Rattle.captures.specs.declared.error.CaptureError.{CaptureError}
 use Rattle.captures.specs.Reading.{Reading, start, end_of}
 use Rattle.captures.specs.Contents.{contents}
 use Rattle.command_line.specs.declared.error.Fault.{Fault}
-use Rattle.command_line.specs.declared.error.Fault.TheVariants.{File, Memory}
+use Rattle.command_line.specs.declared.error.Fault.TheVariants.{Memory}
 use Rattle.command_line.specs.declared.files.FileError.{FileError}
 use Rattle.command_line.specs.declared.files.FileError.TheVariants as of_file
 use Rattle.command_line.specs.Errors.{fault_of_file}
-use Rattle.command_line.specs.Files.{Content, Whole, Begun, ReadsPiece}
+use Rattle.command_line.specs.Files.{Content, Whole, ReadsPiece}
 use Rattle.dbusfan_tool.specs.declared.beginning.Beginning.{Beginning}
 use Rattle.dbusfan_tool.specs.declared.capturing.CaptureEnd.{CaptureEnd}
 use Rattle.dbusfan_tool.specs.declared.finding.Finding.{Finding}

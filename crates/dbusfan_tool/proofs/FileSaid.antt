@@ -1,24 +1,21 @@
 -- What is said of a file, from what its steps answer.
-use Rattle.std.proofs.Common.{◌≡◌, ◌⊎◌, ℕ, ◌+◌, ◌≤◌, Bool, true, false, not, List, [], ◌++◌, length, Option, Some, None, Result, Ok, Err, nat_lt, refl, sym, ap, subst, inl, inr, ◌∙◌, arith, lit≤, append-nil}
+use Rattle.std.proofs.Common.{◌≡◌, ◌⊎◌, ℕ, ◌≤◌, Bool, true, false, not, List, [], ◌++◌, length, Option, Some, None, Result, Ok, Err, nat_lt, refl, sym, ap, subst, inl, inr, ◌∙◌, arith, append-nil}
 use Rattle.std.specs.Prelude.{◌||◌, ◌&&◌, is_some}
 use Rattle.std.specs.Result.{IsErrAnd}
 use Rattle.std.specs.Global.{Vec}
 use Rattle.std.proofs.lemmas.Bool.{le-ltb}
 use Rattle.bpf_machine.specs.declared.machine.Outcome.{Outcome}
-use Rattle.message_value.specs.declared.error.MsgError.{MsgError}
-use Rattle.message_view.specs.Reading.{message_at}
 use Rattle.captures.specs.declared.order.Order.TheVariants.{Big}
 use Rattle.captures.specs.declared.magic.Magic.{Magic}
 use Rattle.captures.specs.declared.magic.Magic.TheVariants as magics
 use Rattle.captures.specs.Beginnings.{is_capture, begins_as}
 use Rattle.captures.specs.Blocks.{order_of}
-use Rattle.captures.specs.Contents.{contents}
 use Rattle.captures.specs.Numbers.{word}
 use Rattle.captures.specs.Pcap.{magic_of}
 use Rattle.captures.proofs.Choices.{fails}
 use Rattle.captures.proofs.Grown.{same_word, still_enough}
 use Rattle.command_line.specs.declared.error.Fault.{Fault}
-use Rattle.command_line.specs.declared.error.Fault.TheVariants.{Message as BadMessage, File, Memory}
+use Rattle.command_line.specs.declared.error.Fault.TheVariants.{File, Memory}
 use Rattle.command_line.specs.declared.files.FileError.{FileError}
 use Rattle.command_line.specs.declared.hex_text.HexError.{HexError}
 use Rattle.command_line.specs.declared.hex_text.HexError.TheVariants as of_hex
@@ -26,7 +23,7 @@ use Rattle.command_line.specs.Errors.{fault_of_file, fault_of_hex}
 use Rattle.bpf_code.specs.declared.instruction.Ins.{Ins}
 use Rattle.bpf_code.specs.Program.{WellFormed}
 use Rattle.summary.specs.declared.edition.Edition.{Edition}
-use Rattle.command_line.specs.Files.{Content, Whole, Begun, Broken, ReadsFile, MadeReads, two_reads}
+use Rattle.command_line.specs.Files.{Content, Whole, Broken, ReadsFile, MadeReads, two_reads}
 use Rattle.command_line.specs.HexText.{bytes_of_hex}
 use Rattle.dbusfan_tool.specs.declared.answer.Answer.{Answer}
 use Rattle.dbusfan_tool.specs.declared.answer.Answer.TheVariants.{Fault as Failing}
@@ -34,18 +31,18 @@ use Rattle.dbusfan_tool.specs.declared.beginning.Beginning.{Beginning}
 use Rattle.dbusfan_tool.specs.declared.capturing.CaptureEnd.{CaptureEnd}
 use Rattle.dbusfan_tool.specs.declared.finding.Finding.{Finding}
 use Rattle.dbusfan_tool.specs.declared.wording.Wording.{Wording}
-use Rattle.dbusfan_tool.specs.Answer.{Said, after_output, failing}
-use Rattle.dbusfan_tool.specs.Judges.{Judge, by_program, IsOutcome, IsJudgement}
+use Rattle.dbusfan_tool.specs.Answer.{Said, after_lines, failing}
+use Rattle.dbusfan_tool.specs.Judges.{Judge, by_program}
 use Rattle.dbusfan_tool.specs.Program.{Assembles}
 use Rattle.dbusfan_tool.specs.Tool.{Runs, ran}
 use Rattle.dbusfan_tool.proofs.Programs.{assembled_as}
-use Rattle.dbusfan_tool.specs.Findings.{Report, Reports, AreFirst}
+use Rattle.dbusfan_tool.specs.Findings.{Report}
 use Rattle.dbusfan_tool.specs.Reports.{words_of, lines_of, said_of_capture, said_of_outcome}
 use Rattle.dbusfan_tool.specs.FileJudgements.{bytes_of, of_message, of_capture, Found, Finds, no_file, no_hex, no_message, message, capture, BreaksOff, broken, short, SaysOfFile}
-use Rattle.dbusfan_tool.specs.CaptureSteps.{so_far}
 use Rattle.dbusfan_tool.specs.FirstBytes.{FailsToRead, IsSure, Continues, EndsCapture, BreaksCapture, FindsMessage}
 use Rattle.dbusfan_tool.specs.Views.{said_by, SaysAfter}
 use Rattle.dbusfan_tool.proofs.StepFaults.{file_fault, hex_fault}
+use Rattle.dbusfan_tool.proofs.Told.{no_lines}
 
 -- ---- whether a file is a capture
 
@@ -99,9 +96,6 @@ module _ (gave : Content → Type 0) (judge : Judge) where
 
   -- ---- what is said of a file
 
-  nothing_before : (said : Said) → after_output [] said ≡ said
-  nothing_before said = refl
-
   -- it can't be read
   pub not_read : (each : Bool) (fault : Fault) → FailsToRead gave fault → SaysAfter (SaysOfFile gave judge each) [] (Failing fault)
   not_read each fault (inl unread) =
@@ -113,7 +107,7 @@ module _ (gave : Content → Type 0) (judge : Judge) where
   pub said_of_message : (each : Bool) (outcome : Outcome) (words : Wording) (answer : Answer) → each ≡ false → words ≡ words_of judge → Finds gave judge false (Ok (of_message outcome)) → ((said_by answer ≡ said_of_outcome words outcome) ⊎ (said_by answer ≡ failing Memory)) → SaysAfter (SaysOfFile gave judge each) [] answer
   said_of_message each outcome words answer one words_are finds (inl said) =
       let found : Finds gave judge each (Ok (of_message outcome)) = subst (λ (e : Bool). Finds gave judge e (Ok (of_message outcome))) (sym one) finds in
-      inl (inl (Ok (of_message outcome), found, nothing_before (said_by answer) ∙ said ∙ ap (λ (w : Wording). said_of_outcome w outcome) words_are))
+      inl (inl (Ok (of_message outcome), found, no_lines answer ∙ said ∙ ap (λ (w : Wording). said_of_outcome w outcome) words_are))
   said_of_message each outcome words answer one words_are finds (inr memory) = inr (refl, memory)
 
   pub fault_of_message : (each : Bool) (fault : Fault) → each ≡ false → Fails fault → SaysAfter (SaysOfFile gave judge each) [] (Failing fault)
@@ -129,10 +123,10 @@ module _ (gave : Content → Type 0) (judge : Judge) where
 
   breaks_off : (each : Bool) (written : List ℕ) (words : Wording) (fault : Fault) (findings : List Finding) → words ≡ words_of judge → BreaksOff gave judge fault findings → written ≡ lines_of words each findings → SaysAfter (SaysOfFile gave judge each) written (Failing fault)
   breaks_off true written words fault findings words_are breaks lines =
-      let all : written ++ [] ≡ lines_of (words_of judge) true findings = append-nil written ∙ lines ∙ ap (λ (w : Wording). lines_of w true findings) words_are in
-      inl (inr (fault, findings, refl, breaks, ap (λ (output : List ℕ). let said : Said = record { output = output; error = (failing fault).error; status = (failing fault).status } in said) all))
+      let all : written ≡ lines_of (words_of judge) true findings = lines ∙ ap (λ (w : Wording). lines_of w true findings) words_are in
+      inl (inr (fault, findings, refl, breaks, ap (λ (text : List ℕ). after_lines text (failing fault)) all))
   breaks_off false written words fault findings words_are (broken gives first) lines =
-      inl (inl (Err File, no_file gives, ap (λ (output : List ℕ). let said : Said = record { output = output ++ []; error = (failing File).error; status = (failing File).status } in said) lines))
+      inl (inl (Err File, no_file gives, ap (λ (text : List ℕ). after_lines text (failing File)) lines))
   breaks_off false written words fault findings words_are (short gives first) lines = inr (lines, refl)
 
   pub said_of_break : (each : Bool) (written : List ℕ) (words : Wording) (fault : Fault) → words ≡ words_of judge → BreaksCapture judge words each written gave fault → SaysAfter (SaysOfFile gave judge each) written (Failing fault)
@@ -140,7 +134,7 @@ module _ (gave : Content → Type 0) (judge : Judge) where
 
   pub said_of_end : (each : Bool) (beginning : Beginning) (written : List ℕ) (words : Wording) (end : CaptureEnd) (answer : Answer) → words ≡ words_of judge
       → (each || is_capture beginning.bytes.items) ≡ true → (each ≡ false → IsSure beginning) → (ends : EndsCapture judge words each beginning written gave end)
-      → ((after_output written (said_by answer) ≡ said_of_capture words each (record { findings = ends.found; passed_over = ends.passed; fault = end.fault })) ⊎ (said_by answer ≡ failing Memory))
+      → ((after_lines written (said_by answer) ≡ said_of_capture words each (record { findings = ends.found; passed_over = ends.passed; fault = end.fault })) ⊎ (said_by answer ≡ failing Memory))
       → SaysAfter (SaysOfFile gave judge each) written answer
   said_of_end each beginning written words end answer words_are is sure ends (inl said) =
       let report : Report = record { findings = ends.found; passed_over = ends.passed; fault = end.fault } in
@@ -149,7 +143,7 @@ module _ (gave : Content → Type 0) (judge : Judge) where
       let lines : written ≡ lines_of words each ends.found = sym (append-nil written) ∙ ap (λ (text : List ℕ). written ++ text) (sym ends.none_left) ∙ ends.tally.lines_are in
       let says = breaks_off each written words Memory ends.found words_are (short ends.gives ends.first) lines in
       elim says [
-        | inl says ↦ inl (subst (λ (said : Said). SaysOfFile gave judge each (after_output written said)) (sym memory) says)
+        | inl says ↦ inl (subst (λ (said : Said). SaysOfFile gave judge each (after_lines written said)) (sym memory) says)
         | inr none ↦ inr (none.0, memory)
       ]
 

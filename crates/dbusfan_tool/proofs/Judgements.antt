@@ -13,7 +13,6 @@ use Rattle.summary.specs.declared.edition.Edition.{Edition}
 use Rattle.summary.specs.declared.edition.Edition.TheVariants.{Two}
 use Rattle.summary.specs.ImageBytes.{image_bytes}
 use Rattle.dbusfan_tool.specs.declared.filter.Filter.{Filter}
-use Rattle.dbusfan_tool.specs.declared.wording.Wording.{Wording}
 use Rattle.dbusfan_tool.specs.Judges.{Judge, by_rule, by_program, no_slots, IsOutcome, IsJudgement}
 use Rattle.dbusfan_tool.specs.Filters.{Serves}
 use Rattle.dbusfan_tool.specs.Reports.{words_of}

@@ -1,11 +1,10 @@
 -- What comes of opening and reading a file.
-use Rattle.std.proofs.Common.{◌≡◌, ℕ, ◌≤◌, Bool, true, false, List, [], ◌++◌, length, Result, Ok, Err, refl, ap, ◌∙◌, inl, inr, append_assoc}
+use Rattle.std.proofs.Common.{◌≡◌, ℕ, Bool, true, false, List, [], ◌++◌, Err, refl, inl, inr}
 use Rattle.command_line.specs.declared.files.FileError.{FileError}
 use Rattle.command_line.specs.declared.files.FileError.TheVariants.{File, Memory}
 use Rattle.command_line.specs.Errors.{fault_of_file}
-use Rattle.command_line.specs.Files.{Content, Begun, ReadsFile, OpensFile, ReadsPiece}
+use Rattle.command_line.specs.Files.{Content, ReadsFile, OpensFile, ReadsPiece}
 use Rattle.dbusfan_tool.specs.FirstBytes.{FailsToRead, Continues}
-use Rattle.dbusfan_tool.specs.CaptureSteps.{so_far}
 
 module _ (gave : Content → Type 0) where
   pub not_opened : (error : FileError) → OpensFile gave (Err error) → ReadsFile gave (Err error)

@@ -1,5 +1,5 @@
 -- The fault of a step is handed on, whatever a command says of it.
-use Rattle.std.proofs.Common.{◌≡◌, ◌⊎◌, ℕ, ◌<◌, List, Option, None, Result, Ok, Err, refl, sym, subst, inl, inr}
+use Rattle.std.proofs.Common.{◌≡◌, ◌⊎◌, ℕ, ◌<◌, List, None, Result, Ok, Err, refl, sym, subst, inl, inr}
 use Rattle.std.specs.Result.{IsErrAnd, IfErr}
 use Rattle.std.specs.Global.{Vec}
 use Rattle.command_line.specs.declared.error.Fault.{Fault}

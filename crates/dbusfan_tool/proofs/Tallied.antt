@@ -6,7 +6,7 @@ use Rattle.dbusfan_tool.specs.declared.finding.Finding.{Finding}
 use Rattle.dbusfan_tool.specs.declared.finding.Finding.TheVariants.{Judged, Cut, NoMessage}
 use Rattle.dbusfan_tool.specs.declared.tally.Tally.{Tally}
 use Rattle.dbusfan_tool.specs.declared.wording.Wording.{Wording}
-use Rattle.dbusfan_tool.specs.Answer.{Said, after_output}
+use Rattle.dbusfan_tool.specs.Answer.{Said, after_lines}
 use Rattle.dbusfan_tool.specs.Findings.{judged_count, accepted_count}
 use Rattle.dbusfan_tool.specs.Reports.{verdict_line, verdict_lines, note_line, note_lines, lines_of, last_line, passed_over_line, capture_line, capture_status, said_of_capture}
 use Rattle.dbusfan_tool.specs.Tallies.{IsTally}
@@ -52,6 +52,22 @@ one_more_accepted (NoMessage fault ∷ later) finding = one_more_accepted later 
 either_line : (words : Wording) (each : Bool) (found : List Finding) (finding : Finding) → lines_of words each (found ++ finding ∷ []) ≡ lines_of words each found ++ (if each then verdict_line words (1 + length found) finding else [])
 either_line words true found finding = one_more_line words 1 found finding
 either_line words false found finding = refl
+
+-- a text that has a length has bytes
+pub some_bytes : (len : ℕ) (bytes : List ℕ) → len ≡ length bytes → (len == 0) ≡ false → bytes ≡ [] → ⊥
+some_bytes len bytes is test e =
+    let zero : len ≡ 0 = is ∙ ap (λ (all : List ℕ). length all) e in
+    let yes : (len == 0) ≡ true = ap (λ (n : ℕ). n == 0) zero in
+    let no : true ≡ false = sym yes ∙ test in
+    cc
+
+-- what is said, by its parts
+abbrev said_with : (lines output error : List ℕ) (status : ℕ) → Said
+said_with lines output error status = record { lines = lines; output = output; error = error; status = status }
+
+same_said : (a b c d e f : List ℕ) (m n : ℕ) → a ≡ b → c ≡ d → e ≡ f → m ≡ n → said_with a c e m ≡ said_with b d f n
+same_said a b c d e f m n ab cd ef mn =
+    ap (λ (x : List ℕ). said_with x c e m) ab ∙ ap (λ (x : List ℕ). said_with b x e m) cd ∙ ap (λ (x : List ℕ). said_with b d x m) ef ∙ ap (λ (x : ℕ). said_with b d f x) mn
 
 module _ (words : Wording) (each : Bool) (written : List ℕ) (found : List Finding) (passed : ℕ) where
   -- a finding was taken: its lines were put, then it was counted
@@ -117,27 +133,24 @@ module _ (words : Wording) (each : Bool) (written : List ℕ) (found : List Find
     passed_over_are = ap (λ (t : Tally). t.passed_over) is ∙ tally.passed_over_are;
   }
 
-  -- all that is said at the end
-  pub said_at_end : (tally : Tally) (fault : Option CaptureError) (output notes : List ℕ) (status : ℕ) → IsTally words each tally written found passed
+  -- all that is said at the end, where all lines were written
+  pub said_at_end : (tally : Tally) (fault : Option CaptureError) (output notes : List ℕ) (status : ℕ) → IsTally words each tally written found passed → string_bytes tally.lines ≡ []
       → output ≡ string_bytes tally.lines ++ last_line tally.words tally.each tally.accepted tally.judged
       → notes ≡ string_bytes tally.notes ++ passed_over_line tally.passed_over ++ capture_line fault
       → status ≡ capture_status fault tally.accepted
-      → after_output written (record { output = output; error = notes; status = status }) ≡ said_of_capture words each (record { findings = found; passed_over = passed; fault = fault })
-  said_at_end tally fault output notes status is output_is notes_is status_is =
-      let last : last_line tally.words tally.each tally.accepted tally.judged ≡ last_line words each (accepted_count found) (judged_count found) =
-      ap (λ (w : Wording). last_line w tally.each tally.accepted tally.judged) is.words_are
+      → after_lines written (record { lines = []; output = output; error = notes; status = status }) ≡ said_of_capture words each (record { findings = found; passed_over = passed; fault = fault })
+  said_at_end tally fault output notes status is empty output_is notes_is status_is =
+      let lines : written ≡ lines_of words each found =
+      sym (append-nil written) ∙ ap (λ (text : List ℕ). written ++ text) (sym empty) ∙ is.lines_are in
+      let last : output ≡ last_line words each (accepted_count found) (judged_count found) =
+      output_is
+      ∙ ap (λ (text : List ℕ). text ++ last_line tally.words tally.each tally.accepted tally.judged) empty
+      ∙ ap (λ (w : Wording). last_line w tally.each tally.accepted tally.judged) is.words_are
       ∙ ap (λ (b : Bool). last_line words b tally.accepted tally.judged) is.each_is
       ∙ ap (λ (n : ℕ). last_line words each n tally.judged) is.accepted_are
       ∙ ap (λ (n : ℕ). last_line words each (accepted_count found) n) is.judged_are in
-      let all : written ++ output ≡ lines_of words each found ++ last_line words each (accepted_count found) (judged_count found) =
-      ap (λ (text : List ℕ). written ++ text) output_is
-      ∙ sym (append_assoc written (string_bytes tally.lines) (last_line tally.words tally.each tally.accepted tally.judged))
-      ∙ ap (λ (text : List ℕ). text ++ last_line tally.words tally.each tally.accepted tally.judged) is.lines_are
-      ∙ ap (λ (text : List ℕ). lines_of words each found ++ text) last in
       let noted : notes ≡ note_lines 1 found ++ passed_over_line passed ++ capture_line fault =
       notes_is ∙ ap (λ (text : List ℕ). text ++ passed_over_line tally.passed_over ++ capture_line fault) is.notes_are
       ∙ ap (λ (n : ℕ). note_lines 1 found ++ passed_over_line n ++ capture_line fault) is.passed_over_are in
       let ended : status ≡ capture_status fault (accepted_count found) = status_is ∙ ap (λ (n : ℕ). capture_status fault n) is.accepted_are in
-      ap (λ (o : List ℕ). let s : Said = record { output = o; error = notes; status = status } in s) all
-      ∙ ap (λ (e : List ℕ). let s : Said = record { output = lines_of words each found ++ last_line words each (accepted_count found) (judged_count found); error = e; status = status } in s) noted
-      ∙ ap (λ (n : ℕ). let s : Said = record { output = lines_of words each found ++ last_line words each (accepted_count found) (judged_count found); error = note_lines 1 found ++ passed_over_line passed ++ capture_line fault; status = n } in s) ended
+      same_said _ _ _ _ _ _ _ _ lines last noted ended

@@ -1,6 +1,5 @@
 -- Inner: how far a capture is judged.
-use Rattle.std.specs.Prelude.{◌≡◌, ◌≤◌, ◌+◌, ℕ, Bool, true, false, List, ◌++◌, length, drop, Option, Some, Ok}
-use Rattle.captures.specs.declared.error.CaptureError.{CaptureError}
+use Rattle.std.specs.Prelude.{◌≡◌, ◌≤◌, ◌+◌, ℕ, Bool, true, false, List, ◌++◌, length, drop, Some, Ok}
 use Rattle.captures.specs.declared.step.Step.TheVariants.{More}
 use Rattle.captures.specs.Reading.{Reading, step_at}
 use Rattle.captures.specs.Contents.{TimedMessage, Contents, contents, contents_of}

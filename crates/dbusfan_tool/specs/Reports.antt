@@ -26,7 +26,7 @@ outcome_line OfProgram outcome = codes "verdict " ++ decimal outcome.verdict ++ 
 
 -- a message alone: the status is 0 where it is accepted, else 1
 abbrev pub said_of_outcome : Wording → Outcome → Said
-said_of_outcome words outcome = record { output = outcome_line words outcome; error = []; status = if outcome.verdict == 0 then 1 else 0 }
+said_of_outcome words outcome = record { lines = []; output = outcome_line words outcome; error = []; status = if outcome.verdict == 0 then 1 else 0 }
 
 -- on standard output: a message's number and what is said of it
 abbrev pub verdict_line : Wording → ℕ → Finding → List ℕ
@@ -87,11 +87,12 @@ capture_status fault accepted = if is_some fault then 2 else if accepted == 0 th
 -- how many are accepted.
 abbrev pub said_of_capture : Wording → Bool → Report → Said
 said_of_capture words each report = record {
-  output = lines_of words each report.findings ++ last_line words each (accepted_count report.findings) (judged_count report.findings);
+  lines = lines_of words each report.findings;
+  output = last_line words each (accepted_count report.findings) (judged_count report.findings);
   error = note_lines 1 report.findings ++ passed_over_line report.passed_over ++ capture_line report.fault;
   status = capture_status report.fault (accepted_count report.findings);
 }
 
 -- What is said where reading a capture breaks off: the lines of the first messages, and the fault.
 abbrev pub breaking_off : Wording → List Finding → Fault → Said
-breaking_off words findings fault = record { output = verdict_lines words 1 findings; error = fault_line fault; status = fault_status fault }
+breaking_off words findings fault = record { lines = verdict_lines words 1 findings; output = []; error = fault_line fault; status = fault_status fault }

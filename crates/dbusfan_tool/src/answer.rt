@@ -45,7 +45,7 @@ impl Answer {
     /// Writes the answer on `out`, and answers the status. A failure of `out` is a fault of its own, which is written
     /// on `err`.
     pub(crate) fn tell<O: Writer, E: Writer>(&self, out: &mut Output<O>, err: &mut Output<E>) -> u8
-        ensures { Tells (said_by self.now) (Puts O.takes O.flushes O.may_fail out.old out.new)
+        ensures { Tells (said_by self.now) (λ lines. Puts O.takes O.flushes O.may_fail out.old out.new)
             (Puts E.takes E.flushes E.may_fail err.old err.new) out.new.has_failed result }
     {
         out.put(self.output());

@@ -7,7 +7,7 @@ ghost use Rattle.dbusfan_tool.specs.Views.{said_by, SaysAfter};
 ghost use Rattle.dbusfan_tool.specs.Tool.{Tool, Says};
 ghost use Rattle.dbusfan_tool.specs.Usage.{SaysUsage};
 ghost use Rattle.command_line.specs.Files.{MadeReads};
-ghost use Rattle.command_line.specs.Output.{Puts, PutsParts};
+ghost use Rattle.command_line.specs.Output.{Puts, PutsParts, PutsAfterLines};
 
 use crate::answer::Answer;
 use crate::{assembling, checking, compiling, help, matching, running};
@@ -17,8 +17,8 @@ use std::alloc::Global;
 /// Does what the words after the program's name ask for, and answers the status that the program ends
 /// with: 0 or 1 for what was found, 2 for a text that is wrong, 3 for words that are no row of the
 /// command line, 4 where a file can't be read or `out` can't be written, 5 for want of memory. The lines of a capture's
-/// messages are written as they are found, each part flushed after it; any other output is formed before it is written.
-/// Each file is read once: standard input would give other bytes the second time.
+/// messages are written in parts, as they are found. Any other output is one text, which is formed before any of it is
+/// written, and flushed after. Each file is read once: standard input would give other bytes the second time.
 pub fn tool<'a, F: Files, O: Writer, E: Writer>(
     alloc: Global,
     words: &'a [&'a str],
@@ -28,11 +28,11 @@ pub fn tool<'a, F: Files, O: Writer, E: Writer>(
 ) -> u8
     ensures row { (asked : Asked) → IsRow asked (texts words.entry.now)
         → Says (Tool (MadeReads F.gives files.old files.new) asked)
-        (λ said. Tells said (PutsParts O.takes O.flushes O.may_fail out.old out.new)
+        (λ said. Tells said (PutsAfterLines O.takes O.flushes O.may_fail out.old out.new)
         (Puts E.takes E.flushes E.may_fail err.old err.new) out.new.has_failed result) }
     ensures no_row { ((asked : Asked) → ¬ IsRow asked (texts words.entry.now))
         → Says (SaysUsage words.entry.now)
-        (λ said. Tells said (PutsParts O.takes O.flushes O.may_fail out.old out.new)
+        (λ said. Tells said (PutsAfterLines O.takes O.flushes O.may_fail out.old out.new)
         (Puts E.takes E.flushes E.may_fail err.old err.new) out.new.has_failed result) }
     ensures unread { ((asked : Asked) → ¬ IsRow asked (texts words.entry.now)) → MadeReads F.gives files.old files.new [] }
 {

@@ -5,7 +5,7 @@ ghost use Rattle.command_line.specs.Output.{Puts, PutsParts};
 ghost use Rattle.dbusfan_tool.specs.declared.finding.Finding.{Finding};
 ghost use Rattle.dbusfan_tool.specs.declared.wording.Wording.{Wording};
 ghost use Rattle.command_line.specs.declared.output.Output.{Output};
-ghost use Rattle.dbusfan_tool.specs.Answer.{after_output, failing};
+ghost use Rattle.dbusfan_tool.specs.Answer.{after_lines, failing};
 ghost use Rattle.dbusfan_tool.specs.Findings.{judged_count, accepted_count};
 ghost use Rattle.dbusfan_tool.specs.Reports.{verdict_line, note_line, said_of_capture};
 ghost use Rattle.dbusfan_tool.specs.Tallies.{IsTally};
@@ -114,10 +114,10 @@ impl Tally {
         self.lines.clear();
     }
 
-    /// What is said at the end of a capture, which may have a fault.
+    /// What is said at the end of a capture, which may have a fault, once all lines are written.
     pub(crate) fn answer(self, fault: Option<CaptureError>) -> Answer
-        ensures { (words : Wording) (each : Bool) (written : List ℕ) (found : List Finding) (passed : ℕ) → IsTally words each self written found passed
-            → (after_output written (said_by result) ≡ said_of_capture words each (record { findings = found; passed_over = passed; fault = fault })) ⊎ (said_by result ≡ failing Fault.Memory) }
+        ensures { (words : Wording) (each : Bool) (written : List ℕ) (found : List Finding) (passed : ℕ) → IsTally words each self written found passed → string_bytes self.lines ≡ []
+            → (after_lines written (said_by result) ≡ said_of_capture words each (record { findings = found; passed_over = passed; fault = fault })) ⊎ (said_by result ≡ failing Fault.Memory) }
     {
         match self.report(fault) {
             Ok(report) => report,
@@ -126,8 +126,8 @@ impl Tally {
     }
 
     fn report(self, fault: Option<CaptureError>) -> Result<Answer, AllocError>
-        ensures { IfOk result (λ answer. (words : Wording) (each : Bool) (written : List ℕ) (found : List Finding) (passed : ℕ) → IsTally words each self written found passed
-            → after_output written (said_by answer) ≡ said_of_capture words each (record { findings = found; passed_over = passed; fault = fault })) }
+        ensures { IfOk result (λ answer. (words : Wording) (each : Bool) (written : List ℕ) (found : List Finding) (passed : ℕ) → IsTally words each self written found passed → string_bytes self.lines ≡ []
+            → after_lines written (said_by answer) ≡ said_of_capture words each (record { findings = found; passed_over = passed; fault = fault })) }
     {
         let Tally {
             words,

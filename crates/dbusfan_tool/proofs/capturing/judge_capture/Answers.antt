@@ -1,7 +1,7 @@
-use Rattle.std.proofs.Common.{◌≡◌, List, ℕ, true, false, drop, sym}
+use Rattle.std.proofs.Common.{List, ℕ, drop, sym}
 use Rattle.command_line.specs.Files.{Content}
 use Rattle.command_line.specs.Output.{PutsParts, none}
-use Rattle.dbusfan_tool.proofs.FileCaptured.{SoFar, starts, breaks_short, took, met_fault, ended, piece_comes, piece_fails, broke}
+use Rattle.dbusfan_tool.proofs.FileCaptured.{starts, breaks_short, took, met_fault, ended, piece_comes, piece_fails, broke}
 use Rattle.dbusfan_tool.proofs.capturing.judge_capture.Goals as goal
 
 pub loop-init : goal.loop-init

@@ -1,5 +1,4 @@
 use Rattle.std.proofs.Common.{ℕ, List}
-use Rattle.command_line.specs.Files.{Content}
 use Rattle.command_line.specs.Output.{PutsParts}
 use Rattle.dbusfan_tool.specs.Judges.{Judge}
 use Rattle.dbusfan_tool.specs.Filters.{Serves}

@@ -1,4 +1,4 @@
-use Rattle.std.proofs.Common.{[], List}
+use Rattle.std.proofs.Common.{[]}
 use Rattle.command_line.specs.Output.{none}
 use Rattle.dbusfan_tool.specs.Usage.{SaysUsage}
 use Rattle.dbusfan_tool.proofs.Told.{told, says_alone, tells_after}

@@ -1,4 +1,3 @@
-use Rattle.std.proofs.Common.{ℕ, List}
 use Rattle.command_line.specs.Files.{Content}
 use Rattle.dbusfan_tool.specs.FirstBytes.{FailsToRead}
 use Rattle.dbusfan_tool.proofs.StepFaults.{handed_on}

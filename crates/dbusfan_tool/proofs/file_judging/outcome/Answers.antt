@@ -1,4 +1,4 @@
-use Rattle.std.proofs.Common.{refl, inl, sym, ◌∙◌}
+use Rattle.std.proofs.Common.{refl, inl, ◌∙◌}
 use Rattle.dbusfan_tool.specs.FileJudgements.{no_message, message}
 use Rattle.dbusfan_tool.proofs.FileSaid.{hands_on, of_file_fault, of_hex_fault, kind_stays}
 use Rattle.dbusfan_tool.proofs.file_judging.outcome.Goals as goal
