@@ -6,6 +6,7 @@
 It needs tshark (Debian's package), whose display filters say which messages a rule has to match: the captures were written by
 dbus-monitor and busctl. Where a cut or changed file ends is worked out here from the drafts of both formats.
 """
+import hashlib
 import pathlib
 import struct
 import subprocess
@@ -49,7 +50,8 @@ def spelled(data):
 
 def case(name, words, data, output, error, status, command="match", program=""):
     wanted = output + ("!" if error else "") + error + f"[{status}]"
-    columns = [name, "|".join(["dbusfan", command, *words]), "F=" + spelled(data), program, wanted]
+    content = data if isinstance(data, str) else spelled(data)
+    columns = [name, "|".join(["dbusfan", command, *words]), "F=" + content, program, wanted]
     print("\t".join(column.replace("\n", "\\n") for column in columns))
 
 
@@ -145,7 +147,25 @@ def pcapng_files():
     case("pcapng.other_link_type", ["", "F", "--each"], ethernet, "0 of 0 match\n", "dbusfan: packets of other link types: 1\n", 1)
 
 
+def noise_files():
+    """64 KiB of noise: 256 bytes of hashes, 256 times, alone and after what a capture begins with."""
+    once = b"".join(hashlib.sha256(bytes([number])).digest() for number in range(8))
+    noise = "\\{256*" + spelled(once) + "\\}"
+    pcap, pcapng = ((CAPTURES / name).read_bytes() for name in ("weather.pcap", "weather.pcapng"))
+    section = pcapng[:struct.unpack_from("<I", pcapng, 4)[0]]
+    assert once[:4] not in (pcap[:4], pcap[3::-1], pcapng[:4])
+    assert struct.unpack_from("<I", once, 8)[0] > 2 ** 27
+    assert struct.unpack_from("<I", once, 4)[0] % 4
+    print("\n# 64 KiB of noise.")
+    bad("noise", noise, "Magic")
+    bad("noise.after_the_header_of_a_pcap", spelled(pcap[:24]) + noise, "RecordLength")
+    bad("noise.after_the_section_of_a_pcapng", spelled(section) + noise, "BlockLength")
+    case("noise.without_each", ["", "F"], noise, "", "dbusfan: hex\n", 2)
+    case("noise.program", ["P", "F", "--each"], noise, "0 of 0 accepted\n", "dbusfan: capture Magic\n", 2, "run", "P=" + SIGNALS)
+
+
 print(HEAD)
 whole_files()
 pcap_files()
 pcapng_files()
+noise_files()
