@@ -42,7 +42,7 @@ use Rattle.dbusfan_tool.specs.FileJudgements.{bytes_of, of_message, of_capture, 
 use Rattle.dbusfan_tool.specs.FirstBytes.{FailsToRead, IsSure, Continues, EndsCapture, BreaksCapture, FindsMessage}
 use Rattle.dbusfan_tool.specs.Views.{said_by, SaysAfter}
 use Rattle.dbusfan_tool.proofs.StepFaults.{file_fault, hex_fault}
-use Rattle.dbusfan_tool.proofs.Told.{no_lines}
+use Rattle.dbusfan_tool.proofs.Saying.{no_lines}
 
 -- ---- whether a file is a capture
 

@@ -27,8 +27,8 @@ of_no_message judge bytes (Err f) error is fault = fault ∙ ap Err (sym is)
 -- the run of the filter's program
 pub of_outcome : (judge : Judge) (filter : Filter) (bytes : List ℕ) (m : Message) (image : List ℕ) (outcome : Outcome) → Serves judge filter → Valid bytes m → image ≡ image_bytes filter.edition m filter.slots → Ends filter.program image outcome.verdict outcome.steps → IsOutcome judge bytes outcome
 of_outcome (by_rule tree owns) filter bytes m image outcome serves valid is ends =
-    let two : image_bytes filter.edition m filter.slots ≡ image_bytes Two m filter.slots = ap (λ (e : Edition). image_bytes e m filter.slots) serves.3 in
-    let ends : Ends filter.program (image_bytes Two m filter.slots) outcome.verdict outcome.steps = subst (λ (b : List ℕ). Ends filter.program b outcome.verdict outcome.steps) (is ∙ two) ends in
+    let in_second : image_bytes filter.edition m filter.slots ≡ image_bytes Two m filter.slots = ap (λ (e : Edition). image_bytes e m filter.slots) serves.3 in
+    let ends : Ends filter.program (image_bytes Two m filter.slots) outcome.verdict outcome.steps = subst (λ (b : List ℕ). Ends filter.program b outcome.verdict outcome.steps) (is ∙ in_second) ends in
     (m, valid, serves.0 bytes m filter.slots (λ name. owns) outcome.verdict outcome.steps valid serves.1 (agree tree (sender_name_of tree) owns filter.slots refl serves.2) ends)
 of_outcome (by_program code edition) filter bytes m image outcome serves valid is ends =
     let same : image_bytes filter.edition m filter.slots ≡ image_bytes edition m filter.slots = ap (λ (e : Edition). image_bytes e m filter.slots) serves.3 in

@@ -2,7 +2,7 @@ use Rattle.std.proofs.Common.{[], inl, inr, refl}
 use Rattle.command_line.specs.CommandRow.{to_asm, to_check, to_compile}
 use Rattle.command_line.specs.Files.{MadeReads}
 use Rattle.command_line.specs.Output.{none}
-use Rattle.dbusfan_tool.proofs.Told.{says_of_row}
+use Rattle.dbusfan_tool.proofs.Saying.{says_of_row}
 use Rattle.dbusfan_tool.proofs.entry.answer.Goals as goal
 
 pub returns-in-Some-Asm-clause-row : goal.returns-in-Some-Asm-clause-row

@@ -6,7 +6,7 @@ use Rattle.dbusfan_tool.specs.Answer.{Said, failing}
 use Rattle.dbusfan_tool.specs.FileJudgements.{SaysOfFile}
 use Rattle.dbusfan_tool.specs.Judges.{by_rule}
 use Rattle.dbusfan_tool.specs.Tool.{Tool, no_rule, judged}
-use Rattle.dbusfan_tool.proofs.Told.{says_too}
+use Rattle.dbusfan_tool.proofs.Saying.{says_too}
 use Rattle.dbusfan_tool.proofs.matching.answer.Goals as goal
 
 pub returns-in-Ok : goal.returns-in-Ok

@@ -7,7 +7,7 @@ use Rattle.dbusfan_tool.specs.FileJudgements.{SaysOfFile}
 use Rattle.dbusfan_tool.specs.Judges.{by_program}
 use Rattle.dbusfan_tool.specs.Tool.{Tool, no_program}
 use Rattle.dbusfan_tool.proofs.FileSaid.{ran_after}
-use Rattle.dbusfan_tool.proofs.Told.{says_too}
+use Rattle.dbusfan_tool.proofs.Saying.{says_too}
 use Rattle.dbusfan_tool.proofs.running.answer.Goals as goal
 
 pub returns-in-Ok : goal.returns-in-Ok

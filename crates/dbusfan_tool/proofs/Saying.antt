@@ -1,4 +1,4 @@
--- What is said and told after lines.
+-- What is said after lines, and how it is told.
 use Rattle.std.proofs.Common.{◌≡◌, ◌⊎◌, ℕ, Bool, List, [], ◌∷◌, ◌++◌, Some, refl, ap, subst, sym, inl, inr, ◌∙◌}
 use Rattle.command_line.specs.declared.error.Fault.TheVariants.{Memory}
 use Rattle.command_line.specs.declared.output.Output.{Output}
@@ -35,10 +35,10 @@ says_of_row reads row asked answer e says =
 short_said : (written : List ℕ) (said : Said) → written ≡ [] → said ≡ failing Memory → after_lines written said ≡ failing Memory
 short_said written said empty short = ap (λ (w : List ℕ). after_lines w said) empty ∙ ap (λ (s : Said). after_lines [] s) short
 
--- what may be said is told
-pub told : (A : Said → Type 0) (written : List ℕ) (answer : Answer) (out : List ℕ → List ℕ → Type 0) (err : List ℕ → Type 0) (failed : Bool) (status : ℕ) → SaysAfter A written answer → Tells (after_lines written (said_by answer)) out err failed status → Says A (λ said. Tells said out err failed status)
-told A written answer out err failed status (inl says) tells = (after_lines written (said_by answer), inl says, tells)
-told A written answer out err failed status (inr short) tells =
+-- what may be said is said
+pub says_outcome : (A : Said → Type 0) (written : List ℕ) (answer : Answer) (out : List ℕ → List ℕ → Type 0) (err : List ℕ → Type 0) (failed : Bool) (status : ℕ) → SaysAfter A written answer → Tells (after_lines written (said_by answer)) out err failed status → Says A (λ said. Tells said out err failed status)
+says_outcome A written answer out err failed status (inl says) tells = (after_lines written (said_by answer), inl says, tells)
+says_outcome A written answer out err failed status (inr short) tells =
     (failing Memory, inr refl, subst (λ (said : Said). Tells said out err failed status) (short_said written (said_by answer) short.0 short.1) tells)
 
 -- where no part was put nothing was
