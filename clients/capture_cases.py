@@ -1,11 +1,12 @@
 #!/usr/bin/env python3
-"""Writes the cases of captures: what `match` says of those in examples/captures, whole, cut, and with lengths that lie.
+"""Writes the cases of captures: what `match` and `run` say of those in examples/captures, whole, cut, and with lengths that lie.
 
     clients/capture_cases.py > crates/cases_tool/data/captures.cases
 
 It needs tshark (Debian's package), whose display filters say which messages a rule has to match: the captures were written by
 dbus-monitor and busctl. Where a cut or changed file ends is worked out here from the drafts of both formats.
 """
+import hashlib
 import pathlib
 import struct
 import subprocess
@@ -32,6 +33,10 @@ RULES = [
 ]
 
 
+# a program that accepts signals, with verdict 7, and ends after three steps
+SIGNALS = "ld [4]\njeq #4, yes, no\nyes: ret #7\nno: ret #0\n"
+
+
 def frames(name, display):
     """Number, captured and original length of the frames that a display filter shows."""
     command = ["tshark", "-r", str(CAPTURES / name), "-Y", display, "-T", "fields", "-e", "frame.number", "-e", "frame.cap_len", "-e", "frame.len"]
@@ -43,9 +48,20 @@ def spelled(data):
     return "".join(chr(byte) if 32 < byte < 127 and byte not in b"\\" else f"\\x{byte:02x}" for byte in data)
 
 
-def case(name, words, data, output, error, status):
+def case(name, words, data, output, error, status, command="match", program=""):
     wanted = output + ("!" if error else "") + error + f"[{status}]"
-    print("\t".join([name, "|".join(["dbusfan", "match", *words]), "F=" + spelled(data), "", wanted.replace("\n", "\\n")]))
+    content = data if isinstance(data, str) else spelled(data)
+    columns = [name, "|".join(["dbusfan", command, *words]), "F=" + content, program, wanted]
+    print("\t".join(column.replace("\n", "\\n") for column in columns))
+
+
+def program_cases(name, data, every, cut, notes):
+    accepted = {number for number, _, _ in frames(name, "dbus.message_type == 4")} - cut
+    lines = [f"{number} verdict {7 if number in accepted else 0} steps 3\n" for number, _, _ in every if number not in cut]
+    count = f"{len(accepted)} of {len(lines)} accepted\n"
+    status = 0 if accepted else 1
+    case(f"{name}.program.each", ["P", "F", "--each"], data, "".join(lines) + count, notes, status, "run", "P=" + SIGNALS)
+    case(f"{name}.program.any", ["P", "F"], data, count, notes, status, "run", "P=" + SIGNALS)
 
 
 def whole_files():
@@ -61,6 +77,7 @@ def whole_files():
             status = 0 if matches else 1
             case(f"{name}.{word}.each", [rule, "F", "--each"], data, "".join(lines) + f"{len(matches)} of {len(lines)} match\n", notes, status)
             case(f"{name}.{word}.any", [rule, "F"], data, "match\n" if matches else "no match\n", notes, status)
+        program_cases(name, data, every, cut, notes)
 
 
 def short(name, data, ends):
@@ -100,6 +117,7 @@ def pcap_files():
     bad("pcap.length_above_a_message", with_word(data, 24 + 8, 2 ** 27 + 1), "RecordLength")
     bad("pcap.length_beyond_the_file", with_word(data, 24 + 8, len(data) - 24 - 16 + 1), "Short")
     bad("pcap.garbage_after_a_record", data + b"\xff" * 16, "RecordLength", 1)
+    case("pcap.other_link_type.program", ["P", "F", "--each"], with_word(data, 20, 1), "0 of 0 accepted\n", "dbusfan: capture LinkType 1\n", 2, "run", "P=" + SIGNALS)
     bad("zeros", b"\0" * 64, "Magic")
     bad("hexadecimal_text", b"6c04", "Magic")
 
@@ -129,7 +147,25 @@ def pcapng_files():
     case("pcapng.other_link_type", ["", "F", "--each"], ethernet, "0 of 0 match\n", "dbusfan: packets of other link types: 1\n", 1)
 
 
+def noise_files():
+    """64 KiB of noise: 256 bytes of hashes, 256 times, alone and after what a capture begins with."""
+    once = b"".join(hashlib.sha256(bytes([number])).digest() for number in range(8))
+    noise = "\\{256*" + spelled(once) + "\\}"
+    pcap, pcapng = ((CAPTURES / name).read_bytes() for name in ("weather.pcap", "weather.pcapng"))
+    section = pcapng[:struct.unpack_from("<I", pcapng, 4)[0]]
+    assert once[:4] not in (pcap[:4], pcap[3::-1], pcapng[:4])
+    assert struct.unpack_from("<I", once, 8)[0] > 2 ** 27
+    assert struct.unpack_from("<I", once, 4)[0] % 4
+    print("\n# 64 KiB of noise.")
+    bad("noise", noise, "Magic")
+    bad("noise.after_the_header_of_a_pcap", spelled(pcap[:24]) + noise, "RecordLength")
+    bad("noise.after_the_section_of_a_pcapng", spelled(section) + noise, "BlockLength")
+    case("noise.without_each", ["", "F"], noise, "", "dbusfan: hex\n", 2)
+    case("noise.program", ["P", "F", "--each"], noise, "0 of 0 accepted\n", "dbusfan: capture Magic\n", 2, "run", "P=" + SIGNALS)
+
+
 print(HEAD)
 whole_files()
 pcap_files()
 pcapng_files()
+noise_files()

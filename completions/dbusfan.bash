@@ -2,7 +2,7 @@
 _dbusfan_options() {
     case $1 in
     match) echo --owns --each --help ;;
-    run) echo --edition --help ;;
+    run) echo --edition --each --help ;;
     asm | check | compile) echo --help ;;
     serve) echo --listen --guid --connections --print-address --session --nofork --allow-anonymous --allow-external --help ;;
     watch) echo --program --edition --attach --monitor --invert --rules --hex --json --time --names --count --seconds --read --write --help ;;

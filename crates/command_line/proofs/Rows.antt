@@ -12,7 +12,7 @@ use Rattle.std.proofs.Math.Bool.{or-false}
 use Rattle.std.proofs.lemmas.Bool.{cases_Bool, false_from_ne_true}
 use Rattle.std.proofs.lemmas.Bool.Decides.{Decides-ltb}
 use Rattle.std.proofs.lemmas.Slice.Eq.{bytes_eq-Decides}
-use Rattle.command_line.specs.CommandRow.{match_word, asm_word, check_word, compile_word, run_word, owns_word, each_word, edition_word, word_of_edition, end_word, is_option, is_input, Options, no_options, Spells, nothing, ended, named, owned, eached, in_edition, Asked, to_match, to_match_each, to_asm, to_check, to_compile, to_run, IsRow, match_row, match_each_row, asm_row, check_row, compile_row, run_row}
+use Rattle.command_line.specs.CommandRow.{match_word, asm_word, check_word, compile_word, run_word, owns_word, each_word, edition_word, word_of_edition, end_word, is_option, is_input, Options, no_options, Spells, nothing, ended, named, owned, eached, in_edition, Asked, to_match, to_asm, to_check, to_compile, to_run, IsRow, match_row, asm_row, check_row, compile_row, run_row}
 use Rattle.command_line.specs.Views.{asked_by}
 use Rattle.command_line.specs.RowReading.{Gathering, no_words, with_name, with_owns, with_each, with_edition, edition_of, gather, match_of, only_word, run_of, asked_of, asked_in}
 
@@ -217,12 +217,9 @@ row_of_names : (asked : Asked) (names words : Words) (owns each : Bool) (edition
 row_of_names asked [] words owns each edition spells e = absurd (cc)
 row_of_names asked (rule ∷ []) words owns each edition spells e = absurd (cc)
 row_of_names asked (rule ∷ file ∷ []) words owns each (Some edition) spells e = absurd (cc)
-row_of_names asked (rule ∷ file ∷ []) words owns false None spells e =
-    let is : to_match rule file owns ≡ asked = cc in
+row_of_names asked (rule ∷ file ∷ []) words owns each None spells e =
+    let is : to_match rule file owns each ≡ asked = cc in
     subst (λ (x : Asked). IsRow x (match_word ∷ words)) is (match_row spells)
-row_of_names asked (rule ∷ file ∷ []) words owns true None spells e =
-    let is : to_match_each rule file owns ≡ asked = cc in
-    subst (λ (x : Asked). IsRow x (match_word ∷ words)) is (match_each_row spells)
 row_of_names asked (rule ∷ file ∷ other ∷ names) words owns each edition spells e = absurd (cc)
 
 row_of_match : (asked : Asked) (words : Words) (all : Gathering) → Found [] false false None words all → match_of all.names all.owns all.each all.edition ≡ Some asked → IsRow asked (match_word ∷ words)
@@ -251,13 +248,13 @@ row_of_one make command asked words all row found e =
     row_of_file make command asked found.names words found.options.owns found.options.each found.options.edition (only_word found.names found.options.owns found.options.each found.options.edition) row found.spells refl (rw (found.all_names, found.all_owns, found.all_each, found.all_edition) at e)
 
 -- Two words after `run`, which aren't both standard input, are its row.
-row_of_two : (asked : Asked) (program file : List ℕ) (words : Words) (edition : Option Edition) → Spells (record { owns = false; each = false; edition = edition }) (program ∷ file ∷ []) words → run_of (program ∷ file ∷ []) false false edition ≡ Some asked → IsRow asked (run_word ∷ words)
-row_of_two asked program file words edition spells e =
+row_of_two : (asked : Asked) (program file : List ℕ) (words : Words) (each : Bool) (edition : Option Edition) → Spells (record { owns = false; each = each; edition = edition }) (program ∷ file ∷ []) words → run_of (program ∷ file ∷ []) false each edition ≡ Some asked → IsRow asked (run_word ∷ words)
+row_of_two asked program file words each edition spells e =
     elim (cases_Bool (is_input program && is_input file)) [
       | inl both ↦ let none : None ≡ Some asked = rw both at e in absurd (cc)
       | inr one ↦
-          let some : Some (to_run program file (unwrap_or edition One)) ≡ Some asked = rw one at e in
-          let is : to_run program file (unwrap_or edition One) ≡ asked = cc in
+          let some : Some (to_run program file (unwrap_or edition One) each) ≡ Some asked = rw one at e in
+          let is : to_run program file (unwrap_or edition One) each ≡ asked = cc in
           subst (λ (x : Asked). IsRow x (run_word ∷ words)) is (run_row one spells)
     ]
 
@@ -265,8 +262,7 @@ run_of_names : (asked : Asked) (names words : Words) (owns each : Bool) (edition
 run_of_names asked [] words owns each edition spells e = absurd (cc)
 run_of_names asked (program ∷ []) words owns each edition spells e = absurd (cc)
 run_of_names asked (program ∷ file ∷ []) words true each edition spells e = absurd (cc)
-run_of_names asked (program ∷ file ∷ []) words false true edition spells e = absurd (cc)
-run_of_names asked (program ∷ file ∷ []) words false false edition spells e = row_of_two asked program file words edition spells e
+run_of_names asked (program ∷ file ∷ []) words false each edition spells e = row_of_two asked program file words each edition spells e
 run_of_names asked (program ∷ file ∷ other ∷ names) words owns each edition spells e = absurd (cc)
 
 row_of_run : (asked : Asked) (words : Words) (all : Gathering) → Found [] false false None words all → run_of all.names all.owns all.each all.edition ≡ Some asked → IsRow asked (run_word ∷ words)
@@ -315,9 +311,6 @@ row_of_read asked (word ∷ words) e = row_of_gathered asked word words (gather 
 -- A row is read.
 pub read_of_row : (asked : Asked) (words : Words) → IsRow asked words → asked_in words ≡ Some asked
 read_of_row asked words (match_row {words = tail} spells) =
-    let read = spelled spells [] false false None (lit≤ tt) refl refl refl in
-    rw read.1 refl
-read_of_row asked words (match_each_row {words = tail} spells) =
     let read = spelled spells [] false false None (lit≤ tt) refl refl refl in
     rw read.1 refl
 read_of_row asked words (asm_row {words = tail} spells) =

@@ -33,7 +33,7 @@ compile_word = codes "compile"
 abbrev pub owns_word : List ℕ
 owns_word = codes "--owns"
 
--- `--each`: the file is a capture, and each of its messages is judged
+-- `--each`: the file is a capture, and what is said of each of its messages is wanted
 abbrev pub each_word : List ℕ
 each_word = codes "--each"
 
@@ -80,19 +80,17 @@ pub data Spells : Options → List (List ℕ) → List (List ℕ) → Type 0 whe
 
 -- what a row of the command line asks for
 pub data Asked : Type 0 where
-  to_match : (rule file : List ℕ) (owns : Bool) → Asked
-  to_match_each : (rule file : List ℕ) (owns : Bool) → Asked
+  to_match : (rule file : List ℕ) (owns each : Bool) → Asked
   to_asm : (file : List ℕ) → Asked
   to_check : (file : List ℕ) → Asked
   to_compile : (rule : List ℕ) → Asked
-  to_run : (program file : List ℕ) (edition : Edition) → Asked
+  to_run : (program file : List ℕ) (edition : Edition) (each : Bool) → Asked
 
--- `match RULE FILE [--owns]`, `match RULE FILE --each [--owns]`, `asm FILE`, `check FILE`, `compile RULE`, `run PROGRAM
--- FILE [--edition 1|2]`, whose edition is 1 where none is given, and one of whose files alone may be standard input
+-- `match RULE FILE [--owns] [--each]`, `asm FILE`, `check FILE`, `compile RULE`, `run PROGRAM FILE [--edition 1|2]
+-- [--each]`, whose edition is 1 where none is given, and one of whose files alone may be standard input
 pub data IsRow : Asked → List (List ℕ) → Type 0 where
-  match_row : {rule file : List ℕ} {owns : Bool} {words : List (List ℕ)} → Spells (record { owns = owns; each = false; edition = None }) (rule ∷ file ∷ []) words → IsRow (to_match rule file owns) (match_word ∷ words)
-  match_each_row : {rule file : List ℕ} {owns : Bool} {words : List (List ℕ)} → Spells (record { owns = owns; each = true; edition = None }) (rule ∷ file ∷ []) words → IsRow (to_match_each rule file owns) (match_word ∷ words)
+  match_row : {rule file : List ℕ} {owns each : Bool} {words : List (List ℕ)} → Spells (record { owns = owns; each = each; edition = None }) (rule ∷ file ∷ []) words → IsRow (to_match rule file owns each) (match_word ∷ words)
   asm_row : {file : List ℕ} {words : List (List ℕ)} → Spells no_options (file ∷ []) words → IsRow (to_asm file) (asm_word ∷ words)
   check_row : {file : List ℕ} {words : List (List ℕ)} → Spells no_options (file ∷ []) words → IsRow (to_check file) (check_word ∷ words)
   compile_row : {rule : List ℕ} {words : List (List ℕ)} → Spells no_options (rule ∷ []) words → IsRow (to_compile rule) (compile_word ∷ words)
-  run_row : {program file : List ℕ} {option : Option Edition} {words : List (List ℕ)} → is_input program && is_input file ≡ false → Spells (record { owns = false; each = false; edition = option }) (program ∷ file ∷ []) words → IsRow (to_run program file (unwrap_or option One)) (run_word ∷ words)
+  run_row : {program file : List ℕ} {option : Option Edition} {each : Bool} {words : List (List ℕ)} → is_input program && is_input file ≡ false → Spells (record { owns = false; each = each; edition = option }) (program ∷ file ∷ []) words → IsRow (to_run program file (unwrap_or option One) each) (run_word ∷ words)

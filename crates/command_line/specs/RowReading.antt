@@ -6,7 +6,7 @@ use Rattle.summary.specs.declared.edition.Edition.{Edition}
 use Rattle.summary.specs.declared.edition.Edition.TheVariants.{One, Two}
 use Rattle.command_line.specs.declared.gathered.Awaited.{Awaited}
 use Rattle.command_line.specs.declared.gathered.Awaited.TheVariants.{AnyWord, EditionWord, NameAlone}
-use Rattle.command_line.specs.CommandRow.{match_word, asm_word, check_word, compile_word, run_word, owns_word, each_word, edition_word, word_of_edition, end_word, is_option, is_input, Asked, to_match, to_match_each, to_asm, to_check, to_compile, to_run}
+use Rattle.command_line.specs.CommandRow.{match_word, asm_word, check_word, compile_word, run_word, owns_word, each_word, edition_word, word_of_edition, end_word, is_option, is_input, Asked, to_match, to_asm, to_check, to_compile, to_run}
 
 -- What has been read so far: at most two words that are no options, the options, and what the next word may be.
 pub record Gathering : Type 0 where
@@ -79,7 +79,7 @@ gather so_far (word ∷ words) = option_and_then (λ next. gather next words) (w
 
 -- what `match` and two words ask for
 abbrev pub match_of : List (List ℕ) → Bool → Bool → Option Edition → Option Asked
-match_of (rule ∷ file ∷ []) owns each None = Some (if each then to_match_each rule file owns else to_match rule file owns)
+match_of (rule ∷ file ∷ []) owns each None = Some (to_match rule file owns each)
 match_of _ owns each edition = None
 
 -- one word without options
@@ -89,8 +89,8 @@ only_word _ owns each edition = None
 
 -- what `run` and two words ask for
 abbrev pub run_of : List (List ℕ) → Bool → Bool → Option Edition → Option Asked
-run_of (program ∷ file ∷ []) false false edition =
-    if is_input program && is_input file then None else Some (to_run program file (unwrap_or edition One))
+run_of (program ∷ file ∷ []) false each edition =
+    if is_input program && is_input file then None else Some (to_run program file (unwrap_or edition One) each)
 run_of _ owns each edition = None
 
 -- what a command and the words gathered after it ask for

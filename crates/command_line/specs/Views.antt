@@ -4,9 +4,9 @@ use Rattle.command_line.specs.declared.gathered.Names.{Names}
 use Rattle.command_line.specs.declared.gathered.Names.TheVariants.{Nothing, One, Two}
 use Rattle.command_line.specs.declared.gathered.Gathered.{Gathered}
 use Rattle.command_line.specs.declared.command_row.CommandRow.{CommandRow}
-use Rattle.command_line.specs.declared.command_row.CommandRow.TheVariants.{Match, MatchEach, Asm, Check, Run, Compile}
+use Rattle.command_line.specs.declared.command_row.CommandRow.TheVariants.{Match, Asm, Check, Run, Compile}
 use Rattle.command_line.specs.RowReading.{Gathering}
-use Rattle.command_line.specs.CommandRow.{Asked, to_match, to_match_each, to_asm, to_check, to_compile, to_run}
+use Rattle.command_line.specs.CommandRow.{Asked, to_match, to_asm, to_check, to_compile, to_run}
 
 abbrev pub names_of : Names → List (List ℕ)
 names_of Nothing = []
@@ -18,9 +18,8 @@ gathering_of all = record { names = names_of all.names; owns = all.owns; each = 
 
 -- a row of the code as what it asks for
 abbrev pub asked_by : CommandRow → Asked
-asked_by (Match rule file owns) = to_match rule.now file.now owns
-asked_by (MatchEach rule file owns) = to_match_each rule.now file.now owns
+asked_by (Match rule file owns each) = to_match rule.now file.now owns each
 asked_by (Asm file) = to_asm file.now
 asked_by (Check file) = to_check file.now
 asked_by (Compile rule) = to_compile rule.now
-asked_by (Run program file edition) = to_run program.now file.now edition
+asked_by (Run program file edition each) = to_run program.now file.now edition each

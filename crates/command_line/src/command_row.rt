@@ -6,17 +6,13 @@ use summary::Edition;
 /// What a command line asks for.
 #[derive(Clone, Copy)]
 pub enum CommandRow<'a> {
-    /// `match RULE FILE [--owns]`: does the rule match the message in the file?
+    /// `match RULE FILE [--owns] [--each]`: does the rule match the message in the file, or which messages of the
+    /// capture in it?
     Match {
         rule: &'a str,
         file: &'a str,
         owns: bool,
-    },
-    /// `match RULE FILE --each [--owns]`: which messages of the capture in the file does the rule match?
-    MatchEach {
-        rule: &'a str,
-        file: &'a str,
-        owns: bool,
+        each: bool,
     },
     /// `asm FILE`: the byte form of the program in the file.
     Asm {
@@ -30,11 +26,13 @@ pub enum CommandRow<'a> {
     Compile {
         rule: &'a str,
     },
-    /// `run PROGRAM FILE [--edition 1|2]`: what does the program say of the message in the file?
+    /// `run PROGRAM FILE [--edition 1|2] [--each]`: what does the program say of the message in the file, or of each
+    /// message of the capture in it?
     Run {
         program: &'a str,
         file: &'a str,
         edition: Edition,
+        each: bool,
     },
 }
 

@@ -149,12 +149,13 @@ impl<'a> Gathered<'a> {
     pub(crate) fn to_match(self) -> Option<CommandRow<'a>>
         ensures { option_map asked_by result ≡ match_of (names_of self.entry.names) self.entry.owns self.entry.each self.entry.edition }
     {
-        let owns = self.owns;
         match (self.names, self.edition) {
-            (Names::Two(rule, file), None) if self.each => {
-                Some(CommandRow::MatchEach { rule, file, owns })
-            }
-            (Names::Two(rule, file), None) => Some(CommandRow::Match { rule, file, owns }),
+            (Names::Two(rule, file), None) => Some(CommandRow::Match {
+                rule,
+                file,
+                owns: self.owns,
+                each: self.each,
+            }),
             _ => None,
         }
     }
@@ -173,8 +174,9 @@ impl<'a> Gathered<'a> {
     pub(crate) fn to_run(self) -> Option<CommandRow<'a>>
         ensures { option_map asked_by result ≡ run_of (names_of self.entry.names) self.entry.owns self.entry.each self.entry.edition }
     {
+        let each = self.each;
         match self.names {
-            Names::Two(program, file) if !self.owns && !self.each => {
+            Names::Two(program, file) if !self.owns => {
                 if program == "-" && file == "-" {
                     return None;
                 }
@@ -182,6 +184,7 @@ impl<'a> Gathered<'a> {
                     program,
                     file,
                     edition: self.edition.unwrap_or(Edition::One),
+                    each,
                 })
             }
             _ => None,

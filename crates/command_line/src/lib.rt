@@ -9,6 +9,7 @@ mod files;
 mod gathered;
 mod hex_text;
 mod output;
+mod progress;
 mod streams;
 mod system;
 mod writer;

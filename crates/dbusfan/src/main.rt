@@ -5,13 +5,13 @@ use command_line::{Fault, Output, Stream, System, Writer, args};
 pub use dbusfan_tool::tool;
 use std::alloc::Global;
 use std::io;
-use std::io::Lock;
+use std::io::{IsTerminal, Lock};
 use std::process::ExitCode;
 use std::rt::Runtime;
 
 fn main(rt: HostRuntime) -> ExitCode {
     let mut err = Output::new(Stream::new(rt.stderr().lock()));
-    let status = match run(&rt, &mut err) {
+    let status = match run(&rt, rt.stderr().is_terminal(), &mut err) {
         Ok(status) => status,
         Err(fault) => {
             err.put_fault(fault);
@@ -21,8 +21,13 @@ fn main(rt: HostRuntime) -> ExitCode {
     ExitCode::from(status)
 }
 
-/// Does what the words after the program's name ask for. An `Err` says that there are none to read.
-fn run<R: Runtime<A = Global>, E: Writer>(rt: &R, err: &mut Output<E>) -> Result<u8, Fault> {
+/// Does what the words after the program's name ask for. An `Err` says that there are none to read. How much of a long file
+/// has been read is said on standard error if that is a terminal.
+fn run<R: Runtime<A = Global>, E: Writer>(
+    rt: &R,
+    is_terminal: bool,
+    err: &mut Output<E>,
+) -> Result<u8, Fault> {
     let args = args(rt)?;
     let words: Vec<&str> = args
         .iter()
@@ -33,7 +38,7 @@ fn run<R: Runtime<A = Global>, E: Writer>(rt: &R, err: &mut Output<E>) -> Result
     Ok(tool(
         rt.alloc(),
         words.as_slice(),
-        &mut System::new(rt),
+        &mut System::with_progress(rt, is_terminal),
         &mut out,
         err,
     ))

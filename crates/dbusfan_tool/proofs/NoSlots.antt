@@ -4,7 +4,7 @@ use Rattle.std.specs.Int.{bit_at, trailing_zeros}
 use Rattle.std.proofs.lemmas.Bool.{cases_lt, eq-eqb}
 use Rattle.std.proofs.lemmas.Nat.Bits.{bit_at-trailing_zeros}
 use Rattle.summary.specs.Sets.{has_slot, IsSet}
-use Rattle.dbusfan_tool.specs.Running.{no_slots}
+use Rattle.dbusfan_tool.specs.Judges.{no_slots}
 
 -- a word of 32 bits is 0 where each of its bits is
 zero_word : (word : ℕ) → word < 2 ^ 32 → ((i : ℕ) → i < 32 → eqb (bit_at word i) 1 ≡ false) → word ≡ 0

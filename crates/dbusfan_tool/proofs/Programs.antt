@@ -1,5 +1,5 @@
 -- What the file of a program comes to, from what the steps answer.
-use Rattle.std.proofs.Common.{◌≡◌, ◌⊎◌, ℕ, List, Option, Some, Result, Ok, Err, length, refl, sym, ap, subst, inl, inr, ◌∙◌}
+use Rattle.std.proofs.Common.{◌≡◌, ◌⊎◌, ℕ, List, Result, Ok, Err, length, refl, sym, ap, subst, inl, inr, ◌∙◌}
 use Rattle.std.specs.Result.{IsErrAnd, IfErr}
 use Rattle.bpf_code.specs.declared.instruction.Ins.{Ins}
 use Rattle.bpf_code.specs.declared.error.CodeError.{CodeError}
@@ -11,24 +11,24 @@ use Rattle.command_line.specs.declared.error.Fault.TheVariants.{Memory}
 use Rattle.command_line.specs.declared.files.FileError.{FileError}
 use Rattle.command_line.specs.declared.files.FileError.TheVariants as of_file
 use Rattle.command_line.specs.Errors.{fault_of_code, fault_of_file}
-use Rattle.command_line.specs.Files.{ReadsFile}
+use Rattle.command_line.specs.Files.{Content, Whole, ReadsFile}
 use Rattle.dbusfan_tool.specs.Program.{Assembles, no_file, no_code, assembled, Checks, no_program, accepted}
 
 -- a program that is assembled from what a file gave, where what the file gave is said in another way
-pub assembled_as : {gave gives : Option (List ℕ) → Type 0} {program : List Ins} → ((content_read : Option (List ℕ)) → gave content_read → gives content_read) → Assembles gave (Ok program) → Assembles gives (Ok program)
-assembled_as as_well (assembled {text} content_read source) = assembled (as_well (Some text) content_read) source
+pub assembled_as : {gave gives : Content → Type 0} {program : List Ins} → ((content : Content) → gave content → gives content) → Assembles gave (Ok program) → Assembles gives (Ok program)
+assembled_as as_well (assembled {text} read source) = assembled (as_well (Whole text) read) source
 
-module _ (gave : Option (List ℕ) → Type 0) where
+module _ (gave : Content → Type 0) where
   abbrev Fails : Fault → Type 0
   Fails fault = Assembles gave (Err fault) ⊎ (fault ≡ Memory)
 
   -- the fault of a file
   pub of_file_fault : (error : FileError) → ReadsFile gave (Err error) → Fails (fault_of_file error)
-  of_file_fault of_file.File gives = inl (no_file gives)
+  of_file_fault of_file.File gives = inl (no_file gives.1)
   of_file_fault of_file.Memory gives = inr refl
 
   -- the fault of a text
-  pub of_text_fault : (text : List ℕ) (error : CodeError) → gave (Some text) → IsTextFault text error → Fails (fault_of_code error)
+  pub of_text_fault : (text : List ℕ) (error : CodeError) → gave (Whole text) → IsTextFault text error → Fails (fault_of_code error)
   of_text_fault text Length gives is = absurd is
   of_text_fault text (NoRow place) gives is = absurd is
   of_text_fault text (Line line) gives is = inl (no_code gives (λ e. cc) is)

@@ -1,5 +1,5 @@
 -- The fault of a step is handed on, whatever a command says of it.
-use Rattle.std.proofs.Common.{◌≡◌, ◌⊎◌, ℕ, ◌<◌, List, Option, None, Result, Ok, Err, refl, sym, subst, inl, inr}
+use Rattle.std.proofs.Common.{◌≡◌, ◌⊎◌, ℕ, ◌<◌, List, None, Result, Ok, Err, refl, sym, subst, inl, inr}
 use Rattle.std.specs.Result.{IsErrAnd, IfErr}
 use Rattle.std.specs.Global.{Vec}
 use Rattle.command_line.specs.declared.error.Fault.{Fault}
@@ -16,7 +16,7 @@ use Rattle.command_line.specs.declared.files.FileError.TheVariants as of_file
 use Rattle.command_line.specs.declared.hex_text.HexError.{HexError}
 use Rattle.command_line.specs.declared.hex_text.HexError.TheVariants as of_hex
 use Rattle.command_line.specs.Errors.{fault_of_rule, fault_of_file, fault_of_hex}
-use Rattle.command_line.specs.Files.{ReadsFile}
+use Rattle.command_line.specs.Files.{Content, Broken, ReadsFile}
 use Rattle.command_line.specs.HexText.{bytes_of_hex}
 use Rattle.dbusfan_tool.specs.Compiling.{fault_of_compile}
 
@@ -41,8 +41,8 @@ module _ (Fails : Fault → Type 0) where
     refusal tree too_long of_compile.TooLong long = too_long long
     refusal tree too_long of_compile.NoMemory long = short
 
-    pub file_fault : (gave : Option (List ℕ) → Type 0) → (gave None → Fails File) → (error : FileError) → ReadsFile gave (Err error) → Fails (fault_of_file error)
-    file_fault gave no_file of_file.File gives = no_file gives
+    pub file_fault : (gave : Content → Type 0) → ((came : List ℕ) → gave (Broken came) → Fails File) → (error : FileError) → ReadsFile gave (Err error) → Fails (fault_of_file error)
+    file_fault gave no_file of_file.File gives = no_file gives.0 gives.1
     file_fault gave no_file of_file.Memory gives = short
 
     pub hex_fault : (text : List ℕ) → (bytes_of_hex text ≡ None → Fails Hex) → (error : HexError) → (◌≡◌ {A = Result (Vec ℕ) HexError} (Err error) (Err of_hex.Hex) → bytes_of_hex text ≡ None) → Fails (fault_of_hex error)

@@ -1,29 +1,26 @@
 -- What a command has to say, and how it is said (own).
-use Rattle.std.specs.Prelude.{◌≡◌, ℕ, Bool, true, false, List, [], ◌++◌, codes, decimal, Result, Ok, Err, if◌then◌else◌, ◌==◌}
+use Rattle.std.specs.Prelude.{◌≡◌, ℕ, Bool, true, false, List, [], ◌++◌, codes, decimal, Result, Ok, Err}
 use Rattle.bpf_code.specs.declared.instruction.Ins.{Ins}
-use Rattle.bpf_machine.specs.declared.machine.Outcome.{Outcome}
 use Rattle.command_line.specs.declared.error.Fault.{Fault}
 use Rattle.command_line.specs.declared.error.Fault.TheVariants.{File}
 use Rattle.command_line.specs.Errors.{line_end, fault_line, fault_status}
 use Rattle.dbusfan_tool.specs.Listing.{listing_of}
 
--- what is written on standard output and on standard error, and the status
+-- what is written on standard output and on standard error, and the status. The lines of a capture's messages are written
+-- before the rest of the output, in parts as the messages are read.
 pub record Said : Type 0 where
+  pub lines : List ℕ
   pub output : List ℕ
   pub error : List ℕ
   pub status : ℕ
 
 -- a fault has one line on standard error
 abbrev pub failing : Fault → Said
-failing fault = record { output = []; error = fault_line fault; status = fault_status fault }
-
-abbrev pub said_of_match : Bool → Said
-said_of_match true = record { output = codes "match" ++ line_end; error = []; status = 0 }
-said_of_match false = record { output = codes "no match" ++ line_end; error = []; status = 1 }
+failing fault = record { lines = []; output = []; error = fault_line fault; status = fault_status fault }
 
 -- a text on standard output
 abbrev pub saying : List ℕ → Said
-saying text = record { output = text; error = []; status = 0 }
+saying text = record { lines = []; output = text; error = []; status = 0 }
 
 -- the byte form of a program
 abbrev pub said_of_asm : List Ins → Said
@@ -33,10 +30,9 @@ said_of_asm program = saying (listing_of program)
 abbrev pub said_of_check : ℕ → Said
 said_of_check count = saying (codes "ok " ++ decimal count ++ line_end)
 
--- a program's verdict, which is a match where it isn't 0, and the number of its steps
-abbrev pub said_of_run : Outcome → Said
-said_of_run outcome =
-    record { output = codes "verdict " ++ decimal outcome.verdict ++ codes " steps " ++ decimal outcome.steps ++ line_end; error = []; status = if outcome.verdict == 0 then 1 else 0 }
+-- what is said after lines
+abbrev pub after_lines : List ℕ → Said → Said
+after_lines lines said = record said { lines = lines }
 
 -- how what was found is said
 abbrev pub said_of : {A : Type 0} → (A → Said) → Result A Fault → Said
@@ -44,8 +40,8 @@ said_of say (Ok found) = say found
 said_of say (Err fault) = failing fault
 
 -- What is said was written on `out`, and on `err` where `out` did not fail; where it did, that is the fault.
-pub record Tells (said : Said) (out err : List ℕ → Type 0) (out_failed : Bool) (status : ℕ) : Type 0 where
-  pub output : out said.output
+pub record Tells (said : Said) (out : (lines text : List ℕ) → Type 0) (err : List ℕ → Type 0) (out_failed : Bool) (status : ℕ) : Type 0 where
+  pub output : out said.lines said.output
   pub error : out_failed ≡ false → err said.error
   pub answered : out_failed ≡ false → status ≡ said.status
   pub refused : out_failed ≡ true → status ≡ 4

@@ -19,11 +19,14 @@ use Rattle.command_line.specs.declared.error.Fault.TheVariants.{Rule, Memory}
 abbrev pub slot_for : RuleTree → Option ℕ
 slot_for rule = option_map (λ name. 0) (sender_name_of rule)
 
+-- Why a rule's text has no program: it is no rule, or the rule's program might become too long.
+pub data IsRuleFault (rule : List ℕ) : Fault → Type 0 where
+  no_rule : {fault : RuleError} → rule_at rule ≡ Err fault → IsRuleFault rule (Rule fault)
+  too_long : {tree : RuleTree} → ReadsAs rule tree → 4096 < weight_of tree → IsRuleFault rule (Rule TooLong)
+
 -- What `compile` finds for a rule's text: the text of a program that is accepted and that is the compiled rule.
--- A rule whose program might become too long isn't compiled.
 pub data Compiles (rule : List ℕ) : Result (List ℕ) Fault → Type 0 where
-  no_rule : {fault : RuleError} → rule_at rule ≡ Err fault → Compiles rule (Err (Rule fault))
-  too_long : {tree : RuleTree} → ReadsAs rule tree → 4096 < weight_of tree → Compiles rule (Err (Rule TooLong))
+  refused : {fault : Fault} → IsRuleFault rule fault → Compiles rule (Err fault)
   compiled : {tree : RuleTree} {text : List ℕ} {program : List Ins} → ReadsAs rule tree → SourceText text program → WellFormed program → IsCompiled tree (slot_for tree) program → Compiles rule (Ok text)
 
 -- what it means for a command that a rule isn't compiled

@@ -1,39 +1,74 @@
--- How it is said what is found of a capture (own).
-use Rattle.std.specs.Prelude.{ℕ, ◌+◌, true, false, List, [], ◌∷◌, ◌++◌, codes, decimal, Option, Some, None, is_some, ◌==◌, if◌then◌else◌}
+-- How it is said what is found of messages (own).
+use Rattle.std.specs.Prelude.{ℕ, ◌+◌, Bool, List, [], ◌∷◌, ◌++◌, codes, decimal, Option, Some, None, is_some, ◌==◌, if◌then◌else◌}
 use Rattle.message_value.specs.Errors.{name_of as message_name}
+use Rattle.bpf_machine.specs.declared.machine.Outcome.{Outcome}
 use Rattle.captures.specs.declared.error.CaptureError.{CaptureError}
 use Rattle.captures.specs.Errors.{text_of as capture_text}
-use Rattle.command_line.specs.Errors.{line_end}
+use Rattle.command_line.specs.declared.error.Fault.{Fault}
+use Rattle.command_line.specs.Errors.{line_end, fault_line, fault_status}
+use Rattle.dbusfan_tool.specs.declared.wording.Wording.{Wording}
+use Rattle.dbusfan_tool.specs.declared.wording.Wording.TheVariants.{OfRule, OfProgram}
 use Rattle.dbusfan_tool.specs.declared.finding.Finding.{Finding}
-use Rattle.dbusfan_tool.specs.declared.finding.Finding.TheVariants.{Verdict, Cut, NoMessage}
-use Rattle.dbusfan_tool.specs.Findings.{Report, verdict_count, match_count}
+use Rattle.dbusfan_tool.specs.declared.finding.Finding.TheVariants.{Judged, Cut, NoMessage}
+use Rattle.dbusfan_tool.specs.Judges.{Judge, by_rule, by_program}
+use Rattle.dbusfan_tool.specs.Findings.{Report, judged_count, accepted_count}
 use Rattle.dbusfan_tool.specs.Answer.{Said}
 
--- on standard output: a message's number and its verdict
-abbrev pub verdict_line : ℕ → Finding → List ℕ
-verdict_line number (Verdict true) = decimal number ++ codes " match" ++ line_end
-verdict_line number (Verdict false) = decimal number ++ codes " no match" ++ line_end
-verdict_line number Cut = []
-verdict_line number (NoMessage fault) = []
+-- whose words are used
+abbrev pub words_of : Judge → Wording
+words_of (by_rule tree owns) = OfRule
+words_of (by_program code edition) = OfProgram
+
+-- what is said of one message: whether the rule matches, or the program's verdict and the number of its steps
+abbrev pub outcome_line : Wording → Outcome → List ℕ
+outcome_line OfRule outcome = if outcome.verdict == 0 then codes "no match" ++ line_end else codes "match" ++ line_end
+outcome_line OfProgram outcome = codes "verdict " ++ decimal outcome.verdict ++ codes " steps " ++ decimal outcome.steps ++ line_end
+
+-- a message alone: the status is 0 where it is accepted, else 1
+abbrev pub said_of_outcome : Wording → Outcome → Said
+said_of_outcome words outcome = record { lines = []; output = outcome_line words outcome; error = []; status = if outcome.verdict == 0 then 1 else 0 }
+
+-- on standard output: a message's number and what is said of it
+abbrev pub verdict_line : Wording → ℕ → Finding → List ℕ
+verdict_line words number (Judged outcome) = decimal number ++ codes " " ++ outcome_line words outcome
+verdict_line words number Cut = []
+verdict_line words number (NoMessage fault) = []
 
 -- on standard error: why a packet is passed over
 abbrev pub note_line : ℕ → Finding → List ℕ
-note_line number (Verdict matches) = []
+note_line number (Judged outcome) = []
 note_line number Cut = codes "dbusfan: packet Cut at " ++ decimal number ++ line_end
 note_line number (NoMessage fault) = codes "dbusfan: message " ++ message_name fault ++ codes " at " ++ decimal number ++ line_end
 
 -- the lines of findings, whose numbers go on from one
-abbrev pub verdict_lines : ℕ → List Finding → List ℕ
-verdict_lines number [] = []
-verdict_lines number (finding ∷ later) = verdict_line number finding ++ verdict_lines (number + 1) later
+abbrev pub verdict_lines : Wording → ℕ → List Finding → List ℕ
+verdict_lines words number [] = []
+verdict_lines words number (finding ∷ later) = verdict_line words number finding ++ verdict_lines words (number + 1) later
 
 abbrev pub note_lines : ℕ → List Finding → List ℕ
 note_lines number [] = []
 note_lines number (finding ∷ later) = note_line number finding ++ note_lines (number + 1) later
 
--- how many messages match, of how many
-abbrev pub count_line : List Finding → List ℕ
-count_line findings = decimal (match_count findings) ++ codes " of " ++ decimal (verdict_count findings) ++ codes " match" ++ line_end
+-- how many messages are accepted, of how many
+abbrev pub accepted_word : Wording → List ℕ
+accepted_word OfRule = codes " match"
+accepted_word OfProgram = codes " accepted"
+
+abbrev pub count_line : Wording → ℕ → ℕ → List ℕ
+count_line words accepted judged = decimal accepted ++ codes " of " ++ decimal judged ++ accepted_word words ++ line_end
+
+-- what is said of all messages, where no line is wanted for each: whether the rule matches some, or how many the program
+-- accepts
+abbrev pub summary_line : Wording → ℕ → ℕ → List ℕ
+summary_line OfRule accepted judged = if accepted == 0 then codes "no match" ++ line_end else codes "match" ++ line_end
+summary_line OfProgram accepted judged = count_line OfProgram accepted judged
+
+-- the line after those of the messages, and those before it
+abbrev pub last_line : Wording → Bool → ℕ → ℕ → List ℕ
+last_line words each accepted judged = if each then count_line words accepted judged else summary_line words accepted judged
+
+abbrev pub lines_of : Wording → Bool → List Finding → List ℕ
+lines_of words each findings = if each then verdict_lines words 1 findings else []
 
 -- how many packets of other link types were passed over, where there are any
 abbrev pub passed_over_line : ℕ → List ℕ
@@ -44,26 +79,20 @@ abbrev pub capture_line : Option CaptureError → List ℕ
 capture_line None = []
 capture_line (Some fault) = codes "dbusfan: capture " ++ capture_text fault ++ line_end
 
--- all that standard error gets
-abbrev pub notes_of : Report → List ℕ
-notes_of report = note_lines 1 report.findings ++ passed_over_line report.passed_over ++ capture_line report.fault
+-- 2 where the file has a fault, else 0 where a message is accepted, else 1
+abbrev pub capture_status : Option CaptureError → ℕ → ℕ
+capture_status fault accepted = if is_some fault then 2 else if accepted == 0 then 1 else 0
 
--- 2 where the file has a fault, else 0 where a message matches, else 1
-abbrev pub report_status : Report → ℕ
-report_status report = if is_some report.fault then 2 else if match_count report.findings == 0 then 1 else 0
+-- What is said of a capture: with `each` a line a message, whose number is its packet's among those of D-Bus, and last
+-- how many are accepted.
+abbrev pub said_of_capture : Wording → Bool → Report → Said
+said_of_capture words each report = record {
+  lines = lines_of words each report.findings;
+  output = last_line words each (accepted_count report.findings) (judged_count report.findings);
+  error = note_lines 1 report.findings ++ passed_over_line report.passed_over ++ capture_line report.fault;
+  status = capture_status report.fault (accepted_count report.findings);
+}
 
--- an output, and all else that a report says
-abbrev pub said_with : List ℕ → Report → Said
-said_with output report = record { output = output; error = notes_of report; status = report_status report }
-
--- What `match --each` says: a line a message, whose number is its packet's among those of D-Bus, and last how many match.
-abbrev pub said_of_each : Report → Said
-said_of_each report = said_with (verdict_lines 1 report.findings ++ count_line report.findings) report
-
--- whether some message matches
-abbrev pub any_line : List Finding → List ℕ
-any_line findings = if match_count findings == 0 then codes "no match" ++ line_end else codes "match" ++ line_end
-
--- what `match` says of a capture
-abbrev pub said_of_any : Report → Said
-said_of_any report = said_with (any_line report.findings) report
+-- What is said where reading a capture breaks off: the lines of the first messages, and the fault.
+abbrev pub breaking_off : Wording → List Finding → Fault → Said
+breaking_off words findings fault = record { lines = verdict_lines words 1 findings; output = []; error = fault_line fault; status = fault_status fault }

@@ -10,15 +10,8 @@ use command_line::{Fault, Output, Writer};
 /// What a command has to say.
 #[derive(Drop)]
 pub(crate) enum Answer {
-    /// Whether the rule matches.
-    Verdict(bool),
     /// A text for standard output.
     Text(String),
-    /// A text for standard output, and whether it tells of a match.
-    Ran {
-        text: String,
-        matches: bool,
-    },
     /// A text for standard output, one for standard error, and the status.
     Report {
         output: String,
@@ -33,9 +26,7 @@ impl Answer {
         ensures { result.now ≡ (said_by self.now).output }
     {
         match self {
-            Answer::Verdict(true) => b"match\n",
-            Answer::Verdict(false) => b"no match\n",
-            Answer::Text(text) | Answer::Ran { text, .. } => text.as_bytes(),
+            Answer::Text(text) => text.as_bytes(),
             Answer::Report { output, .. } => output.as_bytes(),
             Answer::Fault(_) => b"",
         }
@@ -45,8 +36,7 @@ impl Answer {
         ensures { result ≡ (said_by self.now).status }
     {
         match self {
-            Answer::Verdict(true) | Answer::Text(_) | Answer::Ran { matches: true, .. } => 0,
-            Answer::Verdict(false) | Answer::Ran { matches: false, .. } => 1,
+            Answer::Text(_) => 0,
             Answer::Report { status, .. } => *status,
             Answer::Fault(fault) => fault.status(),
         }
@@ -55,7 +45,7 @@ impl Answer {
     /// Writes the answer on `out`, and answers the status. A failure of `out` is a fault of its own, which is written
     /// on `err`.
     pub(crate) fn tell<O: Writer, E: Writer>(&self, out: &mut Output<O>, err: &mut Output<E>) -> u8
-        ensures { Tells (said_by self.now) (Puts O.takes O.flushes O.may_fail out.old out.new)
+        ensures { Tells (said_by self.now) (λ lines. Puts O.takes O.flushes O.may_fail out.old out.new)
             (Puts E.takes E.flushes E.may_fail err.old err.new) out.new.has_failed result }
     {
         out.put(self.output());

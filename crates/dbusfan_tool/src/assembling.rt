@@ -27,8 +27,8 @@ pub(crate) fn answer<F: Files>(alloc: Global, file: &str, files: &mut F) -> Answ
 }
 
 fn assemble_file<F: Files>(alloc: Global, file: &str, files: &mut F) -> Result<String, Fault>
-    ensures found { IfOk result (λ text. (program : List Ins) × Assembles (λ content_read. F.gives files.old file.now content_read files.new) (Ok program) × (string_bytes text ≡ listing_of program)) }
-    ensures fault { IfErr result (λ fault. Assembles (λ content_read. F.gives files.old file.now content_read files.new) (Err fault) ⊎ (fault ≡ Fault.Memory)) }
+    ensures found { IfOk result (λ text. (program : List Ins) × Assembles (λ content. F.gives files.old file.now content files.new) (Ok program) × (string_bytes text ≡ listing_of program)) }
+    ensures fault { IfErr result (λ fault. Assembles (λ content. F.gives files.old file.now content files.new) (Err fault) ⊎ (fault ≡ Fault.Memory)) }
 {
     let program = program::read(alloc, file, files)?;
     let text = listing(alloc, &program)?;

@@ -1,73 +1,141 @@
-// What a rule says of each message of a capture.
+// What a filter says of each message of a capture.
 
-ghost use Rattle.std.specs.Prelude.{◌≡◌, ◌≤◌, length, drop, IfOk};
-ghost use Rattle.match_rule.specs.RuleTree.{RuleTree};
-ghost use Rattle.rule_compile.specs.Compiled.{IsCompiled};
-ghost use Rattle.captures.specs.Contents.{contents, message_in};
-ghost use Rattle.dbusfan_tool.specs.Compiling.{slot_for};
-ghost use Rattle.dbusfan_tool.specs.Findings.{IsFinding, IsReport};
-ghost use Rattle.dbusfan_tool.specs.Views.{report_by};
+ghost use Rattle.std.specs.Prelude.{◌≡◌, ◌≤◌, ◌++◌, ℕ, Bool, true, List, [], length, drop, IfOk, MatchResult, string_bytes};
+ghost use Rattle.captures.specs.Contents.{message_in};
+ghost use Rattle.command_line.specs.Files.{Content, Begun};
+ghost use Rattle.command_line.specs.Output.{PutsParts};
+ghost use Rattle.dbusfan_tool.specs.declared.finding.Finding.{Finding};
+ghost use Rattle.dbusfan_tool.specs.declared.wording.Wording.{Wording};
+ghost use Rattle.dbusfan_tool.specs.Judges.{Judge};
+ghost use Rattle.dbusfan_tool.specs.Filters.{Serves};
+ghost use Rattle.dbusfan_tool.specs.Findings.{IsFinding, Report, Reports};
+ghost use Rattle.dbusfan_tool.specs.Tallies.{IsTally};
+ghost use Rattle.dbusfan_tool.specs.CaptureSteps.{IsAt, TakesTo, TakesWithin, so_far};
+ghost use Rattle.dbusfan_tool.specs.FirstBytes.{EndsCapture, BreaksCapture};
 
+use crate::beginning::Beginning;
+use crate::filter::Filter;
 use crate::finding::Finding;
-use crate::matching::judge;
-use crate::report::CaptureReport;
-use bpf_verify::Verified;
-use captures::{Packet, Packets, Step};
+use crate::tally::Tally;
+use captures::{CaptureError, Packet, Packets, Step};
+use command_line::{Fault, Files, Output, Writer};
 use std::alloc::{AllocError, Global};
 
-/// What the rule of a program says of each message of the capture that the bytes of a file are.
-pub(crate) fn judge_capture(
+/// What is found of a capture, and the fault that ends it.
+#[derive(Drop)]
+pub(crate) struct CaptureEnd {
+    pub(crate) tally: Tally,
+    pub(crate) fault: Option<CaptureError>,
+}
+
+/// How far the packets of some bytes were taken.
+#[derive(Clone, Copy)]
+pub(crate) enum Taken {
+    /// As many bytes as these: more have to be there for the next.
+    Until(usize),
+    /// To a fault.
+    Faulty(CaptureError),
+}
+
+/// What a filter says of each message of a capture, of which some bytes were read, and more can be if it is still open.
+/// The lines of the messages are written as they are found. No more of the file is kept than a block, or a packet with its
+/// header, and one piece. A fault may come after some of the lines; where `out` has failed it says nothing.
+pub(crate) fn judge_capture<F: Files, O: Writer>(
     alloc: Global,
-    program: &Verified,
-    owns: bool,
-    file: &[u8],
-) -> Result<CaptureReport, AllocError>
-    ensures { IfOk result (λ report. (tree : RuleTree) → IsCompiled tree (slot_for tree) program.now → IsReport tree owns (contents file.now) (report_by report)) }
+    filter: &Filter,
+    each: bool,
+    files: &mut F,
+    beginning: Beginning,
+    out: &mut Output<O>,
+) -> Result<CaptureEnd, Fault>
+    ensures { (judge : Judge) (before : F) (name : List ℕ) → Serves judge filter.now → F.gives before name (so_far beginning.is_open beginning.bytes.items) files.old
+        → (written : List ℕ) × PutsParts O.takes O.flushes O.may_fail out.old out.new written
+        × MatchResult result (EndsCapture judge filter.now.words each beginning written (λ content. F.gives before name content files.new)) (BreaksCapture judge filter.now.words each written (λ content. F.gives before name content files.new)) }
 {
     let mut packets = Packets::new();
-    let mut findings = Vec::new(alloc);
-    let mut passed_over = 0;
-    let mut rest = file;
-    loop {
-        match packets.next(rest) {
-            Ok(Step::Message(packet)) => {
-                findings.push(finding_of(program, owns, packet, rest))?;
-                rest = after(rest, packet.len);
-            }
-            Ok(Step::Other { len, .. }) => {
-                passed_over += 1;
-                rest = after(rest, len);
-            }
-            Ok(Step::Skip(len)) => rest = after(rest, len),
-            Ok(Step::More(_)) => {
-                return Ok(CaptureReport {
-                    findings,
-                    passed_over,
-                    fault: packets.end(rest).err(),
-                });
-            }
-            Err(fault) => {
-                return Ok(CaptureReport {
-                    findings,
-                    passed_over,
+    let mut tally = Tally::new(alloc, filter.words, each);
+    let Beginning {
+        mut bytes,
+        mut is_open,
+    } = beginning;
+    for _ in 0..u64::MAX {
+        let taken = take_packets(filter, &mut packets, &bytes, &mut tally)?;
+        tally.put_lines(out);
+        let len = match taken {
+            Taken::Until(len) => len,
+            Taken::Faulty(fault) => {
+                return Ok(CaptureEnd {
+                    tally,
                     fault: Some(fault),
                 });
             }
+        };
+        if out.has_failed {
+            return Err(Fault::Memory);
+        }
+        bytes = left_after(alloc, bytes, len)?;
+        if !is_open {
+            let fault = packets.end(&bytes).err();
+            return Ok(CaptureEnd { tally, fault });
+        }
+        is_open = files.read_piece(&mut bytes)?;
+    }
+    Err(Fault::Memory)
+}
+
+/// The bytes after the first `len` of some.
+fn left_after(alloc: Global, bytes: Vec<u8>, len: usize) -> Result<Vec<u8>, AllocError>
+    requires { len ≤ length bytes.items }
+    ensures { IfOk result (λ left. left.items ≡ drop len bytes.items) }
+{
+    if len == 0 {
+        return Ok(bytes);
+    }
+    Vec::from_slice(alloc, after(&bytes, len))
+}
+
+/// Takes the packets that bytes begin with.
+fn take_packets(
+    filter: &Filter,
+    packets: &mut Packets,
+    bytes: &[u8],
+    tally: &mut Tally,
+) -> Result<Taken, AllocError>
+    ensures within { IfOk result (TakesWithin bytes.now) }
+    ensures takes { IfOk result (λ taken. (judge : Judge) (words : Wording) (each : Bool) (came written : List ℕ) (found : List Finding) (passed : ℕ) → Serves judge filter.now
+        → IsTally words each tally.old written found passed → IsAt judge came found passed packets.old bytes.now
+        → TakesTo judge words each came written bytes.now packets.new tally.new taken) }
+{
+    let mut taken = 0;
+    loop {
+        let rest = after(bytes, taken);
+        match packets.next(rest) {
+            Ok(Step::Message(packet)) => {
+                tally.take(finding_of(filter, packet, rest))?;
+                taken += packet.len;
+            }
+            Ok(Step::Other { len, .. }) => {
+                tally.pass_over()?;
+                taken += len;
+            }
+            Ok(Step::Skip(len)) => taken += len,
+            Ok(Step::More(_)) => return Ok(Taken::Until(taken)),
+            Err(fault) => return Ok(Taken::Faulty(fault)),
         }
     }
 }
 
-/// What the rule of a program says of a packet.
-fn finding_of(program: &Verified, owns: bool, packet: Packet, bytes: &[u8]) -> Finding
+/// What a filter says of a packet.
+fn finding_of(filter: &Filter, packet: Packet, bytes: &[u8]) -> Finding
     requires in_order { packet.start ≤ packet.end }
     requires there { packet.end ≤ length bytes.now }
-    ensures { (tree : RuleTree) → IsCompiled tree (slot_for tree) program.now → IsFinding tree owns (message_in packet bytes.now) result }
+    ensures { (judge : Judge) → Serves judge filter.now → IsFinding judge (message_in packet bytes.now) result }
 {
     if packet.is_cut {
         return Finding::Cut;
     }
-    match judge(program, owns, packet.message(bytes)) {
-        Ok(matches) => Finding::Verdict(matches),
+    match filter.judge(packet.message(bytes)) {
+        Ok(outcome) => Finding::Judged(outcome),
         Err(fault) => Finding::NoMessage(fault),
     }
 }

@@ -29,7 +29,7 @@ pub(crate) fn answer<F: Files>(alloc: Global, file: &str, files: &mut F) -> Answ
 }
 
 fn count_of_file<F: Files>(alloc: Global, file: &str, files: &mut F) -> Result<usize, Fault>
-    ensures { Checks (λ content_read. F.gives files.old file.now content_read files.new) result ⊎ (result ≡ Err Fault.Memory) }
+    ensures { Checks (λ content. F.gives files.old file.now content files.new) result ⊎ (result ≡ Err Fault.Memory) }
 {
     let verified = program::verified_file(alloc, file, files)?;
     Ok(verified.code().len())

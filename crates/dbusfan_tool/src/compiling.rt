@@ -5,7 +5,9 @@ ghost use Rattle.bpf_code.specs.Program.{WellFormed};
 ghost use Rattle.rule_compile.specs.Compiled.{IsCompiled, IsRefusal};
 ghost use Rattle.command_line.specs.declared.error.Fault.{Fault};
 ghost use Rattle.rule_compile.specs.declared.error.CompileError.{CompileError};
-ghost use Rattle.dbusfan_tool.specs.Compiling.{Compiles, slot_for, fault_of_compile};
+ghost use Rattle.match_rule.specs.RuleTree.{RuleTree};
+ghost use Rattle.match_rule.specs.Grammar.{ReadsAs};
+ghost use Rattle.dbusfan_tool.specs.Compiling.{Compiles, IsRuleFault, slot_for, fault_of_compile};
 ghost use Rattle.dbusfan_tool.specs.Answer.{said_of, saying, failing};
 ghost use Rattle.dbusfan_tool.specs.Views.{said_by};
 
@@ -35,14 +37,23 @@ fn compile_text(alloc: Global, rule: &str) -> Result<String, Fault>
     ensures found { IfOk result (λ text. Compiles rule.now (Ok (string_bytes text))) }
     ensures fault { IfErr result (λ fault. Compiles rule.now (Err fault) ⊎ (fault ≡ Fault.Memory)) }
 {
-    let rule = Rule::read(alloc, rule)?;
-    let program = program_of(alloc, &rule)?;
+    let program = rule_program(alloc, rule)?;
     let text = print(alloc, program.code())?;
     Ok(text)
 }
 
+/// The program of the rule that a text spells, or the first fault.
+pub(crate) fn rule_program(alloc: Global, rule: &str) -> Result<Verified, Fault>
+    ensures found { IfOk result (λ program. (tree : RuleTree) × ReadsAs rule.now tree × IsCompiled tree (slot_for tree) program) }
+    ensures fault { IfErr result (λ fault. IsRuleFault rule.now fault ⊎ (fault ≡ Fault.Memory)) }
+{
+    let rule = Rule::read(alloc, rule)?;
+    let program = program_of(alloc, &rule)?;
+    Ok(program)
+}
+
 /// The program of a rule, or what it means for a command that there is none.
-pub(crate) fn program_of(alloc: Global, rule: &Rule) -> Result<Verified, Fault>
+fn program_of(alloc: Global, rule: &Rule) -> Result<Verified, Fault>
     ensures compiled { IfOk result (λ program. IsCompiled rule.now (slot_for rule.now) program) }
     ensures refused { IfErr result (λ fault. (error : CompileError) × IsRefusal rule.now error × (fault ≡ fault_of_compile error)) }
 {

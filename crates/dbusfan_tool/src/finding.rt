@@ -1,12 +1,13 @@
 // What is found of the packets of a capture.
 
+use bpf_machine::Outcome;
 use message_value::MsgError;
 
 /// What is found of a packet of D-Bus.
 #[derive(Clone, Copy, Debug, PartialEq, Eq)]
 pub(crate) enum Finding {
-    /// Whether the rule matches its message.
-    Verdict(bool),
+    /// What is said of its message.
+    Judged(Outcome),
     /// It is only the beginning of a message, and passed over.
     Cut,
     /// Its bytes are no message, and it is passed over.

@@ -4,16 +4,21 @@
 
 mod answer;
 mod assembling;
+mod beginning;
 mod capturing;
 mod checking;
 mod compiling;
 mod entry;
+mod file_judging;
+mod filter;
 mod finding;
 mod help;
 mod matching;
 mod program;
 mod report;
 mod running;
+mod tally;
+mod wording;
 
 pub use command_line::{Fault, FileError, Files, Output, Writer};
 pub use entry::tool;

@@ -12,8 +12,8 @@ use std::alloc::Global;
 
 /// The program that a file's text names, or the first fault.
 pub(crate) fn read<F: Files>(alloc: Global, file: &str, files: &mut F) -> Result<Vec<Ins>, Fault>
-    ensures found { IfOk result (λ program. Assembles (λ content_read. F.gives files.old file.now content_read files.new) (Ok program.items)) }
-    ensures fault { IfErr result (λ fault. Assembles (λ content_read. F.gives files.old file.now content_read files.new) (Err fault) ⊎ (fault ≡ Fault.Memory)) }
+    ensures found { IfOk result (λ program. Assembles (λ content. F.gives files.old file.now content files.new) (Ok program.items)) }
+    ensures fault { IfErr result (λ fault. Assembles (λ content. F.gives files.old file.now content files.new) (Err fault) ⊎ (fault ≡ Fault.Memory)) }
 {
     let text = files.read(alloc, file)?;
     let program = assemble_bytes(alloc, &text)?;
@@ -26,8 +26,8 @@ pub(crate) fn verified_file<F: Files>(
     file: &str,
     files: &mut F,
 ) -> Result<Verified, Fault>
-    ensures found { IfOk result (λ program. Assembles (λ content_read. F.gives files.old file.now content_read files.new) (Ok program) × WellFormed program) }
-    ensures fault { IfErr result (λ fault. Checks (λ content_read. F.gives files.old file.now content_read files.new) (Err fault) ⊎ (fault ≡ Fault.Memory)) }
+    ensures found { IfOk result (λ program. Assembles (λ content. F.gives files.old file.now content files.new) (Ok program) × WellFormed program) }
+    ensures fault { IfErr result (λ fault. Checks (λ content. F.gives files.old file.now content files.new) (Err fault) ⊎ (fault ≡ Fault.Memory)) }
 {
     let program = read(alloc, file, files)?;
     match verify(program) {

@@ -1,170 +1,137 @@
-// How it is said what is found of a capture.
+// How it is said what is found of messages.
 
 ghost use Rattle.std.specs.Prelude.{◌≡◌, ◌⊎◌, ◌++◌, IfOk, OnOk, string_bytes};
-ghost use Rattle.dbusfan_tool.specs.Findings.{verdict_count, match_count};
-ghost use Rattle.dbusfan_tool.specs.Reports.{verdict_line, note_line, verdict_lines, note_lines, count_line, passed_over_line, capture_line, notes_of, report_status, any_line, said_with, said_of_each, said_of_any};
+ghost use Rattle.dbusfan_tool.specs.Reports.{outcome_line, said_of_outcome, verdict_line, note_line, count_line, summary_line, last_line, passed_over_line, capture_line, capture_status};
 ghost use Rattle.dbusfan_tool.specs.Answer.{failing};
-ghost use Rattle.dbusfan_tool.specs.Views.{said_by, report_by};
+ghost use Rattle.dbusfan_tool.specs.Views.{said_by};
 
 use crate::answer::Answer;
 use crate::finding::Finding;
+use crate::wording::Wording;
+use bpf_machine::Outcome;
 use captures::CaptureError;
 use command_line::Fault;
 use std::alloc::{AllocError, Global};
 use std::fmt::Write;
 
-/// What is found of a capture.
-#[derive(Drop)]
-pub(crate) struct CaptureReport {
-    /// What is found of each packet of D-Bus, in their order.
-    pub(crate) findings: Vec<Finding>,
-    /// How many packets of other link types were passed over.
-    pub(crate) passed_over: usize,
-    /// The fault that ends the file.
-    pub(crate) fault: Option<CaptureError>,
-}
-
-/// The lines of a report: one for each message and how many match, and what is said of the packets that are passed over.
-pub(crate) fn answer_of(alloc: Global, report: &CaptureReport) -> Answer
-    ensures { (said_by result ≡ said_of_each (report_by report.now)) ⊎ (said_by result ≡ failing Fault.Memory) }
+/// What is said of a message alone.
+pub(crate) fn answer_of_outcome(alloc: Global, words: Wording, outcome: Outcome) -> Answer
+    ensures { (said_by result ≡ said_of_outcome words outcome) ⊎ (said_by result ≡ failing Fault.Memory) }
 {
-    let Ok(output) = output_of(alloc, &report.findings) else {
-        return Answer::Fault(Fault::Memory);
-    };
-    answer_with(alloc, output, report)
-}
-
-/// Whether some message of a capture matches, and what is said of the packets that are passed over.
-pub(crate) fn any_answer_of(alloc: Global, report: &CaptureReport) -> Answer
-    ensures { (said_by result ≡ said_of_any (report_by report.now)) ⊎ (said_by result ≡ failing Fault.Memory) }
-{
-    let Ok(output) = any_of(alloc, &report.findings) else {
-        return Answer::Fault(Fault::Memory);
-    };
-    answer_with(alloc, output, report)
-}
-
-fn any_of(alloc: Global, findings: &[Finding]) -> Result<String, AllocError>
-    ensures { IfOk result (λ text. string_bytes text ≡ any_line findings.now) }
-{
-    let text = if match_count(findings) == 0 {
-        "no match\n"
-    } else {
-        "match\n"
-    };
-    String::from_str(alloc, text)
-}
-
-fn answer_with(alloc: Global, output: String, report: &CaptureReport) -> Answer
-    ensures { (said_by result ≡ said_with (string_bytes output) (report_by report.now)) ⊎ (said_by result ≡ failing Fault.Memory) }
-{
-    match notes_of(alloc, report) {
-        Ok(notes) => Answer::Report {
+    let mut output = String::new(alloc);
+    match put_outcome(&mut output, words, outcome) {
+        Ok(()) => Answer::Report {
             output,
-            notes,
-            status: status_of(report),
+            notes: String::new(alloc),
+            status: if outcome.verdict == 0 { 1 } else { 0 },
         },
         Err(_) => Answer::Fault(Fault::Memory),
     }
 }
 
-fn status_of(report: &CaptureReport) -> u8
-    ensures { result ≡ report_status (report_by report.now) }
+fn put_outcome(text: &mut String, words: Wording, outcome: Outcome) -> Result<(), AllocError>
+    ensures { OnOk result (string_bytes text.new ≡ string_bytes text.old ++ outcome_line words outcome) }
 {
-    if report.fault.is_some() {
-        return 2;
-    }
-    if match_count(&report.findings) == 0 {
-        1
-    } else {
-        0
+    let Outcome { verdict, steps } = outcome;
+    match words {
+        Wording::OfRule if verdict == 0 => text.push_str("no match\n"),
+        Wording::OfRule => text.push_str("match\n"),
+        Wording::OfProgram => write!(text, "verdict {verdict} steps {steps}\n"),
     }
 }
 
-fn match_count(findings: &[Finding]) -> usize
-    ensures { result ≡ match_count findings.now }
-{
-    let mut count = 0;
-    for finding in findings {
-        if matches!(finding, Finding::Verdict(true)) {
-            count += 1;
-        }
-    }
-    count
-}
-
-fn verdict_count(findings: &[Finding]) -> usize
-    ensures { result ≡ verdict_count findings.now }
-{
-    let mut count = 0;
-    for finding in findings {
-        if matches!(finding, Finding::Verdict(_)) {
-            count += 1;
-        }
-    }
-    count
-}
-
-fn output_of(alloc: Global, findings: &[Finding]) -> Result<String, AllocError>
-    ensures { IfOk result (λ text. string_bytes text ≡ verdict_lines 1 findings.now ++ count_line findings.now) }
-{
-    let mut text = verdict_lines(alloc, findings)?;
-    let matches = match_count(findings);
-    let verdicts = verdict_count(findings);
-    write!(text, "{matches} of {verdicts} match\n")?;
-    Ok(text)
-}
-
-fn verdict_lines(alloc: Global, findings: &[Finding]) -> Result<String, AllocError>
-    ensures { IfOk result (λ text. string_bytes text ≡ verdict_lines 1 findings.now) }
-{
-    let mut text = String::new(alloc);
-    for (i, finding) in findings.iter().enumerate() {
-        put_verdict_line(&mut text, i + 1, *finding)?;
-    }
-    Ok(text)
-}
-
-fn put_verdict_line(text: &mut String, number: usize, finding: Finding) -> Result<(), AllocError>
-    ensures { OnOk result (string_bytes text.new ≡ string_bytes text.old ++ verdict_line number finding) }
+/// Writes the line of a packet on standard output at the end of a text.
+pub(crate) fn put_verdict_line(
+    text: &mut String,
+    words: Wording,
+    number: u64,
+    finding: Finding,
+) -> Result<(), AllocError>
+    ensures { OnOk result (string_bytes text.new ≡ string_bytes text.old ++ verdict_line words number finding) }
 {
     match finding {
-        Finding::Verdict(true) => write!(text, "{number} match\n"),
-        Finding::Verdict(false) => write!(text, "{number} no match\n"),
+        Finding::Judged(outcome) => {
+            write!(text, "{number} ")?;
+            put_outcome(text, words, outcome)
+        }
         Finding::Cut | Finding::NoMessage(_) => Ok(()),
     }
 }
 
-fn notes_of(alloc: Global, report: &CaptureReport) -> Result<String, AllocError>
-    ensures { IfOk result (λ text. string_bytes text ≡ notes_of (report_by report.now)) }
-{
-    let mut text = note_lines(alloc, &report.findings)?;
-    put_passed_over(&mut text, report.passed_over)?;
-    put_fault(&mut text, report.fault)?;
-    Ok(text)
-}
-
-fn note_lines(alloc: Global, findings: &[Finding]) -> Result<String, AllocError>
-    ensures { IfOk result (λ text. string_bytes text ≡ note_lines 1 findings.now) }
-{
-    let mut text = String::new(alloc);
-    for (i, finding) in findings.iter().enumerate() {
-        put_note_line(&mut text, i + 1, *finding)?;
-    }
-    Ok(text)
-}
-
-fn put_note_line(text: &mut String, number: usize, finding: Finding) -> Result<(), AllocError>
+/// Writes the line of a packet on standard error at the end of a text.
+pub(crate) fn put_note_line(
+    text: &mut String,
+    number: u64,
+    finding: Finding,
+) -> Result<(), AllocError>
     ensures { OnOk result (string_bytes text.new ≡ string_bytes text.old ++ note_line number finding) }
 {
     match finding {
-        Finding::Verdict(_) => Ok(()),
+        Finding::Judged(_) => Ok(()),
         Finding::Cut => write!(text, "dbusfan: packet Cut at {number}\n"),
         Finding::NoMessage(fault) => write!(text, "dbusfan: message {fault} at {number}\n"),
     }
 }
 
-fn put_passed_over(text: &mut String, count: usize) -> Result<(), AllocError>
+/// Writes the line after those of the messages at the end of a text.
+pub(crate) fn put_last_line(
+    text: &mut String,
+    words: Wording,
+    each: bool,
+    accepted: u64,
+    judged: u64,
+) -> Result<(), AllocError>
+    ensures { OnOk result (string_bytes text.new ≡ string_bytes text.old ++ last_line words each accepted judged) }
+{
+    if each {
+        put_count(text, words, accepted, judged)
+    } else {
+        put_summary(text, words, accepted, judged)
+    }
+}
+
+fn put_summary(
+    text: &mut String,
+    words: Wording,
+    accepted: u64,
+    judged: u64,
+) -> Result<(), AllocError>
+    ensures { OnOk result (string_bytes text.new ≡ string_bytes text.old ++ summary_line words accepted judged) }
+{
+    match words {
+        Wording::OfRule if accepted == 0 => text.push_str("no match\n"),
+        Wording::OfRule => text.push_str("match\n"),
+        Wording::OfProgram => put_count(text, words, accepted, judged),
+    }
+}
+
+fn put_count(
+    text: &mut String,
+    words: Wording,
+    accepted: u64,
+    judged: u64,
+) -> Result<(), AllocError>
+    ensures { OnOk result (string_bytes text.new ≡ string_bytes text.old ++ count_line words accepted judged) }
+{
+    match words {
+        Wording::OfRule => write!(text, "{accepted} of {judged} match\n"),
+        Wording::OfProgram => write!(text, "{accepted} of {judged} accepted\n"),
+    }
+}
+
+/// Writes at the end of a text what is said of all packets: how many of other link types were passed over, and the fault.
+pub(crate) fn put_notes(
+    text: &mut String,
+    passed_over: u64,
+    fault: Option<CaptureError>,
+) -> Result<(), AllocError>
+    ensures { OnOk result (string_bytes text.new ≡ string_bytes text.old ++ passed_over_line passed_over ++ capture_line fault) }
+{
+    put_passed_over(text, passed_over)?;
+    put_fault(text, fault)
+}
+
+fn put_passed_over(text: &mut String, count: u64) -> Result<(), AllocError>
     ensures { OnOk result (string_bytes text.new ≡ string_bytes text.old ++ passed_over_line count) }
 {
     if count == 0 {
@@ -180,4 +147,14 @@ fn put_fault(text: &mut String, fault: Option<CaptureError>) -> Result<(), Alloc
         Some(fault) => write!(text, "dbusfan: capture {fault}\n"),
         None => Ok(()),
     }
+}
+
+/// The status that a capture is answered with.
+pub(crate) fn capture_status(fault: Option<CaptureError>, accepted: u64) -> u8
+    ensures { result ≡ capture_status fault accepted }
+{
+    if fault.is_some() {
+        return 2;
+    }
+    if accepted == 0 { 1 } else { 0 }
 }

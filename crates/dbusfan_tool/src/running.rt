@@ -1,65 +1,38 @@
-// `run PROGRAM FILE [--edition 1|2]`.
+// `run PROGRAM FILE [--edition 1|2] [--each]`.
 
-ghost use Rattle.std.specs.Prelude.{◌≡◌, ◌⊎◌, Err};
-ghost use Rattle.dbusfan_tool.specs.Running.{Runs};
-ghost use Rattle.dbusfan_tool.specs.Tool.{Tool};
+ghost use Rattle.std.specs.Prelude.{◌≡◌, ◌⊎◌, ℕ, List};
 ghost use Rattle.command_line.specs.CommandRow.{to_run};
 ghost use Rattle.command_line.specs.Files.{MadeReads};
-ghost use Rattle.dbusfan_tool.specs.Answer.{said_of_run, failing};
-ghost use Rattle.dbusfan_tool.specs.Views.{said_by};
+ghost use Rattle.command_line.specs.Output.{PutsParts};
+ghost use Rattle.dbusfan_tool.specs.Tool.{Tool};
+ghost use Rattle.dbusfan_tool.specs.Views.{SaysAfter};
 
 use crate::answer::Answer;
-use crate::program;
-use bpf_machine::{Outcome, run};
-use command_line::{Fault, Files, decode};
-use message_view::View;
+use crate::file_judging;
+use crate::filter::Filter;
+use crate::program::verified_file;
+use command_line::{Files, Output, Writer};
 use std::alloc::Global;
-use summary::{Edition, Image, Slots};
+use summary::Edition;
 
-/// What the program in a file says of the message in another, or the first fault.
-pub(crate) fn answer<F: Files>(
+/// What the program in a file says of the message in another, or of the messages of the capture in it, or the first fault.
+pub(crate) fn answer<F: Files, O: Writer>(
     alloc: Global,
     program: &str,
     file: &str,
     edition: Edition,
+    each: bool,
     files: &mut F,
+    out: &mut Output<O>,
 ) -> Answer
-    ensures { Tool (MadeReads F.gives files.old files.new) (to_run program.now file.now edition) (said_by result)
-        ⊎ (said_by result ≡ failing Fault.Memory) }
+    ensures { (written : List ℕ) × PutsParts O.takes O.flushes O.may_fail out.old out.new written
+        × SaysAfter (Tool (MadeReads F.gives files.old files.new) (to_run program.now file.now edition each)) written result }
 {
-    match outcome(alloc, program, file, edition, files) {
-        Ok(outcome) => tells_outcome(alloc, outcome),
+    match verified_file(alloc, program, files) {
+        Ok(program) => {
+            let filter = Filter::of_program(program, edition);
+            file_judging::answer(alloc, &filter, file, each, files, out)
+        }
         Err(fault) => Answer::Fault(fault),
     }
-}
-
-fn tells_outcome(alloc: Global, outcome: Outcome) -> Answer
-    ensures { (said_by result ≡ said_of_run outcome) ⊎ (said_by result ≡ failing Fault.Memory) }
-{
-    let Outcome { verdict, steps } = outcome;
-    match format!(in alloc; "verdict {verdict} steps {steps}\n") {
-        Ok(text) => Answer::Ran {
-            text,
-            matches: verdict != 0,
-        },
-        Err(_) => Answer::Fault(Fault::Memory),
-    }
-}
-
-fn outcome<F: Files>(
-    alloc: Global,
-    program: &str,
-    file: &str,
-    edition: Edition,
-    files: &mut F,
-) -> Result<Outcome, Fault>
-    ensures { Runs (MadeReads F.gives files.old files.new) program.now file.now edition result ⊎ (result ≡ Err Fault.Memory) }
-{
-    let program = program::verified_file(alloc, program, files)?;
-    let text = files.read(alloc, file)?;
-    let bytes = decode(alloc, &text)?;
-    let message = View::read(&bytes)?;
-    let owned = Slots::empty();
-    let image = Image::new(&message, &owned, edition);
-    Ok(run(&program, &image))
 }

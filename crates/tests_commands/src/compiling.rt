@@ -13,10 +13,7 @@ fn accepted(rt: HostRuntime) {
         "sender='org.freedesktop.DBus'",
         "sender='a.b',arg0='x',arg1path='/a/'",
     ] {
-        let mut nothing = TwoFiles {
-            program: b"",
-            message: b"",
-        };
+        let mut nothing = TwoFiles::new(b"", b"");
         let mut out = Output::new(Vec::new(rt.alloc()));
         let mut err = Output::new(Vec::new(rt.alloc()));
         let words = ["compile", "--", rule];
@@ -28,10 +25,7 @@ fn accepted(rt: HostRuntime) {
             &mut err,
         );
         assert_eq!(rt; answered, 0, "at {rule}");
-        let mut compiled = TwoFiles {
-            program: out.writer.as_slice(),
-            message: b"",
-        };
+        let mut compiled = TwoFiles::new(out.writer.as_slice(), b"");
         let mut count = Output::new(Vec::new(rt.alloc()));
         let words = ["check", "P"];
         let answered = tool(

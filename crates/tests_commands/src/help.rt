@@ -8,10 +8,7 @@ use std::process::Abort;
 /// That words, divided by bars, are answered with help.
 fn expect_help<R: Abort>(rt: &R, alloc: Global, line: &str) {
     let words: Vec<&str> = line.split('|').collect(alloc).expect(rt, "memory");
-    let mut files = TwoFiles {
-        program: b"",
-        message: S1.as_bytes(),
-    };
+    let mut files = TwoFiles::new(b"", S1.as_bytes());
     let mut out = Output::new(Vec::new(alloc));
     let mut err = Output::new(Vec::new(alloc));
     let answered = tool(alloc, words.as_slice(), &mut files, &mut out, &mut err);

@@ -20,10 +20,7 @@ fn jumps<R: Abort>(rt: &R, alloc: Global) -> String {
 #[test]
 fn longest_jumps(rt: HostRuntime) {
     let program = jumps(&rt, rt.alloc());
-    let mut files = TwoFiles {
-        program: program.as_bytes(),
-        message: S1.as_bytes(),
-    };
+    let mut files = TwoFiles::new(program.as_bytes(), S1.as_bytes());
     let mut out = Output::new(Vec::new(rt.alloc()));
     let mut err = Output::new(Vec::new(rt.alloc()));
     let words = ["run", "P", "F"];

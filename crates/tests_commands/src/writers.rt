@@ -112,10 +112,7 @@ fn output_wanting(text: &str) -> Output<Wanting<'_>> {
 }
 
 fn one_message() -> TwoFiles<'static> {
-    TwoFiles {
-        program: b"",
-        message: S1.as_bytes(),
-    }
+    TwoFiles::new(b"", S1.as_bytes())
 }
 
 // Each text is written once, and flushed once after it.

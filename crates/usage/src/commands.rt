@@ -33,7 +33,7 @@ pub(crate) enum Form {
 pub(crate) static COMMANDS: [CommandHelp; 7] = [
     CommandHelp {
         name: "match",
-        about: "Says whether a rule matches a message",
+        about: "Says whether a rule matches a message, or messages of a capture",
         arguments: &[RULE, MESSAGE, OWNS, EACH],
     },
     CommandHelp {
@@ -53,8 +53,8 @@ pub(crate) static COMMANDS: [CommandHelp; 7] = [
     },
     CommandHelp {
         name: "run",
-        about: "Runs a program on a message whose sender owns no name",
-        arguments: &[PROGRAM, MESSAGE, EDITION],
+        about: "Runs a program on a message, or on each of a capture",
+        arguments: &[PROGRAM, MESSAGE, EDITION, EACH],
     },
     CommandHelp {
         name: "serve",
@@ -220,7 +220,7 @@ const MESSAGE: ArgumentHelp = ArgumentHelp {
     name: "FILE",
     form: Form::Word,
     is_required: true,
-    text: "A file that has a message as hexadecimal text",
+    text: "A message as hexadecimal text, or a pcap or pcapng capture",
 };
 
 const OWNS: ArgumentHelp = ArgumentHelp {
@@ -234,7 +234,7 @@ const EACH: ArgumentHelp = ArgumentHelp {
     name: "each",
     form: Form::Flag,
     is_required: false,
-    text: "FILE is a pcap or pcapng capture, of which each message is judged",
+    text: "FILE is a capture; a line is printed for each message",
 };
 
 const PROGRAM: ArgumentHelp = ArgumentHelp {

@@ -1,15 +1,12 @@
-use Rattle.std.proofs.Common.{◌+◌, ◌≤◌, length}
-use Rattle.match_rule.specs.RuleTree.{RuleTree}
-use Rattle.rule_compile.specs.Compiled.{IsCompiled}
-use Rattle.captures.specs.Contents.{contents, contents_of}
-use Rattle.dbusfan_tool.specs.Compiling.{slot_for}
-use Rattle.dbusfan_tool.proofs.Captured.{IsFar}
+use Rattle.std.proofs.Common.{ℕ, List}
+use Rattle.command_line.specs.Output.{PutsParts}
+use Rattle.dbusfan_tool.specs.Judges.{Judge}
+use Rattle.dbusfan_tool.specs.Filters.{Serves}
+use Rattle.dbusfan_tool.specs.CaptureSteps.{so_far}
+use Rattle.dbusfan_tool.proofs.FileCaptured.{SoFar}
 use Rattle.dbusfan_tool.proofs.capturing.judge_capture.Given as goal
 
-abbrev pub invariant-loop-packet : goal.invariant-loop-packet
-invariant-loop-packet l =
-    ((tree : RuleTree) → IsCompiled tree (slot_for tree) l.program → IsFar tree l.owns (contents l.file) l.findings.items l.passed_over (contents_of l.packets l.rest))
-    × (l.passed_over + length l.rest ≤ length l.file)
-
-abbrev pub decreases-loop-packet : goal.decreases-loop-packet
-decreases-loop-packet l = length l.rest
+abbrev pub invariant-loop : goal.invariant-loop
+invariant-loop g l =
+    (judge : Judge) (before : g.row.F.Denot) (name : List ℕ) → Serves judge l.filter → g.F.Files.gives before name (so_far l.fn.beginning.is_open l.fn.beginning.bytes.items) l.fn.files
+    → SoFar judge l.filter.words l.each l.fn.beginning (λ content. g.F.Files.gives before name content l.files) (λ written. PutsParts g.O.Writer.takes g.O.Writer.flushes g.O.Writer.may_fail l.fn.out l.out written) l.packets l.tally l.bytes.items l.is_open

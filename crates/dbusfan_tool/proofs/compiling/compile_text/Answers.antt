@@ -1,14 +1,8 @@
-use Rattle.dbusfan_tool.proofs.Compiled.{of_rule_fault, of_refusal, of_print_fault, fails, of_text}
+use Rattle.dbusfan_tool.proofs.Compiled.{of_no_program, of_print_fault, fails, of_text}
 use Rattle.dbusfan_tool.proofs.compiling.compile_text.Goals as goal
 
-pub returns-in_err-rule-clause-fault : goal.returns-in_err-rule-clause-fault
-returns-in_err-rule-clause-fault c =
-    fails _ _ _ c.from_residual.ensures.1 (of_rule_fault _ c.in_err-rule.field-0.0 c.in_err-rule.ensures.fault)
-
 pub returns-in_err-program-clause-fault : goal.returns-in_err-program-clause-fault
-returns-in_err-program-clause-fault c =
-    let refusal = c.in_err-program.ensures.refused in
-    fails _ _ _ (rw refusal.2 at c.from_residual-in_err-program.ensures.1) (of_refusal _ _ c.in_ok-rule.ensures.found refusal.0 refusal.1)
+returns-in_err-program-clause-fault c = fails _ _ _ c.from_residual.ensures.1 (of_no_program _ _ c.in_err-program.ensures.fault)
 
 pub returns-in_err-text-clause-fault : goal.returns-in_err-text-clause-fault
 returns-in_err-text-clause-fault c =
@@ -18,4 +12,5 @@ returns-in_err-text-clause-fault c =
 pub returns-clause-found : goal.returns-clause-found
 returns-clause-found c =
     let source = rw c.code.ensures.value at c.in_ok-text.ensures.source in
-    of_text _ _ _ _ c.in_ok-rule.ensures.found source c.code.ensures.well_formed c.in_ok-program.ensures.compiled
+    let found = c.in_ok-program.ensures.found in
+    of_text _ found.0 _ _ found.1 source c.code.ensures.well_formed found.2

@@ -1,18 +1,22 @@
-use Rattle.std.proofs.Common.{Ok, Err, inl, inr, refl, ap}
-use Rattle.dbusfan_tool.specs.Answer.{failing}
-use Rattle.dbusfan_tool.specs.Views.{report_by}
+use Rattle.std.proofs.Common.{[], inl, inr, refl, ap}
+use Rattle.command_line.specs.CommandRow.{to_match}
+use Rattle.command_line.specs.Files.{MadeReads}
+use Rattle.command_line.specs.Output.{none}
+use Rattle.dbusfan_tool.specs.Answer.{Said, failing}
+use Rattle.dbusfan_tool.specs.FileJudgements.{SaysOfFile}
+use Rattle.dbusfan_tool.specs.Judges.{by_rule}
+use Rattle.dbusfan_tool.specs.Tool.{Tool, no_rule, judged}
+use Rattle.dbusfan_tool.proofs.Saying.{says_too}
 use Rattle.dbusfan_tool.proofs.matching.answer.Goals as goal
 
-pub returns-in-Ok-Message : goal.returns-in-Ok-Message
-returns-in-Ok-Message g c =
-    let found = rw c.in-Ok-Message.field-0-is at c.in-Ok-Message.ensures.found in
-    inl (inl (Ok c.in-Ok-Message.matches, found, refl))
-
-pub returns-in-Ok-Capture : goal.returns-in-Ok-Capture
-returns-in-Ok-Capture g c =
-    let found = rw c.in-Ok-Capture.field-0-is at c.in-Ok-Capture.ensures.found in
-    elim c.any_answer_of.ensures [ inl said ↦ inl (inr (report_by c.in-Ok-Capture.report, found, said)) | inr short ↦ inr short ]
+pub returns-in-Ok : goal.returns-in-Ok
+returns-in-Ok g c =
+    let rule = c.in-Ok.ensures.found in
+    let said = c.answer.ensures (by_rule rule.0 c.args.owns) (c.of_rule-filter.ensures rule.0 rule.2) in
+    let file_says : Said → Type 0 = SaysOfFile (λ content. g.F.Files.gives c.args.files.now c.args.file.now content c.answer.new.files) (by_rule rule.0 c.args.owns) c.args.each in
+    let row_says : Said → Type 0 = Tool (MadeReads g.F.Files.gives c.args.files.now c.answer.new.files) (to_match c.args.rule.now c.args.file.now c.args.owns c.args.each) in
+    (said.0, said.1, says_too file_says row_says said.0 c.answer.result (λ said says. judged rule.1 says) said.2)
 
 pub returns-in-Err : goal.returns-in-Err
 returns-in-Err g c =
-    elim c.in-Err.ensures.fault [ inl none ↦ inl (inl (Err _, none, refl)) | inr short ↦ inr (ap failing short) ]
+    ([], none, elim c.in-Err.ensures.fault [ inl is ↦ inl (no_rule is refl) | inr short ↦ inr (refl, ap failing short) ])
