@@ -11,6 +11,7 @@ pub mod PrintedLines
 pub mod PrintedOperands
 pub mod PrintedPrograms
 pub mod PrintedRows
+pub mod PrintedSoFar
 pub mod PrintedTexts
 pub mod PrintedTokens
 pub mod Prints

@@ -4,7 +4,7 @@ ghost use Rattle.bpf_text.specs.Mnemonics.{mnemonic_of};
 use bpf_code::{Arithmetic, Test, Width};
 
 /// The word that names an instruction.
-#[derive(Clone, Copy, Debug, PartialEq, Eq)]
+#[derive(Clone, Copy)]
 pub enum Mnemonic {
     Load(Width),
     LoadX,
