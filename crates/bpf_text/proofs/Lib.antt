@@ -19,4 +19,5 @@ pub mod Programs
 pub mod SketchedPrograms
 pub mod Statements
 pub mod Widths
+pub mod Words
 pub mod LabelMap

@@ -5,11 +5,11 @@ use Rattle.bpf_text.proofs.resolve.program.Goals.{in-Some+in_ok-ins+in_ok-push, 
 
 pub loop-index-preserved : goal.loop-index-preserved
 loop-index-preserved c = elim c.match-noted.branch [
-    | in-Some+in_ok-ins+in_ok-push w ↦
-    let place : w.len.result ≡ length c.loop-index.program.items = omega (arith, w.len.ensures, c.loop-index.program.ok) in
-    rw w.program-is
-    (line_grown _ _ _ _ _ _ _ _ _ _ _ w.in_ok-ins.ins c.deref-noted-items.ensures.value c.loop-index-test.true c.if-noted.false w.in-Some.is place
-    (sym w.resolve_row.ensures ∙ w.in_ok-ins.was) w.in_ok-push.ensures.items c.loop-index.invariant)
-    | in_default w ↦ rw w.program-is
-    (line_kept _ _ _ _ _ _ _ _ c.deref-noted-items.ensures.value c.loop-index-test.true c.if-noted.false w.in_default.is c.loop-index.invariant)
-  ]
+  | in-Some+in_ok-ins+in_ok-push w ↦
+      let place : w.len.result ≡ length c.loop-index.program.items = omega (arith, w.len.ensures, c.loop-index.program.ok) in
+      rw w.program-is
+      (line_grown _ _ _ _ _ _ _ _ _ _ _ w.in_ok-ins.ins c.deref-noted-items.ensures.value c.loop-index-test.true c.if-noted.false w.in-Some.is place
+      (sym w.resolve_row.ensures ∙ w.in_ok-ins.was) w.in_ok-push.ensures.items c.loop-index.invariant)
+  | in_default w ↦ rw w.program-is
+      (line_kept _ _ _ _ _ _ _ _ c.deref-noted-items.ensures.value c.loop-index-test.true c.if-noted.false w.in_default.is c.loop-index.invariant)
+]
