@@ -19,5 +19,5 @@ pub mod Programs
 pub mod SketchedPrograms
 pub mod Statements
 pub mod Widths
-pub mod Words
+pub mod WordTable
 pub mod LabelMap

@@ -22,12 +22,12 @@ front_more front ins (Ok rest) = simp append_assoc
 front_more front ins (Err e) = refl
 
 -- a line without an instruction
-kept : (labels : List Label) (count line : ℕ) (front : List Ins) (noted : Noted) (more : List Noted) → noted.again ≡ false → noted.row ≡ None → with_front front (noted_program labels count (length front) line (noted ∷ more)) ≡ with_front front (noted_program labels count (length front) (line + 1) more)
-kept labels count line front noted more once none = rw (once, none) (simp unary_clauses)
+row_absent : (labels : List Label) (count line : ℕ) (front : List Ins) (noted : Noted) (more : List Noted) → noted.again ≡ false → noted.row ≡ None → with_front front (noted_program labels count (length front) line (noted ∷ more)) ≡ with_front front (noted_program labels count (length front) (line + 1) more)
+row_absent labels count line front noted more once none = rw (once, none) (simp unary_clauses)
 
 -- a line with one
-grown : (labels : List Label) (count line : ℕ) (front : List Ins) (noted : Noted) (more : List Noted) (row : LabelIns) (ins : Ins) → noted.again ≡ false → noted.row ≡ Some row → resolve labels count (length front) line row ≡ Ok ins → with_front front (noted_program labels count (length front) line (noted ∷ more)) ≡ with_front (front ++ ins ∷ []) (noted_program labels count (length (front ++ ins ∷ [])) (line + 1) more)
-grown labels count line front noted more row ins once some is =
+row_there : (labels : List Label) (count line : ℕ) (front : List Ins) (noted : Noted) (more : List Noted) (row : LabelIns) (ins : Ins) → noted.again ≡ false → noted.row ≡ Some row → resolve labels count (length front) line row ≡ Ok ins → with_front front (noted_program labels count (length front) line (noted ∷ more)) ≡ with_front (front ++ ins ∷ []) (noted_program labels count (length (front ++ ins ∷ [])) (line + 1) more)
+row_there labels count line front noted more row ins once some is =
     let longer : length (front ++ ins ∷ []) ≡ length front + 1 = length-append front (ins ∷ []) in
     rw (once, some, is, longer) (front_more front ins (noted_program labels count (length front + 1) (line + 1) more))
 
@@ -40,7 +40,7 @@ line_kept labels count index front lines items end d same inside once none h =
     let noted : Noted = noted_view (get_or lines index d) in
     let all : map noted_view (drop index items) ≡ noted ∷ map noted_view (drop (index + 1) items) = rw (← same) (front_line lines index d inside) in
     let blank : noted.row ≡ None = ap (λ (row : Option LentRow). option_map row_view row) none in
-    sym (kept labels count (index + 1) front noted (map noted_view (drop (index + 1) items)) once blank) ∙ (rw all at h)
+    sym (row_absent labels count (index + 1) front noted (map noted_view (drop (index + 1) items)) once blank) ∙ (rw all at h)
 
 pub line_grown : (labels : List Label) (count index place : ℕ) (front longer : List Ins) (lines items : List LentNoted) (end : Result (List Ins) CodeError) (d : LentNoted) (row : LentRow) (ins : Ins) → lines ≡ items → index < length lines → (get_or lines index d).again ≡ false → (get_or lines index d).row ≡ Some row → place ≡ length front → resolve labels count place (index + 1) (row_view row) ≡ Ok ins → longer ≡ front ++ ins ∷ [] → with_front front (noted_program labels count (length front) (index + 1) (map noted_view (drop index items))) ≡ end → with_front longer (noted_program labels count (length longer) (index + 1 + 1) (map noted_view (drop (index + 1) items))) ≡ end
 line_grown labels count index place front longer lines items end d row ins same inside once some len is pushed h =
@@ -48,4 +48,4 @@ line_grown labels count index place front longer lines items end d row ins same 
     let all : map noted_view (drop index items) ≡ noted ∷ map noted_view (drop (index + 1) items) = rw (← same) (front_line lines index d inside) in
     let has : noted.row ≡ Some (row_view row) = ap (λ (row : Option LentRow). option_map row_view row) some in
     let here : resolve labels count (length front) (index + 1) (row_view row) ≡ Ok ins = rw len at is in
-    rw pushed (sym (grown labels count (index + 1) front noted (map noted_view (drop (index + 1) items)) (row_view row) ins once has here) ∙ (rw all at h))
+    rw pushed (sym (row_there labels count (index + 1) front noted (map noted_view (drop (index + 1) items)) (row_view row) ins once has here) ∙ (rw all at h))

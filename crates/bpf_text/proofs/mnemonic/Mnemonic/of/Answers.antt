@@ -2,7 +2,7 @@ use Rattle.std.proofs.Common.{refl}
 use Rattle.std.proofs.lemmas.Bool.Decides.{Decides-eqb}
 use Rattle.std.proofs.lemmas.Slice.Eq.{slice_eq-Decides}
 use Rattle.bpf_text.specs.Mnemonics.{mnemonic_of}
-use Rattle.bpf_text.proofs.Words.{passed_on, named_here}
+use Rattle.bpf_text.proofs.WordTable.{passed_on, named_here}
 use Rattle.bpf_text.proofs.mnemonic.Mnemonic.of.Goals as goal
 
 pub loop-name-init : goal.loop-name-init
