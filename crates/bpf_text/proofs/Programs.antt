@@ -1,10 +1,12 @@
 -- A program so far, and what is left of it.
-use Rattle.std.proofs.Common.{◌≡◌, ℕ, ◌+◌, ◌<◌, false, List, [], ◌∷◌, ◌++◌, length, map, drop, get_or, add-one, Option, Some, None, Result, Ok, Err, ap, sym, ◌∙◌, refl, append_assoc, length-append}
+use Rattle.std.proofs.Common.{◌≡◌, ℕ, ◌+◌, ◌<◌, ◌≤◌, true, false, List, [], ◌∷◌, ◌++◌, length, map, drop, get_or, add-one, Option, Some, None, Result, Ok, Err, ap, sym, ◌∙◌, refl, append_assoc, append-nil, length-append}
 use Rattle.std.proofs.Math.Seq.{drop-cons}
+use Rattle.std.proofs.lemmas.List.{drop_all}
 use Rattle.std.specs.Option.{option_map}
 use native.Mathlib.Numerals.{unary_clauses}
 use Rattle.bpf_code.specs.declared.instruction.Ins.{Ins}
 use Rattle.bpf_code.specs.declared.error.CodeError.{CodeError}
+use Rattle.bpf_code.specs.declared.error.CodeError.TheVariants as errors
 use Rattle.bpf_text.specs.declared.draft.Noted.{Noted as LentNoted}
 use Rattle.bpf_text.specs.declared.row.LabelIns.{LabelIns as LentRow}
 use Rattle.bpf_text.specs.Rows.{LabelIns}
@@ -49,3 +51,20 @@ line_grown labels count index place front longer lines items end d row ins same 
     let has : noted.row ≡ Some (row_view row) = ap (λ (row : Option LentRow). option_map row_view row) some in
     let here : resolve labels count (length front) (index + 1) (row_view row) ≡ Ok ins = rw len at is in
     rw pushed (sym (row_there labels count (index + 1) front noted (map noted_view (drop (index + 1) items)) (row_view row) ins once has here) ∙ (rw all at h))
+
+-- before the first line
+pub front_none : (later : Result (List Ins) CodeError) → with_front [] later ≡ later
+front_none (Ok rest) = refl
+front_none (Err e) = refl
+
+-- after the last one
+pub lines_over : (labels : List Label) (count index : ℕ) (front : List Ins) (lines items : List LentNoted) (end : Result (List Ins) CodeError) → lines ≡ items → length lines ≤ index → with_front front (noted_program labels count (length front) (index + 1) (map noted_view (drop index items))) ≡ end → end ≡ Ok front
+lines_over labels count index front lines items end same over h =
+    let none : drop index items ≡ [] = rw (← same) (drop_all index lines over) in
+    sym (rw none at h) ∙ ap (λ (all : List Ins). Ok all) (append-nil front)
+
+-- a line whose label was there before
+pub line_again : (labels : List Label) (count index : ℕ) (front : List Ins) (lines items : List LentNoted) (end : Result (List Ins) CodeError) (d : LentNoted) → lines ≡ items → index < length lines → (get_or lines index d).again ≡ true → with_front front (noted_program labels count (length front) (index + 1) (map noted_view (drop index items))) ≡ end → end ≡ Err (errors.Label (index + 1))
+line_again labels count index front lines items end d same inside again h =
+    let all : map noted_view (drop index items) ≡ noted_view (get_or lines index d) ∷ map noted_view (drop (index + 1) items) = rw (← same) (front_line lines index d inside) in
+    sym (rw again at (rw all at h))

@@ -1,5 +1,5 @@
-use Rattle.std.proofs.Common.{◌≡◌, length, sym, ◌∙◌, arith}
-use Rattle.bpf_text.proofs.Programs.{line_kept, line_grown}
+use Rattle.std.proofs.Common.{◌≡◌, length, sym, ◌∙◌, inr, arith}
+use Rattle.bpf_text.proofs.Programs.{line_kept, line_grown, front_none, lines_over, line_again}
 use Rattle.bpf_text.proofs.resolve.program.Goals as goal
 use Rattle.bpf_text.proofs.resolve.program.Goals.{in-Some+in_ok-ins+in_ok-push, in_default}
 
@@ -13,3 +13,13 @@ loop-index-preserved c = elim c.match-noted.branch [
   | in_default w ↦ rw w.program-is
       (line_kept _ _ _ _ _ _ _ _ c.deref-noted-items.ensures.value c.loop-index-test.true c.if-noted.false w.in_default.is c.loop-index.invariant)
 ]
+
+pub loop-index-init : goal.loop-index-init
+loop-index-init c = rw c.new-program.ensures.items (front_none _)
+
+pub returns-clause-found : goal.returns-clause-found
+returns-clause-found c = lines_over _ _ _ _ _ _ _ c.deref-noted-items.ensures.value c.loop-index-test.false c.loop-index.invariant
+
+pub returns-then-noted-clause-fault : goal.returns-then-noted-clause-fault
+returns-then-noted-clause-fault c =
+    inr (line_again _ _ _ _ _ _ _ _ c.deref-noted-items.ensures.value c.loop-index-test.true c.if-noted.true c.loop-index.invariant)
