@@ -11,6 +11,7 @@ pub mod PrintedLines
 pub mod PrintedOperands
 pub mod PrintedPrograms
 pub mod PrintedRows
+pub mod PrintedSoFar
 pub mod PrintedTexts
 pub mod PrintedTokens
 pub mod Prints
@@ -18,4 +19,5 @@ pub mod Programs
 pub mod SketchedPrograms
 pub mod Statements
 pub mod Widths
+pub mod WordTable
 pub mod LabelMap

@@ -1,5 +1,5 @@
 -- The words that name instructions (own, in the manner of Linux's `bpf_asm`).
-use Rattle.std.specs.Prelude.{ℕ, List, Option, Some, None, if◌then◌else◌, codes}
+use Rattle.std.specs.Prelude.{ℕ, List, [], ◌∷◌, Option, Some, None, if◌then◌else◌, codes}
 use Rattle.std.specs.Str.{bytes_eq}
 use Rattle.bpf_code.specs.declared.operation.Width.TheVariants.{Word, Half, Byte}
 use Rattle.bpf_code.specs.declared.operation.Arithmetic.TheVariants.{Add, Sub, Mul, Div, Or, And, ShiftLeft, ShiftRight, Mod, Xor}
@@ -7,33 +7,41 @@ use Rattle.bpf_code.specs.declared.operation.Test.TheVariants.{Equal, Above, AtL
 use Rattle.bpf_text.specs.declared.mnemonic.Mnemonic.{Mnemonic}
 use Rattle.bpf_text.specs.declared.mnemonic.Mnemonic.TheVariants.{Load, LoadX, LoadHeader, Store, StoreIndex, Compute, Negation, Always, When, Return, ToIndex, FromIndex}
 
+-- the words, each with its mnemonic
+abbrev pub words : List (List ℕ × Mnemonic)
+words =
+    (codes "ld", Load Word) ∷
+    (codes "ldh", Load Half) ∷
+    (codes "ldb", Load Byte) ∷
+    (codes "ldx", LoadX) ∷
+    (codes "ldxb", LoadHeader) ∷
+    (codes "st", Store) ∷
+    (codes "stx", StoreIndex) ∷
+    (codes "add", Compute Add) ∷
+    (codes "sub", Compute Sub) ∷
+    (codes "mul", Compute Mul) ∷
+    (codes "div", Compute Div) ∷
+    (codes "or", Compute Or) ∷
+    (codes "and", Compute And) ∷
+    (codes "lsh", Compute ShiftLeft) ∷
+    (codes "rsh", Compute ShiftRight) ∷
+    (codes "mod", Compute Mod) ∷
+    (codes "xor", Compute Xor) ∷
+    (codes "neg", Negation) ∷
+    (codes "ja", Always) ∷
+    (codes "jeq", When Equal) ∷
+    (codes "jgt", When Above) ∷
+    (codes "jge", When AtLeast) ∷
+    (codes "jset", When SharesBit) ∷
+    (codes "ret", Return) ∷
+    (codes "tax", ToIndex) ∷
+    (codes "txa", FromIndex) ∷
+    []
+
+abbrev pub named_in : List ℕ → List (List ℕ × Mnemonic) → Option Mnemonic
+named_in word [] = None
+named_in word (named ∷ more) = if bytes_eq word named.0 then Some named.1 else named_in word more
+
 -- the mnemonic that a word is, if it is one
 unfoldable pub mnemonic_of : List ℕ → Option Mnemonic
-mnemonic_of word =
-    if bytes_eq word (codes "ld") then Some (Load Word) else
-    (if bytes_eq word (codes "ldh") then Some (Load Half) else
-    (if bytes_eq word (codes "ldb") then Some (Load Byte) else
-    (if bytes_eq word (codes "ldx") then Some LoadX else
-    (if bytes_eq word (codes "ldxb") then Some LoadHeader else
-    (if bytes_eq word (codes "st") then Some Store else
-    (if bytes_eq word (codes "stx") then Some StoreIndex else
-    (if bytes_eq word (codes "add") then Some (Compute Add) else
-    (if bytes_eq word (codes "sub") then Some (Compute Sub) else
-    (if bytes_eq word (codes "mul") then Some (Compute Mul) else
-    (if bytes_eq word (codes "div") then Some (Compute Div) else
-    (if bytes_eq word (codes "or") then Some (Compute Or) else
-    (if bytes_eq word (codes "and") then Some (Compute And) else
-    (if bytes_eq word (codes "lsh") then Some (Compute ShiftLeft) else
-    (if bytes_eq word (codes "rsh") then Some (Compute ShiftRight) else
-    (if bytes_eq word (codes "mod") then Some (Compute Mod) else
-    (if bytes_eq word (codes "xor") then Some (Compute Xor) else
-    (if bytes_eq word (codes "neg") then Some Negation else
-    (if bytes_eq word (codes "ja") then Some Always else
-    (if bytes_eq word (codes "jeq") then Some (When Equal) else
-    (if bytes_eq word (codes "jgt") then Some (When Above) else
-    (if bytes_eq word (codes "jge") then Some (When AtLeast) else
-    (if bytes_eq word (codes "jset") then Some (When SharesBit) else
-    (if bytes_eq word (codes "ret") then Some Return else
-    (if bytes_eq word (codes "tax") then Some ToIndex else
-    (if bytes_eq word (codes "txa") then Some FromIndex else
-    (None))))))))))))))))))))))))))
+mnemonic_of word = named_in word words

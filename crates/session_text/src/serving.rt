@@ -3,7 +3,7 @@
 use case_files::LineError;
 
 /// The call that fails, once. Calls are counted from 1.
-#[derive(Clone, Copy, Debug, PartialEq, Eq)]
+#[derive(Clone, Copy)]
 pub enum Broken {
     Nothing,
     Read(u32),
@@ -11,7 +11,7 @@ pub enum Broken {
 }
 
 /// How many bytes a read gives at most, and which call fails.
-#[derive(Clone, Copy, Debug, PartialEq, Eq)]
+#[derive(Clone, Copy)]
 pub struct Serving {
     pub at_once: usize,
     pub broken: Broken,
