@@ -152,7 +152,7 @@ def note_proved(rt, crate):
 
 
 def stays_proved(rt, crate):
-    """Whether a library was proved from its files as they are, over surfaces as they are, whatever stands behind these."""
+    """Whether a library was proved from its files as they are, over surfaces as they are, whatever stands below these."""
     kept = Path(crate.folder, "out/rlib/over")
     return kept.is_file() and json.loads(kept.read_text(encoding="utf-8")) == proved_over(rt, crate)
 
