@@ -13,6 +13,9 @@ const BUS_INTERFACE: &str = "org.freedesktop.DBus";
 /// The interface of the bus's methods for programs.
 const PROGRAM_INTERFACE: &str = "org.example.ProgramBus1";
 
+/// The interface by which dbus-daemon tells what it has, which no standard has.
+const STATS_INTERFACE: &str = "org.freedesktop.DBus.Debug.Stats";
+
 /// The interface of the bus's methods for monitors.
 const MONITORING_INTERFACE: &str = "org.freedesktop.DBus.Monitoring";
 
@@ -29,6 +32,7 @@ pub(crate) enum Call<'a> {
     /// The name whose owner is asked for.
     GetNameOwner(&'a str),
     ListNames,
+    GetAllMatchRules,
     /// The rules of what the monitor gets; none means everything.
     BecomeMonitor(&'a [&'a str]),
     /// A program's instructions, eight bytes each.
@@ -60,6 +64,7 @@ impl<'a> Call<'a> {
         match self {
             Call::Hello | Call::AddMatch(_) | Call::GetNameOwner(_) | Call::ListNames =>
                 BUS_INTERFACE,
+            Call::GetAllMatchRules => STATS_INTERFACE,
             Call::BecomeMonitor(_) => MONITORING_INTERFACE,
             Call::Attach(_) | Call::AttachEdition(_, _) => PROGRAM_INTERFACE,
         }
@@ -71,6 +76,7 @@ impl<'a> Call<'a> {
             Call::AddMatch(_) => "AddMatch",
             Call::GetNameOwner(_) => "GetNameOwner",
             Call::ListNames => "ListNames",
+            Call::GetAllMatchRules => "GetAllMatchRules",
             Call::BecomeMonitor(_) => "BecomeMonitor",
             Call::Attach(_) => "Attach",
             Call::AttachEdition(_, _) => "AttachEdition",
@@ -80,7 +86,7 @@ impl<'a> Call<'a> {
     /// Gives a builder the arguments.
     fn put_arguments(self, alloc: Global, builder: &mut Builder<'_>) -> Result<(), BuildError> {
         match self {
-            Call::Hello | Call::ListNames => Ok(()),
+            Call::Hello | Call::ListNames | Call::GetAllMatchRules => Ok(()),
             Call::AddMatch(text) | Call::GetNameOwner(text) => builder.arg_str(text),
             Call::BecomeMonitor(rules) => {
                 builder.arg_strs(rules)?;

@@ -3,7 +3,7 @@
 use crate::calls::{BUS_NAME, Call};
 use crate::error::ClientError;
 use crate::lines::{log_in, read_some};
-use crate::strings::{first_string, strings_of};
+use crate::strings::{first_string, match_rules_of, strings_of};
 use bytes::Bytes;
 use frames::Frames;
 use message_view::{Kind, View};
@@ -127,6 +127,16 @@ impl<S: Read + Write + Drop> Client<S> {
     pub fn names(&mut self) -> Result<Vec<String>, ClientError> {
         let answer = self.call(Call::ListNames)?;
         strings_of(self.alloc, answer.as_slice())
+    }
+
+    /// The match rules that the connection of a unique name has, if there is one.
+    ///
+    /// # Errors
+    ///
+    /// `Answered` where the bus doesn't tell them, or not to this client, and others.
+    pub fn match_rules(&mut self, connection: &str) -> Result<Option<Vec<String>>, ClientError> {
+        let answer = self.call(Call::GetAllMatchRules)?;
+        match_rules_of(self.alloc, answer.as_slice(), connection)
     }
 
     /// Attaches a program, given by the bytes of its instructions, for images of an edition, or of the first where none

@@ -43,7 +43,7 @@ impl<'a, R: Clock> Timed<'a, R> {
         self.link.set_timeouts(None)
     }
 
-    /// From now on it waits for so many seconds in all.
+    /// From now on it waits for this many seconds in all.
     pub fn wait_for(&mut self, seconds: u64) -> io::Result<()> {
         let since = Instant::now(self.rt)?;
         let len = Duration::from_secs(seconds);

@@ -15,6 +15,8 @@ mod faults;
 #[cfg(test)]
 mod help;
 #[cfg(test)]
+mod match_rules;
+#[cfg(test)]
 mod running;
 #[cfg(test)]
 mod scripts;

@@ -2,7 +2,7 @@
 use Rattle.std.proofs.Common.{◌≡◌, ℕ, Bool, true, false, List, [], ◌∷◌, Option, Some, None, refl}
 use Rattle.std.specs.Prelude.{◌||◌, if◌then◌else◌}
 use Rattle.watch_command.specs.declared.words.Key.{Key}
-use Rattle.watch_command.specs.Words.{Saying, flag, setting, name, key_eq}
+use Rattle.watch_command.specs.Sayings.{Saying, flag, setting, name, key_eq}
 use Rattle.watch_command.specs.Options.{has, word_of, first_some}
 
 or_later : (a b : Bool) → b ≡ true → (a || b) ≡ true

@@ -1,9 +1,10 @@
-pub mod Words
+pub mod Sayings
 pub mod Options
 pub mod Owners
 pub mod Showing
 pub mod Counts
 pub mod Stamp
+pub mod ShownText
 pub mod Errors
 pub mod CountedRules
 pub mod KnownOwners

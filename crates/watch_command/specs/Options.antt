@@ -5,8 +5,8 @@ use Rattle.std.specs.Str.{bytes_eq}
 use Rattle.summary.specs.declared.edition.Edition.{Edition as AnEdition}
 use Rattle.summary.specs.declared.edition.Edition.TheVariants.{One, Two}
 use Rattle.watch_command.specs.declared.words.Key.{Key}
-use Rattle.watch_command.specs.declared.words.Key.TheVariants.{Attach, Count, Edition, Hex, Invert, Json, Monitor, Names, Program, Read, Rules, Seconds, Time, Write}
-use Rattle.watch_command.specs.Words.{Saying, flag, setting, name, is_key, word_in, name_in}
+use Rattle.watch_command.specs.declared.words.Key.TheVariants.{Attach, Count, Edition, Hex, Invert, Json, Monitor, Names, Of, Program, Read, Rules, Seconds, Time, Write}
+use Rattle.watch_command.specs.Sayings.{Saying, flag, setting, name, is_key, word_in, name_in}
 
 -- whether an option is said
 abbrev pub has : Key → List Saying → Bool
@@ -45,13 +45,19 @@ needs_program key said = not (has key said) || has Program said
 abbrev pub fits_source : List Saying → Bool
 fits_source said =
     needs_program Edition said && needs_program Attach said
-    && excludes Attach (Monitor ∷ Invert ∷ Rules ∷ Read ∷ []) said
-    && excludes Read (Monitor ∷ Seconds ∷ Names ∷ []) said
+    && excludes Attach (Monitor ∷ Invert ∷ Rules ∷ Of ∷ Read ∷ []) said
+    && excludes Read (Monitor ∷ Seconds ∷ Names ∷ Of ∷ []) said
+    && excludes Of (Rules ∷ []) said
+
+-- the options that say which messages are shown, or how, don't go with one that has them counted
+abbrev pub excludes_forms : Key → List Saying → Bool
+excludes_forms key said = excludes key (Program ∷ Invert ∷ Time ∷ Hex ∷ Json ∷ Write ∷ Names ∷ []) said
 
 -- the options that don't go with one that says how messages are written
 abbrev pub fits_form : List Saying → Bool
 fits_form said =
-    excludes Rules (Program ∷ Invert ∷ Time ∷ Hex ∷ Json ∷ Write ∷ Names ∷ []) said
+    excludes_forms Rules said
+    && excludes_forms Of said
     && excludes Hex (Json ∷ Write ∷ Time ∷ Names ∷ []) said
     && excludes Json (Write ∷ Time ∷ Names ∷ []) said
     && excludes Write (Time ∷ Names ∷ []) said
@@ -64,7 +70,7 @@ address_count said = if has Read said then 0 else 1
 -- else says all
 abbrev pub has_names : List Saying → Bool
 has_names said =
-    if has Attach said || has Rules said then length (names said) == address_count said
+    if has Attach said || has Rules said || has Of said then length (names said) == address_count said
     else if has Read said || has Program said || has Monitor said then nat_le (address_count said) (length (names said))
     else nat_lt (address_count said) (length (names said))
 

@@ -13,9 +13,10 @@ use summary::Edition;
 /// The rule of all broadcasts.
 const ALL_BROADCASTS: &str = "";
 
-/// The rule of the bus's messages of new owners.
+/// The rule of the bus's messages of new owners. It doesn't ask for the sender, since with that dbus-broker sends a monitor
+/// none of them; whether a message is the bus's is seen from its sender.
 const OWNER_CHANGES: &str =
-    "type='signal',sender='org.freedesktop.DBus',path='/org/freedesktop/DBus',interface='org.freedesktop.DBus',member='NameOwnerChanged'";
+    "type='signal',path='/org/freedesktop/DBus',interface='org.freedesktop.DBus',member='NameOwnerChanged'";
 
 /// Asks a bus for what the options want, and answers who owns the names that have to be known. These are asked for before
 /// any message that depends on them, and after the changes of their owners.

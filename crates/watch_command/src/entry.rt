@@ -1,6 +1,7 @@
 // The command.
 
 use crate::asking::ask;
+use crate::connection_rules::connection_rules;
 use crate::counts::Counts;
 use crate::error::Fault;
 use crate::form::Form;
@@ -92,6 +93,10 @@ where
     let addresses = addresses_of(rt, address)?;
     let mut plan = Plan::read(rt.alloc(), options, files)?;
     let mut client = open(rt, &addresses)?;
+    if let Some(name) = options.text_of(Key::Of) {
+        let is_monitor = options.has(Key::Monitor);
+        plan.counted = connection_rules(rt.alloc(), &mut client, name, is_monitor, err)?;
+    }
     let owners = ask(rt.alloc(), &mut client, options, &plan)?;
     let sink = open_sink(rt, options, &mut plan, out)?;
     let count = options.number_of(Key::Count);
@@ -147,7 +152,7 @@ fn open_sink<'o, R, O: Writer>(
 where
     R: AllocGlobal + FileSystem,
 {
-    if options.has(Key::Rules) {
+    if options.has(Key::Rules) || options.has(Key::Of) {
         let rules = std::mem::replace(&mut plan.counted, Vec::new(rt.alloc()));
         return Ok(Sink::Counts(out, Counts { rules, untaken: 0 }));
     }

@@ -34,6 +34,12 @@ pub enum Fault {
     NoPrograms(String),
     /// The bus refuses to be monitored by this error.
     NoMonitor(String),
+    /// The bus refuses by this error to tell which rules a connection has.
+    NoMatchRules(String),
+    /// No connection has this name.
+    NoConnection(String),
+    /// The connection of this name has no match rules.
+    WithoutRules(String),
 }
 
 impl Fault {
@@ -47,7 +53,13 @@ impl Fault {
         match self {
             Fault::Tool(fault) => fault.status(),
             Fault::Socket | Fault::Auth => 4,
-            Fault::Capture(_) | Fault::Refused(_) | Fault::NoPrograms(_) | Fault::NoMonitor(_) => 2,
+            Fault::Capture(_)
+            | Fault::Refused(_)
+            | Fault::NoPrograms(_)
+            | Fault::NoMonitor(_)
+            | Fault::NoMatchRules(_)
+            | Fault::NoConnection(_)
+            | Fault::WithoutRules(_) => 2,
         }
     }
 
@@ -63,6 +75,14 @@ impl Fault {
     pub(crate) fn of_monitoring(error: ClientError) -> Fault {
         match error {
             ClientError::Answered(name) => Fault::NoMonitor(name),
+            other => Fault::from(other),
+        }
+    }
+
+    /// What a call for the rules of connections was refused for.
+    pub(crate) fn of_match_rules(error: ClientError) -> Fault {
+        match error {
+            ClientError::Answered(name) => Fault::NoMatchRules(name),
             other => Fault::from(other),
         }
     }
@@ -96,6 +116,16 @@ impl Fault {
                 put_named(alloc, name.as_str(), "", err);
                 err.put(monitor_help(name.as_str()).as_bytes());
             }
+            Fault::NoMatchRules(name) => {
+                put_named(alloc, name.as_str(), "", err);
+                err.put(match_rules_help(name.as_str()).as_bytes());
+            }
+            Fault::NoConnection(name) => {
+                put_sentence(alloc, "no connection has the name ", name.as_str(), "", err);
+            }
+            Fault::WithoutRules(name) => {
+                put_sentence(alloc, "", name.as_str(), " has no match rules", err);
+            }
         }
         self.status()
     }
@@ -117,12 +147,32 @@ fn monitor_help(name: &str) -> &'static str {
     }
 }
 
-/// Writes the line of an error that the bus answered.
-fn put_named<E: Writer>(alloc: Global, name: &str, more: &str, err: &mut Output<E>) {
-    match format!(in alloc; "dbusfan: error {name}{more}\n") {
+/// What helps where a bus refuses by an error of this name to tell which rules a connection has.
+fn match_rules_help(name: &str) -> &'static str {
+    if name == ACCESS_DENIED {
+        "dbusfan: this bus tells root alone which rules a connection has\n"
+    } else {
+        "dbusfan: this bus doesn't tell which rules a connection has\n"
+    }
+}
+
+/// Writes a line that has a name.
+fn put_sentence<E: Writer>(
+    alloc: Global,
+    before: &str,
+    name: &str,
+    after: &str,
+    err: &mut Output<E>,
+) {
+    match format!(in alloc; "dbusfan: {before}{name}{after}\n") {
         Ok(line) => err.put(line.as_bytes()),
         Err(_) => err.put_fault(command_line::Fault::Memory),
     }
+}
+
+/// Writes the line of an error that the bus answered.
+fn put_named<E: Writer>(alloc: Global, name: &str, more: &str, err: &mut Output<E>) {
+    put_sentence(alloc, "error ", name, more, err);
 }
 
 /// Writes the line of a capture's fault.

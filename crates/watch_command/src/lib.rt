@@ -3,6 +3,7 @@
 #![tactic(auto)]
 
 mod asking;
+mod connection_rules;
 mod counts;
 mod entry;
 mod error;
@@ -14,6 +15,7 @@ mod owners;
 mod plan;
 mod reading;
 mod selection;
+mod shown_text;
 mod sink;
 mod stamp;
 mod words;

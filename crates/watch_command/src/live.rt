@@ -9,7 +9,8 @@ use command_line::Writer;
 use message_view::View;
 use std::time::Clock;
 
-/// Shows the messages that come and are selected, until as many were as are wanted or so many seconds are over.
+/// Shows the messages that come and are selected, until as many were as are wanted or the time is over, which
+/// is in seconds.
 pub(crate) fn show_messages<R: AllocGlobal + Clock, O: Writer, F: Writer, E: Writer>(
     rt: &R,
     client: &mut Client<Timed<'_, R>>,

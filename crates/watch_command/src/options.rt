@@ -2,7 +2,7 @@
 
 ghost use Rattle.std.specs.Prelude.{◌≡◌, ◌<◌, IfOk, IfSome, length, option_map, slice_get};
 ghost use Rattle.std.specs.Str.Parse.{digits_value};
-ghost use Rattle.watch_command.specs.Words.{sayings_of, texts};
+ghost use Rattle.watch_command.specs.Sayings.{sayings_of, texts};
 ghost use Rattle.watch_command.specs.Options.{word_of, names, edition_of};
 
 use crate::words::{Key, Word, has, read_words};
@@ -18,7 +18,7 @@ pub struct Options<'a> {
 
 impl<'a> Model for Options<'a> {
     ghost use Rattle.std.specs.Prelude.{List};
-    ghost use Rattle.watch_command.specs.Words.{Saying, sayings_of};
+    ghost use Rattle.watch_command.specs.Sayings.{Saying, sayings_of};
 
     ghost Value = { List Saying };
 
@@ -30,8 +30,8 @@ impl<'a> Options<'a> {
     ghost use Rattle.std.specs.List.{list_any};
     ghost use Rattle.std.specs.Str.Parse.{digits_value};
     ghost use Rattle.watch_command.specs.declared.words.Key.TheVariants.{Read};
-    ghost use Rattle.watch_command.specs.Words.{Saying, sayings_in, texts};
-    ghost use Rattle.watch_command.specs.Options.{has, is_said, word_of, names, excludes, needs_program, fits_source, fits_form, address_count, has_names, fits, has_value, edition_of};
+    ghost use Rattle.watch_command.specs.Sayings.{Saying, sayings_in, texts};
+    ghost use Rattle.watch_command.specs.Options.{has, is_said, word_of, names, excludes, needs_program, fits_source, fits_form, excludes_forms, address_count, has_names, fits, has_value, edition_of};
 
     /// What some words ask for, if they are a row of the command line: `ADDRESS [RULE ..]` or `--read FILE [RULE ..]`, and
     /// options that go together.
@@ -131,17 +131,32 @@ impl<'a> Options<'a> {
             && self.needs_program(Key::Attach)
             && self.excludes(
                 Key::Attach,
-                &[Key::Monitor, Key::Invert, Key::Rules, Key::Read],
+                &[Key::Monitor, Key::Invert, Key::Rules, Key::Of, Key::Read],
             )
-            && self.excludes(Key::Read, &[Key::Monitor, Key::Seconds, Key::Names])
+            && self.excludes(
+                Key::Read,
+                &[Key::Monitor, Key::Seconds, Key::Names, Key::Of],
+            )
+            && self.excludes(Key::Of, &[Key::Rules])
     }
 
     /// Whether the options go with those that say how messages are written.
     fn fits_form(&self) -> bool
         ensures { result ≡ fits_form self.now }
     {
+        self.excludes_forms(Key::Rules)
+            && self.excludes_forms(Key::Of)
+            && self.excludes(Key::Hex, &[Key::Json, Key::Write, Key::Time, Key::Names])
+            && self.excludes(Key::Json, &[Key::Write, Key::Time, Key::Names])
+            && self.excludes(Key::Write, &[Key::Time, Key::Names])
+    }
+
+    /// Whether no option says which messages are shown, or how, where they are counted.
+    fn excludes_forms(&self, key: Key) -> bool
+        ensures { result ≡ excludes_forms key self.now }
+    {
         self.excludes(
-            Key::Rules,
+            key,
             &[
                 Key::Program,
                 Key::Invert,
@@ -151,9 +166,7 @@ impl<'a> Options<'a> {
                 Key::Write,
                 Key::Names,
             ],
-        ) && self.excludes(Key::Hex, &[Key::Json, Key::Write, Key::Time, Key::Names])
-            && self.excludes(Key::Json, &[Key::Write, Key::Time, Key::Names])
-            && self.excludes(Key::Write, &[Key::Time, Key::Names])
+        )
     }
 
     /// Whether there is a program where an option is.
@@ -216,7 +229,7 @@ impl<'a> Options<'a> {
     {
         let others = self.address_count();
         let count = name_count(&self.words);
-        if self.has(Key::Attach) || self.has(Key::Rules) {
+        if self.has(Key::Attach) || self.has(Key::Rules) || self.has(Key::Of) {
             count == others
         } else if self.has(Key::Read) || self.has(Key::Program) || self.has(Key::Monitor) {
             count >= others

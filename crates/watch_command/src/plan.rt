@@ -9,7 +9,7 @@ use bpf_code::{Ins, encode};
 use bpf_text::assemble_bytes;
 use bpf_verify::verify;
 use command_line::Files;
-use match_rule::Rule;
+use match_rule::{Rule, RuleError};
 use std::alloc::Global;
 use summary::Edition;
 
@@ -20,7 +20,7 @@ const EAVESDROPPING: &str = "eavesdrop='true',";
 #[derive(Drop)]
 pub(crate) struct Plan<'a> {
     pub(crate) filter: Filter,
-    /// The rules of `--rules`.
+    /// The rules of `--rules`, or of `--of`.
     pub(crate) counted: Vec<CountedRule>,
     /// The rules that the bus is asked for; none is all messages.
     pub(crate) asked: Vec<&'a str>,
@@ -40,7 +40,7 @@ impl<'a> Plan<'a> {
         let mut rules = Vec::new(alloc);
         let mut asked = Vec::new(alloc);
         for text in options.rules(alloc)? {
-            rules.push(read_rule(alloc, text, is_monitor)?)?;
+            rules.push(rule_of(alloc, text, is_monitor)?)?;
             if !is_inverted {
                 asked.push(text)?;
             }
@@ -58,7 +58,7 @@ impl<'a> Plan<'a> {
                 attached = Some(code);
             } else {
                 let edition = options.edition().unwrap_or(Edition::One);
-                program = Some(verified(instructions, edition)?);
+                program = Some(verify_program(instructions, edition)?);
             }
         }
         Ok(Plan {
@@ -90,12 +90,19 @@ impl<'a> Plan<'a> {
     }
 }
 
-/// The rule of a text. A monitor's is of messages to others too, unless it has `eavesdrop` itself.
-fn read_rule(alloc: Global, text: &str, is_monitor: bool) -> Result<Rule, Fault> {
-    let rule = Rule::read(alloc, text).map_err(command_line::Fault::from)?;
+/// The rule of a text, which has to be one.
+fn rule_of(alloc: Global, text: &str, is_monitor: bool) -> Result<Rule, Fault> {
+    Ok(read_rule(alloc, text, is_monitor).map_err(command_line::Fault::from)?)
+}
+
+/// Reads a rule. A monitor's is of messages to others too, unless it has `eavesdrop` itself.
+pub(crate) fn read_rule(alloc: Global, text: &str, is_monitor: bool) -> Result<Rule, RuleError> {
+    let rule = Rule::read(alloc, text)?;
     if is_monitor {
-        let mut monitored = String::from_str(alloc, EAVESDROPPING)?;
-        monitored.push_str(text)?;
+        let mut monitored = String::from_str(alloc, EAVESDROPPING).map_err(
+            |_| RuleError::NoMemory,
+        )?;
+        monitored.push_str(text).map_err(|_| RuleError::NoMemory)?;
         if let Ok(rule) = Rule::read(alloc, monitored.as_str()) {
             return Ok(rule);
         }
@@ -117,7 +124,7 @@ fn read_rules<F: Files>(
         if !line.is_empty() && !line.starts_with("#") {
             rules.push(CountedRule {
                 text: String::from_str(alloc, line)?,
-                rule: read_rule(alloc, line, is_monitor)?,
+                rule: rule_of(alloc, line, is_monitor)?,
                 count: 0,
             })?;
         }
@@ -136,7 +143,10 @@ fn read_program<F: Files>(
 }
 
 /// The program of some instructions, if it is accepted.
-fn verified(instructions: Vec<Ins>, edition: Edition) -> Result<Program, command_line::Fault> {
+fn verify_program(
+    instructions: Vec<Ins>,
+    edition: Edition,
+) -> Result<Program, command_line::Fault> {
     match verify(instructions) {
         Ok(code) => Ok(Program { code, edition }),
         Err((fault, _)) => Err(command_line::Fault::Program(fault)),

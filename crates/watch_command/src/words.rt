@@ -2,7 +2,7 @@
 
 ghost use Rattle.std.specs.Prelude.{◌≡◌, IfOk, Some, None, option_map, if◌then◌else◌};
 ghost use Rattle.std.specs.List.{list_any};
-ghost use Rattle.watch_command.specs.Words.{key_of, takes_word, is_option, is_key, is_repeated, reading_by, reading_of, may_end, with_saying, saying_of, sayings_of, sayings_in, texts, word_in, name_in, reading_by_step};
+ghost use Rattle.watch_command.specs.Sayings.{key_of, takes_word, is_option, is_key, is_repeated, reading_by, reading_of, may_end, with_saying, saying_of, sayings_of, sayings_in, texts, word_in, name_in, reading_by_step};
 
 use std::alloc::{AllocError, Global};
 
@@ -25,6 +25,8 @@ pub enum Key {
     Monitor,
     /// `--names`: the names that are owned in place of their owners' unique names.
     Names,
+    /// `--of NAME`: how many messages each rule of a connection takes.
+    Of,
     /// `--program FILE`: the messages that a program accepts.
     Program,
     /// `--read FILE`: a capture in place of a bus.
@@ -82,6 +84,7 @@ impl Key {
             "--json" => Some(Key::Json),
             "--monitor" => Some(Key::Monitor),
             "--names" => Some(Key::Names),
+            "--of" => Some(Key::Of),
             "--program" => Some(Key::Program),
             "--read" => Some(Key::Read),
             "--rules" => Some(Key::Rules),
@@ -99,6 +102,7 @@ impl Key {
         match self {
             Key::Count
             | Key::Edition
+            | Key::Of
             | Key::Program
             | Key::Read
             | Key::Rules

@@ -1,5 +1,5 @@
 use Rattle.std.proofs.Common.{◌≡◌, drop}
-use Rattle.watch_command.specs.Words.{sayings_of}
+use Rattle.watch_command.specs.Sayings.{sayings_of}
 use Rattle.watch_command.specs.Options.{names}
 use Rattle.watch_command.proofs.options.first_name.Given as goal
 

@@ -1,6 +1,6 @@
 use Rattle.std.proofs.Common.{◌≡◌, drop}
 use Rattle.std.specs.List.{list_any}
-use Rattle.watch_command.specs.Words.{sayings_of, is_key}
+use Rattle.watch_command.specs.Sayings.{sayings_of, is_key}
 use Rattle.watch_command.proofs.words.has.Given as goal
 
 abbrev pub invariant-loop-word : goal.invariant-loop-word

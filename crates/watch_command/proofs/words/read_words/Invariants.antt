@@ -1,5 +1,5 @@
 use Rattle.std.proofs.Common.{◌≡◌, drop}
-use Rattle.watch_command.specs.Words.{sayings_of, sayings_from, sayings_in, texts}
+use Rattle.watch_command.specs.Sayings.{sayings_of, sayings_from, sayings_in, texts}
 use Rattle.watch_command.proofs.words.read_words.Given as goal
 
 abbrev pub invariant-loop-i : goal.invariant-loop-i

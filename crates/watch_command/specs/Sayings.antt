@@ -5,7 +5,7 @@ use Rattle.std.specs.List.{list_any}
 use Rattle.std.specs.Option.{option_map}
 use Rattle.std.specs.Str.{bytes_eq}
 use Rattle.watch_command.specs.declared.words.Key.{Key}
-use Rattle.watch_command.specs.declared.words.Key.TheVariants.{Attach, Count, Edition, Hex, Invert, Json, Monitor, Names, Program, Read, Rules, Seconds, Time, Write}
+use Rattle.watch_command.specs.declared.words.Key.TheVariants.{Attach, Count, Edition, Hex, Invert, Json, Monitor, Names, Of, Program, Read, Rules, Seconds, Time, Write}
 use Rattle.watch_command.specs.contracts.words.KeyPartialEq.TheImpl as derived
 use Rattle.watch_command.specs.declared.words.Word.{Word}
 use Rattle.watch_command.specs.declared.words.Word.TheVariants as of_word
@@ -34,6 +34,7 @@ key_of word =
     else if bytes_eq word (codes "--json") then Some Json
     else if bytes_eq word (codes "--monitor") then Some Monitor
     else if bytes_eq word (codes "--names") then Some Names
+    else if bytes_eq word (codes "--of") then Some Of
     else if bytes_eq word (codes "--program") then Some Program
     else if bytes_eq word (codes "--read") then Some Read
     else if bytes_eq word (codes "--rules") then Some Rules
@@ -46,6 +47,7 @@ key_of word =
 abbrev pub takes_word : Key → Bool
 takes_word Count = true
 takes_word Edition = true
+takes_word Of = true
 takes_word Program = true
 takes_word Read = true
 takes_word Rules = true
