@@ -6,7 +6,7 @@ use std::fmt;
 use world_text::TextEvent;
 
 /// Why a list of events isn't played to its end.
-#[derive(Clone, Copy, Debug)]
+#[derive(Clone, Copy, Debug, PartialEq, Eq)]
 pub enum PlayError {
     NoMemory,
     /// The player gave an answer that no text says.

@@ -9,7 +9,7 @@ use message_view::MsgError;
 use std::fmt;
 
 /// An owner of a name: a connection's number, or `none`.
-#[derive(Clone, Copy)]
+#[derive(Clone, Copy, Debug, PartialEq, Eq)]
 pub struct Owner(pub Option<u64>);
 
 impl fmt::Display for Owner {
@@ -24,7 +24,7 @@ impl fmt::Display for Owner {
 }
 
 /// Why a command is refused.
-#[derive(Clone, Copy)]
+#[derive(Clone, Copy, Debug, PartialEq, Eq)]
 pub enum RefusalWord {
     ConnectionsFull,
     Closed,
@@ -54,7 +54,7 @@ impl RefusalWord {
 }
 
 /// Why a text is no name that may be claimed.
-#[derive(Clone, Copy)]
+#[derive(Clone, Copy, Debug, PartialEq, Eq)]
 pub enum ClaimWord {
     BadName,
     Reserved,
@@ -87,7 +87,7 @@ impl fmt::Display for Numbers<'_> {
 }
 
 /// The answer to an event.
-#[derive(Clone, Copy)]
+#[derive(Clone, Copy, Debug)]
 pub enum TextAnswer<'a> {
     Connected(u64),
     /// The number of the entry that a rule or a program has.

@@ -10,7 +10,7 @@ use std::error::Error;
 use std::fmt;
 
 /// Why a line or a list gave no events.
-#[derive(Clone, Copy, Debug)]
+#[derive(Clone, Copy, Debug, PartialEq, Eq)]
 pub enum LineError {
     /// It is of no event's form, or it isn't UTF-8.
     Unreadable,
@@ -60,7 +60,7 @@ impl From<FromHexError> for LineError {
 }
 
 /// Why a list gave no events.
-#[derive(Clone, Copy, Debug)]
+#[derive(Clone, Copy, Debug, PartialEq, Eq)]
 pub enum ListError {
     /// The line of this number, from 1, can't be read.
     Unreadable(usize),

@@ -14,7 +14,7 @@ use summary::Edition;
 
 /// An event of a list. Connections and jobs are numbers as the list says them: a job is the place of its
 /// `begin` among all lines with events, from 0.
-#[derive(Drop)]
+#[derive(Debug, Drop)]
 pub enum TextEvent<'a> {
     /// `connect`
     Connect,

@@ -11,7 +11,7 @@ use crate::event::TextEvent;
 use std::alloc::Global;
 
 /// A line of a list of events, without the LF that ends it.
-#[derive(Drop)]
+#[derive(Debug, Drop)]
 pub enum Line<'a> {
     /// It is empty or begins with `#`, and counts as no event.
     PassedOver,
