@@ -24,7 +24,7 @@ pub(crate) fn mechanisms_of<R: System>(
     options: Options<'_>,
     listener: &Listener,
 ) -> Result<Mechanisms, Refusal>
-    ensures { IfOk result (λ mechanisms. AdmitsAsAsked options mechanisms) }
+    ensures { IfOk result (λ mechanisms. AdmitsAsAsked options.entry mechanisms) }
 {
     let anonymous = options.allows_anonymous;
     let external = match listener {
