@@ -2,13 +2,17 @@
 #![tactic(auto)]
 
 use command_line::{Fault, Output, Stream, Writer, args};
-use serve_command::System;
 pub use serve_command::serve;
 use std::alloc::Global;
+use std::fs::{File, Files};
 use std::io;
 use std::io::Lock;
+use std::net::{Net, TcpListener, TcpStream};
 use std::process::ExitCode;
+use std::random::RandomSource;
 use std::rt::Runtime;
+use std::sync::Wait;
+use std::thread::Threads;
 
 fn main(rt: HostRuntime) -> ExitCode {
     let mut err = Output::new(Stream::new(rt.stderr().lock()));
@@ -25,7 +29,13 @@ fn main(rt: HostRuntime) -> ExitCode {
 /// Serves a bus as the words after the program's name ask for. An `Err` says that there are none to read.
 fn run<R, E: Writer>(rt: &R, err: &mut Output<E>) -> Result<u8, Fault>
 where
-    R: Runtime<A = Global> + System,
+    R: Runtime<A = Global>
+        + Files<File = File>
+        + Net<Listener = TcpListener, Stream = TcpStream>
+        + Threads
+        + Wait
+        + RandomSource
+        + Sync,
 {
     let args = args(rt)?;
     let words: Vec<&str> = args

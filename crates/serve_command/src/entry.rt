@@ -9,13 +9,18 @@ use crate::machine::machine_id;
 use crate::mechanisms::mechanisms_of;
 use crate::options::Options;
 use crate::place::Place;
-use crate::system::System;
 use command_line::{Output, Writer, text_for};
 use endpoints::{Address, Listener};
 use server::{Identity, IndexKey, Limits, Mechanisms};
 use std::alloc::Global;
+use std::fs::{File, Files};
+use std::net::{Net, TcpListener, TcpStream};
 use std::random::RandomSource;
+use std::rt::Env;
+use std::sync::Wait;
 use std::thread;
+use std::thread::Threads;
+use std::time::Clock;
 
 /// The words that ask for this command's help.
 const HELP: [&str; 2] = ["serve", "--help"];
@@ -24,13 +29,23 @@ const HELP: [&str; 2] = ["serve", "--help"];
 /// connections as they name were accepted and have ended, 3 for words that are no such options, 4 where the address
 /// can't be listened at or `out` can't be written, 5 for want of memory. The line that says where it listens is written
 /// and flushed before the first accept.
-pub fn serve<R: System, O: Writer, E: Writer>(
+pub fn serve<R, O: Writer, E: Writer>(
     rt: &R,
     alloc: Global,
     words: &[&str],
     out: &mut Output<O>,
     err: &mut Output<E>,
 ) -> u8
+where
+    R: Files<File = File>
+        + Env
+        + Net<Listener = TcpListener, Stream = TcpStream>
+        + Threads
+        + Wait
+        + Clock
+        + RandomSource
+        + Sync
+        + Alloc,
     ensures { IsStatus result }
 {
     match serve_words(rt, alloc, words, out) {
@@ -39,12 +54,23 @@ pub fn serve<R: System, O: Writer, E: Writer>(
     }
 }
 
-fn serve_words<R: System, O: Writer>(
+fn serve_words<R, O: Writer>(
     rt: &R,
     alloc: Global,
     words: &[&str],
     out: &mut Output<O>,
-) -> Result<(), Refusal> {
+) -> Result<(), Refusal>
+where
+    R: Files<File = File>
+        + Env
+        + Net<Listener = TcpListener, Stream = TcpStream>
+        + Threads
+        + Wait
+        + Clock
+        + RandomSource
+        + Sync
+        + Alloc,
+{
     if asks_for_help(words) {
         return help(alloc, out);
     }
@@ -67,12 +93,23 @@ fn help<O: Writer>(alloc: Global, out: &mut Output<O>) -> Result<(), Refusal> {
 }
 
 /// Serves at the address that is asked for, or at the usual place.
-fn serve_as_asked<R: System, O: Writer>(
+fn serve_as_asked<R, O: Writer>(
     rt: &R,
     alloc: Global,
     options: Options<'_>,
     out: &mut Output<O>,
-) -> Result<(), Refusal> {
+) -> Result<(), Refusal>
+where
+    R: Files<File = File>
+        + Env
+        + Net<Listener = TcpListener, Stream = TcpStream>
+        + Threads
+        + Wait
+        + Clock
+        + RandomSource
+        + Sync
+        + Alloc,
+{
     let place = match options.address {
         Some(Address::Folder { path }) => Place::new_in(rt, alloc, path)?,
         Some(Address::Runtime) => Place::of_runtime(rt, alloc)?,
@@ -87,13 +124,24 @@ fn serve_as_asked<R: System, O: Writer>(
     served
 }
 
-fn listen_and_serve<R: System, O: Writer>(
+fn listen_and_serve<R, O: Writer>(
     rt: &R,
     alloc: Global,
     options: Options<'_>,
     asked: Address<'_>,
     out: &mut Output<O>,
-) -> Result<(), Refusal> {
+) -> Result<(), Refusal>
+where
+    R: Files<File = File>
+        + Env
+        + Net<Listener = TcpListener, Stream = TcpStream>
+        + Threads
+        + Wait
+        + Clock
+        + RandomSource
+        + Sync
+        + Alloc,
+{
     let guid = guid_of(rt, options)?;
     let listener = bind(rt, alloc, asked)?;
     let served = announce_and_serve(rt, alloc, options, asked, &listener, guid, out);
@@ -101,7 +149,7 @@ fn listen_and_serve<R: System, O: Writer>(
     served
 }
 
-fn announce_and_serve<R: System, O: Writer>(
+fn announce_and_serve<R, O: Writer>(
     rt: &R,
     alloc: Global,
     options: Options<'_>,
@@ -109,7 +157,18 @@ fn announce_and_serve<R: System, O: Writer>(
     listener: &Listener,
     guid: Guid,
     out: &mut Output<O>,
-) -> Result<(), Refusal> {
+) -> Result<(), Refusal>
+where
+    R: Files<File = File>
+        + Env
+        + Net<Listener = TcpListener, Stream = TcpStream>
+        + Threads
+        + Wait
+        + Clock
+        + RandomSource
+        + Sync
+        + Alloc,
+{
     let mechanisms = mechanisms_of(rt, alloc, options, listener)?;
     match listener.address(asked) {
         Ok(taken) => announce(rt, alloc, options.announcement, taken, guid, out)?,
@@ -126,14 +185,25 @@ fn guid_of<R: RandomSource>(rt: &R, options: Options<'_>) -> Result<Guid, Refusa
     }
 }
 
-fn serve_at<R: System>(
+fn serve_at<R>(
     rt: &R,
     alloc: Global,
     connections: Option<u32>,
     guid: Guid,
     mechanisms: Mechanisms,
     listener: &Listener,
-) -> Result<(), Refusal> {
+) -> Result<(), Refusal>
+where
+    R: Files<File = File>
+        + Env
+        + Net<Listener = TcpListener, Stream = TcpStream>
+        + Threads
+        + Wait
+        + Clock
+        + RandomSource
+        + Sync
+        + Alloc,
+{
     let key = index_key(rt)?;
     let digits = guid.digits;
     let machine = machine_id(rt);

@@ -12,8 +12,6 @@ mod mechanisms;
 mod options;
 mod place;
 mod reasons;
-mod system;
 mod words;
 
 pub use entry::serve;
-pub use system::System;

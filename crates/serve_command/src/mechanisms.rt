@@ -5,26 +5,32 @@ ghost use Rattle.serve_command.specs.Admitting.{AdmitsAsAsked};
 
 use crate::error::Refusal;
 use crate::options::Options;
-use crate::system::System;
 use endpoints::{Listener, own_user};
 use keyring::Keyring;
 use server::{External, Mechanisms};
 use std::alloc::Global;
 use std::env;
 use std::env::VarError;
+use std::fs::Files;
+use std::random::RandomSource;
+use std::rt::Env;
+use std::sync::Wait;
+use std::time::Clock;
 
 /// The variable that names the user's folder.
 const HOME: &str = "HOME";
 
 /// By what the clients of a listener may log in: at a Unix socket EXTERNAL as the bus's own user, over TCP the user's cookie,
 /// and what is asked for.
-pub(crate) fn mechanisms_of<R: System>(
+pub(crate) fn mechanisms_of<R>(
     rt: &R,
     alloc: Global,
     options: Options<'_>,
     listener: &Listener,
 ) -> Result<Mechanisms, Refusal>
-    ensures { IfOk result (λ mechanisms. AdmitsAsAsked options mechanisms) }
+where
+    R: Files + Env + Wait + Clock + RandomSource + Alloc,
+    ensures { IfOk result (λ mechanisms. AdmitsAsAsked options.entry mechanisms) }
 {
     let anonymous = options.allows_anonymous;
     let external = match listener {
@@ -44,7 +50,10 @@ pub(crate) fn mechanisms_of<R: System>(
 }
 
 /// The keyring of the bus's own user, which is of use on this machine alone.
-fn own_keyring<R: System>(rt: &R, alloc: Global, listener: &Listener) -> Result<Keyring, Refusal> {
+fn own_keyring<R>(rt: &R, alloc: Global, listener: &Listener) -> Result<Keyring, Refusal>
+where
+    R: Files + Env + Wait + Clock + RandomSource + Alloc,
+{
     if !listener.is_local().unwrap_or(false) {
         return Err(Refusal::not_local());
     }

@@ -3,15 +3,18 @@
 use crate::announced::{Announced, Announcer};
 use crate::client::{S1_STAMPED, talk};
 use command_line::Output;
-use serve_command::{System, serve};
+use serve_command::serve;
 use std::alloc::Global;
 use std::fs;
-use std::net::{Net, TcpStream};
+use std::fs::{File, Files};
+use std::net::{Net, TcpListener, TcpStream};
 use std::os::unix::net::UnixStream;
 use std::process::Abort;
+use std::random::RandomSource;
+use std::rt::Env;
 use std::sync::Wait;
-use std::thread::join;
-use std::time::Duration;
+use std::thread::{Threads, join};
+use std::time::{Clock, Duration};
 
 const GUID: &str = "0123456789abcdef0123456789abcdef";
 
@@ -49,16 +52,27 @@ fn over_unix<R: Net + Wait + Abort>(rt: &R, announced: &Announced, path: &str) -
 }
 
 /// A server of two connections, which may have to write this line, and its two clients: over TCP, unless a path is given.
-fn serve_two<R: System + Abort>(
-    rt: &R,
-    alloc: Global,
-    listen: &str,
-    path: Option<&str>,
-    line: Option<&str>,
-) {
+fn serve_two<R>(rt: &R, alloc: Global, listen: &str, path: Option<&str>, line: Option<&str>)
+where
+    R: Files<File = File>
+        + Env
+        + Net<Listener = TcpListener, Stream = TcpStream>
+        + Threads
+        + Wait
+        + Clock
+        + RandomSource
+        + Sync
+        + Alloc
+        + Abort,
+{
     let announced = Announced::new(alloc);
     let mut out = Output::new(Announcer { rt, to: &announced });
     let mut err = Output::new(Vec::new(alloc));
+    // At a Unix socket the bus's own user gets in anyhow.
+    let admitting = match path {
+        Some(_) => "--nofork",
+        None => "--allow-external",
+    };
     let words = [
         "--listen",
         listen,
@@ -66,19 +80,15 @@ fn serve_two<R: System + Abort>(
         GUID,
         "--connections",
         "2",
-        "--allow-external",
+        admitting,
     ];
-    let words = match path {
-        Some(_) => &words[..6],
-        None => words.as_slice(),
-    };
     let (got, status) = join(
         rt,
         || match path {
             Some(path) => over_unix(rt, &announced, path),
             None => over_tcp(rt, &announced),
         },
-        || serve(rt, alloc, words, &mut out, &mut err),
+        || serve(rt, alloc, words.as_slice(), &mut out, &mut err),
     );
     assert_eq!(rt; got, *S1_STAMPED);
     assert_eq!(rt; status, 0);

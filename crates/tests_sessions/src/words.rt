@@ -1,26 +1,36 @@
 // What the words of `serve` are answered.
 
 use command_line::Output;
-use serve_command::{System, serve};
+use serve_command::serve;
 use std::alloc::Global;
 use std::fs;
-use std::fs::{DirBuilder, File, Permissions};
-use std::net::TcpListener;
+use std::fs::{DirBuilder, File, Files, Permissions};
+use std::net::{Net, TcpListener, TcpStream};
 use std::os::unix::fs::{DirBuilderExt, PermissionsExt, symlink};
 use std::os::unix::net::UnixListener;
 use std::process::Abort;
+use std::random::RandomSource;
+use std::rt::Env;
+use std::sync::Wait;
+use std::thread::Threads;
+use std::time::Clock;
 
 const GUID: &str = "0123456789abcdef0123456789abcdef";
 
 // The words end at once with this status, with this first line of the error and with this sentence below it.
-fn expect_error<R: System + Abort>(
-    rt: &R,
-    alloc: Global,
-    words: &[&str],
-    status: u8,
-    line: &str,
-    sentence: &str,
-) {
+fn expect_error<R>(rt: &R, alloc: Global, words: &[&str], status: u8, line: &str, sentence: &str)
+where
+    R: Files<File = File>
+        + Env
+        + Net<Listener = TcpListener, Stream = TcpStream>
+        + Threads
+        + Wait
+        + Clock
+        + RandomSource
+        + Sync
+        + Alloc
+        + Abort,
+{
     let mut out = Output::new(Vec::new(alloc));
     let mut err = Output::new(Vec::new(alloc));
     assert_eq!(rt; serve(rt, alloc, words, &mut out, &mut err), status);
@@ -86,7 +96,19 @@ fn words_that_are_no_row(rt: HostRuntime) {
     }
 }
 
-fn expect_refused<R: System + Abort>(rt: &R, alloc: Global, listen: &str, reason: &str) {
+fn expect_refused<R>(rt: &R, alloc: Global, listen: &str, reason: &str)
+where
+    R: Files<File = File>
+        + Env
+        + Net<Listener = TcpListener, Stream = TcpStream>
+        + Threads
+        + Wait
+        + Clock
+        + RandomSource
+        + Sync
+        + Alloc
+        + Abort,
+{
     let sentence = format!(in alloc; "  {listen}: {reason}").expect(rt, "memory");
     let words = ["--listen", listen];
     expect_error(
