@@ -158,6 +158,12 @@ pub(crate) static COMMANDS: [CommandHelp; 7] = [
                 text: "Says at the end how many messages each rule takes, of a file with one a line",
             },
             ArgumentHelp {
+                name: "of",
+                form: Form::Value("NAME"),
+                is_required: false,
+                text: "Says it of the rules that a connection has at the bus, which may want root",
+            },
+            ArgumentHelp {
                 name: "hex",
                 form: Form::Flag,
                 is_required: false,

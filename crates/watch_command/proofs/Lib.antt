@@ -1,3 +1,5 @@
 pub mod AnyOf
+pub mod NamesLeft
 pub mod SaidWords
+pub mod RulesCounted
 pub mod Takes

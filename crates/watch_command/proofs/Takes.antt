@@ -1,5 +1,5 @@
 -- Which rules take a message.
-use Rattle.std.proofs.Common.{◌≡◌, ◌↔◌, ℕ, ◌+◌, ◌<◌, Bool, List, ◌∷◌, Option, Some, None, length, get_or, drop, inl, inr, refl, sym, subst, ◌∙◌, ap, add-one, drop-cons, Bor, suc}
+use Rattle.std.proofs.Common.{◌≡◌, ◌↔◌, ℕ, ◌+◌, ◌<◌, Bool, List, ◌∷◌, Option, Some, None, length, get_or, drop, inl, inr, sym, subst, ◌∙◌, ap, add-one, drop-cons, Bor, suc}
 use Rattle.std.specs.Prelude.{IfSome, option_map}
 use Rattle.message_view.specs.Message.{Message}
 use Rattle.match_rule.specs.RuleTree.{RuleTree}

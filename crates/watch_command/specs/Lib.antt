@@ -7,4 +7,5 @@ pub mod Stamp
 pub mod ShownText
 pub mod Errors
 pub mod CountedRules
+pub mod RulesCounted
 pub mod KnownOwners

@@ -1,12 +1,12 @@
 -- Which sayings are a row of `watch`, and what they ask for (own).
-use Rattle.std.specs.Prelude.{◌≡◌, ℕ, Bool, true, false, not, ◌||◌, ◌&&◌, ◌==◌, nat_lt, nat_le, List, [], ◌∷◌, length, codes, Option, Some, None, if◌then◌else◌}
+use Rattle.std.specs.Prelude.{ℕ, Bool, not, ◌||◌, ◌&&◌, ◌==◌, nat_lt, nat_le, List, [], ◌∷◌, length, codes, Option, Some, None, if◌then◌else◌}
 use Rattle.std.specs.List.{list_any}
 use Rattle.std.specs.Str.{bytes_eq}
 use Rattle.summary.specs.declared.edition.Edition.{Edition as AnEdition}
 use Rattle.summary.specs.declared.edition.Edition.TheVariants.{One, Two}
 use Rattle.watch_command.specs.declared.words.Key.{Key}
 use Rattle.watch_command.specs.declared.words.Key.TheVariants.{Attach, Count, Edition, Hex, Invert, Json, Monitor, Names, Of, Program, Read, Rules, Seconds, Time, Write}
-use Rattle.watch_command.specs.Sayings.{Saying, flag, setting, name, is_key, word_in, name_in}
+use Rattle.watch_command.specs.Sayings.{Saying, is_key, word_in, name_in}
 
 -- whether an option is said
 abbrev pub has : Key → List Saying → Bool

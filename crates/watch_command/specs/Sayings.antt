@@ -1,21 +1,38 @@
 -- What the words of `watch` say (own). A word is its bytes.
-use Rattle.std.specs.Prelude.{ℕ, Bool, true, false, ◌||◌, ◌&&◌, ◌==◌, nat_lt, List, [], ◌∷◌, ◌++◌, length, map, slice_index, codes, Option, Some, None, option_and_then, if◌then◌else◌}
+use Rattle.std.specs.Prelude.{ℕ, Bool, true, false, ◌&&◌, ◌==◌, nat_lt, List, [], ◌∷◌, ◌++◌, length, map, slice_index, codes, Option, Some, None, option_and_then, if◌then◌else◌}
 use Rattle.std.specs.Borrow.{Bor}
 use Rattle.std.specs.List.{list_any}
 use Rattle.std.specs.Option.{option_map}
 use Rattle.std.specs.Str.{bytes_eq}
 use Rattle.watch_command.specs.declared.words.Key.{Key}
 use Rattle.watch_command.specs.declared.words.Key.TheVariants.{Attach, Count, Edition, Hex, Invert, Json, Monitor, Names, Of, Program, Read, Rules, Seconds, Time, Write}
-use Rattle.watch_command.specs.contracts.words.KeyPartialEq.TheImpl as derived
 use Rattle.watch_command.specs.declared.words.Word.{Word}
 use Rattle.watch_command.specs.declared.words.Word.TheVariants as of_word
 use Rattle.watch_command.specs.declared.words.Awaited.{Awaited}
 use Rattle.watch_command.specs.declared.words.Awaited.TheVariants.{AnyWord, WordOf, NameAlone}
 use Rattle.watch_command.specs.declared.words.Step.{Step}
 
+-- an option's number, by which options are told apart
+abbrev pub key_number : Key → ℕ
+key_number Attach = 1
+key_number Count = 2
+key_number Edition = 3
+key_number Hex = 4
+key_number Invert = 5
+key_number Json = 6
+key_number Monitor = 7
+key_number Names = 8
+key_number Of = 9
+key_number Program = 10
+key_number Read = 11
+key_number Rules = 12
+key_number Seconds = 13
+key_number Time = 14
+key_number Write = 15
+
 -- whether two options are the same
 abbrev pub key_eq : Key → Key → Bool
-key_eq a b = (derived.ghosts).eq a b
+key_eq a b = key_number a == key_number b
 
 -- what a word says: an option alone, an option with its word, or an address or a rule
 pub data Saying : Type 0 where

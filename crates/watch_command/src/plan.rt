@@ -1,5 +1,9 @@
 // What the options come to: rules that are read and programs that are verified.
 
+ghost use Rattle.std.specs.Prelude.{◌≢◌, IfOk, IfErr};
+ghost use Rattle.match_rule.specs.RuleTree.{RuleTree};
+ghost use Rattle.match_rule.specs.Grammar.{ReadsAs};
+
 use crate::counts::CountedRule;
 use crate::error::Fault;
 use crate::filter::{Filter, Program};
@@ -96,8 +100,16 @@ fn rule_of(alloc: Global, text: &str, is_monitor: bool) -> Result<Rule, Fault> {
 }
 
 /// Reads a rule. A monitor's is of messages to others too, unless it has `eavesdrop` itself.
-pub(crate) fn read_rule(alloc: Global, text: &str, is_monitor: bool) -> Result<Rule, RuleError> {
-    let rule = Rule::read(alloc, text)?;
+pub(crate) fn read_rule(alloc: Global, text: &str, is_monitor: bool) -> Result<Rule, RuleError>
+    // A text of which a rule is made reads as one.
+    ensures found { IfOk result (λ made. (rule : RuleTree) × ReadsAs text.now rule) }
+    // A text that reads as a rule is refused for want of memory alone.
+    ensures refused { (rule : RuleTree) → ReadsAs text.now rule → IfErr result (λ error. error ≢ RuleError.NoMemory → ⊥) }
+{
+    let rule = match Rule::read(alloc, text) {
+        Ok(rule) => rule,
+        Err(error) => return Err(error),
+    };
     if is_monitor {
         let mut monitored = String::from_str(alloc, EAVESDROPPING).map_err(
             |_| RuleError::NoMemory,

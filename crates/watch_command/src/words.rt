@@ -2,12 +2,12 @@
 
 ghost use Rattle.std.specs.Prelude.{◌≡◌, IfOk, Some, None, option_map, if◌then◌else◌};
 ghost use Rattle.std.specs.List.{list_any};
-ghost use Rattle.watch_command.specs.Sayings.{key_of, takes_word, is_option, is_key, is_repeated, reading_by, reading_of, may_end, with_saying, saying_of, sayings_of, sayings_in, texts, word_in, name_in, reading_by_step};
+ghost use Rattle.watch_command.specs.Sayings.{key_of, key_number, key_eq, takes_word, is_option, is_key, is_repeated, reading_by, reading_of, may_end, with_saying, saying_of, sayings_of, sayings_in, texts, word_in, name_in, reading_by_step};
 
 use std::alloc::{AllocError, Global};
 
 /// An option of the command.
-#[derive(Clone, Copy, Debug, PartialEq, Eq)]
+#[derive(Clone, Copy, Debug)]
 pub enum Key {
     /// `--attach`: the bus runs the program.
     Attach,
@@ -42,7 +42,7 @@ pub enum Key {
 }
 
 /// What a word of the command says, an option with the word after it where it takes one.
-#[derive(Clone, Copy, Debug, PartialEq, Eq)]
+#[derive(Clone, Copy, Debug)]
 pub enum Word<'a> {
     /// An option that stands alone.
     Flag(Key),
@@ -53,7 +53,7 @@ pub enum Word<'a> {
 }
 
 /// What the next word may be.
-#[derive(Clone, Copy, Debug, PartialEq, Eq)]
+#[derive(Clone, Copy)]
 enum Awaited {
     /// An option, `--` or a name.
     AnyWord,
@@ -95,6 +95,36 @@ impl Key {
         }
     }
 
+    /// The option's number, in the order of the variants.
+    fn number(self) -> u8
+        ensures { result ≡ key_number self }
+    {
+        match self {
+            Key::Attach => 1,
+            Key::Count => 2,
+            Key::Edition => 3,
+            Key::Hex => 4,
+            Key::Invert => 5,
+            Key::Json => 6,
+            Key::Monitor => 7,
+            Key::Names => 8,
+            Key::Of => 9,
+            Key::Program => 10,
+            Key::Read => 11,
+            Key::Rules => 12,
+            Key::Seconds => 13,
+            Key::Time => 14,
+            Key::Write => 15,
+        }
+    }
+
+    /// Whether this is the same option. A derived `==` would be proved for each pair of options.
+    fn is(self, other: Key) -> bool
+        ensures { result ≡ key_eq self other }
+    {
+        self.number() == other.number()
+    }
+
     /// Whether the option takes the word after it.
     fn takes_word(self) -> bool
         ensures { result ≡ takes_word self }
@@ -125,7 +155,7 @@ impl<'a> Word<'a> {
         ensures { result ≡ is_key key (saying_of self.now) }
     {
         match self {
-            Word::Flag(own) | Word::Setting(own, _) => *own == key,
+            Word::Flag(own) | Word::Setting(own, _) => own.is(key),
             Word::Name(_) => false,
         }
     }
@@ -145,7 +175,7 @@ impl<'a> Word<'a> {
         ensures { option_map (λ text. text.now) result ≡ word_in key (saying_of self.now) }
     {
         match self {
-            Word::Setting(own, text) if *own == key => Some(*text),
+            Word::Setting(own, text) if own.is(key) => Some(*text),
             _ => None,
         }
     }

@@ -1,6 +1,5 @@
 use Rattle.std.proofs.Common.{refl, subst}
 use Rattle.std.proofs.lemmas.List.{drop_all}
-use Rattle.message_view.specs.Message.{Message}
 use Rattle.watch_command.specs.Showing.{SomeTakes, TakesRule}
 use Rattle.watch_command.proofs.Takes.{passed, taken}
 use Rattle.watch_command.proofs.filter.some_holds.Goals as goal
