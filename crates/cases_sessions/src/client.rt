@@ -6,8 +6,10 @@ use case_files::LineError;
 use crossbeam_utils::rule::Protocol;
 use outbox::Taker;
 use routing::Carrier;
-use session_text::{Action, Received, Wanted};
-use sessions::{Command, Letterbox, Naming, Published, Rest, Session, SessionError, Shown, Step};
+use session_text::{Action, Received, Share, Wanted};
+use sessions::{
+    Command, Letterbox, Naming, Published, Rest, Session, SessionError, Shares, Shown, Step,
+};
 use std::alloc::{AllocError, Global};
 use std::collections::LinkedList;
 use std::sync::Wait;
@@ -23,6 +25,7 @@ where
     taker: Taker,
     received: Received,
     at_once: usize,
+    shares: Shares,
 }
 
 impl<J: Naming> Client<J> {
@@ -34,6 +37,7 @@ impl<J: Naming> Client<J> {
             taker,
             received: Received::new(alloc),
             at_once: usize::MAX,
+            shares: Shares::unlimited(),
         })
     }
 
@@ -51,6 +55,7 @@ impl<J: Naming> Client<J> {
             }
             Action::Forget => self.forget(place)?,
             Action::Cut(len) => self.at_once = len,
+            Action::Share(share) => self.shares = shares_of(share),
             Action::Machine(id) => self.set_machine_id(id),
             Action::Get(wanted) => return self.get(place, &wanted),
             Action::End(words) => return self.end(place, words),
@@ -70,7 +75,7 @@ impl<J: Naming> Client<J> {
     fn send<R: Wait>(&mut self, place: &Place<'_, '_, J, R>, bytes: &[u8]) {
         if let Some(session) = &mut self.session {
             for piece in bytes.chunks(self.at_once.max(1)) {
-                treat(place, session, piece);
+                treat(place, session, self.shares, piece);
             }
         }
     }
@@ -112,17 +117,26 @@ impl<J: Naming> Client<J> {
     }
 }
 
+fn shares_of(share: Share) -> Shares {
+    Shares {
+        entries: share.entries,
+        instructions: share.instructions,
+        names: share.names,
+    }
+}
+
 /// Feeds a session, and lets it treat all that is there whole. Why it ends is told at its end.
 fn treat<J: Naming, R: Wait>(
     place: &Place<'_, '_, J, R>,
     session: &mut Session<J, Letterbox>,
+    shares: Shares,
     piece: &[u8],
 ) {
     if session.feed(piece).is_err() {
         return;
     }
     for _ in 0..u64::MAX {
-        match session.step(place.rt, place.alloc, place.bus) {
+        match session.step(place.rt, place.alloc, place.bus, shares) {
             Ok(Step::Done) => {}
             Ok(Step::Waits) | Err(_) => return,
         }

@@ -4,6 +4,7 @@ mod Putting
 mod Passing
 mod Announcing
 mod Rows
+mod Sharing
 mod Lists
 mod Departing
 mod Handling

@@ -18,6 +18,7 @@ use Rattle.peers.specs.declared.refused.Refused.{Refused}
 use Rattle.peers.specs.declared.refused.Refused.TheVariants.{Error}
 use Rattle.peers.specs.declared.request.Request.{Request}
 use Rattle.peers.specs.Answers.{IsPut, IsEither, AnswersIf, IsAnswered, IsRefused, after_serial, fault_asked, reply_with, text_with, texts_with, text_values, fault_with}
+use Rattle.peers.specs.Holdings.{HoldingsState}
 use Rattle.peers.specs.LentTexts.{lent_texts}
 use Rattle.peers.specs.PeerState.{PeerState}
 use Rattle.peers.specs.Serials.{serial_after}
@@ -72,6 +73,6 @@ module _ {M : Type 0} where
   refused_if request why name v result w is e h = let P : Refused → Type 0 = λ y. IsRefused request y v result w in subst P (sym is) (answered_if request (fault_asked v request name) v result w e h)
 
   -- a peer that has used a serial
-  pub used_serial : (pass : PassState M) (answers : List Item) (identity : Identity) (serial next : ℕ) (v : PeerState M) → record { pass = pass; answers = answers; serial = serial; identity = identity } ≡ v → next ≡ serial_after serial
-      → record { pass = pass; answers = answers; serial = next; identity = identity } ≡ after_serial v
-  used_serial pass answers identity serial next v is e = ap (λ (n : ℕ). record { pass = pass; answers = answers; serial = n; identity = identity }) e ∙ ap after_serial is
+  pub used_serial : (pass : PassState M) (answers : List Item) (identity : Identity) (holdings : HoldingsState) (serial next : ℕ) (v : PeerState M) → record { pass = pass; answers = answers; serial = serial; identity = identity; holdings = holdings } ≡ v → next ≡ serial_after serial
+      → record { pass = pass; answers = answers; serial = next; identity = identity; holdings = holdings } ≡ after_serial v
+  used_serial pass answers identity holdings serial next v is e = ap (λ (n : ℕ). record { pass = pass; answers = answers; serial = n; identity = identity; holdings = holdings }) e ∙ ap after_serial is

@@ -18,6 +18,7 @@ use Rattle.peers.specs.Table.{Performs}
 use Rattle.peers.specs.declared.error.AnswerError.{AnswerError}
 use Rattle.peers.specs.declared.refused.Refused.TheVariants.{Error}
 use Rattle.peers.specs.declared.request.Request.{Request}
+use Rattle.peers.specs.declared.shares.Shares.{Shares}
 
 -- whether the D-Bus Specification has this kind of messages
 abbrev pub is_known : Kind → Bool
@@ -39,10 +40,10 @@ is_for_bus m = is_call m.kind && names_bus (destination_of m)
 
 module _ {M : Type 0} where
   -- The bus understands the call, and does what the table of methods says; or it is refused with the error of the reading.
-  abbrev pub CallsBus : (M → OutboxId) → Message → PeerState M → Result (Unit {0}) AnswerError → PeerState M → Type 0
-  CallsBus outbox_of m v result w =
+  abbrev pub CallsBus : (M → OutboxId) → Shares → Message → PeerState M → Result (Unit {0}) AnswerError → PeerState M → Type 0
+  CallsBus outbox_of shares m v result w =
       (request : Request) × IsRequestOf m request
-      × (((call : Call) × IsReadAs m (Ok call) × Performs outbox_of request call v result w)
+      × (((call : Call) × IsReadAs m (Ok call) × Performs outbox_of shares request call v result w)
       ⊎ ((error : CallError) × IsReadAs m (Err error) × IsRefused request (Error (error_name_of error)) v result w))
 
   -- a message that isn't for the bus, by whether its kind is known, whether it is a signal, and its destination
@@ -52,11 +53,11 @@ module _ {M : Type 0} where
   PassesOn outbox_of bytes true signal (Some to) v result w = HasSent outbox_of bytes to v result w
   PassesOn outbox_of bytes false signal (Some to) v result w = (result ≡ Ok tt) × (w ≡ v)
 
-  abbrev pub HandledAs : (M → OutboxId) → List ℕ → Message → Bool → PeerState M → Result (Unit {0}) AnswerError → PeerState M → Type 0
-  HandledAs outbox_of bytes m true v result w = CallsBus outbox_of m v result w
-  HandledAs outbox_of bytes m false v result w = PassesOn outbox_of bytes (is_known m.kind) (is_signal m.kind) (destination_of m) v result w
+  abbrev pub HandledAs : (M → OutboxId) → Shares → List ℕ → Message → Bool → PeerState M → Result (Unit {0}) AnswerError → PeerState M → Type 0
+  HandledAs outbox_of shares bytes m true v result w = CallsBus outbox_of shares m v result w
+  HandledAs outbox_of shares bytes m false v result w = PassesOn outbox_of bytes (is_known m.kind) (is_signal m.kind) (destination_of m) v result w
 
   -- A message of these bytes is handled: a call of the bus is answered, a signal without destination is a broadcast, another
-  -- message with a destination goes there, and all else is dropped.
-  abbrev pub Handles : (M → OutboxId) → List ℕ → PeerState M → Result (Unit {0}) AnswerError → PeerState M → Type 0
-  Handles outbox_of bytes v result w = (m : Message) → Valid bytes m → HandledAs outbox_of bytes m (is_for_bus m) v result w
+  -- message with a destination goes there, and all else is dropped. What the client takes of the bus is within these shares.
+  abbrev pub Handles : (M → OutboxId) → Shares → List ℕ → PeerState M → Result (Unit {0}) AnswerError → PeerState M → Type 0
+  Handles outbox_of shares bytes v result w = (m : Message) → Valid bytes m → HandledAs outbox_of shares bytes m (is_for_bus m) v result w

@@ -1,11 +1,14 @@
 pub use Rattle.router.specs.Connections
 pub use Rattle.router.specs.History
 pub use Rattle.router.specs.State
+pub mod Holdings
+pub mod HeldLists
 pub mod PeerState
 pub mod Serials
 pub mod Refusals
 pub mod Answers
 pub mod LentTexts
+pub mod Shares
 pub mod Asked
 pub mod Broadcasts
 pub mod Passing

@@ -17,9 +17,12 @@ use Rattle.peers.specs.declared.request.Request.{Request}
 use Rattle.peers.specs.declared.refused.Refused.TheVariants.{Error}
 use Rattle.peers.specs.Announcements.{AnnouncesAny}
 use Rattle.peers.specs.Answers.{IsRefused}
+use Rattle.peers.specs.Holdings.{HoldingsState, after_request, after_release}
 use Rattle.peers.specs.PeerState.{PeerState}
 use Rattle.peers.specs.Refusals.{refusal_of}
-use Rattle.peers.specs.Rows.{Replies, HasCalled}
+use Rattle.peers.specs.Shares.{WithinShare, WithinMemory, has_room_for_name}
+use Rattle.peers.specs.declared.shares.Shares.{Shares}
+use Rattle.peers.specs.Rows.{Replies, HasCalled, with_holdings}
 
 module _ {M : Type 0} where
   -- The number of the answer, and then what changed. The result is the first error of these.
@@ -33,9 +36,20 @@ module _ {M : Type 0} where
   TellsNamed outbox_of request (Ok _) v result w = (result ≡ Ok tt) × (w ≡ v)
   TellsNamed outbox_of request (Err error) v result w = IsRefused request (refusal_of error) v result w
 
-  -- The pass made this call of the bus, the client is told what it came to, and a change of the owner is announced; or the
-  -- name isn't one that can be asked for.
-  abbrev pub ChangesName : (M → OutboxId) → Request → List ℕ → (Result Reply BusError → PassState M → Type 0) → PeerState M → Result (Unit {0}) AnswerError → PeerState M → Type 0
-  ChangesName outbox_of request name P v result w =
-      ((fault : ClaimError) × (name_in name ≡ Err fault) × IsRefused request (Error InvalidArgs) v result w)
-      ⊎ HasCalled P (λ asked mid. TellsNamed outbox_of request asked mid result w) v
+  -- the name isn't one that can be asked for
+  abbrev pub IsUnclaimable : Request → List ℕ → PeerState M → Result (Unit {0}) AnswerError → PeerState M → Type 0
+  IsUnclaimable request name v result w = (fault : ClaimError) × (name_in name ≡ Err fault) × IsRefused request (Error InvalidArgs) v result w
+
+  -- The pass made this call of the bus, what the client holds changes by the bus's answer, the client is told what it came
+  -- to, and a change of the owner is announced.
+  abbrev pub ChangesName : (M → OutboxId) → Request → (Result Reply BusError → PassState M → Type 0) → (Result Reply BusError → HoldingsState → HoldingsState) → PeerState M → Result (Unit {0}) AnswerError → PeerState M → Type 0
+  ChangesName outbox_of request P change v result w = HasCalled P (λ asked mid. TellsNamed outbox_of request asked (with_holdings (change asked) mid) result w) v
+
+  -- within the client's share of names
+  abbrev pub RequestsName : (M → OutboxId) → Shares → Request → List ℕ → (Result Reply BusError → PassState M → Type 0) → PeerState M → Result (Unit {0}) AnswerError → PeerState M → Type 0
+  RequestsName outbox_of shares request name P v result w =
+      IsUnclaimable request name v result w
+      ⊎ WithinShare (has_room_for_name shares name v.holdings) request (WithinMemory request (ChangesName outbox_of request P (after_request name) v result w) v result w) v result w
+
+  abbrev pub ReleasesName : (M → OutboxId) → Request → List ℕ → (Result Reply BusError → PassState M → Type 0) → PeerState M → Result (Unit {0}) AnswerError → PeerState M → Type 0
+  ReleasesName outbox_of request name P v result w = IsUnclaimable request name v result w ⊎ ChangesName outbox_of request P (after_release name) v result w

@@ -4,14 +4,16 @@ use Rattle.outbox.specs.Items.{Item}
 use Rattle.unique_name.specs.UniqueNames.{unique_name}
 use Rattle.router.specs.Passes.{PassState}
 use Rattle.peers.specs.declared.identity.Identity.{Identity}
+use Rattle.peers.specs.Holdings.{HoldingsState}
 
 -- what its pass has seen and done; the messages that the bus put to the client itself, in order; the serial of the next
--- message that the bus makes for it; and what it is told of the bus
+-- message that the bus makes for it; what it is told of the bus; and what it has taken of the bus
 pub record PeerState (M : Type 0) : Type 0 where
   pub pass : PassState M
   pub answers : List Item
   pub serial : ℕ
   pub identity : Identity
+  pub holdings : HoldingsState
 
 module _ {M : Type 0} where
   -- its unique name

@@ -9,6 +9,7 @@ use Rattle.router.specs.Passes.{PassState}
 use Rattle.peers.specs.declared.error.AnswerError.{AnswerError}
 use Rattle.peers.specs.declared.request.Request.{Request}
 use Rattle.peers.specs.Answers.{IsAnswered, IsRefused, reply_with}
+use Rattle.peers.specs.Holdings.{HoldingsState}
 use Rattle.peers.specs.Passing.{with_pass}
 use Rattle.peers.specs.PeerState.{PeerState, name_of}
 use Rattle.peers.specs.Refusals.{refusal_of}
@@ -27,9 +28,13 @@ module _ {M : Type 0} where
   abbrev pub HasCalled : (Result Reply BusError → PassState M → Type 0) → (Result Reply BusError → PeerState M → Type 0) → PeerState M → Type 0
   HasCalled P Q v = (asked : Result Reply BusError) × (pass : PassState M) × P asked pass × Q asked (with_pass v pass)
 
-  -- the client is told whether the call was done
-  abbrev pub IsConfirmed : Request → (Result Reply BusError → PassState M → Type 0) → PeerState M → Result (Unit {0}) AnswerError → PeerState M → Type 0
-  IsConfirmed request P v result w = HasCalled P (λ asked mid. Confirms request asked mid result w) v
+  -- the peer of a client whose holdings have changed so
+  abbrev pub with_holdings : (HoldingsState → HoldingsState) → PeerState M → PeerState M
+  with_holdings change v = record v { holdings = change v.holdings }
+
+  -- the client is told whether the call was done, and what it holds changes by the bus's answer
+  abbrev pub IsConfirmed : Request → (Result Reply BusError → PassState M → Type 0) → (Result Reply BusError → HoldingsState → HoldingsState) → PeerState M → Result (Unit {0}) AnswerError → PeerState M → Type 0
+  IsConfirmed request P change v result w = HasCalled P (λ asked mid. Confirms request asked (with_holdings (change asked) mid) result w) v
 
   -- the id of an entry, or the error of a refusal
   abbrev pub Numbers : Request → Result Reply BusError → PeerState M → Result (Unit {0}) AnswerError → PeerState M → Type 0
@@ -37,6 +42,6 @@ module _ {M : Type 0} where
   Numbers request (Ok _) v result w = (result ≡ Ok tt) × (w ≡ v)
   Numbers request (Err error) v result w = IsRefused request (refusal_of error) v result w
 
-  -- the client is told the new entry's id
-  abbrev pub NumbersEntry : Request → (Result Reply BusError → PassState M → Type 0) → PeerState M → Result (Unit {0}) AnswerError → PeerState M → Type 0
-  NumbersEntry request P v result w = HasCalled P (λ asked mid. Numbers request asked mid result w) v
+  -- the client is told the new entry's id, and what it holds changes by the bus's answer
+  abbrev pub NumbersEntry : Request → (Result Reply BusError → PassState M → Type 0) → (Result Reply BusError → HoldingsState → HoldingsState) → PeerState M → Result (Unit {0}) AnswerError → PeerState M → Type 0
+  NumbersEntry request P change v result w = HasCalled P (λ asked mid. Numbers request asked (with_holdings (change asked) mid) result w) v

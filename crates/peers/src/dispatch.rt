@@ -54,7 +54,7 @@ impl<B: Naming, M: Mailbox + Carrier> Peer<B, M> {
         lists: &mut RouteLists,
         view: &View<'_>,
     ) -> Result<(), AnswerError>
-        ensures { Handles M.outbox_of view.now self.old result self.new }
+        ensures { Handles M.outbox_of context.now.shares view.now self.old result self.new }
     {
         if is_for_bus(view) {
             return self.call_bus(context, view);
@@ -71,7 +71,7 @@ impl<B: Naming, M: Mailbox + Carrier> Peer<B, M> {
         context: &Context<'_, B, M, W, R>,
         view: &View<'_>,
     ) -> Result<(), AnswerError>
-        ensures { (m : Message) → Valid view.now m → CallsBus M.outbox_of m self.old result self.new }
+        ensures { (m : Message) → Valid view.now m → CallsBus M.outbox_of context.now.shares m self.old result self.new }
     {
         let request = Request::of(view);
         match Call::read(context.alloc, view) {

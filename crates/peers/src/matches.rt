@@ -1,11 +1,13 @@
 // The calls that change a client's rules and programs.
 
-ghost use Rattle.std.specs.Prelude.{◌≡◌, false};
+ghost use Rattle.std.specs.Prelude.{◌≡◌, false, vec_len};
 ghost use Rattle.router.specs.Calls.{Once, Answers};
 ghost use Rattle.router.specs.Readings.{AddsMatch, RemovesMatch, Attaches};
 ghost use Rattle.router.specs.Command.TheVariants.{Detach};
 ghost use Rattle.peers.specs.Answers.{NeverSlow};
+ghost use Rattle.peers.specs.Holdings.{after_add, after_remove, after_attach, after_detach};
 ghost use Rattle.peers.specs.Rows.{Confirms, IsConfirmed, Numbers, NumbersEntry};
+ghost use Rattle.peers.specs.Shares.{WithinShare, WithinMemory, has_room_for_rule, has_room_for_program};
 
 use crate::context::Context;
 use crate::error::AnswerError;
@@ -13,7 +15,7 @@ use crate::peer::Peer;
 use crate::refused::Refused;
 use crate::request::Request;
 use bpf_code::Ins;
-use bus_messages::Body;
+use bus_messages::{Body, ErrorName};
 use router::{BusError, Mailbox, Naming, Reply};
 use routing::Carrier;
 use std::sync::Wait;
@@ -26,11 +28,15 @@ impl<B: Naming, M: Mailbox + Carrier> Peer<B, M> {
         request: Request,
         text: &str,
     ) -> Result<(), AnswerError>
-        ensures row { IsConfirmed request (λ asked pass. Once (λ before next. AddsMatch text.now self.old.pass before asked pass next)) self.old result self.new }
+        ensures row { WithinShare (has_room_for_rule context.now.shares self.old.holdings) request (IsConfirmed request (λ asked pass. Once (λ before next. AddsMatch text.now self.old.pass before asked pass next)) after_add self.old result self.new) self.old result self.new }
         ensures error { NeverSlow request.wants_answer result }
     {
+        if !self.holdings.has_room_for_rule(context.shares) {
+            return self.refuse(context, request, Refused::Error(ErrorName::LimitsExceeded));
+        }
         let bus = context.bus;
         let added = bus.add_match(context.rt, context.alloc, &mut self.pass, text);
+        self.holdings.note_add(&added);
         self.confirm(context, request, added)
     }
 
@@ -40,11 +46,12 @@ impl<B: Naming, M: Mailbox + Carrier> Peer<B, M> {
         request: Request,
         text: &str,
     ) -> Result<(), AnswerError>
-        ensures row { IsConfirmed request (λ asked pass. Once (λ before next. RemovesMatch text.now self.old.pass before asked pass next)) self.old result self.new }
+        ensures row { IsConfirmed request (λ asked pass. Once (λ before next. RemovesMatch text.now self.old.pass before asked pass next)) after_remove self.old result self.new }
         ensures error { NeverSlow request.wants_answer result }
     {
         let bus = context.bus;
         let removed = bus.remove_match(context.rt, context.alloc, &mut self.pass, text);
+        self.holdings.note_remove(&removed);
         self.confirm(context, request, removed)
     }
 
@@ -54,10 +61,11 @@ impl<B: Naming, M: Mailbox + Carrier> Peer<B, M> {
         request: Request,
         id: u32,
     ) -> Result<(), AnswerError>
-        ensures row { IsConfirmed request (λ asked pass. Once (λ before next. Answers false self.old.pass before (Detach self.old.pass.connection id) asked pass next)) self.old result self.new }
+        ensures row { IsConfirmed request (λ asked pass. Once (λ before next. Answers false self.old.pass before (Detach self.old.pass.connection id) asked pass next)) (after_detach id) self.old result self.new }
         ensures error { NeverSlow request.wants_answer result }
     {
         let detached = context.bus.detach(context.rt, &mut self.pass, id);
+        self.holdings.note_detach(id, &detached);
         self.confirm(context, request, detached)
     }
 
@@ -84,11 +92,16 @@ impl<B: Naming, M: Mailbox + Carrier> Peer<B, M> {
         edition: Edition,
         program: Vec<Ins>,
     ) -> Result<(), AnswerError>
-        ensures row { NumbersEntry request (λ asked pass. Once (λ before next. Attaches edition program.items self.old.pass before asked pass next)) self.old result self.new }
+        ensures row { WithinShare (has_room_for_program context.now.shares (vec_len program) self.old.holdings) request (WithinMemory request (NumbersEntry request (λ asked pass. Once (λ before next. Attaches edition program.items self.old.pass before asked pass next)) (after_attach (vec_len program)) self.old result self.new) self.old result self.new) self.old result self.new }
         ensures error { NeverSlow request.wants_answer result }
     {
+        let len = program.len();
+        if let Err(why) = self.holdings.admit_program(context.shares, len) {
+            return self.refuse(context, request, why);
+        }
         let bus = context.bus;
         let attached = bus.attach(context.rt, context.alloc, &mut self.pass, edition, program);
+        self.holdings.note_attach(len, &attached);
         self.answer_entry(context, request, attached)
     }
 

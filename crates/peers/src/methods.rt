@@ -32,7 +32,7 @@ impl<B: Naming, M: Mailbox + Carrier> Peer<B, M> {
         request: Request,
         call: Call<'_>,
     ) -> Result<(), AnswerError>
-        ensures row { Performs M.outbox_of request call.entry self.old result self.new }
+        ensures row { Performs M.outbox_of context.now.shares request call.entry self.old result self.new }
         ensures error { NeverSlow request.wants_answer result }
     {
         match call {

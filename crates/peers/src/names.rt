@@ -4,7 +4,7 @@ ghost use Rattle.std.specs.Prelude.{◌≡◌, false};
 ghost use Rattle.router.specs.Calls.{Once, Answers};
 ghost use Rattle.router.specs.Command.TheVariants.{Request as RequestName, Release};
 ghost use Rattle.peers.specs.Answers.{NeverSlow};
-ghost use Rattle.peers.specs.NameRows.{ChangesName, TellsNamed, TellsName};
+ghost use Rattle.peers.specs.NameRows.{RequestsName, ReleasesName, TellsNamed, TellsName};
 
 use crate::context::Context;
 use crate::error::AnswerError;
@@ -25,15 +25,19 @@ impl<B: Naming, M: Mailbox + Carrier> Peer<B, M> {
         name: &str,
         flags: u32,
     ) -> Result<(), AnswerError>
-        ensures row { ChangesName M.outbox_of request name.now (λ asked pass. Once (λ before next. Answers false self.old.pass before (RequestName self.old.pass.connection name.now flags) asked pass next)) self.old result self.new }
+        ensures row { RequestsName M.outbox_of context.now.shares request name.now (λ asked pass. Once (λ before next. Answers false self.old.pass before (RequestName self.old.pass.connection name.now flags) asked pass next)) self.old result self.new }
         ensures error { NeverSlow request.wants_answer result }
     {
         let Ok(name) = WellKnown::read(name) else {
             return self.refuse(context, request, Refused::Error(ErrorName::InvalidArgs));
         };
+        if let Err(why) = self.holdings.admit_name(context.shares, &name) {
+            return self.refuse(context, request, why);
+        }
         let _turn = context.bus.turn(context.rt);
         let bus = context.bus;
         let asked = bus.request_name(context.rt, &mut self.pass, &name, flags);
+        self.holdings.note_request(&name, &asked);
         self.answer_named(context, request, asked)
     }
 
@@ -43,7 +47,7 @@ impl<B: Naming, M: Mailbox + Carrier> Peer<B, M> {
         request: Request,
         name: &str,
     ) -> Result<(), AnswerError>
-        ensures row { ChangesName M.outbox_of request name.now (λ asked pass. Once (λ before next. Answers false self.old.pass before (Release self.old.pass.connection name.now) asked pass next)) self.old result self.new }
+        ensures row { ReleasesName M.outbox_of request name.now (λ asked pass. Once (λ before next. Answers false self.old.pass before (Release self.old.pass.connection name.now) asked pass next)) self.old result self.new }
         ensures error { NeverSlow request.wants_answer result }
     {
         let Ok(name) = WellKnown::read(name) else {
@@ -51,6 +55,7 @@ impl<B: Naming, M: Mailbox + Carrier> Peer<B, M> {
         };
         let _turn = context.bus.turn(context.rt);
         let released = context.bus.release_name(context.rt, &mut self.pass, &name);
+        self.holdings.note_release(&name, &released);
         self.answer_named(context, request, released)
     }
 

@@ -1,8 +1,10 @@
 // A client that has said Hello.
 
 ghost use Rattle.std.specs.Prelude.{◌≡◌};
+ghost use Rattle.peers.specs.Holdings.{nothing_held};
 ghost use Rattle.peers.specs.PeerState.{PeerState};
 
+use crate::holdings::Holdings;
 use crate::identity::Identity;
 use crate::own_outbox::OwnOutbox;
 use crate::serial::Serials;
@@ -10,13 +12,14 @@ use bus_messages::UniqueName;
 use crossbeam_utils::rule::Protocol;
 use router::{Command, Mailbox, Naming, Pass, Published, Shown};
 use routing::Carrier;
+use std::alloc::Global;
 use std::collections::LinkedList;
 use std::marker::Model;
 use std::sync::Wait;
 
 /// A client on the bus. Its name is that of its pass's connection. Contracts see what its pass has seen and done, what
-/// the bus has put to the client itself, the serial of the next message that the bus makes for it, and what it is told of
-/// the bus.
+/// the bus has put to the client itself, the serial of the next message that the bus makes for it, what it is told of the
+/// bus, and what it has taken of the bus.
 #[derive(Drop)]
 pub struct Peer<B: Naming, M: Mailbox + Carrier>
 where
@@ -28,6 +31,7 @@ where
     pub(crate) identity: Identity,
     pub(crate) serials: Serials,
     pub(crate) own: OwnOutbox<M>,
+    pub(crate) holdings: Holdings,
 }
 
 impl<B: Naming, M: Mailbox + Carrier> Model for Peer<B, M>
@@ -35,19 +39,20 @@ where
     Published: Protocol<Shown<B, M>, LinkedList<Command<M>>>,
 {
     ghost use Rattle.std.specs.Prelude.{◌≡◌};
+    ghost use Rattle.peers.specs.HeldLists.{holdings_of};
     ghost use Rattle.peers.specs.PeerState.{PeerState};
 
     ghost Value = { PeerState M };
 
-    ghost view = { λ p. record { pass = p.pass; answers = p.own; serial = p.serials; identity = p.identity } };
+    ghost view = { λ p. record { pass = p.pass; answers = p.own; serial = p.serials; identity = p.identity; holdings = holdings_of p.holdings } };
 
     ghost invariant = { λ p. p.name ≡ p.pass.connection };
 }
 
 impl<B: Naming, M: Mailbox + Carrier> Peer<B, M> {
-    /// The peer of a pass that is connected, named by its number.
-    pub fn new(pass: Pass<B, M>, own: OwnOutbox<M>, identity: Identity) -> Peer<B, M>
-        ensures { result ≡ record { pass = pass; answers = own; serial = 1; identity = identity } }
+    /// The peer of a pass that is connected, named by its number. It has taken nothing yet.
+    pub fn new(alloc: Global, pass: Pass<B, M>, own: OwnOutbox<M>, identity: Identity) -> Peer<B, M>
+        ensures { result ≡ record { pass = pass; answers = own; serial = 1; identity = identity; holdings = nothing_held } }
     {
         let name = UniqueName::new(pass.connection());
         Peer {
@@ -56,6 +61,7 @@ impl<B: Naming, M: Mailbox + Carrier> Peer<B, M> {
             identity,
             serials: Serials::new(),
             own,
+            holdings: Holdings::new(alloc),
         }
     }
 
@@ -84,6 +90,7 @@ impl<B: Naming, M: Mailbox + Carrier> Peer<B, M> {
             identity: _,
             serials: _,
             own: _,
+            holdings: _,
         } = self;
         pass
     }

@@ -152,7 +152,8 @@ impl<J: Naming> Connection<J> {
         hub: &Hub<J, R>,
     ) -> Result<u32, SessionError> {
         for treated in 0..MESSAGES {
-            if self.session.step(rt, alloc, &hub.bus)? == Step::Waits {
+            let step = self.session.step(rt, alloc, &hub.bus, hub.limits.shares)?;
+            if step == Step::Waits {
                 return Ok(treated);
             }
         }

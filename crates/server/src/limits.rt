@@ -2,6 +2,7 @@
 
 ghost use Rattle.std.specs.Prelude.{◌≡◌, ◌≤◌};
 
+use sessions::Shares;
 use std::sync::{Condvar, Mutex, Wait};
 use std::time::Duration;
 
@@ -15,10 +16,12 @@ pub struct Limits {
     pub patience: Duration,
     /// How many threads serve the connections.
     pub workers: usize,
+    /// How much of the bus one client may have.
+    pub shares: Shares,
 }
 
 impl Limits {
-    /// 64 connections without Hello at once, each for at most 30 seconds, and 1 to 16 workers.
+    /// 64 connections without Hello at once, each for at most 30 seconds, 1 to 16 workers, and the standard shares.
     pub fn with_workers(workers: usize) -> Limits
         ensures newcomers { result.newcomers ≡ 64 }
         ensures some { 1 ≤ result.workers }
@@ -29,6 +32,7 @@ impl Limits {
             newcomers: 64,
             patience: Duration::from_secs(30),
             workers: workers.clamp(1, 16),
+            shares: Shares::standard(),
         }
     }
 }

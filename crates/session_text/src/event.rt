@@ -3,6 +3,7 @@
 use crate::message::{bus_call, message};
 use crate::received::Wanted;
 use crate::serving::Serving;
+use crate::share::Share;
 use case_files::{LineError, digits};
 use std::alloc::Global;
 
@@ -31,6 +32,8 @@ pub enum Action<'a> {
     Enter(Vec<u8>),
     /// What it got until here is forgotten.
     Forget,
+    /// From here on it may have so much of the bus.
+    Share(Share),
     /// The bus gets this machine's id.
     Machine([u8; 32]),
     /// What it got next.
@@ -70,6 +73,7 @@ impl<'a> Action<'a> {
             }
             "gets" | "hears" | "reads" => Ok(Action::Get(wanted_event(alloc, verb, rest)?)),
             "cuts" => Ok(Action::Cut(rest.parse::<usize>()?)),
+            "shares" => Ok(Action::Share(Share::read(rest)?)),
             "enters" => Ok(Action::Enter(entry(alloc)?)),
             "forgets" => Ok(Action::Forget),
             "machine" => Ok(Action::Machine(machine_id(rest)?)),

@@ -9,9 +9,11 @@ mod judging;
 mod message;
 mod received;
 mod serving;
+mod share;
 
 pub use case::{Case, CaseLine, read_cases};
 pub use event::{Action, Event};
 pub use judging::{Miss, Play, judge_files};
 pub use received::{Received, Wanted};
 pub use serving::{Broken, Serving};
+pub use share::Share;

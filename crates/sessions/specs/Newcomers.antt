@@ -4,6 +4,7 @@ use Rattle.router.specs.Calls.{Once, Connects}
 use Rattle.router.specs.Command.{Command}
 use Rattle.router.specs.Passes.{PassState, new_pass}
 use Rattle.router.specs.Reply.{Reply}
+use Rattle.peers.specs.Holdings.{nothing_held}
 use Rattle.peers.specs.PeerState.{PeerState}
 
 module _ {M : Type 0} where
@@ -11,6 +12,6 @@ module _ {M : Type 0} where
   abbrev pub HasJoined : PassState M → Type 0
   HasJoined w = (seen : List (Command M)) × (mailbox : M) × (reply : Reply) × Once (λ before next. Connects (new_pass seen) before mailbox (Ok reply) w next)
 
-  -- a peer of such a pass, for which the bus has made no message yet
+  -- a peer of such a pass, for which the bus has made no message yet, and which has taken nothing of it
   abbrev pub IsNewcomer : PeerState M → Type 0
-  IsNewcomer v = HasJoined v.pass × (v.serial ≡ 1)
+  IsNewcomer v = HasJoined v.pass × (v.serial ≡ 1) × (v.holdings ≡ nothing_held)

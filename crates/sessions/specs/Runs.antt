@@ -1,6 +1,7 @@
 -- What a session's steps come to over its client's whole stream (own).
 use Rattle.std.specs.Prelude.{ℕ, ◌≡◌, List, [], ◌∷◌, ◌++◌, Ok}
 use Rattle.outbox.specs.Seated.{OutboxId}
+use Rattle.peers.specs.declared.shares.Shares.{Shares}
 use Rattle.sessions.specs.SessionState.{SessionState}
 use Rattle.sessions.specs.Steps.{Feeds, HandlesNext}
 
@@ -23,7 +24,7 @@ messages_handled (handled message ∷ later) = message ∷ messages_handled late
 
 module _ {M : Type 0} where
   -- a session went through these, one after the other
-  abbrev pub Runs : (M → OutboxId) → List Event → SessionState M → SessionState M → Type 0
-  Runs outbox_of [] v w = w ≡ v
-  Runs outbox_of (fed bytes ∷ later) v w = (mid : SessionState M) × Feeds bytes v (Ok tt) mid × Runs outbox_of later mid w
-  Runs outbox_of (handled message ∷ later) v w = (mid : SessionState M) × HandlesNext outbox_of message v mid × Runs outbox_of later mid w
+  abbrev pub Runs : (M → OutboxId) → Shares → List Event → SessionState M → SessionState M → Type 0
+  Runs outbox_of shares [] v w = w ≡ v
+  Runs outbox_of shares (fed bytes ∷ later) v w = (mid : SessionState M) × Feeds bytes v (Ok tt) mid × Runs outbox_of shares later mid w
+  Runs outbox_of shares (handled message ∷ later) v w = (mid : SessionState M) × HandlesNext outbox_of shares message v mid × Runs outbox_of shares later mid w

@@ -6,6 +6,7 @@ use Rattle.message_view.specs.Valid.{Valid}
 use Rattle.frames.specs.Stream.{IsMessage, BeginsWithMessage, IsFault}
 use Rattle.peers.specs.declared.error.AnswerError.{AnswerError}
 use Rattle.peers.specs.declared.request.Request.{Request}
+use Rattle.peers.specs.declared.shares.Shares.{Shares}
 use Rattle.peers.specs.Arrival.{Registers}
 use Rattle.peers.specs.Handling.{Handles}
 use Rattle.peers.specs.Passing.{IsRequestOf}
@@ -32,25 +33,25 @@ IsFaultOf unread _ = ⊥
 module _ {M : Type 0} where
   -- A message is handled by the client's peer. The first one makes the peer, whose name it is answered with, if it is Hello;
   -- or it makes none, and the session ends.
-  abbrev pub Takes : (M → OutboxId) → List ℕ → Option (PeerState M) → Result (Unit {0}) SessionError → Option (PeerState M) → Type 0
-  Takes outbox_of message (Some v) result peer = (w : PeerState M) × (handled : Result (Unit {0}) AnswerError) × Handles outbox_of message v handled w × (peer ≡ Some w) × (result ≡ outcome_of handled)
-  Takes outbox_of message None result None = IsErr result
-  Takes outbox_of message None result (Some w) =
+  abbrev pub Takes : (M → OutboxId) → Shares → List ℕ → Option (PeerState M) → Result (Unit {0}) SessionError → Option (PeerState M) → Type 0
+  Takes outbox_of shares message (Some v) result peer = (w : PeerState M) × (handled : Result (Unit {0}) AnswerError) × Handles outbox_of shares message v handled w × (peer ≡ Some w) × (result ≡ outcome_of handled)
+  Takes outbox_of shares message None result None = IsErr result
+  Takes outbox_of shares message None result (Some w) =
       (v : PeerState M) × (request : Request) × (registered : Result (Unit {0}) AnswerError)
       × IsNewcomer v × ((m : Message) → Valid message m → (is_hello m ≡ true) × IsRequestOf m request) × Registers outbox_of request v registered w × (result ≡ outcome_of registered)
 
   -- this message comes next in the client's bytes; it is handled, and then taken from them
-  abbrev pub HandlesNext : (M → OutboxId) → List ℕ → SessionState M → SessionState M → Type 0
-  HandlesNext outbox_of message v w = IsMessage message × (v.unread ≡ message ++ w.unread) × Takes outbox_of message v.peer (Ok tt) w.peer × (w ≡ record v { unread = w.unread; peer = w.peer })
+  abbrev pub HandlesNext : (M → OutboxId) → Shares → List ℕ → SessionState M → SessionState M → Type 0
+  HandlesNext outbox_of shares message v w = IsMessage message × (v.unread ≡ message ++ w.unread) × Takes outbox_of shares message v.peer (Ok tt) w.peer × (w ≡ record v { unread = w.unread; peer = w.peer })
 
   -- The next message is handled; no whole one is there; or the session ends, by the
   -- fault of the bytes in a message's place, or by what handling the message came to.
-  abbrev pub TakesMessage : (M → OutboxId) → SessionState M → Result Step SessionError → SessionState M → Type 0
-  TakesMessage outbox_of v (Ok Done) w = (message : List ℕ) × HandlesNext outbox_of message v w
-  TakesMessage outbox_of v (Ok Waits) w = (BeginsWithMessage v.unread → ⊥) × (w ≡ v)
-  TakesMessage outbox_of v (Err error) w =
+  abbrev pub TakesMessage : (M → OutboxId) → Shares → SessionState M → Result Step SessionError → SessionState M → Type 0
+  TakesMessage outbox_of shares v (Ok Done) w = (message : List ℕ) × HandlesNext outbox_of shares message v w
+  TakesMessage outbox_of shares v (Ok Waits) w = (BeginsWithMessage v.unread → ⊥) × (w ≡ v)
+  TakesMessage outbox_of shares v (Err error) w =
       (IsFaultOf v.unread error × (w ≡ v))
-      ⊎ ((message rest : List ℕ) × IsMessage message × (v.unread ≡ message ++ rest) × Takes outbox_of message v.peer (Err error) w.peer × (w ≡ record v { peer = w.peer }))
+      ⊎ ((message rest : List ℕ) × IsMessage message × (v.unread ≡ message ++ rest) × Takes outbox_of shares message v.peer (Err error) w.peer × (w ≡ record v { peer = w.peer }))
 
   -- the next line of the talk is treated, and is then no longer there; or there is none
   abbrev pub TakesLine : SessionState M → Result Step SessionError → SessionState M → Type 0
@@ -59,16 +60,16 @@ module _ {M : Type 0} where
   TakesLine v (Err error) w = w ≡ record v { has_begun = w.has_begun }
 
   -- messages once the talk is over, and lines before
-  abbrev pub TakesNext : Bool → (M → OutboxId) → SessionState M → Result Step SessionError → SessionState M → Type 0
-  TakesNext true outbox_of v result w = TakesMessage outbox_of v result w
-  TakesNext false outbox_of v result w = TakesLine v result w
+  abbrev pub TakesNext : Bool → (M → OutboxId) → Shares → SessionState M → Result Step SessionError → SessionState M → Type 0
+  TakesNext true outbox_of shares v result w = TakesMessage outbox_of shares v result w
+  TakesNext false outbox_of shares v result w = TakesLine v result w
 
   -- The next line or message is handled. What ends the session is answered then, and always after.
-  abbrev pub Steps : (M → OutboxId) → SessionState M → Result Step SessionError → SessionState M → Type 0
-  Steps outbox_of v (Ok step) w = (v.fault ≡ None) × TakesNext v.has_begun outbox_of v (Ok step) w
-  Steps outbox_of v (Err error) w =
+  abbrev pub Steps : (M → OutboxId) → Shares → SessionState M → Result Step SessionError → SessionState M → Type 0
+  Steps outbox_of shares v (Ok step) w = (v.fault ≡ None) × TakesNext v.has_begun outbox_of shares v (Ok step) w
+  Steps outbox_of shares v (Err error) w =
       ((v.fault ≡ Some error) × (w ≡ v))
-      ⊎ ((v.fault ≡ None) × (mid : SessionState M) × (w ≡ record mid { fault = Some error }) × (((error ≡ Slow) × (mid ≡ v)) ⊎ TakesNext v.has_begun outbox_of v (Err error) mid))
+      ⊎ ((v.fault ≡ None) × (mid : SessionState M) × (w ≡ record mid { fault = Some error }) × (((error ≡ Slow) × (mid ≡ v)) ⊎ TakesNext v.has_begun outbox_of shares v (Err error) mid))
 
   -- bytes are added to those that were fed, or memory was refused, and the session ends
   abbrev pub Feeds : List ℕ → SessionState M → Result (Unit {0}) SessionError → SessionState M → Type 0

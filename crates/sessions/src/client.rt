@@ -90,7 +90,7 @@ impl<B: Naming, M: Mailbox + Carrier> Client<B, M> {
         context: &Context<'_, B, M, W, R>,
         view: &View<'_>,
     ) -> Result<(), SessionError>
-        ensures { Takes M.outbox_of view.now self.old result self.new }
+        ensures { Takes M.outbox_of context.now.shares view.now self.old result self.new }
     {
         match &mut self.peer {
             Some(peer) => {
@@ -108,7 +108,7 @@ impl<B: Naming, M: Mailbox + Carrier> Client<B, M> {
         view: &View<'_>,
     ) -> Result<(), SessionError>
         requires { self.old ≡ None }
-        ensures { Takes M.outbox_of view.now None result self.new }
+        ensures { Takes M.outbox_of context.now.shares view.now None result self.new }
     {
         let Some(own) = self.own.take() else {
             return Err(SessionError::NoHello);

@@ -41,7 +41,7 @@ impl<B: Naming, M: Mailbox + Carrier> Rest<B, M> {
         ensures { Ends M.outbox_of self result }
     {
         let Rest { peer } = self;
-        end(peer, &Context { rt, alloc, bus })
+        end(peer, &Context::unlimited(rt, alloc, bus))
     }
 }
 

@@ -36,7 +36,7 @@ pub(crate) fn greet<B: Naming, M: Mailbox + Carrier, W: Wait, R: Wait + Drop>(
         return Err((SessionError::NoHello, own));
     }
     match connect_pass(context, &own, view) {
-        Ok(pass) => Ok(Peer::new(pass, own, identity)),
+        Ok(pass) => Ok(Peer::new(context.alloc, pass, own, identity)),
         Err(Refused::Ended) => Err((SessionError::NoMemory, own)),
         Err(Refused::Error(name)) => {
             match put_refusal(context, &mut own, Request::of(view), name) {

@@ -24,4 +24,4 @@ pub use session::Session;
 pub use step::Step;
 
 // Passed on from the crates below, so that the crates above need not name those in crates.txt.
-pub use peers::{Bus, Command, IndexKey, Letterbox, Naming, Opened, Published, Shown};
+pub use peers::{Bus, Command, IndexKey, Letterbox, Naming, Opened, Published, Shares, Shown};

@@ -5,7 +5,7 @@ use crate::error::SessionError;
 use crate::session::Session;
 use crate::step::Step;
 use crate::writing::Writing;
-use peers::{Bus, Letterbox, Naming};
+use peers::{Bus, Letterbox, Naming, Shares};
 use routing::Carrier;
 use std::alloc::{AllocError, Global};
 use std::io::{ErrorKind, Read, Write};
@@ -15,7 +15,8 @@ use std::sync::Wait;
 const READ_LEN: usize = 4096;
 
 /// Serves one client in this thread: reads, treats each message in order, and writes all that the session's outbox
-/// holds after each. Answers why the session ended, and what is left of it where memory was refused at its end.
+/// holds after each. Only the bus itself refuses what the client asks for. Answers why the session ended, and what is left
+/// of it where memory was refused at its end.
 ///
 /// # Errors
 ///
@@ -89,7 +90,7 @@ fn treat_all<B: Naming, W: Wait, R: Wait + Drop, O: Write + Drop>(
     writing: &mut Writing<O>,
 ) -> Result<(), SessionError> {
     for _ in 0..u64::MAX {
-        let step = session.step(rt, alloc, bus)?;
+        let step = session.step(rt, alloc, bus, Shares::unlimited())?;
         session.push_out(rt);
         writing.write_out(rt);
         if writing.is_broken() && !session.has_begun() {

@@ -12,7 +12,7 @@ use crate::talk::Talk;
 use crossbeam_utils::rule::Protocol;
 use frames::Frames;
 use message_view::MsgError;
-use peers::{Bus, Command, Context, Identity, Mailbox, Naming, Published, Shown};
+use peers::{Bus, Command, Context, Identity, Mailbox, Naming, Published, Shares, Shown};
 use routing::Carrier;
 use std::alloc::Global;
 use std::collections::LinkedList;
@@ -104,7 +104,7 @@ impl<B: Naming, M: Mailbox + Carrier> Session<B, M> {
         }
     }
 
-    /// Handles the next line of the talk or the next message.
+    /// Handles the next line of the talk or the next message. What the client takes of the bus is within the shares.
     ///
     /// # Errors
     ///
@@ -114,8 +114,9 @@ impl<B: Naming, M: Mailbox + Carrier> Session<B, M> {
         rt: &W,
         alloc: Global,
         bus: &Bus<B, M, R>,
+        shares: Shares,
     ) -> Result<Step, SessionError>
-        ensures { Steps M.outbox_of self.old result self.new }
+        ensures { Steps M.outbox_of shares self.old result self.new }
     {
         if let Some(fault) = self.fault {
             return Err(fault);
@@ -123,7 +124,13 @@ impl<B: Naming, M: Mailbox + Carrier> Session<B, M> {
         if self.client.is_shut() {
             return Err(self.fail(SessionError::Slow));
         }
-        match self.take_next(&Context { rt, alloc, bus }) {
+        let context = Context {
+            rt,
+            alloc,
+            bus,
+            shares,
+        };
+        match self.take_next(&context) {
             Ok(step) => Ok(step),
             Err(error) => Err(self.fail(error)),
         }
@@ -141,7 +148,7 @@ impl<B: Naming, M: Mailbox + Carrier> Session<B, M> {
         &mut self,
         context: &Context<'_, B, M, W, R>,
     ) -> Result<Step, SessionError>
-        ensures { TakesNext self.old.has_begun M.outbox_of self.old result self.new }
+        ensures { TakesNext self.old.has_begun M.outbox_of context.now.shares self.old result self.new }
     {
         if self.talk.has_begun() {
             self.take_message(context)
@@ -172,7 +179,7 @@ impl<B: Naming, M: Mailbox + Carrier> Session<B, M> {
         &mut self,
         context: &Context<'_, B, M, W, R>,
     ) -> Result<Step, SessionError>
-        ensures { TakesMessage M.outbox_of self.old result self.new }
+        ensures { TakesMessage M.outbox_of context.now.shares self.old result self.new }
     {
         let view = match self.input.front() {
             Ok(Some(view)) => view,
@@ -225,7 +232,7 @@ impl<B: Naming, M: Mailbox + Carrier> Session<B, M> {
     {
         let Session { client, .. } = self;
         match client.into_peer() {
-            Some(peer) => end(peer, &Context { rt, alloc, bus }),
+            Some(peer) => end(peer, &Context::unlimited(rt, alloc, bus)),
             None => None,
         }
     }

@@ -2,6 +2,7 @@ use Rattle.std.proofs.Common.{refl, subst, Ok, Err}
 use Rattle.router.specs.Sent.{Sent}
 use Rattle.router.specs.Sent.TheVariants.{Put, Full, NoOwner}
 use Rattle.router.specs.Unicasts.{Unicasts}
+use Rattle.peers.specs.HeldLists.{holdings_of}
 use Rattle.peers.specs.declared.refused.Refused.{Refused}
 use Rattle.peers.specs.Passing.{GivesUp}
 use Rattle.peers.specs.PeerState.{PeerState}
@@ -25,7 +26,7 @@ returns-in-Ok-NoOwner g c =
 
 pub returns-in-Err : goal.returns-in-Err
 returns-in-Err g c =
-    let before : PeerState g.row.M.Denot = record { pass = c.send_to.new.self; answers = c.self.inside.own; serial = c.self.inside.serials; identity = c.self.inside.identity } in
+    let before : PeerState g.row.M.Denot = record { pass = c.send_to.new.self; answers = c.self.inside.own; serial = c.self.inside.serials; identity = c.self.inside.identity; holdings = holdings_of c.self.inside.holdings } in
     let G : Refused → Type 0 = λ why. GivesUp c.args.view.now why before c.give_up-in-Err.result c.give_up-in-Err.new.self in
     stamped_sent g.M.Carrier.outbox_of c.args.view.now c.args.to.now c.args.bytes.now _ c.args.self.now c.give_up-in-Err.new.self c.send_to.new.self (Err c.in-Err.error) c.give_up-in-Err.result c.self.view_is
     (c.in-Err.ensures, subst G c.from.ensures c.give_up-in-Err.ensures)
