@@ -32,7 +32,7 @@ pub enum Action<'a> {
     Enter(Vec<u8>),
     /// What it got until here is forgotten.
     Forget,
-    /// From here on it may have so much of the bus.
+    /// From here on it may have this much of the bus.
     Share(Share),
     /// The bus gets this machine's id.
     Machine([u8; 32]),
