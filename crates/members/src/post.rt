@@ -1,5 +1,6 @@
 // A worker as other threads see it.
 
+use auth::Admission;
 use endpoints::Link;
 use mio::unix::SourceFd;
 use mio::{Interest, Poll, Registry, Token, Waker};
@@ -11,10 +12,11 @@ use std::{io, mem};
 /// The token of the waker. The keys of connections are all lower.
 pub const BELL: Token = Token(usize::MAX);
 
-/// A connection that was accepted.
+/// A connection that was accepted, and what its talk admits.
 #[derive(Drop)]
 pub struct Arrival {
     pub link: Link,
+    pub admission: Admission,
 }
 
 /// The poll of a worker as other threads see it: they hand connections in, and change what it waits for.

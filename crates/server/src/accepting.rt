@@ -1,11 +1,14 @@
 // Accepting connections.
 
 use crate::hub::Hub;
+use crate::mechanisms::Mechanisms;
 use crate::reserve::Reserve;
 use endpoints::{Link, Listener, is_of_descriptors};
 use members::{Arrival, Post};
 use sessions::Naming;
+use std::alloc::Global;
 use std::fs::{File, Files};
+use std::random::RandomSource;
 use std::sync::{Arc, Wait};
 use std::thread;
 use std::time::{Clock, Duration};
@@ -13,14 +16,20 @@ use std::time::{Clock, Duration};
 /// How many milliseconds to wait after an accept that failed.
 const PAUSE: u64 = 50;
 
-/// Accepts as many connections as are asked for, or without end, and hands them to the workers in turn.
-pub(crate) fn accept_all<J: Naming, R: Wait + Drop, W: Files<File = File> + Wait + Clock>(
+/// Accepts as many connections as are asked for, or without end, and hands them to the workers in turn, with what their
+/// talks admit.
+pub(crate) fn accept_all<J: Naming, R: Wait + Drop, W>(
     rt: &W,
+    alloc: Global,
     listener: &Listener,
     count: Option<u64>,
     hub: &Hub<J, R>,
+    mechanisms: &Mechanisms,
     posts: &[Arc<Post>],
-) {
+)
+where
+    W: Files<File = File> + RandomSource + Wait + Clock,
+{
     if posts.is_empty() {
         return;
     }
@@ -29,7 +38,8 @@ pub(crate) fn accept_all<J: Naming, R: Wait + Drop, W: Files<File = File> + Wait
         hub.entries.take(rt);
         let link = accept(rt, listener, &mut reserve);
         let post = &posts[(number % posts.len() as u64) as usize];
-        if post.hand_in(rt, Arrival { link }).is_err() {
+        let admission = mechanisms.admission(rt, alloc);
+        if post.hand_in(rt, Arrival { link, admission }).is_err() {
             hub.entries.give_back(rt);
         }
     }

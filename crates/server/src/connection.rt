@@ -2,9 +2,9 @@
 
 use crate::hub::Hub;
 use endpoints::Link;
-use members::{Mail, Member, Post};
+use members::{Arrival, Mail, Member, Post};
 use mio::Token;
-use sessions::{Admission, Naming, Session, SessionError, Step};
+use sessions::{Naming, Session, SessionError, Step};
 use std::alloc::Global;
 use std::io;
 use std::io::ErrorKind;
@@ -46,12 +46,12 @@ impl<J: Naming> Connection<J> {
     pub(crate) fn new<R: Wait + Drop>(
         alloc: Global,
         hub: &Hub<J, R>,
-        link: Link,
+        arrival: Arrival,
         post: Arc<Post>,
         token: Token,
         begun: Instant,
-        admission: Admission,
     ) -> io::Result<Connection<J>> {
+        let Arrival { link, admission } = arrival;
         link.set_nonblocking()?;
         let link = Arc::new(alloc, link)?;
         let member = Member::new(alloc, Arc::try_clone(&link)?, post, token)?;

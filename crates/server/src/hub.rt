@@ -1,7 +1,6 @@
 // What the workers share.
 
 use crate::limits::{Limits, Places};
-use crate::mechanisms::Mechanisms;
 use members::Mail;
 use sessions::{Bus, Naming, Rest};
 use std::alloc::{AllocError, Global};
@@ -24,7 +23,6 @@ pub struct Identity {
 pub(crate) struct Hub<J: Naming, R: Wait + Drop> {
     pub(crate) bus: Bus<J, Mail, R>,
     pub(crate) identity: Identity,
-    pub(crate) mechanisms: Mechanisms,
     pub(crate) limits: Limits,
     /// Places of connections that haven't been answered their Hello.
     pub(crate) entries: Places,
@@ -37,14 +35,12 @@ impl<J: Naming, R: Wait + Drop> Hub<J, R> {
         alloc: Global,
         bus: Bus<J, Mail, R>,
         identity: Identity,
-        mechanisms: Mechanisms,
         limits: Limits,
     ) -> Result<Hub<J, R>, AllocError> {
         let rests = Vec::with_capacity(alloc, RESTS)?;
         Ok(Hub {
             bus,
             identity,
-            mechanisms,
             limits,
             entries: Places::new(limits.newcomers),
             rests: Mutex::new(rests),

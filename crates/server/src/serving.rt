@@ -78,8 +78,8 @@ where
     let Ok(bus) = Bus::<J, Mail, &R>::new(rt, alloc, key, opened) else {
         return Err(ErrorKind::OutOfMemory.into());
     };
-    let hub = Hub::new(alloc, bus, identity, mechanisms, limits)?;
-    run(rt, alloc, &hub, listener, count)
+    let hub = Hub::new(alloc, bus, identity, limits)?;
+    run(rt, alloc, &hub, &mechanisms, listener, count)
 }
 
 /// Starts the workers, accepts, and waits for the workers to end.
@@ -87,6 +87,7 @@ fn run<J: Naming + Send + Sync, R>(
     rt: &R,
     alloc: Global,
     hub: &Hub<J, &R>,
+    mechanisms: &Mechanisms,
     listener: &Listener,
     count: Option<u64>,
 ) -> io::Result<()>
@@ -109,7 +110,15 @@ where
                 }
             }
         }
-        accept_all(rt, listener, count, hub, posts.as_slice());
+        accept_all(
+            rt,
+            alloc,
+            listener,
+            count,
+            hub,
+            mechanisms,
+            posts.as_slice(),
+        );
         for post in posts.iter() {
             post.finish();
         }

@@ -2,15 +2,12 @@
 
 use crate::connection::{Connection, Turn};
 use crate::hub::Hub;
-use endpoints::Link;
-use members::{BELL, Post};
+use members::{Arrival, BELL, Post};
 use mio::{Events, Poll, Token};
 use sessions::Naming;
 use slab::Slab;
 use std::alloc::{AllocError, Global};
-use std::fs::Files;
 use std::net::Net;
-use std::random::RandomSource;
 use std::sync::{Arc, Wait};
 use std::time::{Clock, Duration, Instant};
 use std::{io, mem, thread};
@@ -72,7 +69,7 @@ pub(crate) struct Worker<'a, J: Naming, R: Wait + Drop> {
 }
 
 /// Serves until no more connections come and all have ended.
-pub(crate) fn work<J: Naming, R: Wait + Drop, W: Files + RandomSource + Wait + Clock>(
+pub(crate) fn work<J: Naming, R: Wait + Drop, W: Wait + Clock>(
     rt: &W,
     alloc: Global,
     hub: &Hub<J, R>,
@@ -113,7 +110,7 @@ impl<'a, J: Naming, R: Wait + Drop> Worker<'a, J, R> {
     }
 
     /// Does what the poll told of.
-    fn answer<W: Files + RandomSource + Wait + Clock>(&mut self, rt: &W, events: &Events) {
+    fn answer<W: Wait + Clock>(&mut self, rt: &W, events: &Events) {
         for event in events.iter() {
             if event.token() == BELL {
                 self.take_in(rt);
@@ -125,7 +122,7 @@ impl<'a, J: Naming, R: Wait + Drop> Worker<'a, J, R> {
     }
 
     /// Whether no more connections come, and all have ended.
-    fn is_done<W: Files + RandomSource + Wait + Clock>(&mut self, rt: &W) -> bool {
+    fn is_done<W: Wait + Clock>(&mut self, rt: &W) -> bool {
         if !self.post.is_finished() {
             return false;
         }
@@ -146,27 +143,21 @@ impl<'a, J: Naming, R: Wait + Drop> Worker<'a, J, R> {
     }
 
     /// Takes in the connections that were handed over. Where memory runs out, a connection is closed.
-    fn take_in<W: Files + RandomSource + Wait + Clock>(&mut self, rt: &W) {
+    fn take_in<W: Wait + Clock>(&mut self, rt: &W) {
         for arrival in self.post.take_arrivals(rt, self.alloc) {
             self.hub.retry_rests(rt, self.alloc);
-            if self.welcome(rt, arrival.link).is_err() {
+            if self.welcome(rt, arrival).is_err() {
                 self.hub.entries.give_back(rt);
             }
         }
     }
 
-    fn welcome<W>(&mut self, rt: &W, link: Link) -> io::Result<()>
-    where
-        W: Files + RandomSource + Wait + Clock,
-    {
-        let admission = self.hub.mechanisms.admission(rt, self.alloc);
+    fn welcome<W: Clock>(&mut self, rt: &W, arrival: Arrival) -> io::Result<()> {
         let begun = Instant::now(rt)?;
         self.connections.reserve(1)?;
         let token = Token(self.connections.vacant_key());
         let post = Arc::try_clone(&self.post)?;
-        let connection = Connection::new(
-            self.alloc, self.hub, link, post, token, begun, admission,
-        )?;
+        let connection = Connection::new(self.alloc, self.hub, arrival, post, token, begun)?;
         self.post.register(connection.link(), token)?;
         self.connections.insert_reserved(connection);
         self.newcomers = self.newcomers.saturating_add(1);
