@@ -6,23 +6,48 @@ ghost use Rattle.outbox.specs.Views.{blank, Follows, after_put, after_taken};
 ghost use Rattle.outbox.specs.Seated.{Seated};
 
 use crate::item::Item;
-use crate::rule::{Look, Merging, Puts, SeatView, Shut, Shutting, Takes};
+use crate::line::{Line, Pass};
+use crate::room::{Room, Waiting};
+use crate::rule::{Look, Shut, Shutting};
 use crate::seats::Seat;
 use atomic_table::Table;
-use crossbeam_queue::RuledArrayQueue;
 use std::alloc::{AllocError, Global};
 use std::marker::Model;
 use std::sync::{Arc, Wait};
 
-/// How many messages an outbox holds.
-pub const ROOM: usize = 1024;
-
-// The queue, and the word that is 1 once the outbox is shut.
+// What waits and how much it is, and the word that is 1 once the outbox is shut.
 #[derive(Drop)]
 pub(crate) struct Inner {
-    line: RuledArrayQueue<Item, SeatView, Merging>,
+    line: Line,
+    waiting: Waiting,
     word: Table<(), bool, (), Shutting, Global>,
     ghost words: { word.shared.table_id.words ≡ 1 },
+}
+
+impl Inner {
+    ghost use Rattle.std.specs.Prelude.{◌≡◌, MatchResult};
+    ghost use Rattle.crossbeam_queue.specs.SegTies.{IsSegPassOf};
+    ghost use Rattle.outbox.specs.Views.{Follows, after_put};
+
+    // Puts an item after the others if there is room.
+    fn admit<R: Wait>(&self, rt: &R, pass: &mut Pass, item: Item) -> Result<(), Item>
+        requires queue { IsSegPassOf self.now.line.queue pass.old }
+        requires follows { Follows pass.old.me.view.client.put item.mark }
+        ensures queue { IsSegPassOf self.now.line.queue pass.new × (pass.new.id ≡ pass.old.id) }
+        ensures put { MatchResult result
+            (λ _. pass.new.me.view.client ≡ after_put pass.old.me.view.client item)
+            (λ back. (back ≡ item) × (pass.new.me.view.client ≡ pass.old.me.view.client)) }
+    {
+        let len = item.bytes().len();
+        if !self.waiting.admit(len) {
+            return Err(item);
+        }
+        let put = self.line.push(rt, pass, item);
+        if put.is_err() {
+            self.waiting.release(len);
+        }
+        put
+    }
 }
 
 /// A handle on an outbox. Each share of it is the same outbox.
@@ -38,15 +63,26 @@ impl Model for Outbox {
 
     ghost Value = { OutboxId };
 
-    ghost view = { λ o. record { queue = (arc_value o.inner).line.table.shared.table_id; word = (arc_value o.inner).word.shared.table_id } };
+    ghost view = { λ o. record { queue = (arc_value o.inner).line.queue; word = (arc_value o.inner).word.shared.table_id } };
 }
 
 impl Outbox {
-    /// An open outbox with nothing in it.
+    /// An open outbox with nothing in it, of the standard room.
     pub fn new(alloc: Global) -> Result<Outbox, AllocError> {
-        let line = RuledArrayQueue::ruled(alloc, ROOM)?.0;
+        Outbox::with_room(alloc, Room::standard())
+    }
+
+    /// An open outbox with nothing in it. Its memory grows and shrinks with what waits.
+    pub fn with_room(alloc: Global, room: Room) -> Result<Outbox, AllocError> {
+        let line = Line::new(alloc)?;
         let word = Table::of_words(alloc, &[0], &())?.0;
-        let inner = Arc::new(alloc, Inner { line, word })?;
+        let waiting = Waiting::new(room);
+        let inner = Inner {
+            line,
+            waiting,
+            word,
+        };
+        let inner = Arc::new(alloc, inner)?;
         Ok(Outbox { inner })
     }
 
@@ -68,9 +104,9 @@ impl Outbox {
         Seat { pass, word }
     }
 
-    /// Puts an item after the others. A put into a full outbox is refused and shuts it, and a put into a shut one is
-    /// refused; the item comes back, and nothing is put. A seat puts broadcasts of one origin, by rising counts. A put
-    /// that began before another seat's shut may still land after it.
+    /// Puts an item after the others. A put into a full outbox, or one for which memory is refused, is refused and shuts it,
+    /// and a put into a shut one is refused; the item comes back, and nothing is put. A seat puts broadcasts of one origin,
+    /// by rising counts. A put that began before another seat's shut may still land after it.
     pub fn put<R: Wait>(&self, rt: &R, seat: &mut Seat, item: Item) -> Result<(), Item>
         requires place { seat.old.outbox ≡ self.now }
         requires follows { Follows seat.old.view.put item.mark }
@@ -84,7 +120,7 @@ impl Outbox {
         if inner.word.shared.load::<Look>(&mut seat.word, 0) == 1 {
             return Err(item);
         }
-        match inner.line.push_as::<Puts, R>(rt, &mut seat.pass, item) {
+        match inner.admit(rt, &mut seat.pass, item) {
             Ok(()) => Ok(()),
             Err(back) => {
                 inner.word.shared.store::<Shut>(&mut seat.word, 0, 1);
@@ -103,7 +139,9 @@ impl Outbox {
         ensures order { InOrder seat.new.view.taken }
     {
         let inner: &Inner = &self.inner;
-        inner.line.pop_as::<Takes, R>(rt, &mut seat.pass)
+        let item = inner.line.pop(rt, &mut seat.pass)?;
+        inner.waiting.release(item.bytes().len());
+        Some(item)
     }
 
     /// Whether the outbox is shut. Once shut it stays so.

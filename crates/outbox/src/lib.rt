@@ -7,15 +7,18 @@
 mod handle;
 mod item;
 mod laws;
+mod line;
 mod releases;
+mod room;
 mod rule;
 mod seats;
 mod taker;
 
-pub use handle::{Outbox, ROOM};
+pub use handle::Outbox;
 pub use item::Item;
 pub use laws::{in_order_of_each_origin, known_is_released, put_is_taken_or_stands, taken_was_put};
 pub use releases::{Releases, Shares};
+pub use room::{ROOM, Room};
 pub use rule::{ReleaseView, SeatView};
 pub use seats::Seat;
 pub use taker::{Delivery, Taker};
