@@ -11,4 +11,5 @@ mod writer;
 
 pub use mail::Mail;
 pub use member::Member;
+pub use outbox::Room;
 pub use post::{Arrival, BELL, Post};

@@ -6,7 +6,7 @@ use crate::post::Post;
 use crate::writer::Writer;
 use endpoints::Link;
 use mio::Token;
-use outbox::Outbox;
+use outbox::{Outbox, Room};
 use sole_writer::SoleWriter;
 use std::alloc::{AllocError, Global};
 use std::sync::{Arc, Wait};
@@ -19,14 +19,16 @@ pub struct Member {
 }
 
 impl Member {
+    /// The member of a connection, in whose outbox this much may wait.
     pub fn new(
         alloc: Global,
         link: Arc<Link>,
         post: Arc<Post>,
         token: Token,
+        room: Room,
     ) -> Result<Member, AllocError> {
-        let outbox = Outbox::new(alloc)?;
-        let writer = Writer::new(&outbox, link, post, token)?;
+        let outbox = Outbox::with_room(alloc, room)?;
+        let writer = Writer::new(alloc, &outbox, link, post, token)?;
         Ok(Member {
             outbox,
             writer: SoleWriter::new(writer),

@@ -4,42 +4,40 @@ ghost use Rattle.std.specs.Prelude.{◌≡◌, ◌≤◌, ◌++◌, ◌==◌, tr
 ghost use Rattle.members.specs.Waiting.{all_of, first_of};
 
 use crate::long_message::LongMessage;
+use bytes::BytesMut;
 use outbox::Delivery;
+use std::alloc::Global;
 use std::marker::Model;
 
 /// How many bytes of short messages one write sends together.
 const BATCH: usize = 8192;
 
-/// The bytes of messages, one after the other. A message longer than a batch isn't copied.
+/// The bytes of messages, one after the other, in memory that is there while they are. A message that is longer than what a
+/// batch has left isn't copied, nor is one for whose copy memory is refused.
 #[derive(Drop)]
 pub(crate) struct Unsent {
-    batch: [u8; BATCH],
-    start: usize,
-    end: usize,
-    // The message after the batch, which had no room in it.
+    alloc: Global,
+    batch: BytesMut,
+    // The message after the batch, which is written from where it lies.
     next: Option<LongMessage>,
 }
 
 impl Model for Unsent {
-    ghost use Rattle.std.specs.Prelude.{◌≤◌, ◌==◌, ◌&&◌, [], is_none, slice_range, unwrap_or};
+    ghost use Rattle.std.specs.Prelude.{[], is_none, unwrap_or};
     ghost use Rattle.members.specs.Waiting.{Waiting};
-    ghost use Rattle.members.specs.declared.unsent.TheConstants.{BATCH};
 
     ghost Value = { Waiting };
 
-    ghost view = { λ u. record { batch = slice_range u.batch u.start u.end; long = unwrap_or u.next []; is_open = (u.start == 0) && is_none u.next } };
-
-    ghost invariant = { λ u. (u.start ≤ u.end) × (u.end ≤ BATCH) };
+    ghost view = { λ u. record { batch = u.batch.items; long = unwrap_or u.next []; is_open = is_none u.next } };
 }
 
 impl Unsent {
-    pub(crate) fn new() -> Unsent
+    pub(crate) fn new(alloc: Global) -> Unsent
         ensures { (all_of result ≡ []) × (result.is_open ≡ true) }
     {
         Unsent {
-            batch: [0; BATCH],
-            start: 0,
-            end: 0,
+            alloc,
+            batch: BytesMut::new(alloc),
             next: None,
         }
     }
@@ -51,11 +49,11 @@ impl Unsent {
         self.as_slice().is_empty()
     }
 
-    /// Whether further messages may be added: no byte was written yet, and none waits for room.
+    /// Whether further messages may be added: none waits behind the batch.
     pub(crate) fn is_open(&self) -> bool
         ensures { result ≡ self.now.is_open }
     {
-        self.start == 0 && self.next.is_none()
+        self.next.is_none()
     }
 
     /// Adds a message after the others.
@@ -63,13 +61,10 @@ impl Unsent {
         ensures { self.old.is_open ≡ true → all_of self.new ≡ all_of self.old ++ message.bytes }
     {
         let bytes = message.bytes();
-        if bytes.len() > BATCH - self.end {
+        let has_room = bytes.len() <= BATCH.saturating_sub(self.batch.len());
+        if !has_room || self.batch.extend_from_slice(bytes.as_slice()).is_err() {
             self.next = Some(LongMessage::new(message));
-            return;
         }
-        let end = self.end + bytes.len();
-        self.batch[self.end..end].copy_from_slice(bytes.as_slice());
-        self.end = end;
     }
 
     /// The bytes to write next.
@@ -77,8 +72,8 @@ impl Unsent {
         ensures { result.now ≡ first_of self.now }
     {
         match &self.next {
-            Some(long) if self.start == self.end => long.as_slice(),
-            _ => &self.batch[self.start..self.end],
+            Some(long) if self.batch.is_empty() => long.as_slice(),
+            _ => self.batch.as_slice(),
         }
     }
 
@@ -86,24 +81,22 @@ impl Unsent {
     pub(crate) fn advance(&mut self, count: usize)
         ensures { count ≤ length (first_of self.old) → all_of self.new ≡ drop count (all_of self.old) }
     {
-        if self.start < self.end {
+        if !self.batch.is_empty() {
             self.advance_batch(count);
         } else if let Some(long) = self.next.take() {
             self.next = long.advance(count);
         }
     }
 
-    /// Drops the first `count` bytes of the batch, which were written. An empty batch has its whole room again.
+    /// Drops the first `count` bytes of the batch, which were written, and its memory once all of them are.
     fn advance_batch(&mut self, count: usize)
         ensures rest { count ≤ length self.old.batch → self.new.batch ≡ drop count self.old.batch }
         ensures long { self.new.long ≡ self.old.long }
     {
-        let written = count.min(self.end - self.start);
-        if self.start + written == self.end {
-            self.start = 0;
-            self.end = 0;
+        if count >= self.batch.len() {
+            self.batch = BytesMut::new(self.alloc);
         } else {
-            self.start += written;
+            self.batch.advance(count);
         }
     }
 
@@ -111,8 +104,7 @@ impl Unsent {
     pub(crate) fn clear(&mut self)
         ensures { all_of self.new ≡ [] }
     {
-        self.start = 0;
-        self.end = 0;
+        self.batch = BytesMut::new(self.alloc);
         self.next = None;
     }
 }

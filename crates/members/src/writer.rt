@@ -6,7 +6,7 @@ use endpoints::Link;
 use mio::Token;
 use outbox::{Outbox, ROOM, Taker};
 use sole_writer::{Line, Stand};
-use std::alloc::AllocError;
+use std::alloc::{AllocError, Global};
 use std::io;
 use std::io::ErrorKind;
 use std::sync::{Arc, Wait};
@@ -31,6 +31,7 @@ pub(crate) struct Writer {
 
 impl Writer {
     pub(crate) fn new(
+        alloc: Global,
         outbox: &Outbox,
         link: Arc<Link>,
         post: Arc<Post>,
@@ -38,7 +39,7 @@ impl Writer {
     ) -> Result<Writer, AllocError> {
         Ok(Writer {
             taker: Taker::new(outbox)?,
-            unsent: Unsent::new(),
+            unsent: Unsent::new(alloc),
             link,
             post,
             token,

@@ -39,12 +39,12 @@ impl Inner {
             (λ back. (back ≡ item) × (pass.new.me.view.client ≡ pass.old.me.view.client)) }
     {
         let len = item.bytes().len();
-        if !self.waiting.admit(len) {
+        if !self.waiting.enter(len) {
             return Err(item);
         }
         let put = self.line.push(rt, pass, item);
         if put.is_err() {
-            self.waiting.release(len);
+            self.waiting.leave(len);
         }
         put
     }
@@ -140,7 +140,7 @@ impl Outbox {
     {
         let inner: &Inner = &self.inner;
         let item = inner.line.pop(rt, &mut seat.pass)?;
-        inner.waiting.release(item.bytes().len());
+        inner.waiting.leave(item.bytes().len());
         Some(item)
     }
 

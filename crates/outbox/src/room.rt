@@ -52,18 +52,18 @@ impl Waiting {
     }
 
     /// Counts a message of this length, unless there is no room for one.
-    pub(crate) fn admit(&self, len: usize) -> bool {
+    pub(crate) fn enter(&self, len: usize) -> bool {
         let before = self.word.fetch_add(weight(len), Ordering::SeqCst);
         let room = self.room;
         if before / MESSAGE < room.messages as u64 && before % MESSAGE < room.bytes as u64 {
             return true;
         }
-        self.release(len);
+        self.leave(len);
         false
     }
 
     /// A message of this length that was counted doesn't wait any more.
-    pub(crate) fn release(&self, len: usize) {
+    pub(crate) fn leave(&self, len: usize) {
         self.word.fetch_sub(weight(len), Ordering::SeqCst);
     }
 }
