@@ -22,6 +22,8 @@ mod origins;
 #[cfg(test)]
 mod outboxes;
 #[cfg(test)]
+mod rooms;
+#[cfg(test)]
 mod routes;
 #[cfg(test)]
 mod sessions;
