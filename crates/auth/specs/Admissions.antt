@@ -49,10 +49,10 @@ is_answer a Challenged claim = by_cookie a.cookie
 is_answer a stage claim = admits_user a.external claim
 
 -- a command, or in place of one that isn't admitted another of its word, which is rejected
-abbrev pub admitted : Admission → Stage → List ℕ → Command → Command
-admitted a stage claim AskExternal = if admits_user a.external claim then AskExternal else OtherAuth
-admitted a stage claim Claim = if admits_user a.external claim then Claim else OtherAuth
-admitted a stage claim Trace = if a.anonymous then Trace else OtherAuth
-admitted a stage claim AskCookie = if admits_keeper a.cookie claim then AskCookie else OtherAuth
-admitted a stage claim Response = if is_answer a stage claim then Response else OtherData
-admitted a stage claim command = command
+abbrev pub admit : Admission → Stage → List ℕ → Command → Command
+admit a stage claim AskExternal = if admits_user a.external claim then AskExternal else OtherAuth
+admit a stage claim Claim = if admits_user a.external claim then Claim else OtherAuth
+admit a stage claim Trace = if a.anonymous then Trace else OtherAuth
+admit a stage claim AskCookie = if admits_keeper a.cookie claim then AskCookie else OtherAuth
+admit a stage claim Response = if is_answer a stage claim then Response else OtherData
+admit a stage claim command = command

@@ -10,7 +10,7 @@ use Rattle.auth.specs.declared.stage.Reply.TheVariants.{Rejected}
 use Rattle.auth.specs.declared.stage.StageRow.{StageRow}
 use Rattle.auth.specs.Lines.{max_line_len, Pieces, pieces_of, through_line}
 use Rattle.auth.specs.Commands.{command_of, claim_of}
-use Rattle.auth.specs.Admissions.{any_admission, admitted}
+use Rattle.auth.specs.Admissions.{any_admission, admit}
 use Rattle.auth.specs.Stages.{max_rejections, is_over, row_of, reply_bytes}
 
 -- Where a talk stands: what the server brings to it, the stage, how many rejections were sent, and the bytes that came of the next
@@ -62,7 +62,7 @@ row_answer s row = by_reply row.reply
 
 -- the command of a line, as far as it is admitted
 abbrev pub command_at : Standing → List ℕ → Command
-command_at s line = admitted s.terms.admission s.stage (claim_of line) (command_of line)
+command_at s line = admit s.terms.admission s.stage (claim_of line) (command_of line)
 
 -- a line is answered as its row says, unless it is too long; once the talk is over no line is heard
 abbrev pub hear : Standing → List ℕ → Outcome

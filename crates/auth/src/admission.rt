@@ -3,7 +3,7 @@
 ghost use Rattle.std.specs.Prelude.{◌≡◌, ◌≤◌, ◌++◌, List, length, decimal};
 ghost use Rattle.std.specs.Str.{bytes_eq};
 ghost use Rattle.hex.specs.Hex.{encode_lower};
-ghost use Rattle.auth.specs.Admissions.{any_admission, spells_user, admits_external, admits_user, admits_keeper, is_answer, admitted};
+ghost use Rattle.auth.specs.Admissions.{any_admission, spells_user, admits_external, admits_user, admits_keeper, is_answer, admit};
 
 use crate::challenge::CookieChallenge;
 use crate::command::Command;
@@ -102,9 +102,9 @@ impl Admission {
     }
 
     /// The command, or in place of one that isn't admitted another of its word, which is rejected.
-    pub(crate) fn admitted(&self, stage: Stage, claim: &[u8], command: Command) -> Command
+    pub(crate) fn admit(&self, stage: Stage, claim: &[u8], command: Command) -> Command
         requires { length claim.now ≤ MAX_LINE_LEN }
-        ensures { result ≡ admitted self.now stage claim.now command }
+        ensures { result ≡ admit self.now stage claim.now command }
     {
         match command {
             Command::AskExternal | Command::Claim if !self.external.admits(claim) =>

@@ -86,7 +86,7 @@ fn answer_line(terms: &Terms, stage: Stage, rejections: u8, line: &[u8]) -> Line
 {
     let command = terms
         .admission
-        .admitted(stage, claim(line), Command::of(line));
+        .admit(stage, claim(line), Command::of(line));
     let row = StageRow::of(stage, command);
     if row.reply != Reply::Rejected {
         return LineAnswer {

@@ -174,8 +174,8 @@ module _ (asked found : LookupTexts) where
   pub all_found : are_found asked found ≡ true → (are_texts_found asked.texts found.texts ≡ true) × (is_text_found asked.path_namespace found.path_namespace ≡ true) × (is_text_found asked.arg0_namespace found.arg0_namespace ≡ true)
   all_found h =
       let both = and_parts (are_texts_found asked.texts found.texts) (are_namespaces_found asked found) h in
-      let two = and_parts (is_text_found asked.path_namespace found.path_namespace) (is_text_found asked.arg0_namespace found.arg0_namespace) both.1 in
-      (both.0, two.0, two.1)
+      let inside = and_parts (is_text_found asked.path_namespace found.path_namespace) (is_text_found asked.arg0_namespace found.arg0_namespace) both.1 in
+      (both.0, inside.0, inside.1)
 
   pub found_all : are_texts_found asked.texts found.texts ≡ true → is_text_found asked.path_namespace found.path_namespace ≡ true → is_text_found asked.arg0_namespace found.arg0_namespace ≡ true → are_found asked found ≡ true
   found_all texts path arg0 =

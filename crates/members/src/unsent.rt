@@ -49,7 +49,7 @@ impl Unsent {
         self.as_slice().is_empty()
     }
 
-    /// Whether further messages may be added: none waits behind the batch.
+    /// Whether further messages may be added: none waits after the batch.
     pub(crate) fn is_open(&self) -> bool
         ensures { result ≡ self.now.is_open }
     {

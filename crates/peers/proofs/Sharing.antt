@@ -1,6 +1,6 @@
 -- Calls within a client's share, and calls beyond it.
 use Rattle.std.proofs.Common.{◌≡◌, Bool, true, false, Result, Err, inl, inr, sym, ap, subst, ◌∙◌}
-use Rattle.bus_messages.specs.declared.error_name.ErrorName.TheVariants.{LimitsExceeded, NoMemory}
+use Rattle.bus_messages.specs.declared.error_name.ErrorName.TheVariants.{LimitsExceeded}
 use Rattle.peers.specs.declared.error.AnswerError.{AnswerError}
 use Rattle.peers.specs.declared.refused.Refused.{Refused}
 use Rattle.peers.specs.declared.refused.Refused.TheVariants.{Error}

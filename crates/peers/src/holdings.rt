@@ -184,7 +184,7 @@ impl Holdings {
     }
 }
 
-/// Whether these programs and one more of this many instructions have at most so many together.
+/// Whether a share of instructions has room for these programs and one more of this many.
 fn has_room_for(programs: &[HeldProgram], share: u32, len: usize) -> bool
     ensures { result ≡ nat_le (instructions_of programs.now + len) share }
 {

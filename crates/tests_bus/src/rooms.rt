@@ -22,7 +22,7 @@ fn outbox_of<R: Abort>(rt: &R, alloc: Global, messages: usize, bytes: usize) -> 
 }
 
 /// How many of ten messages an outbox takes until one is refused.
-fn taken<R: Wait + Abort>(rt: &R, alloc: Global, outbox: &Outbox) -> usize {
+fn count_taken<R: Wait + Abort>(rt: &R, alloc: Global, outbox: &Outbox) -> usize {
     let mut seat = outbox.seat();
     for count in 0..10 {
         if outbox.put(rt, &mut seat, signal(rt, alloc)).is_err() {
@@ -35,7 +35,7 @@ fn taken<R: Wait + Abort>(rt: &R, alloc: Global, outbox: &Outbox) -> usize {
 #[test]
 fn room_for_three_messages(rt: HostRuntime) {
     let outbox = outbox_of(&rt, rt.alloc(), 3, 1000);
-    assert_eq!(rt; taken(&rt, rt.alloc(), &outbox), 3);
+    assert_eq!(rt; count_taken(&rt, rt.alloc(), &outbox), 3);
     forget(outbox);
 }
 
@@ -43,14 +43,14 @@ fn room_for_three_messages(rt: HostRuntime) {
 #[test]
 fn room_for_thirteen_bytes(rt: HostRuntime) {
     let outbox = outbox_of(&rt, rt.alloc(), 1000, 13);
-    assert_eq!(rt; taken(&rt, rt.alloc(), &outbox), 3);
+    assert_eq!(rt; count_taken(&rt, rt.alloc(), &outbox), 3);
     forget(outbox);
 }
 
 #[test]
 fn an_empty_outbox_has_room_for_any_message(rt: HostRuntime) {
     let outbox = outbox_of(&rt, rt.alloc(), 1000, 1);
-    assert_eq!(rt; taken(&rt, rt.alloc(), &outbox), 1);
+    assert_eq!(rt; count_taken(&rt, rt.alloc(), &outbox), 1);
     forget(outbox);
 }
 
