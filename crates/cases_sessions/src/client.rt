@@ -5,7 +5,7 @@ use crate::taker::take_all;
 use case_files::LineError;
 use crossbeam_utils::rule::Protocol;
 use outbox::Taker;
-use routing::Carrier;
+use routing::Mailbox;
 use session_text::{Action, Received, Share, Wanted};
 use sessions::{
     Command, Letterbox, Naming, Published, Rest, Session, SessionError, Shares, Shown, Step,

@@ -15,7 +15,7 @@ use crate::recipients::mark_recipients;
 use crate::workers::{Work, all_pieces};
 use arrayvec::ArrayVec;
 use message_view::View;
-use program_table::{BusState, Mailbox};
+use program_table::{BusState, Handle};
 use std::sync::Wait;
 use std::thread::Threads;
 
@@ -23,7 +23,7 @@ use std::thread::Threads;
 pub const MAX_WORKERS: u32 = 16;
 
 /// Who gets a message.
-struct Question<'a, M: Mailbox, G> {
+struct Question<'a, M: Handle, G> {
     state: &'a BusState<M>,
     sender: Option<u64>,
     view: &'a View<'a>,
@@ -31,7 +31,7 @@ struct Question<'a, M: Mailbox, G> {
     of: u32,
 }
 
-impl<'a, M: Mailbox, G> Drop for Question<'a, M, G> {
+impl<'a, M: Handle, G> Drop for Question<'a, M, G> {
     fn drop(self) {
         let Question {
             state: _,
@@ -43,7 +43,7 @@ impl<'a, M: Mailbox, G> Drop for Question<'a, M, G> {
     }
 }
 
-impl<'a, M: Mailbox + Sync, G: Gate> Work for Question<'a, M, G> {
+impl<'a, M: Handle + Sync, G: Gate> Work for Question<'a, M, G> {
     ghost pieces = { λ q. q.of };
 
     ghost finds = { λ q part marks. FindsRecipients q.state.now q.sender q.view.now q.of part marks };
@@ -64,7 +64,7 @@ impl<'a, M: Mailbox + Sync, G: Gate> Work for Question<'a, M, G> {
 /// # Errors
 ///
 /// `Workers` for no worker and for more than 16, and `NotStarted` where a worker's start was refused.
-pub fn select_many<'a, M: Mailbox + Sync, G: Gate, R: Threads + Wait>(
+pub fn select_many<'a, M: Handle + Sync, G: Gate, R: Threads + Wait>(
     rt: &R,
     state: &'a BusState<M>,
     sender: Option<u64>,

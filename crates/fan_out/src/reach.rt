@@ -7,12 +7,12 @@ ghost use Rattle.fan_out.specs.Reach.{TellsReach};
 
 use entry_table::offered_where_it_holds;
 use message_view::View;
-use program_table::{BusState, Mailbox};
+use program_table::{BusState, Handle};
 
 /// Whether a message with the member, the interface, the path and the argument 0 of this one is offered to an entry. If it
 /// isn't, nobody gets it. A sender changes none of the four, so a bus can ask before it stamps a broadcast: most are for
 /// nobody. No memory is taken, and no program is run.
-pub fn may_reach<'a, M: Mailbox>(state: &'a BusState<M>, view: &View<'a>) -> bool
+pub fn may_reach<'a, M: Handle>(state: &'a BusState<M>, view: &View<'a>) -> bool
     ensures { (m : Message) → Valid view.now m → TellsReach state.entry.now m result }
 {
     offered_where_it_holds();

@@ -22,11 +22,11 @@ use arrayvec::ArrayVec;
 use bpf_machine::ends_in_one_way;
 use entry_table::{Entry, Offers, offered_where_it_holds};
 use message_view::View;
-use program_table::{BusState, Mailbox};
+use program_table::{BusState, Handle};
 use summary::{Edition, Image};
 
 /// Whether a connection is marked. It is searched for only where a marked one's number leaves the same remainder.
-fn is_marked<M: Mailbox>(state: &BusState<M>, marks: &Marks, connection: u64) -> bool
+fn is_marked<M: Handle>(state: &BusState<M>, marks: &Marks, connection: u64) -> bool
     requires state { IsState state.now }
     requires connected { is_connected connection state.now.connections ≡ true }
     requires noted { AreNoted (numbers_of state.now.connections) marks.now.places marks.now.remainders }
@@ -42,7 +42,7 @@ fn is_marked<M: Mailbox>(state: &BusState<M>, marks: &Marks, connection: u64) ->
 }
 
 /// Marks a connection that isn't marked.
-fn mark<M: Mailbox>(state: &BusState<M>, marks: &mut Marks, connection: u64)
+fn mark<M: Handle>(state: &BusState<M>, marks: &mut Marks, connection: u64)
     requires state { IsState state.now }
     requires connected { is_connected connection state.now.connections ≡ true }
     requires noted { AreNoted (numbers_of state.now.connections) marks.old.places marks.old.remainders }
@@ -61,7 +61,7 @@ fn mark<M: Mailbox>(state: &BusState<M>, marks: &mut Marks, connection: u64)
 /// Whether the program of an entry needn't be run: the message's envelope tells that it doesn't match, or its
 /// connection is in another piece, or is marked already.
 #[inline(always)]
-fn is_passed_over<M: Mailbox>(
+fn is_passed_over<M: Handle>(
     state: &BusState<M>,
     piece: Piece,
     entry: &Entry,
@@ -84,7 +84,7 @@ fn is_passed_over<M: Mailbox>(
 
 /// Runs the program of an entry over the image that it reads, and marks the entry's connection where it matches.
 #[inline(always)]
-fn ask<'a, M: Mailbox>(
+fn ask<'a, M: Handle>(
     state: &BusState<M>,
     piece: Piece,
     entry: &Entry,
@@ -111,7 +111,7 @@ fn ask<'a, M: Mailbox>(
 /// Marks the connection of an entry of the piece where the entry matches, and tells whether its program still has to be
 /// run, over an image.
 #[inline(always)]
-fn consider<M: Mailbox>(
+fn consider<M: Handle>(
     state: &BusState<M>,
     piece: Piece,
     entry: &Entry,
@@ -143,7 +143,7 @@ fn consider<M: Mailbox>(
 
 /// As `consider`, with the image of edition 2: tells whether the program still has to be run, over the image of edition 1.
 #[inline(always)]
-fn consider_over_edition_two<'a, M: Mailbox>(
+fn consider_over_edition_two<'a, M: Handle>(
     state: &BusState<M>,
     piece: Piece,
     entry: &Entry,
@@ -174,7 +174,7 @@ fn consider_over_edition_two<'a, M: Mailbox>(
 }
 
 /// As `consider`, with the images of both editions.
-fn consider_over_both<'a, M: Mailbox>(
+fn consider_over_both<'a, M: Handle>(
     state: &BusState<M>,
     piece: Piece,
     entry: &Entry,
@@ -203,7 +203,7 @@ fn consider_over_both<'a, M: Mailbox>(
 /// is a function of its own, since a function clears room for its values whenever it is called, and few messages need an
 /// image of edition 1.
 #[inline(never)]
-fn consider_with_edition_one<'a, M: Mailbox>(
+fn consider_with_edition_one<'a, M: Handle>(
     state: &BusState<M>,
     piece: Piece,
     first: &Entry,
@@ -243,7 +243,7 @@ fn consider_with_edition_one<'a, M: Mailbox>(
 /// Considers an entry whose program reads an image, and all entries after it, and tells how many programs were run. The
 /// image of edition 2, which rules read, is made here: a rule of which nothing is left to test needs none.
 #[inline(never)]
-fn consider_with_edition_two<'a, M: Mailbox>(
+fn consider_with_edition_two<'a, M: Handle>(
     state: &BusState<M>,
     piece: Piece,
     first: &Entry,
@@ -282,7 +282,7 @@ fn consider_with_edition_two<'a, M: Mailbox>(
 }
 
 /// Considers the entries that a message is offered to, one after the other, and tells how many programs were run.
-fn consider_all<M: Mailbox>(
+fn consider_all<M: Handle>(
     state: &BusState<M>,
     piece: Piece,
     first: &Entry,
@@ -312,7 +312,7 @@ fn consider_all<M: Mailbox>(
 /// Considers the entries that a message is offered to, at least one. It is a function of its own, since a function
 /// clears room for its values whenever it is called, and a message that is offered to no entry needs no sender's slots.
 #[inline(never)]
-fn consider_offered<'a, M: Mailbox>(
+fn consider_offered<'a, M: Handle>(
     state: &BusState<M>,
     sender: Option<u64>,
     view: &View<'a>,
@@ -338,7 +338,7 @@ fn consider_offered<'a, M: Mailbox>(
 
 /// Marks the recipients of a message among the connections of a piece, and tells how many programs were run. Without a
 /// sender it is of the bus.
-pub(crate) fn mark_recipients<'a, M: Mailbox>(
+pub(crate) fn mark_recipients<'a, M: Handle>(
     state: &'a BusState<M>,
     sender: Option<u64>,
     view: &View<'a>,
@@ -360,7 +360,7 @@ pub(crate) fn mark_recipients<'a, M: Mailbox>(
 }
 
 /// Lists the recipients of a message among the connections of a piece, and tells how many programs were run.
-pub(crate) fn list_recipients<'a, M: Mailbox>(
+pub(crate) fn list_recipients<'a, M: Handle>(
     state: &'a BusState<M>,
     sender: Option<u64>,
     view: &View<'a>,

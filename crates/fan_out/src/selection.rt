@@ -10,10 +10,10 @@ use crate::piece::Piece;
 use crate::recipients::list_recipients;
 use arrayvec::ArrayVec;
 use message_view::View;
-use program_table::{BusState, Mailbox};
+use program_table::{BusState, Handle};
 
 /// The recipients of a broadcast, by rising number. Without a sender it is the bus's own. No memory is taken.
-pub fn select<'a, M: Mailbox>(
+pub fn select<'a, M: Handle>(
     state: &'a BusState<M>,
     sender: Option<u64>,
     view: &View<'a>,
@@ -27,7 +27,7 @@ pub fn select<'a, M: Mailbox>(
 
 /// As `select`, into an empty list of the caller's. The list has room for each connection, two kilobytes, which needn't
 /// be cleared and copied for each message.
-pub fn select_into<'a, M: Mailbox>(
+pub fn select_into<'a, M: Handle>(
     state: &'a BusState<M>,
     sender: Option<u64>,
     view: &View<'a>,
@@ -47,7 +47,7 @@ pub struct Counted {
 }
 
 /// As `select`, with the count of the programs that were run.
-pub fn select_counted<'a, M: Mailbox>(
+pub fn select_counted<'a, M: Handle>(
     state: &'a BusState<M>,
     sender: Option<u64>,
     view: &View<'a>,
@@ -69,7 +69,7 @@ pub fn select_counted<'a, M: Mailbox>(
 }
 
 /// The recipients among the connections whose number leaves `part` - 1 when divided by `of`.
-pub fn select_piece<'a, M: Mailbox>(
+pub fn select_piece<'a, M: Handle>(
     state: &'a BusState<M>,
     sender: Option<u64>,
     view: &View<'a>,

@@ -5,8 +5,8 @@ ghost use Rattle.std.specs.Arc.{arc_value};
 
 use crate::member::Member;
 use outbox::Outbox;
-use program_table::Mailbox;
-use routing::Carrier;
+use program_table::Handle;
+use routing::Mailbox;
 use std::alloc::AllocError;
 use std::marker::Model;
 use std::sync::{Arc, Wait};
@@ -36,14 +36,14 @@ impl Mail {
     }
 }
 
-impl Mailbox for Mail {
+impl Handle for Mail {
     fn share(&self) -> Result<Mail, AllocError> {
         let member = Arc::try_clone(&self.member)?;
         Ok(Mail { member })
     }
 }
 
-impl Carrier for Mail {
+impl Mailbox for Mail {
     ghost outbox_of = { λ mail. mail };
 
     fn outbox(&self) -> &Outbox {

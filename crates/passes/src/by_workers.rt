@@ -10,8 +10,8 @@ use crate::reading::Source;
 use arrayvec::ArrayVec;
 use fan_out::{FanError, Gate, MAX_RECIPIENTS, MAX_WORKERS, select_many};
 use message_view::View;
-use program_table::Mailbox;
 use published::Naming;
+use routing::Mailbox;
 use std::sync::Wait;
 use std::thread::Threads;
 

@@ -8,8 +8,9 @@ use crate::control::Control;
 use crate::error::BusError;
 use crate::pass::Pass;
 use owners::WellKnown;
-use program_table::{Command, Mailbox, Reply};
+use program_table::{Command, Reply};
 use published::Naming;
+use routing::Mailbox;
 use std::sync::Wait;
 
 impl<J: Naming, M: Mailbox, R: Wait + Drop> Control<J, M, R> {

@@ -5,12 +5,11 @@ ghost use Rattle.std.specs.Prelude.{◌≡◌, None, IfOk};
 use crate::pass::Pass;
 use bytes::Bytes;
 use outbox::Item;
-use program_table::Mailbox;
 use published::Naming;
-use routing::Carrier;
+use routing::Mailbox;
 use std::alloc::{AllocError, Global};
 
-impl<J: Naming, M: Mailbox + Carrier> Pass<J, M> {
+impl<J: Naming, M: Mailbox> Pass<J, M> {
     /// Holds what is put from now on until `release`: no outbox gives it out before, so that nobody can answer one of
     /// these messages before all of them are put. A pass that isn't connected puts nothing.
     pub fn hold(&mut self, alloc: Global)

@@ -5,8 +5,9 @@ ghost use Rattle.passes.specs.Passes.{max_kept, new_pass};
 
 use crate::pass::Pass;
 use crossbeam_utils::rule::Protocol;
-use program_table::{Command, Mailbox};
+use program_table::Command;
 use published::{Naming, Published, Shown, Sight};
+use routing::Mailbox;
 use std::alloc::{AllocError, Global};
 use std::collections::LinkedList;
 use std::marker::Model;

@@ -14,8 +14,8 @@ use crate::reading::Source;
 use arrayvec::ArrayVec;
 use fan_out::MAX_RECIPIENTS;
 use owners::WellKnown;
-use program_table::Mailbox;
 use published::Naming;
+use routing::Mailbox;
 use std::alloc::Global;
 
 impl<J: Naming, M: Mailbox> Pass<J, M> {

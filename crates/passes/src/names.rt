@@ -13,7 +13,8 @@ ghost use Rattle.passes.specs.NameSearch.{NoneIsNamed};
 use arrayvec::ArrayVec;
 use fan_out::MAX_RECIPIENTS;
 use owners::WellKnown;
-use program_table::{BusState, Connection, Mailbox};
+use program_table::{BusState, Connection};
+use routing::Mailbox;
 use std::alloc::{AllocError, Global};
 use unique_name::UniqueName;
 

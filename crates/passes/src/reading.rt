@@ -18,8 +18,8 @@ use arrayvec::ArrayVec;
 use fan_out::{MAX_RECIPIENTS, may_reach, select_into};
 use message_view::View;
 use owners::WellKnown;
-use program_table::Mailbox;
 use published::Naming;
+use routing::Mailbox;
 
 /// Whose message a pass asks for.
 #[derive(Clone, Copy, Debug, PartialEq, Eq)]

@@ -13,14 +13,13 @@ use arrayvec::ArrayVec;
 use bytes::Bytes;
 use fan_out::MAX_RECIPIENTS;
 use message_view::View;
-use program_table::Mailbox;
 use published::Naming;
-use routing::{Carrier, Gate, OpenGate, RouteError, Sender};
+use routing::{Gate, Mailbox, OpenGate, RouteError, Sender};
 use std::alloc::{AllocError, Global};
 use std::sync::Wait;
 
 // Puts a broadcast to its recipients, once the sender has its seats.
-fn route<M: Carrier, W: Wait, G: Gate>(
+fn route<M: Mailbox, W: Wait, G: Gate>(
     rt: &W,
     alloc: Global,
     sender: &mut Sender<M>,
@@ -48,7 +47,7 @@ fn route<M: Carrier, W: Wait, G: Gate>(
     }
 }
 
-impl<J: Naming, M: Mailbox + Carrier> Pass<J, M> {
+impl<J: Naming, M: Mailbox> Pass<J, M> {
     /// Finds the recipients of a broadcast, leaves the published state, and puts the message into their outboxes, without
     /// any lock. The caller's lists are then of this broadcast: its recipients, and those whose outbox refused it, a shut
     /// one included. No outbox gives the message out before it was put at all of them. Nothing is written out:

@@ -14,15 +14,15 @@ use crate::names::{numbers_in, owner_in};
 use arrayvec::ArrayVec;
 use fan_out::{MAX_RECIPIENTS, select_into};
 use message_view::View;
-use program_table::{BusState, Mailbox};
-use routing::{Carrier, Recipient, Sender};
+use program_table::BusState;
+use routing::{Mailbox, Recipient, Sender};
 use std::alloc::AllocError;
 
 /// A sender with this many seats gives up those at the outboxes of closed connections.
 const MANY_SEATS: usize = 256;
 
 // Gives up the seats at the outboxes of closed connections, where the sender has many.
-fn give_up_closed<M: Mailbox + Carrier>(state: &BusState<M>, sender: &mut Sender<M>)
+fn give_up_closed<M: Mailbox>(state: &BusState<M>, sender: &mut Sender<M>)
     ensures keeps { KeepsThere M.outbox_of state.now sender.old sender.new }
     ensures put { NothingPut state.now sender.old sender.new }
 {
@@ -34,14 +34,14 @@ fn give_up_closed<M: Mailbox + Carrier>(state: &BusState<M>, sender: &mut Sender
 }
 
 // Whether nothing has to be done: the sender has its seats, and not many others.
-fn is_ready<M: Carrier>(sender: &Sender<M>, recipients: &[u64]) -> bool
+fn is_ready<M: Mailbox>(sender: &Sender<M>, recipients: &[u64]) -> bool
     ensures { result ≡ true → AllHave recipients.now sender.now.stops }
 {
     sender.seats() <= MANY_SEATS && has_all(sender, recipients)
 }
 
 // Whether the sender has a seat at each of these connections' outboxes.
-fn has_all<M: Carrier>(sender: &Sender<M>, numbers: &[u64]) -> bool
+fn has_all<M: Mailbox>(sender: &Sender<M>, numbers: &[u64]) -> bool
     ensures { result ≡ true → AllHave numbers.now sender.now.stops }
 {
     for number in numbers {
@@ -53,10 +53,7 @@ fn has_all<M: Carrier>(sender: &Sender<M>, numbers: &[u64]) -> bool
 }
 
 // A connection with a share of its mailbox.
-fn recipient<M: Mailbox + Carrier>(
-    state: &BusState<M>,
-    number: u64,
-) -> Result<Recipient<M>, AllocError>
+fn recipient<M: Mailbox>(state: &BusState<M>, number: u64) -> Result<Recipient<M>, AllocError>
     requires { is_connected number state.now.connections ≡ true }
     ensures { IfOk result (λ r. (r.number ≡ number) × IsOutboxOf M.outbox_of state.now number r.outbox) }
 {
@@ -67,7 +64,7 @@ fn recipient<M: Mailbox + Carrier>(
 }
 
 // Takes a seat at the connection's outbox, where the sender has none there.
-fn take_seat<M: Mailbox + Carrier>(
+fn take_seat<M: Mailbox>(
     state: &BusState<M>,
     sender: &mut Sender<M>,
     number: u64,
@@ -85,7 +82,7 @@ fn take_seat<M: Mailbox + Carrier>(
 }
 
 // Takes a seat at each of these connections' outboxes, where the sender has none there.
-fn take_seats<M: Mailbox + Carrier>(
+fn take_seats<M: Mailbox>(
     state: &BusState<M>,
     sender: &mut Sender<M>,
     numbers: &[u64],
@@ -102,7 +99,7 @@ fn take_seats<M: Mailbox + Carrier>(
 }
 
 /// Lists the recipients of a broadcast, and takes the seats that the sender needs for them.
-pub(crate) fn seat_recipients<'a, M: Mailbox + Carrier>(
+pub(crate) fn seat_recipients<'a, M: Mailbox>(
     state: &'a BusState<M>,
     view: &View<'a>,
     from: Option<u64>,
@@ -130,7 +127,7 @@ pub(crate) fn seat_recipients<'a, M: Mailbox + Carrier>(
 
 /// Finds the connection that owns a name, and takes the seat that the sender needs for it. None where nobody owns the
 /// name.
-pub(crate) fn seat_owner<M: Mailbox + Carrier>(
+pub(crate) fn seat_owner<M: Mailbox>(
     state: &BusState<M>,
     sender: &mut Sender<M>,
     name: &str,

@@ -10,9 +10,8 @@ use crate::pass::Pass;
 use crate::reading::Source;
 use crate::seating::seat_owner;
 use bytes::Bytes;
-use program_table::Mailbox;
 use published::Naming;
-use routing::{Carrier, Sender, Sent as PutOrFull};
+use routing::{Mailbox, Sender, Sent as PutOrFull};
 use std::alloc::{AllocError, Global};
 use std::sync::Wait;
 
@@ -27,7 +26,7 @@ pub enum Sent {
 }
 
 // Puts a message to the connection that was found, if one was, once the sender has its seat there.
-fn deliver<M: Carrier, W: Wait>(
+fn deliver<M: Mailbox, W: Wait>(
     rt: &W,
     alloc: Global,
     sender: &mut Sender<M>,
@@ -51,7 +50,7 @@ fn deliver<M: Carrier, W: Wait>(
     }
 }
 
-impl<J: Naming, M: Mailbox + Carrier> Pass<J, M> {
+impl<J: Naming, M: Mailbox> Pass<J, M> {
     /// Finds the owner of a name, which is unique or well-known, leaves the published state, and puts the message into
     /// the owner's outbox.
     ///

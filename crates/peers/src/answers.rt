@@ -17,11 +17,10 @@ use crate::refused::Refused;
 use crate::request::Request;
 use bus_messages::{Body, Bytes, ErrorName, error, reply};
 use router::{Mailbox, Naming};
-use routing::Carrier;
 use std::alloc::Global;
 use std::sync::Wait;
 
-impl<B: Naming, M: Mailbox + Carrier> Peer<B, M> {
+impl<B: Naming, M: Mailbox> Peer<B, M> {
     /// Answers a call, if its caller waits for an answer.
     ///
     /// # Errors

@@ -14,7 +14,6 @@ use crate::request::Request;
 use bus_messages::Call;
 use message_view::{Kind, View};
 use router::{Mailbox, Naming, RouteLists};
-use routing::Carrier;
 use std::sync::Wait;
 
 /// Whether a message is a call of the bus itself.
@@ -41,7 +40,7 @@ fn is_signal(kind: Kind) -> bool
     matches!(kind, Kind::Signal)
 }
 
-impl<B: Naming, M: Mailbox + Carrier> Peer<B, M> {
+impl<B: Naming, M: Mailbox> Peer<B, M> {
     /// Handles a message: a call of the bus is answered, a signal without destination is a broadcast, another message with
     /// a destination goes there, and all else is dropped.
     ///

@@ -9,7 +9,6 @@ use crate::error::AnswerError;
 use crate::peer::Peer;
 use owners::{Change, MAX_CLAIMS};
 use router::{BusError, Mailbox, Naming, Reply};
-use routing::Carrier;
 use std::sync::Wait;
 
 /// How far a peer's leaving came.
@@ -33,7 +32,7 @@ enum Giving {
     Refused,
 }
 
-impl<B: Naming, M: Mailbox + Carrier> Peer<B, M> {
+impl<B: Naming, M: Mailbox> Peer<B, M> {
     /// Gives up the client's names one after the other, each change announced, closes its pass, announces that its own
     /// name is gone, and writes out what was announced. An announcement that memory refuses is left out.
     pub fn leave<W: Wait, R: Wait + Drop>(&mut self, context: &Context<'_, B, M, W, R>) -> Leaving

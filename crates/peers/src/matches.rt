@@ -17,11 +17,10 @@ use crate::request::Request;
 use bpf_code::Ins;
 use bus_messages::{Body, ErrorName};
 use router::{BusError, Mailbox, Naming, Reply};
-use routing::Carrier;
 use std::sync::Wait;
 use summary::Edition;
 
-impl<B: Naming, M: Mailbox + Carrier> Peer<B, M> {
+impl<B: Naming, M: Mailbox> Peer<B, M> {
     pub(crate) fn add_match<W: Wait, R: Wait + Drop>(
         &mut self,
         context: &Context<'_, B, M, W, R>,

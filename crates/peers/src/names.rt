@@ -14,10 +14,9 @@ use crate::request::Request;
 use bus_messages::{Body, ErrorName};
 use owners::{Named, WellKnown};
 use router::{BusError, Mailbox, Naming, Reply};
-use routing::Carrier;
 use std::sync::Wait;
 
-impl<B: Naming, M: Mailbox + Carrier> Peer<B, M> {
+impl<B: Naming, M: Mailbox> Peer<B, M> {
     pub(crate) fn request_name<W: Wait, R: Wait + Drop>(
         &mut self,
         context: &Context<'_, B, M, W, R>,

@@ -5,7 +5,6 @@ ghost use Rattle.std.specs.Prelude.{◌≡◌, ◌++◌, ◌∷◌, [], None, If
 use crate::error::AnswerError;
 use outbox::{Item, Seat};
 use router::Mailbox;
-use routing::Carrier;
 use std::alloc::AllocError;
 use std::marker::Model;
 use std::sync::Wait;
@@ -13,14 +12,14 @@ use std::sync::Wait;
 /// A client's own mailbox, and a seat at its outbox. All that is written to the client goes through this outbox.
 /// Contracts see what was put by this seat, in order.
 #[derive(Drop)]
-pub struct OwnOutbox<M: Mailbox + Carrier> {
+pub struct OwnOutbox<M: Mailbox> {
     mailbox: M,
     seat: Seat,
     // Something was put that nobody was asked to write out.
     is_waiting: bool,
 }
 
-impl<M: Mailbox + Carrier> Model for OwnOutbox<M> {
+impl<M: Mailbox> Model for OwnOutbox<M> {
     ghost use Rattle.std.specs.Prelude.{◌≡◌, List};
     ghost use Rattle.outbox.specs.Items.{Item};
 
@@ -31,7 +30,7 @@ impl<M: Mailbox + Carrier> Model for OwnOutbox<M> {
     ghost invariant = { λ o. o.seat.outbox ≡ M.outbox_of o.mailbox };
 }
 
-impl<M: Mailbox + Carrier> OwnOutbox<M> {
+impl<M: Mailbox> OwnOutbox<M> {
     /// What goes through the outbox of this mailbox. Nothing is put yet.
     pub fn new(mailbox: M) -> OwnOutbox<M>
         ensures { result ≡ [] }

@@ -12,7 +12,6 @@ use crate::refused::Refused;
 use bus_messages::{ErrorName, UniqueName};
 use owners::WellKnown;
 use router::{Mailbox, Naming};
-use routing::Carrier;
 use signature::check_bus_name;
 
 /// A name's owner. The bus owns its own name, and each connected unique name owns itself.
@@ -49,7 +48,7 @@ impl AskedName {
     }
 }
 
-impl<B: Naming, M: Mailbox + Carrier> Peer<B, M> {
+impl<B: Naming, M: Mailbox> Peer<B, M> {
     /// The owner of the name that a text is, or why that can't be told.
     pub(crate) fn owner_named(&mut self, text: &str) -> Result<Option<Owner>, Refused>
         ensures owner { IsOwnerOf (after self.new.pass.seen) text.now result }

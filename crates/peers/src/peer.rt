@@ -11,7 +11,6 @@ use crate::serial::Serials;
 use bus_messages::UniqueName;
 use crossbeam_utils::rule::Protocol;
 use router::{Command, Mailbox, Naming, Pass, Published, Shown};
-use routing::Carrier;
 use std::alloc::Global;
 use std::collections::LinkedList;
 use std::marker::Model;
@@ -21,7 +20,7 @@ use std::sync::Wait;
 /// the bus has put to the client itself, the serial of the next message that the bus makes for it, what it is told of the
 /// bus, and what it has taken of the bus.
 #[derive(Drop)]
-pub struct Peer<B: Naming, M: Mailbox + Carrier>
+pub struct Peer<B: Naming, M: Mailbox>
 where
     Published: Protocol<Shown<B, M>, LinkedList<Command<M>>>,
 {
@@ -34,7 +33,7 @@ where
     pub(crate) holdings: Holdings,
 }
 
-impl<B: Naming, M: Mailbox + Carrier> Model for Peer<B, M>
+impl<B: Naming, M: Mailbox> Model for Peer<B, M>
 where
     Published: Protocol<Shown<B, M>, LinkedList<Command<M>>>,
 {
@@ -49,7 +48,7 @@ where
     ghost invariant = { λ p. p.name ≡ p.pass.connection };
 }
 
-impl<B: Naming, M: Mailbox + Carrier> Peer<B, M> {
+impl<B: Naming, M: Mailbox> Peer<B, M> {
     /// The peer of a pass that is connected, named by its number. It has taken nothing yet.
     pub fn new(alloc: Global, pass: Pass<B, M>, own: OwnOutbox<M>, identity: Identity) -> Peer<B, M>
         ensures { result ≡ record { pass = pass; answers = own; serial = 1; identity = identity; holdings = nothing_held } }

@@ -6,9 +6,8 @@ ghost use Rattle.peers.specs.Passing.{HasSeenMore, IsForNobody, with_pass};
 use crate::peer::Peer;
 use message_view::View;
 use router::{Mailbox, Naming};
-use routing::Carrier;
 
-impl<B: Naming, M: Mailbox + Carrier> Peer<B, M> {
+impl<B: Naming, M: Mailbox> Peer<B, M> {
     /// Whether this message, stamped with a sender, is for nobody, after a history that begins with what the pass had
     /// seen, and is seen then. Most broadcasts are, and needn't be stamped. If the bus doesn't tell, the answer is
     /// false.

@@ -17,11 +17,10 @@ use bus_messages::{Bytes, ErrorName, UniqueName};
 use message_build::{StampError, stamp};
 use message_view::{Kind, View};
 use router::{Mailbox, Naming, RouteLists, Sent, Source};
-use routing::Carrier;
 use std::alloc::Global;
 use std::sync::Wait;
 
-impl<B: Naming, M: Mailbox + Carrier> Peer<B, M> {
+impl<B: Naming, M: Mailbox> Peer<B, M> {
     /// Passes on a signal without destination, stamped with the client's name, to its recipients. Most broadcasts are for
     /// nobody, and aren't even stamped. One that would be above the limits with its sender is dropped.
     ///

@@ -5,8 +5,8 @@
 mod command;
 mod connection;
 mod connections;
+mod handle;
 mod laws;
-mod mailbox;
 mod refusal;
 mod registration_table;
 mod removal;
@@ -14,7 +14,7 @@ mod state;
 
 pub use command::{Command, Reply};
 pub use connection::Connection;
+pub use handle::Handle;
 pub use laws::commands_are_counted;
-pub use mailbox::Mailbox;
 pub use refusal::Refusal;
 pub use state::BusState;

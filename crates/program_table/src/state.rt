@@ -3,7 +3,7 @@
 use crate::command::{Command, Reply};
 use crate::connection::Connection;
 use crate::connections::Connections;
-use crate::mailbox::Mailbox;
+use crate::handle::Handle;
 use crate::refusal::Refusal;
 use crate::registration_table::RegistrationTable;
 use entry_table::{IndexKey, Offers};
@@ -16,13 +16,13 @@ use summary::Slots;
 
 /// The state of the bus, to which commands are applied one after the other. All its room is taken by `new`.
 #[derive(Drop)]
-pub struct BusState<M: Mailbox> {
+pub struct BusState<M: Handle> {
     commands: u64,
     connections: Connections<M>,
     registrations: RegistrationTable,
 }
 
-impl<M: Mailbox> Model for BusState<M> {
+impl<M: Handle> Model for BusState<M> {
     ghost use Rattle.program_table.specs.State.{State};
     ghost use Rattle.program_table.specs.Counts.{AreCounts};
     ghost use Rattle.program_table.specs.OfConnections.{AreOfConnections};
@@ -34,7 +34,7 @@ impl<M: Mailbox> Model for BusState<M> {
     ghost invariant = { λ s. AreCounts s.commands s.connections × AreOfConnections s.connections.connections s.registrations };
 }
 
-impl<M: Mailbox> BusState<M> {
+impl<M: Handle> BusState<M> {
     ghost use Rattle.std.specs.Prelude.{◌≡◌, ◌<◌, ◌≤◌, ℕ, length, true, false, None, IfOk, IfErr, IfSome, MatchResult, MatchOption, option_map, option_copied, slice_get};
     ghost use Rattle.message_view.specs.Message.{Message};
     ghost use Rattle.message_view.specs.Valid.{Valid};

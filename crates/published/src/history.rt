@@ -7,13 +7,13 @@ ghost use Rattle.program_table.specs.History.{after, IsHistory};
 ghost use Rattle.published.specs.Steps.{IsLonger};
 
 use logbook::{Gain, Offer, Plain, Play, Rule, Seen, Start, Word};
-use program_table::{Command, Mailbox};
+use program_table::{Command, Handle};
 use std::marker::{Brand, Model, PhantomData};
 
 /// The rule of the history: its commands were accepted, and its length is in the shared word.
 pub struct Law;
 
-impl<M: Mailbox> Rule<Command<M>, u64> for Law {
+impl<M: Handle> Rule<Command<M>, u64> for Law {
     ghost use Rattle.std.specs.Prelude.{[]};
     ghost use base.Fml.{ftrue};
     ghost use Rattle.published.specs.HistoryRule.{IsKept};
@@ -34,7 +34,7 @@ impl<M: Mailbox> Rule<Command<M>, u64> for Law {
 /// What callers trade: nothing.
 pub struct Nothing;
 
-impl<M: Mailbox> Gain<Command<M>, u64> for Nothing {
+impl<M: Handle> Gain<Command<M>, u64> for Nothing {
     ghost use base.Fml.{ftrue};
 
     ghost after = { λ names about answer. ftrue };
@@ -43,14 +43,14 @@ impl<M: Mailbox> Gain<Command<M>, u64> for Nothing {
 /// A step that adds a command.
 pub struct Add;
 
-impl<M: Mailbox> Play<Command<M>, u64> for Add {
+impl<M: Handle> Play<Command<M>, u64> for Add {
     ghost use Rattle.published.specs.Steps.{Adds};
 
     ghost then = { Adds };
 }
 
 /// What a step asks for: the command.
-impl<M: Mailbox> Plain<Command<M>, Command<M>, u64> for Add {
+impl<M: Handle> Plain<Command<M>, Command<M>, u64> for Add {
     ghost use Rattle.std.specs.Prelude.{None};
 
     ghost ask = { λ command. command };
@@ -71,7 +71,7 @@ impl Naming for Brand {
 
 /// An empty history that has no name yet. Contracts see it as the history that it is.
 #[derive(Drop)]
-pub struct Opened<M: Mailbox>
+pub struct Opened<M: Handle>
 where
     Law: Rule<Command<M>, u64>,
 {
@@ -79,7 +79,7 @@ where
     seen: Seen<Command<M>, u64, Law>,
 }
 
-impl<M: Mailbox> Model for Opened<M>
+impl<M: Handle> Model for Opened<M>
 where
     Law: Rule<Command<M>, u64>,
 {
@@ -94,7 +94,7 @@ where
     ghost invariant = { λ o. (o.seen.log ≡ []) × (o.head ≡ head_of o.seen.book) };
 }
 
-impl<M: Mailbox> Opened<M> {
+impl<M: Handle> Opened<M> {
     /// A new history. It takes no memory.
     pub fn new() -> Opened<M> {
         let (seen, mut first, _second) = Seen::open(Start::alone(), 0, 0);
@@ -126,7 +126,7 @@ impl<M: Mailbox> Opened<M> {
 
 /// The word that holds the length of the history.
 #[derive(Drop)]
-pub struct Book<J: Naming, M: Mailbox>
+pub struct Book<J: Naming, M: Handle>
 where
     Law: Rule<Command<M>, u64>,
 {
@@ -134,7 +134,7 @@ where
     of: PhantomData<J>,
 }
 
-impl<J: Naming, M: Mailbox> Model for Book<J, M>
+impl<J: Naming, M: Handle> Model for Book<J, M>
 where
     Law: Rule<Command<M>, u64>,
 {
@@ -151,7 +151,7 @@ where
 
 /// A beginning of the history, which was seen. Contracts see it as its commands.
 #[derive(Drop)]
-pub struct Front<J: Naming, M: Mailbox>
+pub struct Front<J: Naming, M: Handle>
 where
     Law: Rule<Command<M>, u64>,
 {
@@ -160,7 +160,7 @@ where
     of: PhantomData<J>,
 }
 
-impl<J: Naming, M: Mailbox> Model for Front<J, M>
+impl<J: Naming, M: Handle> Model for Front<J, M>
 where
     Law: Rule<Command<M>, u64>,
 {
@@ -175,7 +175,7 @@ where
     ghost invariant = { λ f. (f.count ≡ length f.seen.log) × (f.seen.book ≡ J.book) × IsHistory f.seen.log };
 }
 
-impl<J: Naming, M: Mailbox> Front<J, M> {
+impl<J: Naming, M: Handle> Front<J, M> {
     /// How many commands it has.
     pub fn len(&self) -> u64
         ensures length { result ≡ length self.now }

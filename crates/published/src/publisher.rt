@@ -19,7 +19,7 @@ use entry_table::IndexKey;
 use left_right::Absorb;
 use left_right::writer::Writer;
 use logbook::Rule;
-use program_table::{BusState, Command, Mailbox, Reply};
+use program_table::{BusState, Command, Handle, Reply};
 use std::alloc::{AllocError, Global};
 use std::collections::LinkedList;
 use std::error::Error;
@@ -70,7 +70,7 @@ type ShownWriter<J, M> = Writer<
 >;
 
 /// The writer, with the history that it has published and whether the bus has ended.
-pub struct Publisher<J: Naming, M: Mailbox, R: Wait + Drop>
+pub struct Publisher<J: Naming, M: Handle, R: Wait + Drop>
 where
     Published: Protocol<Shown<J, M>, LinkedList<Command<M>>>,
     Shown<J, M>: Absorb<Entry<J, M>, State = LinkedList<Command<M>>>,
@@ -83,7 +83,7 @@ where
     has_ended: bool,
 }
 
-impl<J: Naming, M: Mailbox, R: Wait + Drop> Model for Publisher<J, M, R>
+impl<J: Naming, M: Handle, R: Wait + Drop> Model for Publisher<J, M, R>
 where
     Published: Protocol<Shown<J, M>, LinkedList<Command<M>>>,
     Shown<J, M>: Absorb<Entry<J, M>, State = LinkedList<Command<M>>>,
@@ -101,7 +101,7 @@ where
 }
 
 // Publishes the entries that were appended.
-fn publish_log<J: Naming, M: Mailbox, R: Wait>(
+fn publish_log<J: Naming, M: Handle, R: Wait>(
     writer: ShownWriter<J, M>,
     rt: &R,
 ) -> (ShownWriter<J, M>, Result<(), AllocError>)
@@ -115,7 +115,7 @@ fn publish_log<J: Naming, M: Mailbox, R: Wait>(
 }
 
 // Publishes an entry. At an error what is published is what it was.
-fn write<J: Naming, M: Mailbox, R: Wait>(
+fn write<J: Naming, M: Handle, R: Wait>(
     mut writer: ShownWriter<J, M>,
     entry: Entry<J, M>,
     rt: &R,
@@ -134,7 +134,7 @@ fn write<J: Naming, M: Mailbox, R: Wait>(
 }
 
 // Publishes the history as it is, in an entry without a command.
-fn write_blank<J: Naming, M: Mailbox, R: Wait>(
+fn write_blank<J: Naming, M: Handle, R: Wait>(
     writer: ShownWriter<J, M>,
     rt: &R,
 ) -> Result<ShownWriter<J, M>, AllocError>
@@ -153,7 +153,7 @@ fn write_blank<J: Naming, M: Mailbox, R: Wait>(
     }
 }
 
-impl<J: Naming, M: Mailbox, R: Wait + Drop> Publisher<J, M, R> {
+impl<J: Naming, M: Handle, R: Wait + Drop> Publisher<J, M, R> {
     /// An opened history and the opening state, with room for this many readers. The key is that of the state's index
     /// of entries.
     pub fn new(
@@ -301,7 +301,7 @@ impl<J: Naming, M: Mailbox, R: Wait + Drop> Publisher<J, M, R> {
     }
 }
 
-impl<J: Naming, M: Mailbox, R: Wait + Drop> Drop for Publisher<J, M, R>
+impl<J: Naming, M: Handle, R: Wait + Drop> Drop for Publisher<J, M, R>
 where
     Published: Protocol<Shown<J, M>, LinkedList<Command<M>>>,
     Shown<J, M>: Absorb<Entry<J, M>, State = LinkedList<Command<M>>>,

@@ -9,19 +9,19 @@ use atomic_table::{Join, Split};
 use crossbeam_utils::rule::{Outcome, Protocol};
 use entry_table::IndexKey;
 use left_right::Absorb;
-use program_table::{BusState, Command, Mailbox};
+use program_table::{BusState, Command, Handle};
 use std::alloc::{AllocError, Global};
 use std::collections::LinkedList;
 use std::marker::Model;
 
 /// The state with the history that it comes of. Contracts see it as the history.
 #[derive(Drop)]
-pub struct Shown<J: Naming, M: Mailbox> {
+pub struct Shown<J: Naming, M: Handle> {
     state: BusState<M>,
     front: Front<J, M>,
 }
 
-impl<J: Naming, M: Mailbox> Model for Shown<J, M> {
+impl<J: Naming, M: Handle> Model for Shown<J, M> {
     ghost use Rattle.std.specs.Prelude.{◌≡◌, List};
     ghost use Rattle.program_table.specs.declared.command.Command.{Command};
     ghost use Rattle.program_table.specs.History.{after};
@@ -33,7 +33,7 @@ impl<J: Naming, M: Mailbox> Model for Shown<J, M> {
     ghost invariant = { λ s. s.state ≡ after s.front };
 }
 
-impl<J: Naming, M: Mailbox> Shown<J, M> {
+impl<J: Naming, M: Handle> Shown<J, M> {
     /// The opening state. The key is that of its index of entries.
     pub fn new(alloc: Global, key: IndexKey, front: Front<J, M>) -> Result<Shown<J, M>, AllocError>
         requires { front ≡ [] }
@@ -77,12 +77,12 @@ impl<J: Naming, M: Mailbox> Shown<J, M> {
 /// A history that is to be published, with its last command. One without a command changes nothing: it makes room for
 /// others in the writer's log. Contracts see it as the history.
 #[derive(Drop)]
-pub struct Entry<J: Naming, M: Mailbox> {
+pub struct Entry<J: Naming, M: Handle> {
     command: Option<Command<M>>,
     front: Front<J, M>,
 }
 
-impl<J: Naming, M: Mailbox> Model for Entry<J, M> {
+impl<J: Naming, M: Handle> Model for Entry<J, M> {
     ghost use Rattle.std.specs.Prelude.{List};
     ghost use Rattle.program_table.specs.declared.command.Command.{Command};
     ghost use Rattle.published.specs.Steps.{EndsWith};
@@ -94,7 +94,7 @@ impl<J: Naming, M: Mailbox> Model for Entry<J, M> {
     ghost invariant = { λ e. EndsWith e.front e.command };
 }
 
-impl<J: Naming, M: Mailbox> Entry<J, M> {
+impl<J: Naming, M: Handle> Entry<J, M> {
     /// An entry without a command.
     pub fn blank(front: Front<J, M>) -> Entry<J, M>
         ensures { result ≡ front }
@@ -125,7 +125,7 @@ impl<J: Naming, M: Mailbox> Entry<J, M> {
     }
 }
 
-impl<J: Naming, M: Mailbox> Absorb<Entry<J, M>> for Shown<J, M> {
+impl<J: Naming, M: Handle> Absorb<Entry<J, M>> for Shown<J, M> {
     type State = LinkedList<Command<M>>;
 
     ghost state = { λ shown. shown };
@@ -154,7 +154,7 @@ impl<J: Naming, M: Mailbox> Absorb<Entry<J, M>> for Shown<J, M> {
 /// The rule: each view begins the published history.
 pub struct Published;
 
-impl<J: Naming, M: Mailbox> Protocol<Shown<J, M>, LinkedList<Command<M>>> for Published {
+impl<J: Naming, M: Handle> Protocol<Shown<J, M>, LinkedList<Command<M>>> for Published {
     ghost use Rattle.published.specs.Publishing.{Keeps};
     ghost use Rattle.std.specs.Prelude.{[]};
 
@@ -166,7 +166,7 @@ impl<J: Naming, M: Mailbox> Protocol<Shown<J, M>, LinkedList<Command<M>>> for Pu
 /// A step after which the published history is seen.
 pub struct Sees;
 
-impl<J: Naming, M: Mailbox> Outcome<Shown<J, M>, LinkedList<Command<M>>> for Sees {
+impl<J: Naming, M: Handle> Outcome<Shown<J, M>, LinkedList<Command<M>>> for Sees {
     ghost use Rattle.published.specs.Steps.{Shows};
 
     ghost then = { Shows };
@@ -175,13 +175,13 @@ impl<J: Naming, M: Mailbox> Outcome<Shown<J, M>, LinkedList<Command<M>>> for See
 /// How the writer tells all that it has published, and a reader takes it over.
 pub struct Notes;
 
-impl<M: Mailbox> Split<LinkedList<Command<M>>> for Notes {
+impl<M: Handle> Split<LinkedList<Command<M>>> for Notes {
     ghost left = { λ history. history };
 
     ghost right = { λ history. history };
 }
 
-impl<M: Mailbox> Join<LinkedList<Command<M>>> for Notes {
+impl<M: Handle> Join<LinkedList<Command<M>>> for Notes {
     ghost use Rattle.std.specs.Prelude.{[]};
 
     ghost both = { λ seen told_history. told_history };

@@ -9,7 +9,7 @@ use crate::history::{Front, Naming};
 use crate::shown::{Published, Sees, Shown};
 use crossbeam_utils::rule::Protocol;
 use left_right::reader::{Reader, Reading};
-use program_table::{BusState, Command, Mailbox};
+use program_table::{BusState, Command, Handle};
 use std::alloc::Global;
 use std::collections::LinkedList;
 use std::marker::Model;
@@ -20,7 +20,7 @@ type ShownReading<J, M> = Reading<Shown<J, M>, LinkedList<Command<M>>, Published
 
 /// A reader of the published state, with what was seen through it. Contracts see it as the history that was seen.
 #[derive(Drop)]
-pub struct Sight<J: Naming, M: Mailbox>
+pub struct Sight<J: Naming, M: Handle>
 where
     Published: Protocol<Shown<J, M>, LinkedList<Command<M>>>,
 {
@@ -31,7 +31,7 @@ where
     is_ahead: bool,
 }
 
-impl<J: Naming, M: Mailbox> Model for Sight<J, M>
+impl<J: Naming, M: Handle> Model for Sight<J, M>
 where
     Published: Protocol<Shown<J, M>, LinkedList<Command<M>>>,
 {
@@ -46,7 +46,7 @@ where
     ghost invariant = { λ s. s.is_ahead ≡ false → IfSome s.reader (λ r. entered r.place ≡ s.front) };
 }
 
-impl<J: Naming, M: Mailbox> Sight<J, M> {
+impl<J: Naming, M: Handle> Sight<J, M> {
     /// A reader that was told this history.
     pub(crate) fn new(reader: ShownReader<J, M>, front: Front<J, M>) -> Sight<J, M>
         requires { view reader.place ≡ front }
@@ -130,7 +130,7 @@ impl<J: Naming, M: Mailbox> Sight<J, M> {
 
 /// A reader in the published state. Contracts see it as the history that the state comes of. The writer waits until it
 /// has left.
-pub struct Visit<J: Naming, M: Mailbox>
+pub struct Visit<J: Naming, M: Handle>
 where
     Published: Protocol<Shown<J, M>, LinkedList<Command<M>>>,
 {
@@ -138,7 +138,7 @@ where
     front: Front<J, M>,
 }
 
-impl<J: Naming, M: Mailbox> Model for Visit<J, M>
+impl<J: Naming, M: Handle> Model for Visit<J, M>
 where
     Published: Protocol<Shown<J, M>, LinkedList<Command<M>>>,
 {
@@ -153,7 +153,7 @@ where
     ghost invariant = { λ v. (v.reading.part.value ≡ v.front) × (entered v.reading.place ≡ v.front) };
 }
 
-impl<J: Naming, M: Mailbox> Visit<J, M> {
+impl<J: Naming, M: Handle> Visit<J, M> {
     /// The state.
     pub fn state(&self) -> &BusState<M>
         ensures state { result.now ≡ after self.now }

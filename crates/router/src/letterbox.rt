@@ -1,8 +1,8 @@
 // Mailboxes that nothing writes out.
 
 use outbox::Outbox;
-use passes::Mailbox;
-use routing::Carrier;
+use program_table::Handle;
+use routing::Mailbox;
 use std::alloc::{AllocError, Global};
 use std::sync::Wait;
 
@@ -21,7 +21,7 @@ impl Letterbox {
     }
 }
 
-impl Mailbox for Letterbox {
+impl Handle for Letterbox {
     fn share(&self) -> Result<Letterbox, AllocError> {
         Ok(Letterbox {
             outbox: self.outbox.share()?,
@@ -29,7 +29,7 @@ impl Mailbox for Letterbox {
     }
 }
 
-impl Carrier for Letterbox {
+impl Mailbox for Letterbox {
     ghost outbox_of = { λ l. l.outbox };
 
     fn outbox(&self) -> &Outbox {

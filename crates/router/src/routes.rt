@@ -8,11 +8,10 @@ use arrayvec::ArrayVec;
 use bytes::Bytes;
 use message_view::View;
 use passes::{BusError, MAX_RECIPIENTS, Mailbox, Naming, Pass, RouteLists, Source};
-use routing::Carrier;
 use std::alloc::Global;
 use std::sync::Wait;
 
-impl<B: Naming, M: Mailbox + Carrier, R: Wait + Drop> Bus<B, M, R> {
+impl<B: Naming, M: Mailbox, R: Wait + Drop> Bus<B, M, R> {
     /// Finds the recipients of a broadcast, leaves the published state, and puts the message into their outboxes.
     /// Answers those whose outbox refused it, a shut one included, by rising number.
     /// Nothing is written out: `Pass::push_out` does it.

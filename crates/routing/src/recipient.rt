@@ -2,17 +2,17 @@
 
 ghost use Rattle.std.specs.Prelude.{◌≡◌};
 
-use crate::carrier::Carrier;
+use crate::mailbox::Mailbox;
 use std::marker::Model;
 
 /// A recipient of a message: its connection's number, and a handle on that connection's outbox.
 #[derive(Drop)]
-pub struct Recipient<C: Carrier> {
+pub struct Recipient<C: Mailbox> {
     number: u64,
     carrier: C,
 }
 
-impl<C: Carrier> Model for Recipient<C> {
+impl<C: Mailbox> Model for Recipient<C> {
     ghost use Rattle.routing.specs.SenderView.{RecipientView};
 
     ghost Value = { RecipientView };
@@ -20,7 +20,7 @@ impl<C: Carrier> Model for Recipient<C> {
     ghost view = { λ r. record { number = r.number; outbox = C.outbox_of r.carrier } };
 }
 
-impl<C: Carrier> Recipient<C> {
+impl<C: Mailbox> Recipient<C> {
     pub fn new(number: u64, carrier: C) -> Recipient<C>
         ensures { (result.number ≡ number) × (result.outbox ≡ C.outbox_of carrier) }
     {

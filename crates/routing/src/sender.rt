@@ -4,10 +4,10 @@ ghost use Rattle.std.specs.Prelude.{◌≡◌, ◌<◌, ◌≤◌, [], ◌∷◌
 ghost use Rattle.routing.specs.Stops.{RisesFrom, is_in, stop_at, shut_at, HasStop, AllHave, AllFit, Keeps, Routed, SentTo, Unrouted, is_sent};
 ghost use Rattle.routing.specs.Puts.{RoutedTo, PutOnce};
 
-use crate::carrier::Carrier;
 use crate::error::RouteError;
 use crate::events::{begin, end};
 use crate::gate::{Gate, OpenGate};
+use crate::mailbox::Mailbox;
 use crate::recipient::Recipient;
 use crate::stops::{Stop, place_of, push_out_all, put_all, put_at, retain, take_seat};
 use arrayvec::ArrayVec;
@@ -66,7 +66,7 @@ impl<C> Sender<C> {
     }
 }
 
-impl<C: Carrier> Sender<C> {
+impl<C: Mailbox> Sender<C> {
     /// Whether it has a seat at this recipient's outbox.
     pub fn has(&self, recipient: u64) -> bool
         ensures { result ≡ is_some (stop_at recipient self.now.stops) }

@@ -6,7 +6,7 @@ ghost use Rattle.routing.specs.SenderView.{StopView};
 ghost use Rattle.routing.specs.Stops.{RisesFrom, is_for, is_in, stop_at, HasStop, AllHave};
 ghost use Rattle.routing.specs.Puts.{PutThere, PutAt, PutTo, SeatsTaken};
 
-use crate::carrier::Carrier;
+use crate::mailbox::Mailbox;
 use crate::recipient::Recipient;
 use arrayvec::ArrayVec;
 use outbox::{Item, Outbox, Seat, Shares};
@@ -53,7 +53,7 @@ impl<C> Stop<C> {
     }
 }
 
-impl<C: Carrier> Stop<C> {
+impl<C: Mailbox> Stop<C> {
     /// A new seat there.
     pub(crate) fn at(recipient: Recipient<C>) -> Result<Stop<C>, AllocError>
         ensures { IfOk result (λ s. (s.recipient ≡ recipient.number) × (s.outbox ≡ recipient.outbox) × (s.seat.view ≡ blank)) }
@@ -116,7 +116,7 @@ pub(crate) fn put_next<C, R: Wait>(
 }
 
 /// Takes a seat at the recipient's outbox, where the sender has none there.
-pub(crate) fn take_seat<C: Carrier>(
+pub(crate) fn take_seat<C: Mailbox>(
     stops: &mut Vec<Stop<C>>,
     recipient: Recipient<C>,
 ) -> Result<(), AllocError>
@@ -165,7 +165,7 @@ pub(crate) fn put_all<C, R: Wait>(
 }
 
 /// Writes out each outbox in which something was put since it last was written out.
-pub(crate) fn push_out_all<C: Carrier, R: Wait>(rt: &R, stops: &mut [Stop<C>])
+pub(crate) fn push_out_all<C: Mailbox, R: Wait>(rt: &R, stops: &mut [Stop<C>])
     ensures { stops.new ≡ stops.old }
 {
     for place in 0..stops.len() {

@@ -11,14 +11,13 @@ use peers::{
     AnswerError, Command, Context, Identity, Mailbox, Naming, OwnOutbox, Peer, Published, Request,
     RouteLists, Shown,
 };
-use routing::Carrier;
 use std::collections::LinkedList;
 use std::marker::Model;
 use std::sync::Wait;
 
 /// A client: its outbox before Hello, then its peer, which has the outbox. Contracts see the peer.
 #[derive(Drop)]
-pub(crate) struct Client<B: Naming, M: Mailbox + Carrier>
+pub(crate) struct Client<B: Naming, M: Mailbox>
 where
     Published: Protocol<Shown<B, M>, LinkedList<Command<M>>>,
 {
@@ -28,7 +27,7 @@ where
     lists: RouteLists,
 }
 
-impl<B: Naming, M: Mailbox + Carrier> Model for Client<B, M>
+impl<B: Naming, M: Mailbox> Model for Client<B, M>
 where
     Published: Protocol<Shown<B, M>, LinkedList<Command<M>>>,
 {
@@ -40,7 +39,7 @@ where
     ghost view = { λ c. c.peer };
 }
 
-impl<B: Naming, M: Mailbox + Carrier> Client<B, M> {
+impl<B: Naming, M: Mailbox> Client<B, M> {
     /// A client that has said nothing. All that it gets goes to the mailbox.
     pub(crate) fn new(mailbox: M, identity: Identity) -> Client<B, M>
         ensures { result ≡ None }

@@ -4,7 +4,6 @@ ghost use Rattle.sessions.specs.Ends.{Ends};
 
 use crossbeam_utils::rule::Protocol;
 use peers::{Bus, Command, Context, Leaving, Mailbox, Naming, Peer, Published, Shown};
-use routing::Carrier;
 use std::alloc::Global;
 use std::collections::LinkedList;
 use std::marker::Model;
@@ -12,14 +11,14 @@ use std::sync::Wait;
 
 /// What is left of a session whose end was refused memory: its peer is still on the bus. Contracts see the peer.
 #[derive(Drop)]
-pub struct Rest<B: Naming, M: Mailbox + Carrier>
+pub struct Rest<B: Naming, M: Mailbox>
 where
     Published: Protocol<Shown<B, M>, LinkedList<Command<M>>>,
 {
     peer: Peer<B, M>,
 }
 
-impl<B: Naming, M: Mailbox + Carrier> Model for Rest<B, M>
+impl<B: Naming, M: Mailbox> Model for Rest<B, M>
 where
     Published: Protocol<Shown<B, M>, LinkedList<Command<M>>>,
 {
@@ -30,7 +29,7 @@ where
     ghost view = { λ r. r.peer };
 }
 
-impl<B: Naming, M: Mailbox + Carrier> Rest<B, M> {
+impl<B: Naming, M: Mailbox> Rest<B, M> {
     /// Goes on with the session's end. Answers what is left of it if memory was refused again.
     pub fn retry<W: Wait, R: Wait + Drop>(
         self,
@@ -46,7 +45,7 @@ impl<B: Naming, M: Mailbox + Carrier> Rest<B, M> {
 }
 
 /// Takes a peer off the bus. Answers what is left of it if memory was refused.
-pub(crate) fn end<B: Naming, M: Mailbox + Carrier, W: Wait, R: Wait + Drop>(
+pub(crate) fn end<B: Naming, M: Mailbox, W: Wait, R: Wait + Drop>(
     mut peer: Peer<B, M>,
     context: &Context<'_, B, M, W, R>,
 ) -> Option<Rest<B, M>>

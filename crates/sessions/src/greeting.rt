@@ -14,7 +14,6 @@ use peers::{
     BUS_NAME, Context, Identity, Mailbox, Naming, OwnOutbox, Pass, Peer, Refused, Request,
     is_for_bus, join, put_refusal,
 };
-use routing::Carrier;
 use std::sync::Wait;
 
 /// The peer that the first message makes of an outbox; the outbox comes back if it makes none.
@@ -23,7 +22,7 @@ use std::sync::Wait;
 ///
 /// `NoHello` if the message isn't the call Hello, and if Hello is refused, which is answered with the error; `Slow`;
 /// `NoMemory`.
-pub(crate) fn greet<B: Naming, M: Mailbox + Carrier, W: Wait, R: Wait + Drop>(
+pub(crate) fn greet<B: Naming, M: Mailbox, W: Wait, R: Wait + Drop>(
     context: &Context<'_, B, M, W, R>,
     mut own: OwnOutbox<M>,
     identity: Identity,
@@ -73,7 +72,7 @@ fn names_hello(view: &View<'_>) -> bool
 }
 
 // A pass with a connection whose messages go to the outbox.
-fn connect_pass<B: Naming, M: Mailbox + Carrier, W: Wait, R: Wait + Drop>(
+fn connect_pass<B: Naming, M: Mailbox, W: Wait, R: Wait + Drop>(
     context: &Context<'_, B, M, W, R>,
     own: &OwnOutbox<M>,
     view: &View<'_>,

@@ -6,7 +6,7 @@ use crate::session::Session;
 use crate::step::Step;
 use crate::writing::Writing;
 use peers::{Bus, Letterbox, Naming, Shares};
-use routing::Carrier;
+use routing::Mailbox;
 use std::alloc::{AllocError, Global};
 use std::io::{ErrorKind, Read, Write};
 use std::sync::Wait;

@@ -16,7 +16,6 @@ use crossbeam_utils::rule::Protocol;
 use frames::Frames;
 use message_view::MsgError;
 use peers::{Bus, Command, Context, Identity, Mailbox, Naming, Published, Shares, Shown};
-use routing::Carrier;
 use std::alloc::Global;
 use std::collections::LinkedList;
 use std::marker::Model;
@@ -26,7 +25,7 @@ use std::sync::Wait;
 /// its client, waits in the outbox of its mailbox. Contracts see where the talk stands, the bytes that wait to be handled,
 /// the client's peer, and why the session ends.
 #[derive(Drop)]
-pub struct Session<B: Naming, M: Mailbox + Carrier>
+pub struct Session<B: Naming, M: Mailbox>
 where
     Published: Protocol<Shown<B, M>, LinkedList<Command<M>>>,
 {
@@ -37,7 +36,7 @@ where
     fault: Option<SessionError>,
 }
 
-impl<B: Naming, M: Mailbox + Carrier> Model for Session<B, M>
+impl<B: Naming, M: Mailbox> Model for Session<B, M>
 where
     Published: Protocol<Shown<B, M>, LinkedList<Command<M>>>,
 {
@@ -52,7 +51,7 @@ where
     ghost invariant = { λ s. s.input.fault ≡ None };
 }
 
-impl<B: Naming, M: Mailbox + Carrier> Session<B, M> {
+impl<B: Naming, M: Mailbox> Session<B, M> {
     /// A session before its first byte, of a bus with this GUID. It admits EXTERNAL for anybody, and ANONYMOUS. All that
     /// it says goes to the mailbox.
     pub fn new(alloc: Global, guid: [u8; 32], mailbox: M) -> Session<B, M>

@@ -9,7 +9,6 @@ use auth::{Admission, Auth};
 use bytes::Bytes;
 use outbox::Item;
 use peers::{Mailbox, OwnOutbox};
-use routing::Carrier;
 use std::alloc::{AllocError, Global};
 use std::sync::Wait;
 
@@ -44,7 +43,7 @@ impl Talk {
     /// # Errors
     ///
     /// `Auth`, `Slow`, `NoMemory`.
-    pub(crate) fn take_line<M: Mailbox + Carrier, W: Wait>(
+    pub(crate) fn take_line<M: Mailbox, W: Wait>(
         &mut self,
         rt: &W,
         alloc: Global,
@@ -64,7 +63,7 @@ impl Talk {
     }
 }
 
-fn put_answer<M: Mailbox + Carrier, W: Wait>(
+fn put_answer<M: Mailbox, W: Wait>(
     rt: &W,
     alloc: Global,
     own: &mut OwnOutbox<M>,

@@ -9,7 +9,7 @@ use bytes::Bytes;
 use message_view::View;
 use published::{Naming, Opened};
 use router::{Bus, Letterbox, Pass, Source};
-use routing::Carrier;
+use routing::Mailbox;
 use std::alloc::Global;
 use std::marker::Brand;
 use std::mem::forget;

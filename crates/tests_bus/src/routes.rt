@@ -4,8 +4,9 @@ use crate::outboxes::{count_in_order, new_taker, take_all};
 use arrayvec::ArrayVec;
 use bytes::Bytes;
 use outbox::{Delivery, Outbox, Taker};
-use routing::{Carrier, Gate, Recipient, Sender, Sent};
-use std::alloc::Global;
+use program_table::Handle;
+use routing::{Gate, Mailbox, Recipient, Sender, Sent};
+use std::alloc::{AllocError, Global};
 use std::cell::Cell;
 use std::mem::forget;
 use std::process::Abort;
@@ -22,7 +23,16 @@ struct Line {
     pushed: Rc<Cell<u32>>,
 }
 
-impl Carrier for Line {
+impl Handle for Line {
+    fn share(&self) -> Result<Line, AllocError> {
+        Ok(Line {
+            outbox: self.outbox.share()?,
+            pushed: self.pushed.clone()?,
+        })
+    }
+}
+
+impl Mailbox for Line {
     ghost outbox_of = { λ l. l.outbox };
 
     fn outbox(&self) -> &Outbox {

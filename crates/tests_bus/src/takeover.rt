@@ -12,7 +12,7 @@ use owners::WellKnown;
 use program_table::Reply;
 use published::{Naming, Opened};
 use router::{Letterbox, Pass, Sent};
-use routing::Carrier;
+use routing::Mailbox;
 use std::alloc::Global;
 use std::marker::Brand;
 use std::mem::forget;

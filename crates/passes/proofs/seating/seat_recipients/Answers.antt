@@ -20,7 +20,7 @@ pub returns-clause-shut : goal.returns-clause-shut
 returns-clause-shut g c = λ n i e.
     let m = c.raw.ensures.spells in
     let there = recipients_there c.args.state.now c.args.from m.0 c.select_into.new.recipients.items c.entries_for.ensures.state (c.select_into.ensures m.0 m.1) n i in
-    (keeps_on g.M.Carrier.outbox_of c.args.state.now c.args.sender.now c.give_up_closed.new.sender c.take_seats.new.sender c.give_up_closed.ensures.keeps c.take_seats.ensures.keeps).shut n there e
+    (keeps_on g.M.Mailbox.outbox_of c.args.state.now c.args.sender.now c.give_up_closed.new.sender c.take_seats.new.sender c.give_up_closed.ensures.keeps c.take_seats.ensures.keeps).shut n there e
 
 pub returns-clause-keeps : goal.returns-clause-keeps
-returns-clause-keeps g c = keeps_on g.M.Carrier.outbox_of c.args.state.now c.args.sender.now c.give_up_closed.new.sender c.take_seats.new.sender c.give_up_closed.ensures.keeps c.take_seats.ensures.keeps
+returns-clause-keeps g c = keeps_on g.M.Mailbox.outbox_of c.args.state.now c.args.sender.now c.give_up_closed.new.sender c.take_seats.new.sender c.give_up_closed.ensures.keeps c.take_seats.ensures.keeps

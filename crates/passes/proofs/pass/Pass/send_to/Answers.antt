@@ -6,7 +6,7 @@ deliver-answer-requires g c = its_seat _ c.seat_owner-seated.result _ _ _ c.seat
 
 pub returns : goal.returns
 returns g c =
-    delivered _ g.M.Carrier.outbox_of c.args.to.now c.args.bytes.now c.args.self.now c.enter.new.self c.take_sender-sender.new.self c.leave.new.self c.put_back.new.self c.in_ok-visit.visit c.state.result.now
+    delivered _ g.M.Mailbox.outbox_of c.args.to.now c.args.bytes.now c.args.self.now c.enter.new.self c.take_sender-sender.new.self c.leave.new.self c.put_back.new.self c.in_ok-visit.visit c.state.result.now
     c.take_sender-sender.result c.seat_owner-seated.new.sender c.deliver-answer.new.sender c.seat_owner-seated.result c.deliver-answer.result
     (record {
       entered = c.enter.ensures.same;

@@ -13,7 +13,7 @@ returns-in-Ok g c =
     let v : PeerState g.row.M.Denot = c.args.self.now in
     let u : PeerState g.row.M.Denot = c.reaches_nobody.new.self in
     let named : c.self.inside.name ≡ v.pass.connection = c.self.invariant ∙ ap (λ (v : PeerState g.row.M.Denot). v.pass.connection) c.self.view_is ∙ seen_connection v.pass u.pass c.reaches_nobody.ensures.later in
-    broadcast_done g.M.Carrier.outbox_of c.args.view.now c.in-Ok.bytes v u c.broadcast.new.self c.broadcast.result _ _ c.reaches_nobody.ensures.same c.reaches_nobody.ensures.later
+    broadcast_done g.M.Mailbox.outbox_of c.args.view.now c.in-Ok.bytes v u c.broadcast.new.self c.broadcast.result _ _ c.reaches_nobody.ensures.same c.reaches_nobody.ensures.later
     (stamped_by c.args.view.now c.in-Ok.bytes c.self.inside.name v.pass.connection named c.in-Ok.ensures.stamps) c.broadcast.ensures.error c.broadcast.ensures.routed c.broadcast.ensures.same
 
 pub returns-in-Err-NoMemory : goal.returns-in-Err-NoMemory

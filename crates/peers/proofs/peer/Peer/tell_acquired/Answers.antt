@@ -6,6 +6,6 @@ use Rattle.peers.proofs.peer.Peer.tell_acquired.Goals as goal
 
 pub returns : goal.returns
 returns g c =
-    has_told g.M.Carrier.outbox_of _ c.args.name.now c.args.new c.new-to.result c.take-serial.result c.as_str.result.now c.args.self.now _ c.tell.new.self c.name_acquired-built_message.result c.tell.result
+    has_told g.M.Mailbox.outbox_of _ c.args.name.now c.args.new c.new-to.result c.take-serial.result c.as_str.result.now c.args.self.now _ c.tell.new.self c.name_acquired-built_message.result c.tell.result
     (used_serial _ _ _ _ _ _ c.args.self.now c.self.view_is c.take-serial.ensures.used)
     (c.take-serial.ensures.next ∙ ap (λ (v : PeerState g.row.M.Denot). v.serial) c.self.view_is) c.new-to.ensures c.as_str.ensures.text c.name_acquired-built_message.ensures c.tell.ensures.pass c.tell.ensures.same

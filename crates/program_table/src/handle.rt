@@ -1,15 +1,17 @@
+// What stands for a connection in the state.
+
 ghost use Rattle.std.specs.Prelude.{◌≡◌, IfOk};
 
 use std::alloc::AllocError;
 
-/// Where the messages for a connection go. A command lends its mailbox, and the state keeps a share.
-pub trait Mailbox: Drop {
-    /// Another handle of the mailbox, equal to this one.
+/// What a state keeps of a connection's mailbox. A command lends it, and the state keeps a share.
+pub trait Handle: Drop {
+    /// Another handle, equal to this one.
     fn share(&self) -> Result<Self, AllocError>
         ensures { IfOk result (λ m. m ≡ self.now) };
 }
 
-impl Mailbox for () {
+impl Handle for () {
     fn share(&self) -> Result<(), AllocError> {
         Ok(())
     }
