@@ -8,7 +8,8 @@ use outbox::Taker;
 use routing::Mailbox;
 use session_text::{Action, Received, Share, Wanted};
 use sessions::{
-    Command, Letterbox, Naming, Published, Rest, Session, SessionError, Shares, Shown, Step,
+    Command, Letterbox, Naming, Published, Rest, RouteLists, Session, SessionError, Shares, Shown,
+    Step,
 };
 use std::alloc::{AllocError, Global};
 use std::collections::LinkedList;
@@ -135,8 +136,9 @@ fn treat<J: Naming, R: Wait>(
     if session.feed(piece).is_err() {
         return;
     }
+    let mut lists = RouteLists::new();
     for _ in 0..u64::MAX {
-        match session.step(place.rt, place.alloc, place.bus, shares) {
+        match session.step(place.rt, place.alloc, place.bus, shares, &mut lists) {
             Ok(Step::Done) => {}
             Ok(Step::Waits) | Err(_) => return,
         }

@@ -24,7 +24,6 @@ where
     pub(crate) own: Option<OwnOutbox<M>>,
     pub(crate) peer: Option<Peer<B, M>>,
     identity: Identity,
-    lists: RouteLists,
 }
 
 impl<B: Naming, M: Mailbox> Model for Client<B, M>
@@ -48,7 +47,6 @@ impl<B: Naming, M: Mailbox> Client<B, M> {
             own: Some(OwnOutbox::new(mailbox)),
             peer: None,
             identity,
-            lists: RouteLists::new(),
         }
     }
 
@@ -87,13 +85,14 @@ impl<B: Naming, M: Mailbox> Client<B, M> {
     pub(crate) fn handle<W: Wait, R: Wait + Drop>(
         &mut self,
         context: &Context<'_, B, M, W, R>,
+        lists: &mut RouteLists,
         view: &View<'_>,
     ) -> Result<(), SessionError>
         ensures { Takes M.outbox_of context.now.shares view.now self.old result self.new }
     {
         match &mut self.peer {
             Some(peer) => {
-                let handled = peer.handle(context, &mut self.lists, view);
+                let handled = peer.handle(context, lists, view);
                 outcome_of(handled)
             }
             None => self.arrive(context, view),

@@ -25,4 +25,6 @@ pub use session::Session;
 pub use step::Step;
 
 // Passed on from the crates below, so that the crates above need not name those in crates.txt.
-pub use peers::{Bus, Command, IndexKey, Letterbox, Naming, Opened, Published, Shares, Shown};
+pub use peers::{
+    Bus, Command, IndexKey, Letterbox, Naming, Opened, Published, RouteLists, Shares, Shown,
+};

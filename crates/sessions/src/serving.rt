@@ -5,7 +5,7 @@ use crate::error::SessionError;
 use crate::session::Session;
 use crate::step::Step;
 use crate::writing::Writing;
-use peers::{Bus, Letterbox, Naming, Shares};
+use peers::{Bus, Letterbox, Naming, RouteLists, Shares};
 use routing::Mailbox;
 use std::alloc::{AllocError, Global};
 use std::io::{ErrorKind, Read, Write};
@@ -89,8 +89,9 @@ fn treat_all<B: Naming, W: Wait, R: Wait + Drop, O: Write + Drop>(
     session: &mut Session<B, Letterbox>,
     writing: &mut Writing<O>,
 ) -> Result<(), SessionError> {
+    let mut lists = RouteLists::new();
     for _ in 0..u64::MAX {
-        let step = session.step(rt, alloc, bus, Shares::unlimited())?;
+        let step = session.step(rt, alloc, bus, Shares::unlimited(), &mut lists)?;
         session.push_out(rt);
         writing.write_out(rt);
         if writing.is_broken() && !session.has_begun() {

@@ -15,7 +15,9 @@ use auth::Admission;
 use crossbeam_utils::rule::Protocol;
 use frames::Frames;
 use message_view::MsgError;
-use peers::{Bus, Command, Context, Identity, Mailbox, Naming, Published, Shares, Shown};
+use peers::{
+    Bus, Command, Context, Identity, Mailbox, Naming, Published, RouteLists, Shares, Shown,
+};
 use std::alloc::Global;
 use std::collections::LinkedList;
 use std::marker::Model;
@@ -119,7 +121,8 @@ impl<B: Naming, M: Mailbox> Session<B, M> {
         }
     }
 
-    /// Handles the next line of the talk or the next message. What the client takes of the bus is within the shares.
+    /// Handles the next line of the talk or the next message. What the client takes of the bus is within the shares. The
+    /// lists are those of any broadcast; whoever serves many sessions keeps them.
     ///
     /// # Errors
     ///
@@ -130,6 +133,7 @@ impl<B: Naming, M: Mailbox> Session<B, M> {
         alloc: Global,
         bus: &Bus<B, M, R>,
         shares: Shares,
+        lists: &mut RouteLists,
     ) -> Result<Step, SessionError>
         ensures { Steps M.outbox_of shares self.old result self.new }
     {
@@ -145,7 +149,7 @@ impl<B: Naming, M: Mailbox> Session<B, M> {
             bus,
             shares,
         };
-        match self.take_next(&context) {
+        match self.take_next(&context, lists) {
             Ok(step) => Ok(step),
             Err(error) => Err(self.fail(error)),
         }
@@ -162,11 +166,12 @@ impl<B: Naming, M: Mailbox> Session<B, M> {
     fn take_next<W: Wait, R: Wait + Drop>(
         &mut self,
         context: &Context<'_, B, M, W, R>,
+        lists: &mut RouteLists,
     ) -> Result<Step, SessionError>
         ensures { TakesNext self.old.has_begun M.outbox_of context.now.shares self.old result self.new }
     {
         if self.talk.has_begun() {
-            self.take_message(context)
+            self.take_message(context, lists)
         } else {
             self.take_line(context)
         }
@@ -193,6 +198,7 @@ impl<B: Naming, M: Mailbox> Session<B, M> {
     fn take_message<W: Wait, R: Wait + Drop>(
         &mut self,
         context: &Context<'_, B, M, W, R>,
+        lists: &mut RouteLists,
     ) -> Result<Step, SessionError>
         ensures { TakesMessage M.outbox_of context.now.shares self.old result self.new }
     {
@@ -202,7 +208,7 @@ impl<B: Naming, M: Mailbox> Session<B, M> {
             Err(fault) => return Err(SessionError::Message(fault)),
         };
         let len = view.raw().len();
-        self.client.handle(context, &view)?;
+        self.client.handle(context, lists, &view)?;
         self.input.skip(len);
         Ok(Step::Done)
     }
