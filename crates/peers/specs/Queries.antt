@@ -1,5 +1,5 @@
 -- What the calls are answered that only ask (D-Bus Specification, "Message Bus Messages").
-use Rattle.std.specs.Prelude.{ℕ, ◌≡◌, ◌⊎◌, ◌++◌, List, [], ◌∷◌, map, Option, Some, None, is_some, Result, Ok, Err}
+use Rattle.std.specs.Prelude.{ℕ, ◌≡◌, ◌⊎◌, ◌++◌, false, List, [], ◌∷◌, map, Option, Some, None, is_some, Result, Ok, Err}
 use Rattle.std.specs.Char.{to_ascii_lowercase}
 use Rattle.std.specs.Str.{IsUtf8}
 use Rattle.signature.specs.Name.{bus_name}
@@ -93,9 +93,10 @@ module _ {M : Type 0} where
   NamesOwner request (Ok None) v result w = IsRefused request (Error names.NameHasNoOwner) v result w
   NamesOwner request (Err why) v result w = IsRefused request why v result w
 
-  -- whether there is one
+  -- whether there is one; a text that is no name has none
   abbrev pub TellsWhetherOwned : Request → Result (Option Owner) Refused → PeerState M → Result (Unit {0}) AnswerError → PeerState M → Type 0
   TellsWhetherOwned request (Ok owner) v result w = Replies request (bodies.Truth (is_some owner)) v result w
+  TellsWhetherOwned request (Err (Error names.InvalidArgs)) v result w = Replies request (bodies.Truth false) v result w
   TellsWhetherOwned request (Err why) v result w = IsRefused request why v result w
 
   -- arguments or an error if there is one, and an error if there is none

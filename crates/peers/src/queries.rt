@@ -59,6 +59,9 @@ impl<B: Naming, M: Mailbox> Peer<B, M> {
     {
         match self.owner_named(name) {
             Ok(owner) => self.answer(context, request, Body::Truth(owner.is_some())),
+            Err(Refused::Error(ErrorName::InvalidArgs)) => {
+                self.answer(context, request, Body::Truth(false))
+            }
             Err(why) => self.refuse(context, request, why),
         }
     }
