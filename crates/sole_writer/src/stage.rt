@@ -1,5 +1,7 @@
 // Where a call of a sole writer stands.
 
+ghost use Rattle.std.specs.Prelude.{◌≡◌, None};
+
 use std::sync::MutexGuard;
 
 /// What a call does next. Each of them reads or writes one thing that other threads see.
@@ -34,8 +36,13 @@ pub enum Place {
 }
 
 impl Place {
+    ghost use Rattle.std.specs.Prelude.{◌≡◌};
+    ghost use Rattle.sole_writer.specs.Steps.{is_inside};
+
     /// Whether a call that stands there is the one that writes.
-    pub fn is_inside(self) -> bool {
+    pub fn is_inside(self) -> bool
+        ensures { result ≡ is_inside self }
+    {
         match self {
             Place::TakeUp
             | Place::LookForEnd
@@ -64,7 +71,9 @@ pub struct Stage<'a, L: Drop> {
 
 impl<'a, L: Drop> Stage<'a, L> {
     /// A call outside.
-    pub fn outside(place: Place) -> Stage<'a, L> {
+    pub fn outside(place: Place) -> Stage<'a, L>
+        ensures { (result.place ≡ place) × (result.line ≡ None) }
+    {
         Stage { place, line: None }
     }
 }
