@@ -6,19 +6,18 @@ ghost use Rattle.outbox.specs.Views.{blank, Follows, after_put, after_taken};
 ghost use Rattle.outbox.specs.Seated.{Seated};
 
 use crate::item::Item;
-use crate::line::{Line, Pass};
 use crate::room::{Room, Waiting};
-use crate::rule::{Look, Shut, Shutting};
-use crate::seats::Seat;
+use crate::rule::{Look, Merging, Puts, SeatView, Shut, Shutting, Takes};
+use crate::seats::{Pass, Seat};
 use atomic_table::Table;
+use crossbeam_queue::RuledSegQueue;
 use std::alloc::{AllocError, Global};
 use std::marker::Model;
 use std::sync::{Arc, Wait};
 
 // What waits and how much it is, and the word that is 1 once the outbox is shut.
-#[derive(Drop)]
 pub(crate) struct Inner {
-    line: Line,
+    queue: RuledSegQueue<Item, SeatView, Merging>,
     waiting: Waiting,
     word: Table<(), bool, (), Shutting, Global>,
     ghost words: { word.shared.table_id.words ≡ 1 },
@@ -29,11 +28,11 @@ impl Inner {
     ghost use Rattle.crossbeam_queue.specs.SegTies.{IsSegPassOf};
     ghost use Rattle.outbox.specs.Views.{Follows, after_put};
 
-    // Puts an item after the others if there is room.
+    // Puts an item after the others if there is room, and memory for a block where it begins one.
     fn admit<R: Wait>(&self, rt: &R, pass: &mut Pass, item: Item) -> Result<(), Item>
-        requires queue { IsSegPassOf self.now.line.queue pass.old }
+        requires queue { IsSegPassOf self.now.queue pass.old }
         requires follows { Follows pass.old.me.view.client.put item.mark }
-        ensures queue { IsSegPassOf self.now.line.queue pass.new × (pass.new.id ≡ pass.old.id) }
+        ensures queue { IsSegPassOf self.now.queue pass.new × (pass.new.id ≡ pass.old.id) }
         ensures put { MatchResult result
             (λ _. pass.new.me.view.client ≡ after_put pass.old.me.view.client item)
             (λ back. (back ≡ item) × (pass.new.me.view.client ≡ pass.old.me.view.client)) }
@@ -42,11 +41,22 @@ impl Inner {
         if !self.waiting.enter(len) {
             return Err(item);
         }
-        let put = self.line.push(rt, pass, item);
+        let put = self.queue.push_as::<Puts, R>(rt, pass, item);
         if put.is_err() {
             self.waiting.leave(len);
         }
         put
+    }
+}
+
+impl Drop for Inner {
+    fn drop(self) {
+        let Inner {
+            queue,
+            waiting: _,
+            word: _,
+        } = self;
+        queue.destroy();
     }
 }
 
@@ -63,7 +73,7 @@ impl Model for Outbox {
 
     ghost Value = { OutboxId };
 
-    ghost view = { λ o. record { queue = (arc_value o.inner).line.queue; word = (arc_value o.inner).word.shared.table_id } };
+    ghost view = { λ o. record { queue = (arc_value o.inner).queue; word = (arc_value o.inner).word.shared.table_id } };
 }
 
 impl Outbox {
@@ -74,11 +84,11 @@ impl Outbox {
 
     /// An open outbox with nothing in it. Its memory grows and shrinks with what waits.
     pub fn with_room(alloc: Global, room: Room) -> Result<Outbox, AllocError> {
-        let line = Line::new(alloc)?;
         let word = Table::of_words(alloc, &[0], &())?.0;
         let waiting = Waiting::new(room);
+        let queue = RuledSegQueue::with_rule(alloc)?.0;
         let inner = Inner {
-            line,
+            queue,
             waiting,
             word,
         };
@@ -99,7 +109,7 @@ impl Outbox {
         ensures { (result.outbox ≡ self.now) × (result.view ≡ blank) }
     {
         let inner: &Inner = &self.inner;
-        let pass = inner.line.pass();
+        let pass = inner.queue.pass();
         let (_, word) = inner.word.shared.load_new_seat::<Look>(0);
         Seat { pass, word }
     }
@@ -139,7 +149,7 @@ impl Outbox {
         ensures order { InOrder seat.new.view.taken }
     {
         let inner: &Inner = &self.inner;
-        let item = inner.line.pop(rt, &mut seat.pass)?;
+        let item = inner.queue.pop_as::<Takes, R>(rt, &mut seat.pass)?;
         inner.waiting.leave(item.bytes().len());
         Some(item)
     }

@@ -7,7 +7,6 @@
 mod handle;
 mod item;
 mod laws;
-mod line;
 mod releases;
 mod room;
 mod rule;

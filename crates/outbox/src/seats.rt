@@ -1,8 +1,14 @@
 // Seats, by which calls of an outbox are made.
 
-use crate::line::Pass;
+use crate::item::Item;
+use crate::rule::SeatView;
 use atomic_table::Seat as WordSeat;
+use crossbeam_queue::SegPass;
+use std::alloc::Global;
 use std::marker::Model;
+
+/// A seat's place at the queue.
+pub(crate) type Pass = SegPass<Item, SeatView, Global>;
 
 /// A place at an outbox, by which one thread puts and takes. It takes up no bytes.
 #[derive(Drop)]
