@@ -18,7 +18,7 @@ const BLOCK: usize = 65536;
 /// How many events one look at the poll gives.
 const EVENTS: usize = 256;
 
-/// How many milliseconds lie between two looks at the newcomers.
+/// How many milliseconds lie between two looks at the connections that may become overdue.
 const GLANCE: u64 = 500;
 
 /// How many milliseconds to wait where the poll fails.
@@ -64,8 +64,10 @@ pub(crate) struct Worker<'a, J: Naming, R: Wait + Drop> {
     block: Vec<u8>,
     // The keys of those that had more to read when their turn was over.
     again: Vec<usize>,
-    // How many haven't been answered their Hello.
-    newcomers: u32,
+    // How many of them may become overdue.
+    watched: u32,
+    // When it last looked whether any of those is overdue.
+    looked: Option<Instant>,
 }
 
 /// Serves until no more connections come and all have ended.
@@ -89,7 +91,7 @@ pub(crate) fn work<J: Naming, R: Wait + Drop, W: Wait + Clock>(
         }
         worker.answer(rt, &events);
         worker.go_on(rt);
-        worker.end_late_ones(rt);
+        worker.end_overdue_ones(rt);
         if worker.is_done(rt) {
             return;
         }
@@ -105,7 +107,8 @@ impl<'a, J: Naming, R: Wait + Drop> Worker<'a, J, R> {
             connections: Slab::new(alloc),
             block,
             again: Vec::new(alloc),
-            newcomers: 0,
+            watched: 0,
+            looked: None,
         }
     }
 
@@ -135,7 +138,7 @@ impl<'a, J: Naming, R: Wait + Drop> Worker<'a, J, R> {
     fn patience(&self) -> Option<Duration> {
         if !self.again.is_empty() {
             Some(Duration::from_millis(0))
-        } else if self.newcomers > 0 {
+        } else if self.watched > 0 {
             Some(Duration::from_millis(GLANCE))
         } else {
             None
@@ -160,26 +163,28 @@ impl<'a, J: Naming, R: Wait + Drop> Worker<'a, J, R> {
         let connection = Connection::new(self.alloc, self.hub, arrival, post, token, begun)?;
         self.post.register(connection.link(), token)?;
         self.connections.insert_reserved(connection);
-        self.newcomers = self.newcomers.saturating_add(1);
+        self.recount(false, true);
         Ok(())
     }
 
     /// Gives a connection its turn: it writes and reads as far as it goes, to the end where its client's bytes may have
     /// ended.
-    fn turn<W: Wait>(&mut self, rt: &W, key: usize, has_room: bool, has_ended: bool) {
+    fn turn<W: Wait + Clock>(&mut self, rt: &W, key: usize, has_room: bool, has_ended: bool) {
         let Some(connection) = self.connections.get_mut(key) else {
             return;
         };
         if has_room {
             connection.has_room(rt);
         }
+        let was_watched = connection.is_watched();
         let block = self.block.as_mut_slice();
         let turn = connection.read(rt, self.alloc, self.hub, block, has_ended);
         if !connection.is_in && connection.is_connected() {
             connection.is_in = true;
-            self.newcomers = self.newcomers.saturating_sub(1);
             self.hub.entries.give_back(rt);
         }
+        let is_watched = connection.is_watched();
+        self.recount(was_watched, is_watched);
         let goes_on = match turn {
             Turn::Waits => true,
             Turn::Again => self.again.push(key).is_ok(),
@@ -191,29 +196,51 @@ impl<'a, J: Naming, R: Wait + Drop> Worker<'a, J, R> {
     }
 
     /// Gives another turn to those that had more to read.
-    fn go_on<W: Wait>(&mut self, rt: &W) {
+    fn go_on<W: Wait + Clock>(&mut self, rt: &W) {
         for key in mem::replace(&mut self.again, Vec::new(self.alloc)) {
             self.turn(rt, key, false, true);
         }
     }
 
-    /// Ends the connections that have been without Hello for too long.
-    fn end_late_ones<W: Wait + Clock>(&mut self, rt: &W) {
-        if self.newcomers == 0 {
+    /// Counts a connection among those that may become overdue, or no longer.
+    fn recount(&mut self, before: bool, now: bool) {
+        let others = self.watched.saturating_sub(u32::from(before));
+        self.watched = others.saturating_add(u32::from(now));
+    }
+
+    /// Ends the connections that are overdue.
+    fn end_overdue_ones<W: Wait + Clock>(&mut self, rt: &W) {
+        let Some(now) = self.next_look(rt) else {
             return;
-        }
+        };
         for _ in 0..EVENTS {
-            let Some(key) = self.late_one(rt) else {
+            let Some(key) = self.overdue_one(now) else {
                 return;
             };
             self.end(rt, key);
         }
     }
 
-    fn late_one<W: Clock>(&self, rt: &W) -> Option<usize> {
-        let patience = self.hub.limits.patience;
+    /// What time it is, if a look at those that may become overdue is due.
+    fn next_look<W: Clock>(&mut self, rt: &W) -> Option<Instant> {
+        if self.watched == 0 {
+            return None;
+        }
+        let now = Instant::now(rt).ok()?;
+        let glance = Duration::from_millis(GLANCE);
+        if self
+            .looked
+            .is_some_and(|looked| now.duration_since(looked) < glance)
+        {
+            return None;
+        }
+        self.looked = Some(now);
+        Some(now)
+    }
+
+    fn overdue_one(&self, now: Instant) -> Option<usize> {
         for (key, connection) in self.connections.iter() {
-            if connection.is_late(rt, patience) {
+            if connection.is_overdue(now, &self.hub.limits) {
                 return Some(key);
             }
         }
@@ -225,8 +252,8 @@ impl<'a, J: Naming, R: Wait + Drop> Worker<'a, J, R> {
         let Some(connection) = self.connections.try_remove(key) else {
             return;
         };
+        self.recount(connection.is_watched(), false);
         if !connection.is_in {
-            self.newcomers = self.newcomers.saturating_sub(1);
             self.hub.entries.give_back(rt);
         }
         connection.end(rt, self.alloc, self.hub);
