@@ -1,10 +1,13 @@
 // A connection of a worker.
 
 use crate::hub::Hub;
+use crate::limits::Limits;
+use crate::scratch::Scratch;
+use crate::unfinished::Beginning;
 use endpoints::Link;
 use members::{Arrival, Mail, Member, Post};
 use mio::Token;
-use sessions::{Naming, Session, SessionError, Step};
+use sessions::{Naming, RouteLists, Session, SessionError, Step};
 use std::alloc::Global;
 use std::io;
 use std::io::ErrorKind;
@@ -19,6 +22,9 @@ const READS: u32 = 4;
 
 /// A client of which one read brings as many messages is busy.
 const BUSY: u32 = 2;
+
+/// A message of more bytes that came in pieces leaves room behind which is given back.
+const LONG: u64 = 1_048_576;
 
 /// What becomes of a connection after its turn.
 #[derive(Clone, Copy, PartialEq, Eq)]
@@ -37,6 +43,8 @@ pub(crate) struct Connection<J: Naming> {
     member: Arc<Member>,
     link: Arc<Link>,
     begun: Instant,
+    // What it has sent of a message, or a line, that isn't whole.
+    beginning: Option<Beginning>,
     /// Its Hello was answered, and it no longer counts among the newcomers.
     pub(crate) is_in: bool,
 }
@@ -54,7 +62,7 @@ impl<J: Naming> Connection<J> {
         let Arrival { link, admission } = arrival;
         link.set_nonblocking()?;
         let link = Arc::new(alloc, link)?;
-        let member = Member::new(alloc, Arc::try_clone(&link)?, post, token)?;
+        let member = Member::new(alloc, Arc::try_clone(&link)?, post, token, hub.limits.room)?;
         let member = Arc::new(alloc, member)?;
         let mail = Mail::new(Arc::try_clone(&member)?);
         let mut session = Session::admitting(alloc, hub.identity.guid, admission, mail);
@@ -66,6 +74,7 @@ impl<J: Naming> Connection<J> {
             member,
             link,
             begun,
+            beginning: None,
             is_in: false,
         })
     }
@@ -74,9 +83,23 @@ impl<J: Naming> Connection<J> {
         &self.link
     }
 
-    /// Whether it has been without Hello for too long.
-    pub(crate) fn is_late<R: Clock>(&self, rt: &R, patience: Duration) -> bool {
-        !self.is_in && self.begun.elapsed(rt).is_ok_and(|waited| waited > patience)
+    /// Whether it may become overdue: it is without Hello, or in the middle of a message.
+    pub(crate) fn is_watched(&self) -> bool {
+        !self.is_in || self.beginning.is_some()
+    }
+
+    /// Whether it has been without Hello for too long, or silent in the middle of a message.
+    pub(crate) fn is_overdue(&self, now: Instant, limits: &Limits) -> bool {
+        self.is_late(now, limits.patience()) || self.is_silent(now, limits.silence())
+    }
+
+    fn is_late(&self, now: Instant, patience: Duration) -> bool {
+        !self.is_in && now.duration_since(self.begun) > patience
+    }
+
+    fn is_silent(&self, now: Instant, silence: Duration) -> bool {
+        self.beginning
+            .is_some_and(|beginning| beginning.is_silent(now, silence))
     }
 
     /// Whether its Hello was answered.
@@ -94,21 +117,25 @@ impl<J: Naming> Connection<J> {
     /// more of them are treated, a busy client sends others, and a further read is cheaper than a look at the
     /// poll. Nor does such a read show whether the client's bytes have ended, so where they may have, the end is read
     /// too.
-    pub(crate) fn read<W: Wait, R: Wait + Drop>(
+    pub(crate) fn read<W: Wait + Clock, R: Wait + Drop>(
         &mut self,
         rt: &W,
         alloc: Global,
         hub: &Hub<J, R>,
-        block: &mut [u8],
+        scratch: &mut Scratch,
         has_ended: bool,
     ) -> Turn {
+        let (block, lists) = (scratch.block.as_mut_slice(), &mut scratch.lists);
         for _ in 0..READS {
             match self.link.receive(block) {
                 Ok(0) => return Turn::Ends,
                 Ok(count) => {
-                    let Ok(treated) = self.treat(rt, alloc, hub, &block[..count]) else {
+                    let Ok(treated) = self.treat(rt, alloc, hub, lists, &block[..count]) else {
                         return Turn::Ends;
                     };
+                    if self.note_beginning(rt, alloc, hub).is_err() {
+                        return Turn::Ends;
+                    }
                     if count < block.len() && treated < BUSY && !has_ended {
                         return Turn::Waits;
                     }
@@ -130,12 +157,13 @@ impl<J: Naming> Connection<J> {
         rt: &W,
         alloc: Global,
         hub: &Hub<J, R>,
+        lists: &mut RouteLists,
         bytes: &[u8],
     ) -> Result<u32, SessionError> {
         self.session.feed(bytes)?;
         let mut treated = 0u32;
         for _ in rt.forever() {
-            let some = self.treat_some(rt, alloc, hub);
+            let some = self.treat_some(rt, alloc, hub, lists);
             self.session.push_out(rt);
             let some = some?;
             treated = treated.saturating_add(some);
@@ -151,9 +179,11 @@ impl<J: Naming> Connection<J> {
         rt: &W,
         alloc: Global,
         hub: &Hub<J, R>,
+        lists: &mut RouteLists,
     ) -> Result<u32, SessionError> {
         for treated in 0..MESSAGES {
-            let step = self.session.step(rt, alloc, &hub.bus, hub.limits.shares)?;
+            let shares = hub.limits.shares;
+            let step = self.session.step(rt, alloc, &hub.bus, shares, lists)?;
             if step == Step::Waits {
                 return Ok(treated);
             }
@@ -161,13 +191,44 @@ impl<J: Naming> Connection<J> {
         Ok(MESSAGES)
     }
 
+    /// Notes what it has sent of a message that isn't whole, now that all whole ones are treated.
+    ///
+    /// # Errors
+    ///
+    /// All connections together have sent more of such messages than there is room for.
+    fn note_beginning<W: Clock, R: Wait + Drop>(
+        &mut self,
+        rt: &W,
+        alloc: Global,
+        hub: &Hub<J, R>,
+    ) -> io::Result<()> {
+        let before = self.beginning_len();
+        let len = self.session.unread_len() as u64;
+        if before == 0 && len == 0 {
+            return Ok(());
+        }
+        let beginning = Beginning::of_len(rt, len)?;
+        hub.unfinished.replace(before, len)?;
+        self.beginning = beginning;
+        if len < before && before > LONG {
+            self.session.shrink_to_fit(alloc);
+        }
+        Ok(())
+    }
+
+    fn beginning_len(&self) -> u64 {
+        self.beginning.map_or(0, |beginning| beginning.len())
+    }
+
     /// Ends it: what its socket still takes is written, and the socket is closed.
     pub(crate) fn end<W: Wait, R: Wait + Drop>(self, rt: &W, alloc: Global, hub: &Hub<J, R>) {
+        hub.unfinished.give_back(self.beginning_len());
         let Connection {
             session,
             member,
             link,
             begun: _,
+            beginning: _,
             is_in: _,
         } = self;
         if let Some(rest) = session.end(rt, alloc, &hub.bus) {

@@ -1,6 +1,7 @@
 // What the workers share.
 
 use crate::limits::{Limits, Places};
+use crate::unfinished::Unfinished;
 use members::Mail;
 use sessions::{Bus, Naming, Rest};
 use std::alloc::{AllocError, Global};
@@ -26,6 +27,7 @@ pub(crate) struct Hub<J: Naming, R: Wait + Drop> {
     pub(crate) limits: Limits,
     /// Places of connections that haven't been answered their Hello.
     pub(crate) entries: Places,
+    pub(crate) unfinished: Unfinished,
     // The ends of sessions for which there was no memory.
     rests: Mutex<Vec<Rest<J, Mail>>>,
 }
@@ -43,6 +45,7 @@ impl<J: Naming, R: Wait + Drop> Hub<J, R> {
             identity,
             limits,
             entries: Places::new(limits.newcomers),
+            unfinished: Unfinished::new(limits.unfinished),
             rests: Mutex::new(rests),
         })
     }

@@ -5,13 +5,17 @@
 mod accepting;
 mod connection;
 mod hub;
+mod limit;
 mod limits;
 mod mechanisms;
 mod reserve;
+mod scratch;
 mod serving;
+mod unfinished;
 mod worker;
 
 pub use hub::Identity;
+pub use limit::Limit;
 pub use limits::Limits;
 pub use mechanisms::Mechanisms;
 pub use serving::serve;

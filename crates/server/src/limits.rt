@@ -1,7 +1,11 @@
-// How many connections there may be, and how long they may take to come in.
+// How much the clients of a server may take of it.
 
 ghost use Rattle.std.specs.Prelude.{◌≡◌, ◌≤◌};
+ghost use Rattle.server.specs.declared.limit.Limit.{Limit};
+ghost use Rattle.server.specs.Limits.{standard_of, number_of};
 
+use crate::limit::Limit;
+use members::Room;
 use sessions::Shares;
 use std::sync::{Condvar, Mutex, Wait};
 use std::time::Duration;
@@ -10,30 +14,84 @@ use std::time::Duration;
 /// at most these two numbers together are open at once.
 #[derive(Clone, Copy)]
 pub struct Limits {
-    /// How many connections may be without Hello at once.
-    pub newcomers: u32,
-    /// How long after its accept a connection may be without it.
-    pub patience: Duration,
     /// How many threads serve the connections.
     pub workers: usize,
     /// How much of the bus one client may have.
     pub shares: Shares,
+    /// How much may wait for one client.
+    pub room: Room,
+    /// How many bytes of messages that aren't whole all connections together may have sent.
+    pub unfinished: u32,
+    /// How many seconds a connection may send nothing in the middle of a message.
+    pub silence: u32,
+    /// How many connections may be without Hello at once.
+    pub newcomers: u32,
+    /// How many seconds after its accept a connection may be without it.
+    pub hello: u32,
 }
 
 impl Limits {
-    /// 64 connections without Hello at once, each for at most 30 seconds, 1 to 16 workers, and the standard shares.
-    pub fn with_workers(workers: usize) -> Limits
-        ensures newcomers { result.newcomers ≡ 64 }
+    /// The standard limits, and one worker.
+    pub fn standard() -> Limits
+        ensures table { (limit : Limit) → number_of result limit ≡ standard_of limit }
+        ensures worker { result.workers ≡ 1 }
+    {
+        Limits {
+            workers: 1,
+            shares: Shares::standard(),
+            room: Room {
+                messages: Limit::Messages.standard() as usize,
+                bytes: Limit::Bytes.standard() as usize,
+            },
+            unfinished: Limit::Unfinished.standard(),
+            silence: Limit::Silence.standard(),
+            newcomers: Limit::Newcomers.standard(),
+            hello: Limit::Hello.standard(),
+        }
+    }
+
+    /// The same with as many workers as are asked for, but 1 to 16.
+    pub fn with_workers(self, workers: usize) -> Limits
+        ensures table { (limit : Limit) → number_of result limit ≡ number_of self limit }
         ensures some { 1 ≤ result.workers }
         ensures few { result.workers ≤ 16 }
         ensures as_asked { 1 ≤ workers → workers ≤ 16 → result.workers ≡ workers }
     {
         Limits {
-            newcomers: 64,
-            patience: Duration::from_secs(30),
             workers: workers.clamp(1, 16),
-            shares: Shares::standard(),
+            ..self
         }
+    }
+
+    /// The same with this number for one of them.
+    pub fn with(self, limit: Limit, number: u32) -> Limits
+        ensures asked { number_of result limit ≡ number }
+        ensures others { (other : Limit) → (other ≡ limit → ⊥) → number_of result other ≡ number_of self other }
+        ensures workers { result.workers ≡ self.workers }
+    {
+        let mut limits = self;
+        match limit {
+            Limit::Rules => limits.shares.entries = number,
+            Limit::Instructions => limits.shares.instructions = number,
+            Limit::Names => limits.shares.names = number,
+            Limit::Messages => limits.room.messages = number as usize,
+            Limit::Bytes => limits.room.bytes = number as usize,
+            Limit::Unfinished => limits.unfinished = number,
+            Limit::Silence => limits.silence = number,
+            Limit::Newcomers => limits.newcomers = number,
+            Limit::Hello => limits.hello = number,
+        }
+        limits
+    }
+
+    /// How long a connection may send nothing in the middle of a message.
+    pub(crate) fn silence(&self) -> Duration {
+        Duration::from_secs(u64::from(self.silence))
+    }
+
+    /// How long after its accept a connection may be without Hello.
+    pub(crate) fn patience(&self) -> Duration {
+        Duration::from_secs(u64::from(self.hello))
     }
 }
 

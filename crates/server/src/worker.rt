@@ -2,6 +2,7 @@
 
 use crate::connection::{Connection, Turn};
 use crate::hub::Hub;
+use crate::scratch::Scratch;
 use members::{Arrival, BELL, Post};
 use mio::{Events, Poll, Token};
 use sessions::Naming;
@@ -12,13 +13,10 @@ use std::sync::{Arc, Wait};
 use std::time::{Clock, Duration, Instant};
 use std::{io, mem, thread};
 
-/// How many bytes one read asks for.
-const BLOCK: usize = 65536;
-
 /// How many events one look at the poll gives.
 const EVENTS: usize = 256;
 
-/// How many milliseconds lie between two looks at the newcomers.
+/// How many milliseconds lie between two looks at the connections that may become overdue.
 const GLANCE: u64 = 500;
 
 /// How many milliseconds to wait where the poll fails.
@@ -30,8 +28,7 @@ pub(crate) struct Desk {
     poll: Poll,
     events: Events,
     post: Arc<Post>,
-    // The block into which all connections of the worker read.
-    block: Vec<u8>,
+    scratch: Scratch,
 }
 
 impl Desk {
@@ -39,12 +36,12 @@ impl Desk {
         let poll = Poll::new(rt)?;
         let events = Events::with_capacity(alloc, EVENTS)?;
         let post = Arc::new(alloc, Post::new(alloc, &poll)?)?;
-        let block = vec![in alloc; 0; BLOCK]?;
+        let scratch = Scratch::new(alloc)?;
         Ok(Desk {
             poll,
             events,
             post,
-            block,
+            scratch,
         })
     }
 
@@ -61,11 +58,13 @@ pub(crate) struct Worker<'a, J: Naming, R: Wait + Drop> {
     hub: &'a Hub<J, R>,
     post: Arc<Post>,
     connections: Slab<Connection<J>>,
-    block: Vec<u8>,
+    scratch: Scratch,
     // The keys of those that had more to read when their turn was over.
     again: Vec<usize>,
-    // How many haven't been answered their Hello.
-    newcomers: u32,
+    // How many of them may become overdue.
+    watched: u32,
+    // When it last looked whether any of those is overdue.
+    looked: Option<Instant>,
 }
 
 /// Serves until no more connections come and all have ended.
@@ -79,9 +78,9 @@ pub(crate) fn work<J: Naming, R: Wait + Drop, W: Wait + Clock>(
         mut poll,
         mut events,
         post,
-        block,
+        scratch,
     } = desk;
-    let mut worker = Worker::new(alloc, hub, post, block);
+    let mut worker = Worker::new(alloc, hub, post, scratch);
     for _ in rt.forever() {
         if poll.poll(&mut events, worker.patience()).is_err() {
             thread::sleep(rt, Duration::from_millis(PAUSE));
@@ -89,7 +88,7 @@ pub(crate) fn work<J: Naming, R: Wait + Drop, W: Wait + Clock>(
         }
         worker.answer(rt, &events);
         worker.go_on(rt);
-        worker.end_late_ones(rt);
+        worker.end_overdue_ones(rt);
         if worker.is_done(rt) {
             return;
         }
@@ -97,15 +96,21 @@ pub(crate) fn work<J: Naming, R: Wait + Drop, W: Wait + Clock>(
 }
 
 impl<'a, J: Naming, R: Wait + Drop> Worker<'a, J, R> {
-    fn new(alloc: Global, hub: &'a Hub<J, R>, post: Arc<Post>, block: Vec<u8>) -> Worker<'a, J, R> {
+    fn new(
+        alloc: Global,
+        hub: &'a Hub<J, R>,
+        post: Arc<Post>,
+        scratch: Scratch,
+    ) -> Worker<'a, J, R> {
         Worker {
             alloc,
             hub,
             post,
             connections: Slab::new(alloc),
-            block,
+            scratch,
             again: Vec::new(alloc),
-            newcomers: 0,
+            watched: 0,
+            looked: None,
         }
     }
 
@@ -135,7 +140,7 @@ impl<'a, J: Naming, R: Wait + Drop> Worker<'a, J, R> {
     fn patience(&self) -> Option<Duration> {
         if !self.again.is_empty() {
             Some(Duration::from_millis(0))
-        } else if self.newcomers > 0 {
+        } else if self.watched > 0 {
             Some(Duration::from_millis(GLANCE))
         } else {
             None
@@ -160,26 +165,27 @@ impl<'a, J: Naming, R: Wait + Drop> Worker<'a, J, R> {
         let connection = Connection::new(self.alloc, self.hub, arrival, post, token, begun)?;
         self.post.register(connection.link(), token)?;
         self.connections.insert_reserved(connection);
-        self.newcomers = self.newcomers.saturating_add(1);
+        self.recount(false, true);
         Ok(())
     }
 
     /// Gives a connection its turn: it writes and reads as far as it goes, to the end where its client's bytes may have
     /// ended.
-    fn turn<W: Wait>(&mut self, rt: &W, key: usize, has_room: bool, has_ended: bool) {
+    fn turn<W: Wait + Clock>(&mut self, rt: &W, key: usize, has_room: bool, has_ended: bool) {
         let Some(connection) = self.connections.get_mut(key) else {
             return;
         };
         if has_room {
             connection.has_room(rt);
         }
-        let block = self.block.as_mut_slice();
-        let turn = connection.read(rt, self.alloc, self.hub, block, has_ended);
+        let was_watched = connection.is_watched();
+        let turn = connection.read(rt, self.alloc, self.hub, &mut self.scratch, has_ended);
         if !connection.is_in && connection.is_connected() {
             connection.is_in = true;
-            self.newcomers = self.newcomers.saturating_sub(1);
             self.hub.entries.give_back(rt);
         }
+        let is_watched = connection.is_watched();
+        self.recount(was_watched, is_watched);
         let goes_on = match turn {
             Turn::Waits => true,
             Turn::Again => self.again.push(key).is_ok(),
@@ -191,29 +197,51 @@ impl<'a, J: Naming, R: Wait + Drop> Worker<'a, J, R> {
     }
 
     /// Gives another turn to those that had more to read.
-    fn go_on<W: Wait>(&mut self, rt: &W) {
+    fn go_on<W: Wait + Clock>(&mut self, rt: &W) {
         for key in mem::replace(&mut self.again, Vec::new(self.alloc)) {
             self.turn(rt, key, false, true);
         }
     }
 
-    /// Ends the connections that have been without Hello for too long.
-    fn end_late_ones<W: Wait + Clock>(&mut self, rt: &W) {
-        if self.newcomers == 0 {
+    /// Counts a connection among those that may become overdue, or no longer.
+    fn recount(&mut self, before: bool, now: bool) {
+        let others = self.watched.saturating_sub(u32::from(before));
+        self.watched = others.saturating_add(u32::from(now));
+    }
+
+    /// Ends the connections that are overdue.
+    fn end_overdue_ones<W: Wait + Clock>(&mut self, rt: &W) {
+        let Some(now) = self.next_look(rt) else {
             return;
-        }
+        };
         for _ in 0..EVENTS {
-            let Some(key) = self.late_one(rt) else {
+            let Some(key) = self.overdue_one(now) else {
                 return;
             };
             self.end(rt, key);
         }
     }
 
-    fn late_one<W: Clock>(&self, rt: &W) -> Option<usize> {
-        let patience = self.hub.limits.patience;
+    /// What time it is, if a look at those that may become overdue is due.
+    fn next_look<W: Clock>(&mut self, rt: &W) -> Option<Instant> {
+        if self.watched == 0 {
+            return None;
+        }
+        let now = Instant::now(rt).ok()?;
+        let glance = Duration::from_millis(GLANCE);
+        if self
+            .looked
+            .is_some_and(|looked| now.duration_since(looked) < glance)
+        {
+            return None;
+        }
+        self.looked = Some(now);
+        Some(now)
+    }
+
+    fn overdue_one(&self, now: Instant) -> Option<usize> {
         for (key, connection) in self.connections.iter() {
-            if connection.is_late(rt, patience) {
+            if connection.is_overdue(now, &self.hub.limits) {
                 return Some(key);
             }
         }
@@ -225,8 +253,8 @@ impl<'a, J: Naming, R: Wait + Drop> Worker<'a, J, R> {
         let Some(connection) = self.connections.try_remove(key) else {
             return;
         };
+        self.recount(connection.is_watched(), false);
         if !connection.is_in {
-            self.newcomers = self.newcomers.saturating_sub(1);
             self.hub.entries.give_back(rt);
         }
         connection.end(rt, self.alloc, self.hub);

@@ -1,6 +1,6 @@
 // A client's session.
 
-ghost use Rattle.std.specs.Prelude.{◌≡◌, [], None, IfOk, is_some, true};
+ghost use Rattle.std.specs.Prelude.{◌≡◌, [], None, IfOk, is_some, length, true};
 ghost use Rattle.auth.specs.Admissions.{any_admission};
 ghost use Rattle.sessions.specs.Steps.{Feeds, Steps, TakesNext, TakesMessage, TakesLine};
 ghost use Rattle.sessions.specs.Ends.{EndsAny};
@@ -104,6 +104,13 @@ impl<B: Naming, M: Mailbox> Session<B, M> {
         self.client.is_connected()
     }
 
+    /// How many bytes wait to be handled. Once a step waits, they are of a line or a message that isn't whole.
+    pub fn unread_len(&self) -> usize
+        ensures { result ≡ length self.now.unread }
+    {
+        self.input.unread().len()
+    }
+
     /// Keeps the client's next bytes.
     ///
     /// # Errors
@@ -118,6 +125,17 @@ impl<B: Naming, M: Mailbox> Session<B, M> {
         match self.input.feed(bytes) {
             Ok(()) => Ok(()),
             Err(error) => Err(self.fail(SessionError::from(error))),
+        }
+    }
+
+    /// Moves the bytes that wait to be handled to a room of their own length, so that the one of a long message is given back.
+    /// Where memory is refused, they stay.
+    pub fn shrink_to_fit(&mut self, alloc: Global)
+        ensures { self.new ≡ self.old }
+    {
+        let mut input = Frames::new(alloc);
+        if input.feed(self.input.unread()).is_ok() {
+            self.input = input;
         }
     }
 

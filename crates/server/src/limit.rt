@@ -1,0 +1,127 @@
+// What a server has limits of.
+
+ghost use Rattle.std.specs.Prelude.{◌≡◌};
+ghost use Rattle.server.specs.Limits.{standard_of};
+
+/// What a server has a limit of.
+#[derive(Clone, Copy, Debug, PartialEq, Eq)]
+pub enum Limit {
+    /// Match rules and attached programs of one connection.
+    Rules,
+    /// Instructions of the programs that one connection has attached.
+    Instructions,
+    /// Names that one connection asked for.
+    Names,
+    /// Messages that wait for one connection.
+    Messages,
+    /// Bytes of the messages that wait for one connection.
+    Bytes,
+    /// Bytes of messages that aren't whole, of all connections together.
+    Unfinished,
+    /// How long a connection may send nothing in the middle of a message.
+    Silence,
+    /// Connections without Hello.
+    Newcomers,
+    /// How long a connection may be without Hello.
+    Hello,
+}
+
+/// What the table says of a limit.
+#[derive(Clone, Copy)]
+struct Row {
+    name: &'static str,
+    /// The number where no other is asked for.
+    standard: u32,
+    /// What the number counts.
+    unit: &'static str,
+}
+
+impl Limit {
+    /// All of them, in the order of the table.
+    pub const ALL: [Limit; 9] = [
+        Limit::Rules,
+        Limit::Instructions,
+        Limit::Names,
+        Limit::Messages,
+        Limit::Bytes,
+        Limit::Unfinished,
+        Limit::Silence,
+        Limit::Newcomers,
+        Limit::Hello,
+    ];
+
+    /// The limit of this name.
+    pub fn of(name: &str) -> Option<Limit> {
+        Limit::ALL.into_iter().find(|limit| limit.name() == name)
+    }
+
+    /// Its name, as words have it.
+    pub fn name(self) -> &'static str {
+        self.row().name
+    }
+
+    /// The number where no other is asked for.
+    pub fn standard(self) -> u32
+        ensures { result ≡ standard_of self }
+    {
+        self.row().standard
+    }
+
+    /// What its number counts.
+    pub fn unit(self) -> &'static str {
+        self.row().unit
+    }
+
+    /// The table of limits.
+    fn row(self) -> Row
+        ensures { result.standard ≡ standard_of self }
+    {
+        match self {
+            Limit::Rules => Row {
+                name: "rules",
+                standard: 512,
+                unit: "rules and programs",
+            },
+            Limit::Instructions => Row {
+                name: "instructions",
+                standard: 65_536,
+                unit: "instructions",
+            },
+            Limit::Names => Row {
+                name: "names",
+                standard: 512,
+                unit: "names",
+            },
+            Limit::Messages => Row {
+                name: "messages",
+                standard: 16_384,
+                unit: "messages",
+            },
+            Limit::Bytes => Row {
+                name: "bytes",
+                standard: 16_777_216,
+                unit: "bytes",
+            },
+            Limit::Unfinished => Row {
+                name: "unfinished",
+                standard: 33_554_432,
+                unit: "bytes",
+            },
+            Limit::Silence => Row {
+                name: "silence",
+                standard: 30,
+                unit: "seconds",
+            },
+            Limit::Newcomers => Row {
+                name: "newcomers",
+                standard: 64,
+                unit: "connections",
+            },
+            Limit::Hello => Row {
+                name: "hello",
+                standard: 30,
+                unit: "seconds",
+            },
+        }
+    }
+}
