@@ -11,7 +11,7 @@ use std::marker::Model;
 use summary::Edition;
 
 /// What the words of the command ask for.
-#[derive(Debug, Drop)]
+#[derive(Drop)]
 pub struct Options<'a> {
     words: Vec<Word<'a>>,
 }

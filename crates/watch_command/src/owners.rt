@@ -13,14 +13,14 @@ use std::marker::Model;
 pub(crate) const BUS_NAME: &str = "org.freedesktop.DBus";
 
 /// A name and its owner's unique name.
-#[derive(Debug, Drop)]
+#[derive(Drop)]
 struct Ownership {
     name: String,
     owner: String,
 }
 
 /// Who owns which names, as far as a bus has told.
-#[derive(Debug, Drop)]
+#[derive(Drop)]
 pub(crate) struct Owners {
     ownerships: Vec<Ownership>,
 }
@@ -36,7 +36,7 @@ impl Model for Owners {
 }
 
 /// A change that a bus tells of: a name, and the unique name of its new owner, or nothing.
-#[derive(Clone, Copy, Debug, PartialEq, Eq)]
+#[derive(Clone, Copy)]
 pub(crate) struct Change<'a> {
     pub(crate) name: &'a str,
     pub(crate) owner: &'a str,

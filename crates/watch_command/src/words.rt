@@ -7,7 +7,7 @@ ghost use Rattle.watch_command.specs.Sayings.{key_of, key_number, key_eq, takes_
 use std::alloc::{AllocError, Global};
 
 /// An option of the command.
-#[derive(Clone, Copy, Debug)]
+#[derive(Clone, Copy)]
 pub enum Key {
     /// `--attach`: the bus runs the program.
     Attach,
@@ -42,7 +42,7 @@ pub enum Key {
 }
 
 /// What a word of the command says, an option with the word after it where it takes one.
-#[derive(Clone, Copy, Debug)]
+#[derive(Clone, Copy)]
 pub enum Word<'a> {
     /// An option that stands alone.
     Flag(Key),
