@@ -29,8 +29,8 @@ const HELP: [&str; 2] = ["watch", "--help"];
 /// after the count or the time that is wanted, and at the end of a capture, 2 where a rule or the program is refused, what
 /// comes is no message or the file no capture, 3 for words that are no row of the command line, 4 where the bus can't be
 /// reached, goes away or doesn't answer, or where a file fails, and 5 for want of memory. It waits for messages alone: an
-/// answer has to come in time. Lines have colours where the device, which is what `out` writes to, is a terminal, and the
-/// environment asks for none of them to be left out.
+/// answer has to come in time. Lines have colours where the device, which `out` writes to, is a terminal and the environment
+/// doesn't ask for plain text.
 pub fn watch<R, F: Files, O: Writer, E: Writer>(
     rt: &R,
     device: Device,

@@ -1,6 +1,6 @@
 // Who owns which names.
 
-ghost use Rattle.std.specs.Prelude.{◌≡◌, map};
+ghost use Rattle.std.specs.Prelude.{◌≡◌, ◌<◌, IfSome, length, map};
 ghost use Rattle.std.specs.List.{list_any};
 ghost use Rattle.watch_command.specs.Owners.{is_ownership};
 ghost use Rattle.watch_command.specs.KnownOwners.{pair_of};
@@ -72,6 +72,18 @@ fn is_among(ownerships: &[Ownership], owner: &str, name: &str) -> bool
     false
 }
 
+/// The place of a name, which has one owner at most.
+fn place_of(ownerships: &[Ownership], name: &str) -> Option<usize>
+    ensures { IfSome result (λ place. place < length ownerships.now) }
+{
+    for (place, ownership) in ownerships.iter().enumerate() {
+        if ownership.name.as_str() == name {
+            return Some(place);
+        }
+    }
+    None
+}
+
 impl Owners {
     ghost use Rattle.std.specs.Prelude.{◌≡◌, [], Some};
     ghost use Rattle.watch_command.specs.Owners.{owns};
@@ -87,8 +99,9 @@ impl Owners {
 
     /// From now on the name has this owner, or none where the owner is an empty text.
     pub(crate) fn put(&mut self, alloc: Global, name: &str, owner: &str) -> Result<(), AllocError> {
-        self.ownerships
-            .retain(|ownership| ownership.name.as_str() != name);
+        if let Some(place) = place_of(&self.ownerships, name) {
+            self.ownerships.remove(place);
+        }
         if !owner.is_empty() {
             let name = String::from_str(alloc, name)?;
             let owner = String::from_str(alloc, owner)?;
