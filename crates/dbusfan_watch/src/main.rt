@@ -4,15 +4,21 @@
 use command_line::{Fault, Output, Stream, System, Writer, args};
 use std::alloc::Global;
 use std::io;
-use std::io::Lock;
+use std::io::{IsTerminal, Lock};
 use std::net::{Net, TcpListener, TcpStream};
 use std::process::ExitCode;
 use std::rt::Runtime;
+use watch_command::Device;
 pub use watch_command::watch;
 
 fn main(rt: HostRuntime) -> ExitCode {
     let mut err = Output::new(Stream::new(rt.stderr().lock()));
-    let status = match run(&rt, &mut err) {
+    let device = if rt.stdout().is_terminal() {
+        Device::Terminal
+    } else {
+        Device::Other
+    };
+    let status = match run(&rt, device, &mut err) {
         Ok(status) => status,
         Err(fault) => {
             err.put_fault(fault);
@@ -23,7 +29,7 @@ fn main(rt: HostRuntime) -> ExitCode {
 }
 
 /// Watches a bus as the words after the program's name ask for. An `Err` says that there are none to read.
-fn run<R, E: Writer>(rt: &R, err: &mut Output<E>) -> Result<u8, Fault>
+fn run<R, E: Writer>(rt: &R, device: Device, err: &mut Output<E>) -> Result<u8, Fault>
 where
     R: Runtime<A = Global> + Net<Listener = TcpListener, Stream = TcpStream>,
 {
@@ -34,5 +40,12 @@ where
         .map(|arg| arg.as_str())
         .collect(rt.alloc())?;
     let mut out = Output::new(Stream::new(io::writer(rt)));
-    Ok(watch(rt, words.as_slice(), &mut System::new(rt), &mut out, err))
+    Ok(watch(
+        rt,
+        device,
+        words.as_slice(),
+        &mut System::new(rt),
+        &mut out,
+        err,
+    ))
 }

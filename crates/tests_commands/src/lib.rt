@@ -9,6 +9,8 @@
 #[cfg(test)]
 mod addresses;
 #[cfg(test)]
+mod colours;
+#[cfg(test)]
 mod compiling;
 #[cfg(test)]
 mod faults;

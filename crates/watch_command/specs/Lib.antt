@@ -4,6 +4,7 @@ pub mod Owners
 pub mod Showing
 pub mod Counts
 pub mod Stamp
+pub mod Colours
 pub mod ShownText
 pub mod Errors
 pub mod CountedRules

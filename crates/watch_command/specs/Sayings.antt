@@ -40,25 +40,34 @@ pub data Saying : Type 0 where
   setting : Key → List ℕ → Saying
   name : List ℕ → Saying
 
+-- the words of the options
+abbrev pub options : List (List ℕ × Key)
+options =
+    (codes "--attach", Attach) ∷
+    (codes "--count", Count) ∷
+    (codes "--edition", Edition) ∷
+    (codes "--hex", Hex) ∷
+    (codes "--invert", Invert) ∷
+    (codes "--json", Json) ∷
+    (codes "--monitor", Monitor) ∷
+    (codes "--names", Names) ∷
+    (codes "--of", Of) ∷
+    (codes "--program", Program) ∷
+    (codes "--read", Read) ∷
+    (codes "--rules", Rules) ∷
+    (codes "--seconds", Seconds) ∷
+    (codes "--time", Time) ∷
+    (codes "--write", Write) ∷
+    []
+
+-- the option that a word has in a table
+abbrev pub key_in : List ℕ → List (List ℕ × Key) → Option Key
+key_in word [] = None
+key_in word (named ∷ more) = if bytes_eq word named.0 then Some named.1 else key_in word more
+
 -- the option that a word is
-abbrev pub key_of : List ℕ → Option Key
-key_of word =
-    if bytes_eq word (codes "--attach") then Some Attach
-    else if bytes_eq word (codes "--count") then Some Count
-    else if bytes_eq word (codes "--edition") then Some Edition
-    else if bytes_eq word (codes "--hex") then Some Hex
-    else if bytes_eq word (codes "--invert") then Some Invert
-    else if bytes_eq word (codes "--json") then Some Json
-    else if bytes_eq word (codes "--monitor") then Some Monitor
-    else if bytes_eq word (codes "--names") then Some Names
-    else if bytes_eq word (codes "--of") then Some Of
-    else if bytes_eq word (codes "--program") then Some Program
-    else if bytes_eq word (codes "--read") then Some Read
-    else if bytes_eq word (codes "--rules") then Some Rules
-    else if bytes_eq word (codes "--seconds") then Some Seconds
-    else if bytes_eq word (codes "--time") then Some Time
-    else if bytes_eq word (codes "--write") then Some Write
-    else None
+unfoldable pub key_of : List ℕ → Option Key
+key_of word = key_in word options
 
 -- the options that take the word after them
 abbrev pub takes_word : Key → Bool

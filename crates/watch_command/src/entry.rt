@@ -12,6 +12,7 @@ use crate::plan::Plan;
 use crate::reading::show_capture;
 use crate::selection::Selection;
 use crate::sink::Sink;
+use crate::style::{Device, Style};
 use crate::words::Key;
 use bus_client::{Address, Client, Timed, addresses_of, connect};
 use command_line::{Files, Output, Stream, Writer, text_for};
@@ -28,9 +29,11 @@ const HELP: [&str; 2] = ["watch", "--help"];
 /// after the count or the time that is wanted, and at the end of a capture, 2 where a rule or the program is refused, what
 /// comes is no message or the file no capture, 3 for words that are no row of the command line, 4 where the bus can't be
 /// reached, goes away or doesn't answer, or where a file fails, and 5 for want of memory. It waits for messages alone: an
-/// answer has to come in time.
+/// answer has to come in time. Lines have colours where the device, which `out` writes to, is a terminal and the environment
+/// doesn't ask for plain text.
 pub fn watch<R, F: Files, O: Writer, E: Writer>(
     rt: &R,
+    device: Device,
     words: &[&str],
     files: &mut F,
     out: &mut Output<O>,
@@ -44,7 +47,7 @@ where
         + Input
         + Net<Listener = TcpListener, Stream = TcpStream>,
 {
-    match watch_words(rt, words, files, out, err) {
+    match watch_words(rt, device, words, files, out, err) {
         Ok(()) => 0,
         Err(fault) => fault.tell(rt.alloc(), err),
     }
@@ -52,6 +55,7 @@ where
 
 fn watch_words<R, F: Files, O: Writer, E: Writer>(
     rt: &R,
+    device: Device,
     words: &[&str],
     files: &mut F,
     out: &mut Output<O>,
@@ -71,9 +75,10 @@ where
     let Some(options) = Options::read(rt.alloc(), words)? else {
         return Err(Fault::Tool(command_line::Fault::Usage));
     };
+    let form = form_of(rt, device, &options);
     match (options.text_of(Key::Read), options.address()) {
-        (Some(file), _) => watch_capture(rt, file, &options, files, out, err),
-        (None, Some(address)) => watch_bus(rt, address, &options, files, out, err),
+        (Some(file), _) => watch_capture(rt, file, &options, form, files, out, err),
+        (None, Some(address)) => watch_bus(rt, address, &options, form, files, out, err),
         (None, None) => Err(Fault::Tool(command_line::Fault::Usage)),
     }
 }
@@ -83,6 +88,7 @@ fn watch_bus<R, F: Files, O: Writer, E: Writer>(
     rt: &R,
     address: &str,
     options: &Options<'_>,
+    form: Form,
     files: &mut F,
     out: &mut Output<O>,
     err: &mut Output<E>,
@@ -98,7 +104,7 @@ where
         plan.counted = connection_rules(rt.alloc(), &mut client, name, is_monitor, err)?;
     }
     let owners = ask(rt.alloc(), &mut client, options, &plan)?;
-    let sink = open_sink(rt, options, &mut plan, out)?;
+    let sink = open_sink(rt, options, form, &mut plan, out)?;
     let count = options.number_of(Key::Count);
     let mut selection = Selection::new(sink, err, &plan.filter, owners, count);
     selection.begin()?;
@@ -118,6 +124,7 @@ fn watch_capture<R, F: Files, O: Writer, E: Writer>(
     rt: &R,
     file: &str,
     options: &Options<'_>,
+    form: Form,
     files: &mut F,
     out: &mut Output<O>,
     err: &mut Output<E>,
@@ -127,7 +134,7 @@ where
 {
     let alloc = rt.alloc();
     let mut plan = Plan::read(alloc, options, files)?;
-    let sink = open_sink(rt, options, &mut plan, out)?;
+    let sink = open_sink(rt, options, form, &mut plan, out)?;
     let count = options.number_of(Key::Count);
     let mut selection = Selection::new(sink, err, &plan.filter, Owners::new(alloc), count);
     selection.begin()?;
@@ -146,6 +153,7 @@ where
 fn open_sink<'o, R, O: Writer>(
     rt: &R,
     options: &Options<'_>,
+    form: Form,
     plan: &mut Plan<'_>,
     out: &'o mut Output<O>,
 ) -> Result<Sink<'o, O, Stream<R::File>>, Fault>
@@ -157,7 +165,7 @@ where
         return Ok(Sink::Counts(out, Counts { rules, untaken: 0 }));
     }
     match options.text_of(Key::Write) {
-        None => Ok(Sink::Lines(out, form_of(options))),
+        None => Ok(Sink::Lines(out, form)),
         Some("-") => Ok(Sink::Pcap(out)),
         Some(file) => {
             let file = fs::create(rt, file).map_err(|_| unreadable())?;
@@ -167,7 +175,7 @@ where
 }
 
 /// How messages are lines.
-fn form_of(options: &Options<'_>) -> Form {
+fn form_of<R: Env + AllocGlobal>(rt: &R, device: Device, options: &Options<'_>) -> Form {
     if options.has(Key::Hex) {
         Form::Hex
     } else if options.has(Key::Json) {
@@ -176,6 +184,7 @@ fn form_of(options: &Options<'_>) -> Form {
         Form::Text {
             has_time: options.has(Key::Time),
             has_names: options.has(Key::Names),
+            style: Style::of(rt, device),
         }
     }
 }

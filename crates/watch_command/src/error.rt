@@ -18,7 +18,7 @@ const NO_METHOD: [&str; 3] = [
 const ACCESS_DENIED: &str = "org.freedesktop.DBus.Error.AccessDenied";
 
 /// What the command is refused for.
-#[derive(Debug, Drop)]
+#[derive(Drop)]
 pub enum Fault {
     /// What any command is refused for.
     Tool(command_line::Fault),

@@ -2,6 +2,7 @@
 
 use crate::owners::Owners;
 use crate::stamp::stamp_of;
+use crate::style::Style;
 use message_view::View;
 use std::alloc::{AllocError, Global};
 use value_text::{Ends, TextError, hex_line, json_line, line_between, message_line};
@@ -15,10 +16,14 @@ pub(crate) struct Seen<'v, 'm, 'o> {
 }
 
 /// How a message is a line.
-#[derive(Clone, Copy, Debug, PartialEq, Eq)]
+#[derive(Clone, Copy)]
 pub(crate) enum Form {
-    /// What a person reads, with the time in front, and with the names of owners.
-    Text { has_time: bool, has_names: bool },
+    /// What a person reads, with the time in front, with the names of owners, and with colours.
+    Text {
+        has_time: bool,
+        has_names: bool,
+        style: Style,
+    },
     Hex,
     Json,
 }
@@ -35,12 +40,14 @@ impl Form {
             Form::Text {
                 has_time,
                 has_names,
+                style,
             } => {
                 let mut line = Vec::new(alloc);
                 if has_time {
-                    line = stamp_of(alloc, seen.time)?;
+                    style.put_time(&mut line, &stamp_of(alloc, seen.time)?)?;
                 }
-                line.extend_from_slice(&text_line(alloc, seen, has_names)?)?;
+                let text = text_line(alloc, seen, has_names)?;
+                style.put_line(&mut line, seen.view.kind(), &text)?;
                 Ok(line)
             }
         }

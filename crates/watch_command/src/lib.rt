@@ -18,9 +18,11 @@ mod selection;
 mod shown_text;
 mod sink;
 mod stamp;
+mod style;
 mod words;
 
 pub use entry::watch;
 pub use error::Fault;
 pub use options::Options;
+pub use style::{Device, Style};
 pub use words::{Key, Word};

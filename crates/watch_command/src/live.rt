@@ -47,7 +47,7 @@ fn next_message<R: Clock>(client: &mut Client<Timed<'_, R>>) -> Result<Option<By
 }
 
 fn is_over<R: Clock>(client: &mut Client<Timed<'_, R>>) -> bool {
-    client.stream_mut().is_over().unwrap_or(false)
+    matches!(client.stream_mut().is_over(), Ok(true))
 }
 
 /// Whether a message tells the client itself of a name that it got or lost.

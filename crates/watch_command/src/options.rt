@@ -1,8 +1,8 @@
 // What the words of the command ask for.
 
-ghost use Rattle.std.specs.Prelude.{◌≡◌, ◌<◌, IfOk, IfSome, length, option_map, slice_get};
+ghost use Rattle.std.specs.Prelude.{◌≡◌, ◌<◌, ◌++◌, ◌∷◌, [], IfOk, IfSome, OnOk, length, option_map, slice_get};
 ghost use Rattle.std.specs.Str.Parse.{digits_value};
-ghost use Rattle.watch_command.specs.Sayings.{sayings_of, texts};
+ghost use Rattle.watch_command.specs.Sayings.{saying_of, sayings_of, texts};
 ghost use Rattle.watch_command.specs.Options.{word_of, names, edition_of};
 
 use crate::words::{Key, Word, has, read_words};
@@ -11,7 +11,7 @@ use std::marker::Model;
 use summary::Edition;
 
 /// What the words of the command ask for.
-#[derive(Debug, Drop)]
+#[derive(Drop)]
 pub struct Options<'a> {
     words: Vec<Word<'a>>,
 }
@@ -269,11 +269,19 @@ fn names_of<'a>(alloc: Global, words: &[Word<'a>]) -> Result<Vec<&'a str>, Alloc
 {
     let mut found = Vec::new(alloc);
     for word in words {
-        if let Some(name) = word.name() {
-            found.push(name)?;
-        }
+        put_name(&mut found, word)?;
     }
     Ok(found)
+}
+
+/// Adds a word if it is no option.
+fn put_name<'a>(found: &mut Vec<&'a str>, word: &Word<'a>) -> Result<(), AllocError>
+    ensures { OnOk result (texts found.new.items ≡ texts found.old.items ++ names (saying_of word.now ∷ [])) }
+{
+    if let Some(name) = word.name() {
+        found.push(name)?;
+    }
+    Ok(())
 }
 
 /// How many words are no options.

@@ -1,6 +1,6 @@
 // Who owns which names.
 
-ghost use Rattle.std.specs.Prelude.{◌≡◌, map};
+ghost use Rattle.std.specs.Prelude.{◌≡◌, ◌<◌, IfSome, length, map};
 ghost use Rattle.std.specs.List.{list_any};
 ghost use Rattle.watch_command.specs.Owners.{is_ownership};
 ghost use Rattle.watch_command.specs.KnownOwners.{pair_of};
@@ -13,14 +13,14 @@ use std::marker::Model;
 pub(crate) const BUS_NAME: &str = "org.freedesktop.DBus";
 
 /// A name and its owner's unique name.
-#[derive(Debug, Drop)]
+#[derive(Drop)]
 struct Ownership {
     name: String,
     owner: String,
 }
 
 /// Who owns which names, as far as a bus has told.
-#[derive(Debug, Drop)]
+#[derive(Drop)]
 pub(crate) struct Owners {
     ownerships: Vec<Ownership>,
 }
@@ -36,7 +36,7 @@ impl Model for Owners {
 }
 
 /// A change that a bus tells of: a name, and the unique name of its new owner, or nothing.
-#[derive(Clone, Copy, Debug, PartialEq, Eq)]
+#[derive(Clone, Copy)]
 pub(crate) struct Change<'a> {
     pub(crate) name: &'a str,
     pub(crate) owner: &'a str,
@@ -72,6 +72,18 @@ fn is_among(ownerships: &[Ownership], owner: &str, name: &str) -> bool
     false
 }
 
+/// The place of a name, which has one owner at most.
+fn place_of(ownerships: &[Ownership], name: &str) -> Option<usize>
+    ensures { IfSome result (λ place. place < length ownerships.now) }
+{
+    for (place, ownership) in ownerships.iter().enumerate() {
+        if ownership.name.as_str() == name {
+            return Some(place);
+        }
+    }
+    None
+}
+
 impl Owners {
     ghost use Rattle.std.specs.Prelude.{◌≡◌, [], Some};
     ghost use Rattle.watch_command.specs.Owners.{owns};
@@ -87,8 +99,9 @@ impl Owners {
 
     /// From now on the name has this owner, or none where the owner is an empty text.
     pub(crate) fn put(&mut self, alloc: Global, name: &str, owner: &str) -> Result<(), AllocError> {
-        self.ownerships
-            .retain(|ownership| ownership.name.as_str() != name);
+        if let Some(place) = place_of(&self.ownerships, name) {
+            self.ownerships.remove(place);
+        }
         if !owner.is_empty() {
             let name = String::from_str(alloc, name)?;
             let owner = String::from_str(alloc, owner)?;

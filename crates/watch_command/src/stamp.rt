@@ -1,6 +1,6 @@
 // Times in front of lines.
 
-ghost use Rattle.std.specs.Prelude.{◌≡◌, ◌<◌, ◌^◌, IfOk};
+ghost use Rattle.std.specs.Prelude.{◌≡◌, ◌+◌, ◌%◌, ◌<◌, ◌^◌, IfOk};
 ghost use Rattle.watch_command.specs.Stamp.{six_digits, stamp};
 
 use std::alloc::{AllocError, Global};
@@ -27,11 +27,18 @@ fn six_digits(n: u32) -> [u8; 6]
     ensures { result ≡ six_digits n }
 {
     [
-        b'0' + (n / 100_000 % 10) as u8,
-        b'0' + (n / 10_000 % 10) as u8,
-        b'0' + (n / 1_000 % 10) as u8,
-        b'0' + (n / 100 % 10) as u8,
-        b'0' + (n / 10 % 10) as u8,
-        b'0' + (n % 10) as u8,
+        last_digit(n / 100_000),
+        last_digit(n / 10_000),
+        last_digit(n / 1_000),
+        last_digit(n / 100),
+        last_digit(n / 10),
+        last_digit(n),
     ]
+}
+
+/// The last digit of a number.
+fn last_digit(n: u32) -> u8
+    ensures { result ≡ 48 + n % 10 }
+{
+    b'0' + (n % 10) as u8
 }

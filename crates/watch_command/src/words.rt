@@ -7,7 +7,7 @@ ghost use Rattle.watch_command.specs.Sayings.{key_of, key_number, key_eq, takes_
 use std::alloc::{AllocError, Global};
 
 /// An option of the command.
-#[derive(Clone, Copy, Debug)]
+#[derive(Clone, Copy)]
 pub enum Key {
     /// `--attach`: the bus runs the program.
     Attach,
@@ -42,7 +42,7 @@ pub enum Key {
 }
 
 /// What a word of the command says, an option with the word after it where it takes one.
-#[derive(Clone, Copy, Debug)]
+#[derive(Clone, Copy)]
 pub enum Word<'a> {
     /// An option that stands alone.
     Flag(Key),
@@ -70,29 +70,31 @@ struct Step<'a> {
     awaited: Awaited,
 }
 
+/// The words of the options.
+const OPTIONS: [(&[u8], Key); 15] = [
+    (b"--attach", Key::Attach),
+    (b"--count", Key::Count),
+    (b"--edition", Key::Edition),
+    (b"--hex", Key::Hex),
+    (b"--invert", Key::Invert),
+    (b"--json", Key::Json),
+    (b"--monitor", Key::Monitor),
+    (b"--names", Key::Names),
+    (b"--of", Key::Of),
+    (b"--program", Key::Program),
+    (b"--read", Key::Read),
+    (b"--rules", Key::Rules),
+    (b"--seconds", Key::Seconds),
+    (b"--time", Key::Time),
+    (b"--write", Key::Write),
+];
+
 impl Key {
     /// The option that a word is.
     fn of(word: &str) -> Option<Key>
         ensures { result ≡ key_of word.now }
     {
-        match word {
-            "--attach" => Some(Key::Attach),
-            "--count" => Some(Key::Count),
-            "--edition" => Some(Key::Edition),
-            "--hex" => Some(Key::Hex),
-            "--invert" => Some(Key::Invert),
-            "--json" => Some(Key::Json),
-            "--monitor" => Some(Key::Monitor),
-            "--names" => Some(Key::Names),
-            "--of" => Some(Key::Of),
-            "--program" => Some(Key::Program),
-            "--read" => Some(Key::Read),
-            "--rules" => Some(Key::Rules),
-            "--seconds" => Some(Key::Seconds),
-            "--time" => Some(Key::Time),
-            "--write" => Some(Key::Write),
-            _ => None,
-        }
+        key_named(word.as_bytes())
     }
 
     /// The option's number, in the order of the variants.
@@ -147,6 +149,18 @@ impl Key {
             | Key::Time => false,
         }
     }
+}
+
+/// The option that a word's bytes are.
+fn key_named(word: &[u8]) -> Option<Key>
+    ensures { result ≡ key_of word.now }
+{
+    for (name, key) in &OPTIONS {
+        if word == *name {
+            return Some(*key);
+        }
+    }
+    None
 }
 
 impl<'a> Word<'a> {
