@@ -8,7 +8,7 @@ ghost use Rattle.outbox.specs.Seated.{Seated};
 use crate::item::Item;
 use crate::room::{Room, Waiting};
 use crate::rule::{Look, Merging, Puts, SeatView, Shut, Shutting, Takes};
-use crate::seats::{Pass, Seat};
+use crate::seats::Seat;
 use atomic_table::Table;
 use crossbeam_queue::RuledSegQueue;
 use std::alloc::{AllocError, Global};
@@ -21,32 +21,6 @@ pub(crate) struct Inner {
     waiting: Waiting,
     word: Table<(), bool, (), Shutting, Global>,
     ghost words: { word.shared.table_id.words ≡ 1 },
-}
-
-impl Inner {
-    ghost use Rattle.std.specs.Prelude.{◌≡◌, MatchResult};
-    ghost use Rattle.crossbeam_queue.specs.SegTies.{IsSegPassOf};
-    ghost use Rattle.outbox.specs.Views.{Follows, after_put};
-
-    // Puts an item after the others if there is room, and memory for a block where it begins one.
-    fn admit<R: Wait>(&self, rt: &R, pass: &mut Pass, item: Item) -> Result<(), Item>
-        requires queue { IsSegPassOf self.now.queue pass.old }
-        requires follows { Follows pass.old.me.view.client.put item.mark }
-        ensures queue { IsSegPassOf self.now.queue pass.new × (pass.new.id ≡ pass.old.id) }
-        ensures put { MatchResult result
-            (λ _. pass.new.me.view.client ≡ after_put pass.old.me.view.client item)
-            (λ back. (back ≡ item) × (pass.new.me.view.client ≡ pass.old.me.view.client)) }
-    {
-        let len = item.bytes().len();
-        if !self.waiting.enter(len) {
-            return Err(item);
-        }
-        let put = self.queue.push_as::<Puts, R>(rt, pass, item);
-        if put.is_err() {
-            self.waiting.leave(len);
-        }
-        put
-    }
 }
 
 impl Drop for Inner {
@@ -130,13 +104,17 @@ impl Outbox {
         if inner.word.shared.load::<Look>(&mut seat.word, 0) == 1 {
             return Err(item);
         }
-        match inner.admit(rt, &mut seat.pass, item) {
-            Ok(()) => Ok(()),
-            Err(back) => {
-                inner.word.shared.store::<Shut>(&mut seat.word, 0, 1);
-                Err(back)
-            }
+        let len = item.bytes().len();
+        let put = if inner.waiting.enter(len) {
+            inner.queue.push_as::<Puts, R>(rt, &mut seat.pass, item)
+        } else {
+            Err(item)
+        };
+        if put.is_err() {
+            inner.waiting.leave(len);
+            inner.word.shared.store::<Shut>(&mut seat.word, 0, 1);
         }
+        put
     }
 
     /// Takes the oldest item, if one is there. The list that the seat has taken stays in each putting seat's order.

@@ -51,15 +51,11 @@ impl Waiting {
         }
     }
 
-    /// Counts a message of this length, unless there is no room for one.
+    /// Counts a message of this length. Whether there was room for one: else it has to be taken out again.
     pub(crate) fn enter(&self, len: usize) -> bool {
         let before = self.word.fetch_add(weight(len), Ordering::SeqCst);
         let room = self.room;
-        if before / MESSAGE < room.messages as u64 && before % MESSAGE < room.bytes as u64 {
-            return true;
-        }
-        self.leave(len);
-        false
+        before / MESSAGE < room.messages as u64 && before % MESSAGE < room.bytes as u64
     }
 
     /// A message of this length that was counted doesn't wait any more.

@@ -7,13 +7,10 @@ use crossbeam_queue::SegPass;
 use std::alloc::Global;
 use std::marker::Model;
 
-/// A seat's place at the queue.
-pub(crate) type Pass = SegPass<Item, SeatView, Global>;
-
 /// A place at an outbox, by which one thread puts and takes. It takes up no bytes.
 #[derive(Drop)]
 pub struct Seat {
-    pub(crate) pass: Pass,
+    pub(crate) pass: SegPass<Item, SeatView, Global>,
     pub(crate) word: WordSeat<(), bool>,
 }
 
