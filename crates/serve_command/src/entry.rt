@@ -11,7 +11,7 @@ use crate::options::Options;
 use crate::place::Place;
 use command_line::{Output, Writer, text_for};
 use endpoints::{Address, Listener};
-use server::{Identity, IndexKey, Limits, Mechanisms};
+use server::{Identity, IndexKey, Mechanisms};
 use std::alloc::Global;
 use std::fs::{File, Files};
 use std::net::{Net, TcpListener, TcpStream};
@@ -174,7 +174,7 @@ where
         Ok(taken) => announce(rt, alloc, options.announcement, taken, guid, out)?,
         Err(error) => return Err(Refusal::of_place(alloc, &asked, &error, None)),
     }
-    serve_at(rt, alloc, options.connections, guid, mechanisms, listener)
+    serve_at(rt, alloc, options, guid, mechanisms, listener)
 }
 
 /// The id that is asked for, or a new one.
@@ -188,7 +188,7 @@ fn guid_of<R: RandomSource>(rt: &R, options: Options<'_>) -> Result<Guid, Refusa
 fn serve_at<R>(
     rt: &R,
     alloc: Global,
-    connections: Option<u32>,
+    options: Options<'_>,
     guid: Guid,
     mechanisms: Mechanisms,
     listener: &Listener,
@@ -214,8 +214,8 @@ where
     let workers = thread::available_parallelism(rt)
         .map(|count| count.get())
         .unwrap_or(1);
-    let limits = Limits::with_workers(workers);
-    let count = connections.map(u64::from);
+    let limits = options.limits.with_workers(workers);
+    let count = options.connections.map(u64::from);
     match server::serve(
         rt, alloc, key, identity, mechanisms, limits, listener, count,
     ) {

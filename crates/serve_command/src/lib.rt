@@ -6,6 +6,7 @@ mod address_fault;
 mod entry;
 mod error;
 mod guid;
+mod limit_fault;
 mod listening;
 mod machine;
 mod mechanisms;

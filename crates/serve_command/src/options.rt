@@ -3,6 +3,7 @@
 use crate::guid::Guid;
 use crate::words::{WordFault, Words};
 use endpoints::Address;
+use server::Limits;
 
 /// Where `serve` listens if no address is said.
 #[derive(Clone, Copy, Debug, PartialEq, Eq)]
@@ -39,10 +40,12 @@ pub(crate) struct Options<'a> {
     pub(crate) allows_anonymous: bool,
     /// After how many connections to end; at least one.
     pub(crate) connections: Option<u32>,
+    /// How much clients may take.
+    pub(crate) limits: Limits,
 }
 
 impl<'a> Options<'a> {
-    /// What some words ask for: options in any order, each once at most, with its value as the next word or after a `=`.
+    /// What some words ask for: options in any order, each once at most but for `--limit`, with its value as the next word or after a `=`.
     pub(crate) fn read(words: &[&'a str]) -> Result<Options<'a>, WordFault<'a>> {
         let words = Words::read(words)?;
         Ok(Options {
@@ -57,6 +60,7 @@ impl<'a> Options<'a> {
             allows_external: words.allows_external,
             allows_anonymous: words.allows_anonymous,
             connections: words.connections,
+            limits: words.limits,
         })
     }
 }

@@ -2,8 +2,10 @@
 
 use crate::address_fault::AddressFault;
 use crate::guid::Guid;
+use crate::limit_fault::LimitFault;
 use crate::options::Announcement;
 use endpoints::Address;
+use server::{Limit, Limits};
 use std::fmt;
 
 /// An option that has a value.
@@ -12,6 +14,7 @@ pub(crate) enum Valued {
     Listen,
     Guid,
     Connections,
+    Limit,
 }
 
 impl Valued {
@@ -20,6 +23,7 @@ impl Valued {
             "--listen" => Some(Valued::Listen),
             "--guid" => Some(Valued::Guid),
             "--connections" => Some(Valued::Connections),
+            "--limit" => Some(Valued::Limit),
             _ => None,
         }
     }
@@ -29,6 +33,7 @@ impl Valued {
             Valued::Listen => "--listen",
             Valued::Guid => "--guid",
             Valued::Connections => "--connections",
+            Valued::Limit => "--limit",
         }
     }
 }
@@ -46,6 +51,7 @@ pub(crate) enum WordFault<'a> {
     Address(AddressFault<'a>),
     Guid(&'a str),
     Connections(&'a str),
+    Limit(LimitFault<'a>),
     Descriptor(&'a str),
 }
 
@@ -68,6 +74,7 @@ impl<'a> fmt::Display for WordFault<'a> {
                 f,
                 "--connections {text}: a number from 1 to 4294967295 is wanted"
             ),
+            WordFault::Limit(fault) => write!(f, "--limit {fault}"),
             WordFault::Descriptor(text) => write!(
                 f,
                 "--print-address {text}: the number of an open descriptor is wanted"
@@ -91,6 +98,7 @@ pub(crate) struct Words<'a> {
     pub(crate) address: Option<Address<'a>>,
     pub(crate) guid: Option<Guid>,
     pub(crate) connections: Option<u32>,
+    pub(crate) limits: Limits,
     pub(crate) announcement: Option<Announcement>,
     pub(crate) is_session: bool,
     pub(crate) allows_external: bool,
@@ -104,6 +112,7 @@ impl<'a> Words<'a> {
             address: None,
             guid: None,
             connections: None,
+            limits: Limits::standard(),
             announcement: None,
             is_session: false,
             allows_external: false,
@@ -179,11 +188,13 @@ impl<'a> Words<'a> {
         }
     }
 
+    /// Whether an option is there that may be given once alone.
     fn has(&self, option: Valued) -> bool {
         match option {
             Valued::Listen => self.address.is_some(),
             Valued::Guid => self.guid.is_some(),
             Valued::Connections => self.connections.is_some(),
+            Valued::Limit => false,
         }
     }
 
@@ -204,6 +215,10 @@ impl<'a> Words<'a> {
             Valued::Connections => {
                 let count = count_of(value).ok_or(WordFault::Connections(value))?;
                 words.connections = Some(count);
+            }
+            Valued::Limit => {
+                let (limit, number) = read_limit(value)?;
+                words.limits = words.limits.with(limit, number);
             }
         }
         Ok(words)
@@ -256,6 +271,20 @@ fn read_address(text: &str) -> Result<Address<'_>, WordFault<'_>> {
     match Address::read(text) {
         Some(address) => Ok(address),
         None => Err(WordFault::Address(AddressFault::of(text))),
+    }
+}
+
+/// The limit and its number that a text `NAME=N` says.
+fn read_limit(text: &str) -> Result<(Limit, u32), WordFault<'_>> {
+    let Some((name, number)) = text.split_once('=') else {
+        return Err(WordFault::Limit(LimitFault::no_pair(text)));
+    };
+    let Some(limit) = Limit::of(name) else {
+        return Err(WordFault::Limit(LimitFault::unknown_name(text)));
+    };
+    match count_of(number) {
+        Some(number) => Ok((limit, number)),
+        None => Err(WordFault::Limit(LimitFault::of_number(text, limit))),
     }
 }
 

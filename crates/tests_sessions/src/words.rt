@@ -43,7 +43,7 @@ where
 
 #[test]
 fn words_that_are_no_row(rt: HostRuntime) {
-    let rows: [(&[&str], &str); 15] = [
+    let rows: [(&[&str], &str); 19] = [
         (&["--verbose"], "  unknown option --verbose"),
         (&["--verbose=1"], "  unknown option --verbose"),
         (&["bus"], "  bus is no option"),
@@ -61,6 +61,22 @@ fn words_that_are_no_row(rt: HostRuntime) {
         (
             &["--connections", "0"],
             "  --connections 0: a number from 1 to 4294967295 is wanted",
+        ),
+        (
+            &["--limit", "rulez=5"],
+            "  --limit rulez=5: there is no such limit; there are rules, instructions, names, messages, bytes, unfinished, silence, newcomers, hello",
+        ),
+        (
+            &["--limit=rules=1", "--limit=rules=0"],
+            "  --limit rules=0: a number of rules and programs from 1 to 4294967295 is wanted",
+        ),
+        (
+            &["--limit", "silence=2s"],
+            "  --limit silence=2s: a number of seconds from 1 to 4294967295 is wanted",
+        ),
+        (
+            &["--limit", "names"],
+            "  --limit names: NAME=N is wanted, NAME one of rules, instructions, names, messages, bytes, unfinished, silence, newcomers, hello",
         ),
         (
             &["--print-address", "2"],

@@ -108,6 +108,12 @@ pub(crate) static COMMANDS: [CommandHelp; 7] = [
                 is_required: false,
                 text: "End after N connections have come and gone",
             },
+            ArgumentHelp {
+                name: "limit",
+                form: Form::Value("NAME=N"),
+                is_required: false,
+                text: "Sets a limit: rules, instructions, names, messages, bytes, unfinished, silence, newcomers, hello",
+            },
         ],
     },
     CommandHelp {
