@@ -2,10 +2,10 @@
 
 ghost use Rattle.std.specs.Prelude.{◌≡◌};
 
-use crate::fixture::{S1, connect_pass, new_bus};
-use crate::letters::{attach_to_all, connect_with, expect_letters, new_letterbox, route_s1};
-use bytes::Bytes;
-use message_view::View;
+use crate::fixture::{new_bus, read_message, s1_bytes};
+use crate::letters::{
+    attach_to_all, connect, connect_with, expect_letters, new_letterbox, route_s1,
+};
 use published::{Naming, Opened};
 use router::{Bus, Letterbox, Pass, Source};
 use routing::Gate;
@@ -46,7 +46,7 @@ fn route_and_close<J: Naming, R: Wait + Abort>(rt: &R, alloc: Global, opened: Op
     let bus = new_bus::<J, R>(rt, alloc, opened);
     let stays = new_letterbox(rt, alloc);
     let goes = new_letterbox(rt, alloc);
-    let mut one = connect_pass(rt, &bus, new_letterbox(rt, alloc));
+    let mut one = connect(rt, alloc, &bus);
     let mut second_pass = connect_with(rt, &bus, &stays);
     attach_to_all(rt, alloc, &bus, &mut second_pass);
     let mut three = connect_with(rt, &bus, &goes);
@@ -78,8 +78,8 @@ fn close_between<J: Naming, R: Wait + Abort>(
         pass: Cell::new(Some(other)),
         closed: Cell::new(false),
     };
-    let view = View::read(&S1).expect(rt, "a message");
-    let bytes = Bytes::from_static(&S1);
+    let bytes = s1_bytes();
+    let view = read_message(rt, bytes.as_slice());
     let refused = bus
         .route_gated(rt, alloc, pass, Source::Own, &view, &bytes, &gate)
         .expect(rt, "a count");

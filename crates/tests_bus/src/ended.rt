@@ -2,9 +2,8 @@
 
 ghost use Rattle.std.specs.Prelude.{◌≡◌};
 
-use crate::fixture::{S1, connect_pass, expect_recipients, name_a, new_bus};
-use crate::letters::new_letterbox;
-use message_view::View;
+use crate::fixture::{expect_recipients, name_a, new_bus, read_message, s1_bytes};
+use crate::letters::connect;
 use published::{Naming, Opened};
 use router::{BusError, Letterbox, Pass, Source};
 use std::alloc::Global;
@@ -35,14 +34,15 @@ fn survivor<J: Naming, R: Wait + Abort>(
     requires { opened ≡ J.book }
 {
     let bus = new_bus::<J, R>(rt, alloc, opened);
-    let mut pass = connect_pass(rt, &bus, new_letterbox(rt, alloc));
+    let mut pass = connect(rt, alloc, &bus);
     expect_recipients(rt, &mut pass, &[]);
     pass
 }
 
 // Each look at the published state is Closed.
 fn expect_end<J: Naming, R: Abort>(rt: &R, alloc: Global, pass: &mut Pass<J, Letterbox>) {
-    let view = View::read(&S1).expect(rt, "a message");
+    let bytes = s1_bytes();
+    let view = read_message(rt, bytes.as_slice());
     let found = pass.recipients(Source::Bus, &view);
     assert_eq!(rt; found.err(), Some(BusError::Closed));
     let name = name_a(rt);

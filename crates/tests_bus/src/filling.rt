@@ -1,10 +1,9 @@
 // Outboxes: what no contract says, that a put is refused only by an outbox that is full or shut.
 
-ghost use Rattle.std.specs.Prelude.{◌≡◌};
+ghost use Rattle.std.specs.Prelude.{◌≡◌, false};
 
-use crate::outboxes::new_taker;
-use bytes::Bytes;
-use outbox::{Item, Outbox, ROOM, Releases};
+use crate::outboxes::{expect_next, expect_none, new_bytes, new_outbox, new_taker};
+use outbox::{Item, Outbox, ROOM, Releases, Taker};
 use std::alloc::Global;
 use std::mem::forget;
 use std::process::Abort;
@@ -13,7 +12,7 @@ use std::sync::Wait;
 fn unicast<R: Abort>(rt: &R, alloc: Global) -> Item
     ensures { result.mark ≡ None }
 {
-    Item::new(alloc, Bytes::from_static(b"signal")).expect(rt, "memory")
+    Item::new(alloc, new_bytes(b"signal")).expect(rt, "memory")
 }
 
 // Whether an outbox takes as many messages as it holds, and then shuts.
@@ -31,10 +30,6 @@ fn fills_and_shuts<R: Wait + Abort>(rt: &R, alloc: Global, outbox: &Outbox) -> b
     was_open && is_refused && has_oldest && stays_refused && outbox.is_shut(&mut seat)
 }
 
-fn new_outbox<R: Abort>(rt: &R, alloc: Global) -> Outbox {
-    Outbox::new(alloc).expect(rt, "an outbox")
-}
-
 #[test]
 fn full_outbox(rt: HostRuntime) {
     let outbox = new_outbox(&rt, rt.alloc());
@@ -44,23 +39,33 @@ fn full_outbox(rt: HostRuntime) {
 
 // What one handle puts, the other takes: a broadcast once it is released.
 fn exchange<R: Wait + Abort>(rt: &R, alloc: Global, outbox: &Outbox, other: &Outbox) {
-    let mut seat = outbox.seat();
     let mut taker = new_taker(rt, other);
     let mut releases = Releases::new(alloc).expect(rt, "memory");
-    let bytes = Bytes::from_static(b"signal");
+    put_one(rt, alloc, outbox, &mut releases, &mut taker);
+    expect_none(rt, &mut taker);
+    releases.release();
+    expect_next(rt, &mut taker, Some((7, 5)));
+    expect_none(rt, &mut taker);
+}
+
+// Puts a broadcast, which the taker isn't given.
+fn put_one<R: Wait + Abort>(
+    rt: &R,
+    alloc: Global,
+    outbox: &Outbox,
+    releases: &mut Releases,
+    taker: &mut Taker,
+)
+    requires { releases.old.is_putting ≡ false }
+    ensures { releases.new.is_putting ≡ false }
+{
+    let mut seat = outbox.seat();
     let mut shares = releases
-        .begin(alloc, bytes, Some((7, 5)), 1)
+        .begin(alloc, new_bytes(b"signal"), Some((7, 5)), 1)
         .expect(rt, "memory");
     assert!(rt; outbox.put(rt, &mut seat, shares.next()).is_ok());
-    assert!(rt; taker.take(rt).is_none());
+    expect_none(rt, taker);
     releases.end(shares);
-    assert!(rt; taker.take(rt).is_none());
-    releases.release();
-    match taker.take(rt) {
-        Some(item) => assert_eq!(rt; item.mark(), Some((7, 5))),
-        None => panic!(rt; "nothing was put"),
-    }
-    assert!(rt; taker.take(rt).is_none());
 }
 
 #[test]

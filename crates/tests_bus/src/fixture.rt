@@ -4,6 +4,8 @@
 
 ghost use Rattle.std.specs.Prelude.{◌≡◌};
 
+use crate::outboxes::new_bytes;
+use bytes::Bytes;
 use entry_table::IndexKey;
 use message_view::View;
 use owners::{Change, NameReply, Named, WellKnown};
@@ -20,7 +22,7 @@ pub(crate) const KEY: IndexKey = IndexKey {
 };
 
 /// A signal of the path `/a`, the interface `a.b` and the member `c`.
-pub(crate) const S1: [u8; 64] = [
+const S1: [u8; 64] = [
     0x6c, 4, 0, 1, 0, 0, 0, 0, 1, 0, 0, 0, 0x2a, 0, 0, 0, 1, 1, b'o', 0, 2, 0, 0, 0, b'/', b'a', 0,
     0, 0, 0, 0, 0, 2, 1, b's', 0, 3, 0, 0, 0, b'a', b'.', b'b', 0, 0, 0, 0, 0, 3, 1, b's', 0, 1, 0,
     0, 0, b'c', 0, 0, 0, 0, 0, 0, 0,
@@ -28,6 +30,23 @@ pub(crate) const S1: [u8; 64] = [
 
 /// A rule that holds of S1.
 pub(crate) const MEMBER_C: &str = "member='c'";
+
+/// The bytes of S1. Nothing is promised of them.
+pub(crate) fn s1_bytes() -> Bytes {
+    new_bytes(&S1)
+}
+
+/// The message that these bytes are.
+pub(crate) fn read_message<'a, R: Abort>(rt: &R, bytes: &'a [u8]) -> View<'a>
+    ensures { result ≡ bytes.entry.now }
+{
+    View::read(bytes).expect(rt, "a message")
+}
+
+// A name. Nothing is promised of it.
+fn read_name<R: Abort>(rt: &R, text: &str) -> WellKnown {
+    WellKnown::read(text).expect(rt, "a name")
+}
 
 /// A bus to which nobody is connected.
 pub(crate) fn new_bus<J: Naming, R: Wait + Abort>(
@@ -55,11 +74,11 @@ pub(crate) fn connect_pass<J: Naming, R: Wait + Abort>(
 
 /// The name that the tests ask for.
 pub(crate) fn name_a<R: Abort>(rt: &R) -> WellKnown {
-    WellKnown::read("com.example.A").expect(rt, "a name")
+    read_name(rt, "com.example.A")
 }
 
 /// What a request is answered by which a connection becomes the primary owner.
-pub(crate) fn owner_reply(name: &WellKnown, old: Option<u64>, new: u64) -> Reply {
+fn owner_reply(name: &WellKnown, old: Option<u64>, new: u64) -> Reply {
     Reply::Name(Named {
         answer: NameReply::PrimaryOwner,
         change: Some(Change {
@@ -80,15 +99,61 @@ pub(crate) fn expect_error<R: Abort>(rt: &R, answer: Result<Reply, BusError>, wa
     assert_eq!(rt; answer, Err(wanted));
 }
 
+/// Adds a rule, which is the entry of this id then.
+pub(crate) fn add_rule<J: Naming, R: Wait + Abort>(
+    rt: &R,
+    alloc: Global,
+    bus: &Bus<J, Letterbox, &R>,
+    pass: &mut Pass<J, Letterbox>,
+    rule: &str,
+    id: u32,
+) {
+    let added = bus.add_match(rt, alloc, pass, rule);
+    expect_reply(rt, added, Reply::Entry(id));
+}
+
+/// Asks for a name, whose primary owner the connection `new` then is, after `old`.
+pub(crate) fn own<J: Naming, R: Wait + Abort>(
+    rt: &R,
+    bus: &Bus<J, Letterbox, &R>,
+    pass: &mut Pass<J, Letterbox>,
+    name: &WellKnown,
+    flags: u32,
+    old: Option<u64>,
+    new: u64,
+) {
+    let asked = bus.request_name(rt, pass, name, flags);
+    expect_reply(rt, asked, owner_reply(name, old, new));
+}
+
+/// Closes the connection.
+pub(crate) fn close<J: Naming, R: Wait + Abort>(
+    rt: &R,
+    bus: &Bus<J, Letterbox, &R>,
+    pass: &mut Pass<J, Letterbox>,
+) {
+    expect_reply(rt, bus.close(rt, pass), Reply::Done);
+}
+
 /// The recipients of S1 as a broadcast of the pass.
 pub(crate) fn expect_recipients<J: Naming, R: Abort>(
     rt: &R,
     pass: &mut Pass<J, Letterbox>,
     wanted: &[u64],
 ) {
-    let view = View::read(&S1).expect(rt, "a message");
-    let found = pass
-        .recipients(Source::Own, &view)
-        .expect(rt, "the recipients");
+    let bytes = s1_bytes();
+    expect_recipients_of(rt, pass, Source::Own, bytes.as_slice(), wanted);
+}
+
+/// The recipients of a broadcast of this source, whose bytes these are.
+pub(crate) fn expect_recipients_of<J: Naming, R: Abort>(
+    rt: &R,
+    pass: &mut Pass<J, Letterbox>,
+    source: Source,
+    bytes: &[u8],
+    wanted: &[u64],
+) {
+    let view = read_message(rt, bytes);
+    let found = pass.recipients(source, &view).expect(rt, "the recipients");
     assert_eq!(rt; found.as_slice(), wanted);
 }

@@ -1,10 +1,8 @@
 //! Passes whose messages stand in outboxes, and what is put there.
 
-use crate::fixture::{S1, connect_pass};
+use crate::fixture::{connect_pass, read_message, s1_bytes};
 use crate::outboxes::take_all;
 use bpf_code::Ins;
-use bytes::Bytes;
-use message_view::View;
 use program_table::Mailbox;
 use published::Naming;
 use router::{Bus, Letterbox, Pass, Sent, Source};
@@ -19,6 +17,15 @@ pub(crate) fn new_letterbox<R: Abort>(rt: &R, alloc: Global) -> Letterbox {
     Letterbox::new(alloc).expect(rt, "a letterbox")
 }
 
+/// A pass with the next connection, into whose letterbox no test looks.
+pub(crate) fn connect<J: Naming, R: Wait + Abort>(
+    rt: &R,
+    alloc: Global,
+    bus: &Bus<J, Letterbox, &R>,
+) -> Pass<J, Letterbox> {
+    connect_pass(rt, bus, new_letterbox(rt, alloc))
+}
+
 /// A pass with the next connection, whose messages go to the letterbox.
 pub(crate) fn connect_with<J: Naming, R: Wait + Abort>(
     rt: &R,
@@ -29,13 +36,8 @@ pub(crate) fn connect_with<J: Naming, R: Wait + Abort>(
     connect_pass(rt, bus, mailbox)
 }
 
-/// Attaches the program `ret #1`, which matches each broadcast.
-pub(crate) fn attach_to_all<J: Naming, R: Wait + Abort>(
-    rt: &R,
-    alloc: Global,
-    bus: &Bus<J, Letterbox, &R>,
-    pass: &mut Pass<J, Letterbox>,
-) {
+// `ret #1`
+fn return_one<R: Abort>(rt: &R, alloc: Global) -> Vec<Ins> {
     let mut program = Vec::new(alloc);
     let ins = Ins {
         code: 6,
@@ -44,6 +46,17 @@ pub(crate) fn attach_to_all<J: Naming, R: Wait + Abort>(
         k: 1,
     };
     program.push(ins).expect(rt, "memory");
+    program
+}
+
+/// Attaches the program `ret #1`, which matches each broadcast.
+pub(crate) fn attach_to_all<J: Naming, R: Wait + Abort>(
+    rt: &R,
+    alloc: Global,
+    bus: &Bus<J, Letterbox, &R>,
+    pass: &mut Pass<J, Letterbox>,
+) {
+    let program = return_one(rt, alloc);
     let attached = bus.attach(rt, alloc, pass, Edition::Two, program);
     assert!(rt; attached.is_ok());
 }
@@ -56,8 +69,8 @@ pub(crate) fn route_s1<J: Naming, R: Wait + Abort>(
     pass: &mut Pass<J, Letterbox>,
     refusing: &[u64],
 ) {
-    let view = View::read(&S1).expect(rt, "a message");
-    let bytes = Bytes::from_static(&S1);
+    let bytes = s1_bytes();
+    let view = read_message(rt, bytes.as_slice());
     let refused = bus
         .route(rt, alloc, pass, Source::Own, &view, &bytes)
         .expect(rt, "a count");
@@ -73,7 +86,7 @@ pub(crate) fn send_s1<J: Naming, R: Wait + Abort>(
     to: &str,
     wanted: Sent,
 ) {
-    let bytes = Bytes::from_static(&S1);
+    let bytes = s1_bytes();
     let sent = bus
         .unicast(rt, alloc, pass, to, &bytes)
         .expect(rt, "an answer");

@@ -2,12 +2,10 @@
 
 ghost use Rattle.std.specs.Prelude.{◌≡◌};
 
-use crate::fixture::{MEMBER_C, S1, connect_pass, expect_reply, new_bus};
-use crate::letters::new_letterbox;
-use message_view::View;
-use program_table::Reply;
+use crate::fixture::{MEMBER_C, add_rule, expect_recipients, new_bus};
+use crate::letters::connect;
 use published::{Front, Naming, Opened};
-use router::{Letterbox, Pass, Source};
+use router::{Letterbox, Pass};
 use std::alloc::Global;
 use std::marker::Brand;
 use std::mem::forget;
@@ -20,7 +18,7 @@ fn meeting(rt: HostRuntime) {
     meet::<Brand, _>(&rt, rt.alloc(), Opened::<Letterbox>::new());
 }
 
-fn meet<J: Naming + Send + Sync, R: Wait + Threads + Abort>(
+fn meet<J: Naming + Send + Sync, R: Wait + Threads + Sync + Abort>(
     rt: &R,
     alloc: Global,
     opened: Opened<Letterbox>,
@@ -28,31 +26,31 @@ fn meet<J: Naming + Send + Sync, R: Wait + Threads + Abort>(
     requires { opened ≡ J.book }
 {
     let bus = new_bus::<J, R>(rt, alloc, opened);
-    let mut one = connect_pass(rt, &bus, new_letterbox(rt, alloc));
-    let second_pass = connect_pass(rt, &bus, new_letterbox(rt, alloc));
-    let added = bus.add_match(rt, alloc, &mut one, MEMBER_C);
-    expect_reply(rt, added, Reply::Entry(1));
+    let mut one = connect(rt, alloc, &bus);
+    let mut second_pass = connect(rt, alloc, &bus);
+    add_rule(rt, alloc, &bus, &mut one, MEMBER_C, 1);
     let told_history = bus.tell(rt, &mut one).expect(rt, "the history");
-    let (found, _) = join(
-        rt,
-        move || learn_and_look(second_pass, &told_history),
-        || (),
-    );
-    assert_eq!(rt; found, Some(1));
+    look_in_a_thread(rt, &mut second_pass, &told_history);
     forget(one);
+    forget(second_pass);
+    forget(told_history);
     forget(bus);
 }
 
-// The one recipient of S1 that a pass finds once it was told.
-fn learn_and_look<J: Naming>(
-    mut pass: Pass<J, Letterbox>,
+fn look_in_a_thread<J: Naming + Send + Sync, R: Threads + Sync + Abort>(
+    rt: &R,
+    pass: &mut Pass<J, Letterbox>,
     told_history: &Front<J, Letterbox>,
-) -> Option<u64> {
+) {
+    let _ = join(rt, || learn_and_look(rt, pass, told_history), || ());
+}
+
+// The one recipient of S1 that a pass finds once it was told.
+fn learn_and_look<J: Naming, R: Abort>(
+    rt: &R,
+    pass: &mut Pass<J, Letterbox>,
+    told_history: &Front<J, Letterbox>,
+) {
     pass.learn(told_history);
-    let view = View::read(&S1).ok()?;
-    let found = pass.recipients(Source::Own, &view).ok()?;
-    match found.as_slice() {
-        [only] => Some(*only),
-        _ => None,
-    }
+    expect_recipients(rt, pass, &[1]);
 }

@@ -2,11 +2,10 @@
 
 ghost use Rattle.std.specs.Prelude.{◌≡◌};
 
-use crate::fixture::{S1, connect_pass, expect_reply, name_a, new_bus, owner_reply};
+use crate::fixture::{name_a, new_bus, own, read_message, s1_bytes};
 use crate::letters::{
-    attach_to_all, connect_with, expect_letters, new_letterbox, route_s1, send_s1,
+    attach_to_all, connect, connect_with, expect_letters, new_letterbox, route_s1, send_s1,
 };
-use message_view::View;
 use outbox::ROOM;
 use published::{Naming, Opened};
 use router::{Bus, Letterbox, Pass, Sent};
@@ -42,7 +41,8 @@ fn route_to_itself<J: Naming, R: Wait + Abort>(rt: &R, alloc: Global, opened: Op
 
 // Whether S1 is for anybody.
 fn expect_reach<J: Naming, R: Abort>(rt: &R, pass: &mut Pass<J, Letterbox>, wanted: bool) {
-    let view = View::read(&S1).expect(rt, "a message");
+    let bytes = s1_bytes();
+    let view = read_message(rt, bytes.as_slice());
     assert_eq!(rt; pass.may_reach(&view).expect(rt, "an answer"), wanted);
 }
 
@@ -56,12 +56,11 @@ fn own_and_send<J: Naming, R: Wait + Abort>(rt: &R, alloc: Global, opened: Opene
 {
     let bus = new_bus::<J, R>(rt, alloc, opened);
     let letterbox = new_letterbox(rt, alloc);
-    let mut one = connect_pass(rt, &bus, new_letterbox(rt, alloc));
+    let mut one = connect(rt, alloc, &bus);
     let mut second_pass = connect_with(rt, &bus, &letterbox);
     send_s1(rt, alloc, &bus, &mut one, "com.example.A", Sent::NoOwner);
     let name = name_a(rt);
-    let requested = bus.request_name(rt, &mut second_pass, &name, 0);
-    expect_reply(rt, requested, owner_reply(&name, None, 2));
+    own(rt, &bus, &mut second_pass, &name, 0, None, 2);
     send_to_each_name(rt, alloc, &bus, &mut one);
     expect_letters(rt, alloc, &letterbox, 2);
     forget(one);
@@ -77,12 +76,16 @@ fn send_to_each_name<J: Naming, R: Wait + Abort>(
     bus: &Bus<J, Letterbox, &R>,
     pass: &mut Pass<J, Letterbox>,
 ) {
-    send_s1(rt, alloc, bus, pass, "com.example.A", Sent::Put);
-    send_s1(rt, alloc, bus, pass, ":1.2", Sent::Put);
-    send_s1(rt, alloc, bus, pass, ":1.02", Sent::NoOwner);
-    send_s1(rt, alloc, bus, pass, ":1.3", Sent::NoOwner);
-    send_s1(rt, alloc, bus, pass, ":1.+2", Sent::NoOwner);
-    send_s1(rt, alloc, bus, pass, "com.example.B", Sent::NoOwner);
+    for (name, wanted) in [
+        ("com.example.A", Sent::Put),
+        (":1.2", Sent::Put),
+        (":1.02", Sent::NoOwner),
+        (":1.3", Sent::NoOwner),
+        (":1.+2", Sent::NoOwner),
+        ("com.example.B", Sent::NoOwner),
+    ] {
+        send_s1(rt, alloc, bus, pass, name, wanted);
+    }
 }
 
 #[test]

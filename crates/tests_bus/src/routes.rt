@@ -1,8 +1,9 @@
 // Senders: what no contract says, that a put is made and with which bytes, and calls from several threads.
 
-use crate::outboxes::{count_in_order, new_taker, take_all};
+use crate::outboxes::{
+    expect_both_in_order, expect_next, expect_none, new_bytes, new_outbox, new_taker, take_all,
+};
 use arrayvec::ArrayVec;
-use bytes::Bytes;
 use outbox::{Delivery, Outbox, Taker};
 use routing::{Carrier, Gate, Recipient, Sender, Sent};
 use std::alloc::Global;
@@ -34,10 +35,6 @@ impl Carrier for Line {
     }
 }
 
-fn new_outbox<R: Abort>(rt: &R, alloc: Global) -> Outbox {
-    Outbox::new(alloc).expect(rt, "an outbox")
-}
-
 fn new_count<R: Abort>(rt: &R, alloc: Global) -> Rc<Cell<u32>> {
     Rc::new(alloc, Cell::new(0)).expect(rt, "a count")
 }
@@ -66,7 +63,7 @@ fn sender_to<R: Abort>(rt: &R, alloc: Global, outbox: &Outbox) -> Sender<Line> {
 
 // Routes a broadcast to the recipient 3, and says whether it was put.
 fn send_one<R: Wait>(rt: &R, alloc: Global, sender: &mut Sender<Line>) -> bool {
-    let bytes = Bytes::from_static(b"signal");
+    let bytes = new_bytes(b"signal");
     if !sender.has(3) {
         return false;
     }
@@ -112,17 +109,13 @@ fn order_of_two_origins(rt: HostRuntime) {
     let alloc = rt.alloc();
     let outbox = new_outbox(&rt, alloc);
     send_at_once(&rt, alloc, &outbox);
-    let items = take_all(&rt, alloc, &outbox);
-    assert_eq!(rt; items.len(), 200);
-    assert_eq!(rt; count_in_order(items.as_slice(), 1), BROADCASTS);
-    assert_eq!(rt; count_in_order(items.as_slice(), 2), BROADCASTS);
-    forget(items);
+    expect_both_in_order(&rt, alloc, &outbox, BROADCASTS);
     forget(outbox);
 }
 
 // Routes one more broadcast to two recipients, of which the first refuses it.
 fn refuse_one<R: Wait + Abort>(rt: &R, alloc: Global, sender: &mut Sender<Line>) {
-    let bytes = Bytes::from_static(b"one more");
+    let bytes = new_bytes(b"one more");
     assert!(rt; sender.has(3));
     assert!(rt; sender.has(5));
     let refused = sender
@@ -179,7 +172,7 @@ fn full_outbox(rt: HostRuntime) {
 }
 
 fn reply<R: Wait + Abort>(rt: &R, alloc: Global, sender: &mut Sender<Line>, wanted: Sent) {
-    let bytes = Bytes::from_static(b"reply");
+    let bytes = new_bytes(b"reply");
     assert!(rt; sender.has(3));
     let sent = sender.unicast(rt, alloc, 3, &bytes).expect(rt, "memory");
     assert_eq!(rt; sent, wanted);
@@ -252,7 +245,7 @@ impl Gate for Calls {
 }
 
 fn route_at_gate<R: Wait + Abort>(rt: &R, alloc: Global, sender: &mut Sender<Line>, calls: &Calls) {
-    let bytes = Bytes::from_static(b"signal");
+    let bytes = new_bytes(b"signal");
     assert!(rt; sender.has(3));
     let mut refused = ArrayVec::new();
     sender
@@ -303,7 +296,7 @@ fn route_and_look<R: Wait + Abort>(
         outbox,
         has_given: Cell::new(true),
     };
-    let bytes = Bytes::from_static(b"signal");
+    let bytes = new_bytes(b"signal");
     assert!(rt; sender.has(3));
     assert!(rt; sender.has(5));
     let mut refused = ArrayVec::new();
@@ -328,11 +321,6 @@ fn held_until_the_last_put(rt: HostRuntime) {
     forget(last);
 }
 
-fn expect_next<R: Wait + Abort>(rt: &R, taker: &mut Taker, mark: Option<(u64, u64)>) {
-    let delivery = taker.take(rt).expect(rt, "a message");
-    assert_eq!(rt; delivery.mark(), mark);
-}
-
 // What is held is given out together, in the order in which it was put.
 #[test]
 fn released_together(rt: HostRuntime) {
@@ -343,7 +331,7 @@ fn released_together(rt: HostRuntime) {
     sender.hold();
     reply(&rt, alloc, &mut sender, Sent::Put);
     expect_sent(&rt, alloc, &mut sender, 1, 1);
-    assert!(rt; taker.take(&rt).is_none());
+    expect_none(&rt, &mut taker);
     sender.release();
     expect_next(&rt, &mut taker, None);
     expect_next(&rt, &mut taker, Some((1, 1)));
@@ -363,7 +351,7 @@ fn waits_behind_a_held_message(rt: HostRuntime) {
     sender.hold();
     expect_sent(&rt, alloc, &mut sender, 1, 1);
     reply(&rt, alloc, &mut other, Sent::Put);
-    assert!(rt; taker.take(&rt).is_none());
+    expect_none(&rt, &mut taker);
     sender.push_out(&rt);
     expect_next(&rt, &mut taker, Some((1, 1)));
     expect_next(&rt, &mut taker, None);

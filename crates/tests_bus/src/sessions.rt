@@ -2,8 +2,8 @@
 
 ghost use Rattle.std.specs.Prelude.{◌≡◌};
 
-use crate::fixture::{connect_pass, expect_error, expect_reply, new_bus};
-use crate::letters::new_letterbox;
+use crate::fixture::{expect_error, expect_reply, new_bus};
+use crate::letters::{connect, new_letterbox};
 use program_table::Reply;
 use published::{Naming, Opened};
 use router::{Bus, BusError, Letterbox};
@@ -53,7 +53,7 @@ fn connect_all<J: Naming, R: Wait + Abort>(rt: &R, alloc: Global, opened: Opened
 {
     let bus = new_bus::<J, R>(rt, alloc, opened);
     for _ in 0..256 {
-        forget(connect_pass(rt, &bus, new_letterbox(rt, alloc)));
+        forget(connect(rt, alloc, &bus));
     }
     let mut pass = bus.pass(rt).expect(rt, "a pass");
     let last = bus.connect(rt, &mut pass, new_letterbox(rt, alloc));

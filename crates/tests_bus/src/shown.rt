@@ -2,10 +2,9 @@
 
 ghost use Rattle.std.specs.Prelude.{◌≡◌};
 
-use crate::fixture::KEY;
+use crate::fixture::{KEY, name_a};
 use crate::letters::new_letterbox;
-use owners::WellKnown;
-use program_table::{Command, Refusal, Reply};
+use program_table::{BusState, Command, Refusal, Reply};
 use published::{Naming, Opened, Publisher, Sight};
 use router::Letterbox;
 use std::alloc::Global;
@@ -36,9 +35,18 @@ fn told_and_entered<J: Naming, R: Wait + Abort>(rt: &R, alloc: Global, opened: O
     forget(bus);
 }
 
+// What a command is answered. It promises nothing, so that a test's body carries none of the command's clauses.
+fn publish<J: Naming, R: Wait + Abort>(
+    rt: &R,
+    publisher: &mut Publisher<J, Letterbox, &R>,
+    command: Command<Letterbox>,
+) -> Reply {
+    publisher.publish(command).expect(rt, "a reply")
+}
+
 // A command that is refused isn't published.
 fn refuse<J: Naming, R: Wait + Abort>(rt: &R, publisher: &mut Publisher<J, Letterbox, &R>) {
-    let reply = publisher.publish(Command::Close(1)).expect(rt, "a reply");
+    let reply = publish(rt, publisher, Command::Close(1));
     assert_eq!(rt; reply, Reply::Refused(Refusal::Closed));
     assert_eq!(rt; publisher.commands(), 0);
 }
@@ -49,15 +57,19 @@ fn publish_two<J: Naming, R: Wait + Abort>(
     letterbox: Letterbox,
     publisher: &mut Publisher<J, Letterbox, &R>,
 ) {
-    let _ = publisher
-        .publish(Command::Connect(letterbox))
-        .expect(rt, "a reply");
-    let name = WellKnown::read("com.example.A").expect(rt, "a name");
-    let _ = publisher
-        .publish(Command::Request(1, name, 0))
-        .expect(rt, "a reply");
+    let _ = publish(rt, publisher, Command::Connect(letterbox));
+    let _ = publish(rt, publisher, Command::Request(1, name_a(rt), 0));
     assert_eq!(rt; publisher.commands(), 2);
     assert_eq!(rt; publisher.commands_of(1), 2);
+}
+
+// Who owns the name of these tests.
+fn owner_in(state: &BusState<Letterbox>) -> Option<u64> {
+    owner_of(state, "com.example.A")
+}
+
+fn owner_of(state: &BusState<Letterbox>, name: &str) -> Option<u64> {
+    state.owner_of(name)
 }
 
 // A reader that enters sees both.
@@ -69,7 +81,7 @@ fn enter<J: Naming, R: Abort>(rt: &R, mut reader: Sight<J, Letterbox>) {
         reader.leave(again);
         panic!(rt; "a second visit was let in");
     }
-    let owner = visit.state().owner_of("com.example.A");
+    let owner = owner_in(visit.state());
     reader.leave(visit);
     assert_eq!(rt; owner, Some(1));
     assert_eq!(rt; reader.history().len(), 2);
@@ -82,7 +94,7 @@ fn learn<J: Naming, R: Wait + Abort>(
     publisher: &Publisher<J, Letterbox, &R>,
     mut reader: Sight<J, Letterbox>,
 ) {
-    assert_eq!(rt; publisher.state().owner_of("com.example.A"), Some(1));
+    assert_eq!(rt; owner_in(publisher.state()), Some(1));
     let told_history = publisher.tell(reader.history()).expect(rt, "the history");
     reader.learn(&told_history);
     assert_eq!(rt; reader.history().len(), 2);

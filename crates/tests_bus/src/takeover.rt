@@ -2,14 +2,11 @@
 
 ghost use Rattle.std.specs.Prelude.{◌≡◌};
 
-use crate::fixture::{
-    S1, connect_pass, expect_recipients, expect_reply, name_a, new_bus, owner_reply,
-};
-use crate::letters::{connect_with, new_letterbox, send_s1};
+use crate::fixture::{add_rule, close, expect_recipients, name_a, new_bus, own, s1_bytes};
+use crate::letters::{connect, connect_with, new_letterbox, send_s1};
 use crate::outboxes::take_all;
 use crate::workers::expect_by_workers;
 use owners::WellKnown;
-use program_table::Reply;
 use published::{Naming, Opened};
 use router::{Letterbox, Pass, Sent};
 use routing::Carrier;
@@ -30,24 +27,21 @@ fn take_over<J: Naming, R: Wait + Threads + Abort>(rt: &R, alloc: Global, opened
 {
     let bus = new_bus::<J, R>(rt, alloc, opened);
     let letterbox = new_letterbox(rt, alloc);
-    let mut one = connect_pass(rt, &bus, new_letterbox(rt, alloc));
+    let mut one = connect(rt, alloc, &bus);
     let mut second_pass = connect_with(rt, &bus, &letterbox);
-    let mut three = connect_pass(rt, &bus, new_letterbox(rt, alloc));
-    let added = bus.add_match(rt, alloc, &mut three, "sender='com.example.A'");
-    expect_reply(rt, added, Reply::Entry(1));
+    let mut three = connect(rt, alloc, &bus);
+    add_rule(rt, alloc, &bus, &mut three, "sender='com.example.A'", 1);
     let name = name_a(rt);
-    let first = bus.request_name(rt, &mut one, &name, 1);
-    expect_reply(rt, first, owner_reply(&name, None, 1));
+    own(rt, &bus, &mut one, &name, 1, None, 1);
     expect_each_way(rt, &mut one, &[3]);
     expect_each_way(rt, &mut second_pass, &[]);
-    let second = bus.request_name(rt, &mut second_pass, &name, 2);
-    expect_reply(rt, second, owner_reply(&name, Some(1), 2));
+    own(rt, &bus, &mut second_pass, &name, 2, Some(1), 2);
     expect_each_way(rt, &mut one, &[]);
     expect_each_way(rt, &mut second_pass, &[3]);
     look_up(rt, alloc, &mut one, &name);
     send_s1(rt, alloc, &bus, &mut one, "com.example.A", Sent::Put);
     expect_s1(rt, alloc, &letterbox);
-    expect_reply(rt, bus.close(rt, &mut second_pass), Reply::Done);
+    close(rt, &bus, &mut second_pass);
     expect_each_way(rt, &mut one, &[3]);
     forget(one);
     forget(second_pass);
@@ -63,9 +57,9 @@ fn expect_each_way<J: Naming, R: Wait + Threads + Abort>(
     wanted: &[u64],
 ) {
     expect_recipients(rt, pass, wanted);
-    expect_by_workers(rt, pass, 1, wanted);
-    expect_by_workers(rt, pass, 2, wanted);
-    expect_by_workers(rt, pass, 16, wanted);
+    for workers in [1, 2, 16] {
+        expect_by_workers(rt, pass, workers, wanted);
+    }
 }
 
 // The second of three connections owns the one name, and the first waits for it.
@@ -75,11 +69,42 @@ fn look_up<J: Naming, R: Abort>(
     pass: &mut Pass<J, Letterbox>,
     name: &WellKnown,
 ) {
-    assert_eq!(rt; pass.owner_of(name), Ok(Some(2)));
+    expect_owner(rt, pass, name, Some(2));
+    expect_queue(rt, alloc, pass, name, &[2, 1]);
+    expect_names(rt, alloc, pass, name, &[1, 2, 3]);
+}
+
+fn expect_owner<J: Naming, R: Abort>(
+    rt: &R,
+    pass: &mut Pass<J, Letterbox>,
+    name: &WellKnown,
+    wanted: Option<u64>,
+) {
+    assert_eq!(rt; pass.owner_of(name), Ok(wanted));
+}
+
+// These have a claim on the name, the owner first.
+fn expect_queue<J: Naming, R: Abort>(
+    rt: &R,
+    alloc: Global,
+    pass: &mut Pass<J, Letterbox>,
+    name: &WellKnown,
+    wanted: &[u64],
+) {
     let queue = pass.queued_owners(alloc, name).expect(rt, "the queue");
-    assert_eq!(rt; queue.as_slice(), [2, 1].as_slice());
+    assert_eq!(rt; queue.as_slice(), wanted);
+}
+
+// These are connected, and the name is the only one that is owned.
+fn expect_names<J: Naming, R: Abort>(
+    rt: &R,
+    alloc: Global,
+    pass: &mut Pass<J, Letterbox>,
+    name: &WellKnown,
+    connected: &[u64],
+) {
     let (numbers, names) = pass.names(alloc).expect(rt, "the names");
-    assert_eq!(rt; numbers.as_slice(), [1, 2, 3].as_slice());
+    assert_eq!(rt; numbers.as_slice(), connected);
     assert_eq!(rt; names.len(), 1);
     assert!(rt; names[0] == *name);
 }
@@ -88,6 +113,6 @@ fn look_up<J: Naming, R: Abort>(
 fn expect_s1<R: Wait + Abort>(rt: &R, alloc: Global, letterbox: &Letterbox) {
     let items = take_all(rt, alloc, letterbox.outbox());
     assert_eq!(rt; items.len(), 1);
-    assert_eq!(rt; items[0].bytes().as_slice(), S1.as_slice());
+    assert_eq!(rt; items[0].bytes().as_slice(), s1_bytes().as_slice());
     forget(items);
 }

@@ -2,9 +2,8 @@
 
 ghost use Rattle.std.specs.Prelude.{◌≡◌};
 
-use crate::fixture::{connect_pass, expect_reply, new_bus};
-use crate::letters::new_letterbox;
-use message_view::View;
+use crate::fixture::{add_rule, expect_recipients_of, expect_reply, new_bus};
+use crate::letters::connect;
 use program_table::Reply;
 use published::{Naming, Opened};
 use router::{Bus, Letterbox, Pass, Source};
@@ -36,8 +35,7 @@ fn subscribe_all<J: Naming, R: Wait + Abort>(rt: &R, alloc: Global, opened: Open
     for place in 2..250 {
         forget(subscriber(rt, alloc, &bus, place));
     }
-    let empty = bus.add_match(rt, alloc, &mut one, "");
-    expect_reply(rt, empty, Reply::Entry(1001));
+    add_rule(rt, alloc, &bus, &mut one, "", 1001);
     expect_found(rt, &mut one, &[1, 2]);
     let removed = bus.remove_match(rt, alloc, &mut second_pass, "member='m7'");
     expect_reply(rt, removed, Reply::Done);
@@ -54,7 +52,7 @@ fn subscriber<J: Naming, R: Wait + Abort>(
     bus: &Bus<J, Letterbox, &R>,
     place: u16,
 ) -> Pass<J, Letterbox> {
-    let mut pass = connect_pass(rt, bus, new_letterbox(rt, alloc));
+    let mut pass = connect(rt, alloc, bus);
     for number in 0..4 {
         subscribe(rt, alloc, bus, &mut pass, 4 * u32::from(place) + number);
     }
@@ -68,16 +66,17 @@ fn subscribe<J: Naming, R: Wait + Abort>(
     pass: &mut Pass<J, Letterbox>,
     member: u32,
 ) {
-    let text = format!(in alloc; "member='m{member}'").expect(rt, "a text");
-    let added = bus.add_match(rt, alloc, pass, text.as_str());
+    let rule = rule_of(rt, alloc, member);
+    let added = bus.add_match(rt, alloc, pass, rule.as_str());
     assert!(rt; added.is_ok());
+}
+
+// The rule of a member.
+fn rule_of<R: Abort>(rt: &R, alloc: Global, member: u32) -> String {
+    format!(in alloc; "member='m{member}'").expect(rt, "a text")
 }
 
 // The recipients of the bus's own broadcast with the member `m7`.
 fn expect_found<J: Naming, R: Abort>(rt: &R, pass: &mut Pass<J, Letterbox>, wanted: &[u64]) {
-    let view = View::read(&M7).expect(rt, "a message");
-    let found = pass
-        .recipients(Source::Bus, &view)
-        .expect(rt, "the recipients");
-    assert_eq!(rt; found.as_slice(), wanted);
+    expect_recipients_of(rt, pass, Source::Bus, &M7, wanted);
 }

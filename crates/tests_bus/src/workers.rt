@@ -2,10 +2,9 @@
 
 ghost use Rattle.std.specs.Prelude.{◌≡◌};
 
-use crate::fixture::{S1, connect_pass, new_bus};
-use crate::letters::new_letterbox;
+use crate::fixture::{new_bus, read_message, s1_bytes};
+use crate::letters::connect;
 use fan_out::{FanError, Gate};
-use message_view::View;
 use published::{Naming, Opened};
 use router::{BusError, Letterbox, Pass, Source};
 use std::alloc::Global;
@@ -63,7 +62,8 @@ pub(crate) fn expect_by_workers<J: Naming, R: Wait + Threads + Abort>(
     workers: u32,
     wanted: &[u64],
 ) {
-    let view = View::read(&S1).expect(rt, "a message");
+    let bytes = s1_bytes();
+    let view = read_message(rt, bytes.as_slice());
     let gate = open_gate();
     let found = pass
         .recipients_many(rt, Source::Own, &view, workers, &gate)
@@ -84,7 +84,7 @@ fn find_by_workers<J: Naming, R: Wait + Threads + Abort>(
     requires { opened ≡ J.book }
 {
     let bus = new_bus::<J, R>(rt, alloc, opened);
-    let mut pass = connect_pass(rt, &bus, new_letterbox(rt, alloc));
+    let mut pass = connect(rt, alloc, &bus);
     expect_both_at_once(rt, &mut pass);
     expect_refusal(rt, &mut pass, 0);
     expect_refusal(rt, &mut pass, 17);
@@ -97,7 +97,8 @@ fn expect_both_at_once<J: Naming, R: Wait + Threads + Abort>(
     rt: &R,
     pass: &mut Pass<J, Letterbox>,
 ) {
-    let view = View::read(&S1).expect(rt, "a message");
+    let bytes = s1_bytes();
+    let view = read_message(rt, bytes.as_slice());
     let gate = SecondFirst {
         second_done: AtomicBool::new(false),
         given_up: AtomicBool::new(false),
@@ -116,7 +117,8 @@ fn expect_refusal<J: Naming, R: Wait + Threads + Abort>(
     pass: &mut Pass<J, Letterbox>,
     workers: u32,
 ) {
-    let view = View::read(&S1).expect(rt, "a message");
+    let bytes = s1_bytes();
+    let view = read_message(rt, bytes.as_slice());
     let gate = open_gate();
     let found = pass.recipients_many(rt, Source::Own, &view, workers, &gate);
     assert_eq!(rt; found.err(), Some(BusError::Fan(FanError::Workers)));
