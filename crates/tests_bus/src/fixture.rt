@@ -31,7 +31,7 @@ const S1: [u8; 64] = [
 /// A rule that holds of S1.
 pub(crate) const MEMBER_C: &str = "member='c'";
 
-/// The bytes of S1. Nothing is promised of them, nor of a name: a proof that knows a literal reads it by the definitions.
+/// The bytes of S1. Nothing is promised of them.
 pub(crate) fn s1_bytes() -> Bytes {
     new_bytes(&S1)
 }
@@ -43,6 +43,7 @@ pub(crate) fn read_message<'a, R: Abort>(rt: &R, bytes: &'a [u8]) -> View<'a>
     View::read(bytes).expect(rt, "a message")
 }
 
+// A name. Nothing is promised of it.
 fn read_name<R: Abort>(rt: &R, text: &str) -> WellKnown {
     WellKnown::read(text).expect(rt, "a name")
 }

@@ -7,7 +7,7 @@ use std::mem::forget;
 use std::process::Abort;
 use std::sync::Wait;
 
-/// These bytes, of which nothing is promised, so that no other proof looks at each.
+/// These bytes, of which nothing is promised.
 pub(crate) fn new_bytes(bytes: &'static [u8]) -> Bytes {
     Bytes::from_static(bytes)
 }

@@ -35,7 +35,7 @@ fn told_and_entered<J: Naming, R: Wait + Abort>(rt: &R, alloc: Global, opened: O
     forget(bus);
 }
 
-// What a command is answered. Nothing is promised of that, so that a proof that knows the command doesn't work it out.
+// What a command is answered. It promises nothing, so that a test's body carries none of the command's clauses.
 fn publish<J: Naming, R: Wait + Abort>(
     rt: &R,
     publisher: &mut Publisher<J, Letterbox, &R>,

@@ -1,7 +1,8 @@
 // The fields of messages that are built.
 
+use crate::s1::read_message;
 use message_build::Builder;
-use message_view::{Kind, View};
+use message_view::Kind;
 use std::alloc::Global;
 use std::process::Abort;
 
@@ -27,7 +28,7 @@ fn builder_setters(rt: HostRuntime) {
     builder.destination(":1.2");
     builder.sender(":1.3");
     let bytes = finish(&rt, rt.alloc(), &builder);
-    let view = View::read(bytes.as_slice()).expect(&rt, "a message");
+    let view = read_message(&rt, bytes.as_slice());
     assert_eq!(rt; view.path(), Some("/b"));
     assert_eq!(rt; view.sender(), Some(":1.3"));
     assert_eq!(rt; view.destination(), Some(":1.2"));
@@ -39,7 +40,7 @@ fn answers(rt: HostRuntime) {
     builder.error_name("a.b");
     builder.reply_serial(7);
     let bytes = finish(&rt, rt.alloc(), &builder);
-    let view = View::read(bytes.as_slice()).expect(&rt, "a message");
+    let view = read_message(&rt, bytes.as_slice());
     assert_eq!(rt; view.error_name(), Some("a.b"));
     assert_eq!(rt; view.reply_serial(), Some(7));
 }

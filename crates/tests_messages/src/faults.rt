@@ -8,7 +8,12 @@ use std::alloc::Global;
 use std::fmt::Display;
 use std::process::Abort;
 
-fn expect_printed<R: Abort, D: Display + Drop>(rt: &R, alloc: Global, error: D, name: &str) {
+pub(crate) fn expect_printed<R: Abort, D: Display + Drop>(
+    rt: &R,
+    alloc: Global,
+    error: D,
+    name: &str,
+) {
     let printed = error.to_string(alloc).expect(rt, "memory");
     assert_eq!(rt; printed.as_str(), name);
 }

@@ -1,6 +1,6 @@
 // Each call of an image, its pieces and a summary.
 
-use crate::s1::S1;
+use crate::s1::s1_view;
 use message_view::View;
 use std::alloc::Global;
 use std::process::Abort;
@@ -53,28 +53,52 @@ fn bytes_of<R: Abort>(rt: &R, alloc: Global, len: usize, words: &[(usize, u32)])
 
 #[test]
 fn s1_summaries(rt: HostRuntime) {
-    let view = View::read(S1).expect(&rt, "a message");
-    let mut owned = Slots::empty();
-    let summary = summarise(&view, &owned, Edition::One);
+    let view = s1_view(&rt);
     let bytes = bytes_of(&rt, rt.alloc(), SUMMARY_LEN[0], &WORDS);
-    assert_eq!(rt; summary.bytes(), bytes.as_slice());
-    owned.insert(0);
-    owned.insert(1023);
+    expect_summary(&rt, &view, &Slots::empty(), Edition::One, bytes.as_slice());
+    let owned = first_and_last();
     assert!(rt; owned.contains(1023));
     assert!(rt; !owned.contains(1022));
-    let summary = summarise(&view, &owned, Edition::Two);
     let bytes = bytes_of(&rt, rt.alloc(), SUMMARY_LEN[1], &WORDS_IN_TWO);
-    assert_eq!(rt; summary.bytes(), bytes.as_slice());
+    expect_summary(&rt, &view, &owned, Edition::Two, bytes.as_slice());
+}
+
+/// The slots 0 and 1,023.
+fn first_and_last() -> Slots {
+    let mut slots = Slots::empty();
+    slots.insert(0);
+    slots.insert(1023);
+    slots
+}
+
+/// The summary has these bytes.
+fn expect_summary<R: Abort>(
+    rt: &R,
+    view: &View<'_>,
+    owned: &Slots,
+    edition: Edition,
+    bytes: &[u8],
+) {
+    let summary = summarise(view, owned, edition);
+    assert_eq!(rt; summary.bytes(), bytes);
 }
 
 #[test]
 fn s1_image(rt: HostRuntime) {
-    let view = View::read(S1).expect(&rt, "a message");
+    let view = s1_view(&rt);
     let image = Image::new(&view, &Slots::empty(), Edition::One);
+    expect_loads(&rt, &image);
+    expect_loads_of_pieces(&rt, &image);
+}
+
+fn expect_loads<R: Abort>(rt: &R, image: &Image<'_>) {
     assert_eq!(rt; image.len(), 968);
     assert_eq!(rt; image.byte(904), Some(108));
     assert_eq!(rt; image.half(904), Some(27652));
     assert_eq!(rt; image.word(902), Some(27652));
+}
+
+fn expect_loads_of_pieces<R: Abort>(rt: &R, image: &Image<'_>) {
     let pieces = image.pieces();
     assert_eq!(rt; pieces.len(), 968);
     assert_eq!(rt; pieces.byte(904), Some(108));

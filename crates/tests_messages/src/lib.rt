@@ -1,11 +1,18 @@
-//! Tests of signatures, messages, their building and stamping, streams and images: what no line of a case can say. The
-//! cases are in `cases_messages`.
+//! Tests of signatures, messages, their building and stamping, streams and images, and of the rules and programs that choose
+//! among messages: what no line of a case can say, and what each does without memory. The cases are in `cases_messages` and
+//! `cases_rules`.
 //!
-//! A failure ends a test at once: a function that holds a message then has one way out, and its proof is short.
+//! A failure ends a test at once: a function that holds a message or a program then has one way out, and its proof is short.
 #![tactic(auto)]
 
 #[cfg(test)]
 mod builders;
+#[cfg(test)]
+mod byte_forms;
+#[cfg(test)]
+mod compiled;
+#[cfg(test)]
+mod errors;
 #[cfg(test)]
 mod faults;
 #[cfg(test)]
@@ -15,7 +22,17 @@ mod kinds;
 #[cfg(test)]
 mod limits;
 #[cfg(test)]
+mod lowered;
+#[cfg(test)]
+mod many_labels;
+#[cfg(test)]
+mod program_refusals;
+#[cfg(test)]
 mod refusals;
+#[cfg(test)]
+mod rule_refusals;
+#[cfg(test)]
+mod rules;
 #[cfg(test)]
 mod s1;
 #[cfg(test)]
@@ -24,5 +41,7 @@ mod signatures;
 mod stamps;
 #[cfg(test)]
 mod streams;
+#[cfg(test)]
+mod verdicts;
 #[cfg(test)]
 mod views;

@@ -1,8 +1,9 @@
 // Messages as long as they may be, and longer ones.
 
 use crate::builders::{finish, signal};
+use crate::s1::read_message;
 use message_build::{BuildError, Builder};
-use message_view::{Kind, View};
+use message_view::Kind;
 use std::alloc::Global;
 use std::process::Abort;
 
@@ -62,7 +63,7 @@ fn longest_message(rt: HostRuntime) {
     let builder = with_body(&rt, rt.alloc(), b"ayay", body.as_slice());
     let bytes = finish(&rt, rt.alloc(), &builder);
     assert_eq!(rt; bytes.len(), MAX_MESSAGE_LEN as usize);
-    let view = View::read(bytes.as_slice()).expect(&rt, "a message");
+    let view = read_message(&rt, bytes.as_slice());
     assert_eq!(rt; view.body().len(), body.len());
 }
 

@@ -40,10 +40,15 @@ fn with_arguments(alloc: Global) -> Result<Vec<u8>, BuildError> {
 /// A signal with a body given as a whole.
 fn with_body(alloc: Global) -> Result<Vec<u8>, BuildError> {
     let mut builder = signal(alloc);
-    match builder.raw_body(b"s", b"\x02\0\0\0hi\0") {
+    match add_body(&mut builder, b"s", b"\x02\0\0\0hi\0") {
         Ok(()) => builder.finish(alloc),
         Err(fault) => Err(fault),
     }
+}
+
+/// Gives the body as a whole.
+fn add_body(builder: &mut Builder<'_>, signature: &[u8], body: &[u8]) -> Result<(), BuildError> {
+    builder.raw_body(signature, body)
 }
 
 /// The whole answer, or want of memory.

@@ -1,7 +1,7 @@
 // Stamps, and want of memory for them.
 
 use crate::builders::{finish, signal};
-use crate::s1::S1;
+use crate::s1::{read_message, s1_view};
 use message_build::{StampError, stamp};
 use message_view::View;
 use std::alloc::Global;
@@ -19,7 +19,7 @@ const STAMPED: [u8; 80] = [
 // refused.
 #[test]
 fn stamp_with_refusals(rt: HostRuntime) {
-    let view = View::read(S1).expect(&rt, "a message");
+    let view = s1_view(&rt);
     match stamp(rt.alloc(), &view, ":1.1") {
         Ok(stamped) => assert_eq!(rt; stamped.as_slice(), STAMPED.as_slice()),
         Err(e) => assert_eq!(rt; e, StampError::NoMemory),
@@ -37,15 +37,19 @@ fn with_argument<R: Abort>(rt: &R, alloc: Global) -> Vec<u8> {
 #[test]
 fn known_message(rt: HostRuntime) -> Result<(), Fail> {
     let built = with_argument(&rt, rt.alloc());
-    let view = View::read(built.as_slice()).expect(&rt, "a message");
+    let view = read_message(&rt, built.as_slice());
     let stamped = stamp(rt.alloc(), &view, ":1.1")?;
     let known = View::of_message(stamped.as_slice());
-    assert_eq!(rt; known.raw(), stamped.as_slice());
+    expect_stamped(&rt, &known, stamped.as_slice());
+    Ok(())
+}
+
+/// The view is of these bytes, and of the signal with its argument and SENDER `:1.1`.
+fn expect_stamped<R: Abort>(rt: &R, known: &View<'_>, bytes: &[u8]) {
+    assert_eq!(rt; known.raw(), bytes);
     assert_eq!(rt; known.member(), Some("c"));
     assert_eq!(rt; known.sender(), Some(":1.1"));
     assert_eq!(rt; known.signature(), b"s".as_slice());
     assert_eq!(rt; known.body(), b"\x02\0\0\0hi\0".as_slice());
-    let read = View::read(stamped.as_slice()).expect(&rt, "a message");
-    assert_eq!(rt; read.body(), known.body());
-    Ok(())
+    assert_eq!(rt; read_message(rt, bytes).body(), known.body());
 }

@@ -51,14 +51,24 @@ fn expect_fault<R: Abort>(rt: &R, frames: &mut Frames) {
         Err(error) => assert_eq!(rt; error, fault),
     }
     assert_eq!(rt; frames.front().err(), Some(MsgError::Padding));
-    assert_eq!(rt; frames.feed(S1).err(), Some(fault));
+    expect_feed_fault(rt, frames, S1, fault);
+}
+
+fn expect_feed_fault<R: Abort>(rt: &R, frames: &mut Frames, bytes: &[u8], fault: FrameError) {
+    assert_eq!(rt; frames.feed(bytes).err(), Some(fault));
+}
+
+/// S1 with a byte of padding that isn't zero.
+fn damaged_s1() -> [u8; 64] {
+    let mut damaged = *S1;
+    damaged[PADDING_PLACE] = 1;
+    damaged
 }
 
 // A message whose padding isn't zero, after a whole one.
 #[test]
 fn fault_for_ever(rt: HostRuntime) {
-    let mut damaged = *S1;
-    damaged[PADDING_PLACE] = 1;
+    let damaged = damaged_s1();
     let mut frames = Frames::new(rt.alloc());
     feed(&rt, &mut frames, S1);
     feed(&rt, &mut frames, &damaged);

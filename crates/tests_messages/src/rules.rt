@@ -1,10 +1,17 @@
 // Rules and their parts.
 
 use match_rule::{ArgNumber, Field, Key, Relation, Rule, Source};
+use std::alloc::Global;
+use std::process::Abort;
+
+/// A rule. Nothing is promised of it, so that a test's body carries none of the reading's clauses.
+pub(crate) fn read_rule<R: Abort>(rt: &R, alloc: Global, text: &str) -> Rule {
+    Rule::read(alloc, text).expect(rt, "a rule")
+}
 
 #[test]
 fn parts_of_a_rule(rt: HostRuntime) {
-    let rule = Rule::read(rt.alloc(), "path=/a,type='signal',").expect(&rt, "a rule");
+    let rule = read_rule(&rt, rt.alloc(), "path=/a,type='signal',");
     assert_eq!(rt; rule.conditions().len(), 2);
     let path = Key::Compares(Source::Header(Field::Path), Relation::Equal);
     assert!(rt; rule.conditions()[0].key() == path);
@@ -17,7 +24,7 @@ fn parts_of_a_rule(rt: HostRuntime) {
 
 #[test]
 fn equal_to_itself(rt: HostRuntime) {
-    let rule = Rule::read(rt.alloc(), "member='c',type='signal'").expect(&rt, "a rule");
+    let rule = read_rule(&rt, rt.alloc(), "member='c',type='signal'");
     let same = rule == rule;
     assert!(rt; same);
 }

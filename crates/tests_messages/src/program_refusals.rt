@@ -2,6 +2,8 @@
 // allocation after another refused.
 use bpf_code::{CodeError, Ins, decode, encode};
 use bpf_text::{assemble, print};
+use std::alloc::Global;
+use std::process::Abort;
 
 const TEXT: &str =
     "ld #0\njeq #0, L2, L3\nL2: st M[3]\nL3: ld M[3]\njeq #1, L5, L6\nL5: add x\nL6: jgt #7, L7, L8\nL7: neg\nL8: ja L10\ntax\nL10: ret a\n";
@@ -52,7 +54,12 @@ fn encode_with_refusals(rt: HostRuntime) {
 
 #[test]
 fn assemble_with_refusals(rt: HostRuntime) {
-    match assemble(rt.alloc(), TEXT) {
+    expect_assembled(&rt, rt.alloc(), TEXT);
+}
+
+/// That the text is the program's, or memory ran out.
+fn expect_assembled<R: Abort>(rt: &R, alloc: Global, text: &str) {
+    match assemble(alloc, text) {
         Ok(read) => assert_eq!(rt; read.as_slice(), program().as_slice()),
         Err(e) => assert_eq!(rt; e, CodeError::NoMemory),
     }

@@ -1,5 +1,6 @@
 // Programs of rules.
 
+use crate::rules::read_rule;
 use bpf_machine::run;
 use bpf_verify::Verified;
 use match_rule::Rule;
@@ -44,7 +45,7 @@ fn slashes<R: Abort>(rt: &R, alloc: Global, count: usize) -> Rule {
         text.push('/').expect(rt, "memory");
     }
     text.push('\'').expect(rt, "memory");
-    Rule::read(alloc, text.as_str()).expect(rt, "a rule")
+    read_rule(rt, alloc, text.as_str())
 }
 
 /// Such rules weigh more than a program may have instructions, so that either answer is right; but there is one.

@@ -2,17 +2,12 @@
 // after another refused.
 
 use crate::compiled::matches;
+use crate::s1::S1;
 use match_rule::{Rule, RuleError};
 use message_view::View;
 use rule_compile::CompileError;
 use std::alloc::Global;
-
-/// A signal with path `/a`, interface `a.b` and member `c`.
-const S1: [u8; 64] = [
-    0x6c, 4, 0, 1, 0, 0, 0, 0, 1, 0, 0, 0, 0x2a, 0, 0, 0, 1, 1, 0x6f, 0, 2, 0, 0, 0, 0x2f, 0x61, 0,
-    0, 0, 0, 0, 0, 2, 1, 0x73, 0, 3, 0, 0, 0, 0x61, 0x2e, 0x62, 0, 0, 0, 0, 0, 3, 1, 0x73, 0, 1, 0,
-    0, 0, 0x63, 0, 0, 0, 0, 0, 0, 0,
-];
+use std::process::Abort;
 
 /// The values of a rule's conditions, or want of memory.
 fn has_values(alloc: Global, text: &str, want: &[&str]) -> bool {
@@ -45,7 +40,12 @@ fn path_namespace_with_refusals(rt: HostRuntime) {
 
 /// Whether the program of a rule matches the signal, or memory for it ran out.
 fn is_match(alloc: Global, rule: &Rule) -> bool {
-    match View::read(&S1) {
+    is_match_of(alloc, rule, S1)
+}
+
+/// Whether the program of a rule matches the message, or memory for it ran out.
+fn is_match_of(alloc: Global, rule: &Rule, message: &[u8]) -> bool {
+    match View::read(message) {
         Ok(view) => match matches(alloc, rule, &view, false) {
             Ok(found) => found,
             Err(fault) => fault == CompileError::NoMemory,
@@ -57,8 +57,13 @@ fn is_match(alloc: Global, rule: &Rule) -> bool {
 #[test]
 fn compiled_with_refusals(rt: HostRuntime) {
     let text = "type='signal',interface='a.b',member='c',path_namespace='/a'";
-    match Rule::read(rt.alloc(), text) {
-        Ok(rule) => assert!(rt; is_match(rt.alloc(), &rule)),
+    expect_match(&rt, rt.alloc(), text);
+}
+
+/// That the rule's program matches the signal, or memory ran out.
+fn expect_match<R: Abort>(rt: &R, alloc: Global, text: &str) {
+    match Rule::read(alloc, text) {
+        Ok(rule) => assert!(rt; is_match(alloc, &rule)),
         Err(fault) => assert_eq!(rt; fault, RuleError::NoMemory),
     }
 }

@@ -1,19 +1,12 @@
 // The numbers of errors, and that each prints its name, and its line or place where it has one. A contract says what is
 // written where `fmt` answers `Ok`, and none can say that it does: std's formatter tells nothing of an `Err`.
 
+use crate::faults::expect_printed;
 use bpf_code::CodeError;
 use bpf_verify::VerifyError;
 use jump_islands::LowerError;
 use match_rule::RuleError;
 use rule_compile::CompileError;
-use std::alloc::Global;
-use std::fmt::Display;
-use std::process::Abort;
-
-fn expect_printed<R: Abort, D: Display + Drop>(rt: &R, alloc: Global, error: D, text: &str) {
-    let printed = error.to_string(alloc).expect(rt, "memory");
-    assert_eq!(rt; printed.as_str(), text);
-}
 
 #[test]
 fn errors_of_rules(rt: HostRuntime) {
