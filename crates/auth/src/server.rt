@@ -84,9 +84,7 @@ fn answer_line(terms: &Terms, stage: Stage, rejections: u8, line: &[u8]) -> Line
     ensures sent { result.rejections ≤ MAX_REJECTIONS }
     ensures refusal { result.stage ≡ Stage.Failed → result.answer.items ≡ [] }
 {
-    let command = terms
-        .admission
-        .admit(stage, claim(line), Command::of(line));
+    let command = terms.admission.admit(stage, claim(line), Command::of(line));
     let row = StageRow::of(stage, command);
     if row.reply != Reply::Rejected {
         return LineAnswer {
