@@ -23,7 +23,7 @@ const READS: u32 = 4;
 /// A client of which one read brings as many messages is busy.
 const BUSY: u32 = 2;
 
-/// A message of more bytes that came in pieces leaves room behind which is given back.
+/// A message of more bytes that came in pieces leaves room that is given back.
 const LONG: u64 = 1_048_576;
 
 /// What becomes of a connection after its turn.

@@ -28,7 +28,7 @@ pub enum Limit {
 
 /// What the table says of a limit.
 #[derive(Clone, Copy)]
-struct Row {
+struct Terms {
     name: &'static str,
     /// The number where no other is asked for.
     standard: u32,
@@ -73,51 +73,51 @@ impl Limit {
     }
 
     /// The table of limits.
-    fn row(self) -> Row
+    fn row(self) -> Terms
         ensures { result.standard ≡ standard_of self }
     {
         match self {
-            Limit::Rules => Row {
+            Limit::Rules => Terms {
                 name: "rules",
                 standard: 512,
                 unit: "rules and programs",
             },
-            Limit::Instructions => Row {
+            Limit::Instructions => Terms {
                 name: "instructions",
                 standard: 65_536,
                 unit: "instructions",
             },
-            Limit::Names => Row {
+            Limit::Names => Terms {
                 name: "names",
                 standard: 512,
                 unit: "names",
             },
-            Limit::Messages => Row {
+            Limit::Messages => Terms {
                 name: "messages",
                 standard: 16_384,
                 unit: "messages",
             },
-            Limit::Bytes => Row {
+            Limit::Bytes => Terms {
                 name: "bytes",
                 standard: 16_777_216,
                 unit: "bytes",
             },
-            Limit::Unfinished => Row {
+            Limit::Unfinished => Terms {
                 name: "unfinished",
                 standard: 33_554_432,
                 unit: "bytes",
             },
-            Limit::Silence => Row {
+            Limit::Silence => Terms {
                 name: "silence",
                 standard: 30,
                 unit: "seconds",
             },
-            Limit::Newcomers => Row {
+            Limit::Newcomers => Terms {
                 name: "newcomers",
                 standard: 64,
                 unit: "connections",
             },
-            Limit::Hello => Row {
+            Limit::Hello => Terms {
                 name: "hello",
                 standard: 30,
                 unit: "seconds",

@@ -38,8 +38,8 @@ sequence Blue = 27 ∷ codes "[34m"
 sequence Cyan = 27 ∷ codes "[36m"
 
 -- a text in a rendition, and the default one after it
-abbrev pub rendered : Rendition → List ℕ → List ℕ
-rendered rendition text = sequence rendition ++ text ++ sequence Default
+abbrev pub with_rendition : Rendition → List ℕ → List ℕ
+with_rendition rendition text = sequence rendition ++ text ++ sequence Default
 
 -- the colour of each kind of message
 abbrev pub colour_of : Kind → Option Rendition
@@ -59,7 +59,7 @@ word_len line = prefix_len is_of_word line
 
 abbrev pub with_colour : Option Rendition → List ℕ → List ℕ
 with_colour None line = line
-with_colour (Some colour) line = rendered colour (take (word_len line) line) ++ drop (word_len line) line
+with_colour (Some colour) line = with_rendition colour (take (word_len line) line) ++ drop (word_len line) line
 
 -- a message's line: its first word, which is the message's kind, has the colour of that kind
 abbrev pub shown_line : Style → Kind → List ℕ → List ℕ
@@ -68,5 +68,5 @@ shown_line Plain kind line = line
 
 -- a time in front of a line, which is faint
 abbrev pub shown_time : Style → List ℕ → List ℕ
-shown_time Coloured time = rendered Faint time
+shown_time Coloured time = with_rendition Faint time
 shown_time Plain time = time

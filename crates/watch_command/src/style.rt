@@ -1,7 +1,7 @@
 // Colours of lines on a terminal.
 
 ghost use Rattle.std.specs.Prelude.{◌≡◌, ◌≤◌, ◌++◌, length, option_map, OnOk};
-ghost use Rattle.watch_command.specs.Colours.{is_set, is_dumb, is_of_word, word_len, rendered};
+ghost use Rattle.watch_command.specs.Colours.{is_set, is_dumb, is_of_word, word_len, with_rendition};
 
 use message_view::Kind;
 use std::alloc::{AllocError, Global};
@@ -153,7 +153,7 @@ fn is_dumb(term: Option<&str>) -> bool
 
 /// Adds a text in a rendition.
 fn put_rendered(text: &mut Vec<u8>, rendition: Rendition, shown: &[u8]) -> Result<(), AllocError>
-    ensures { OnOk result (text.new.items ≡ text.old.items ++ rendered rendition shown.now) }
+    ensures { OnOk result (text.new.items ≡ text.old.items ++ with_rendition rendition shown.now) }
 {
     text.extend_from_slice(rendition.sequence())?;
     text.extend_from_slice(shown)?;
