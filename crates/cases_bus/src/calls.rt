@@ -3,7 +3,7 @@
 use crate::stop::Stop;
 use bpf_code::decode;
 use event_cases::{PlayError, name_of};
-use router::{Bus, Naming, Pass, Reply};
+use router::{Bus, Letterbox, Naming, Pass, Reply};
 use std::alloc::Global;
 use std::sync::Wait;
 use summary::Edition;
@@ -13,8 +13,8 @@ use world_text::TextEvent;
 pub(crate) fn call<J: Naming, R: Wait>(
     rt: &R,
     alloc: Global,
-    bus: &Bus<J, (), &R>,
-    pass: &mut Pass<J, ()>,
+    bus: &Bus<J, Letterbox, &R>,
+    pass: &mut Pass<J, Letterbox>,
     event: &TextEvent<'_>,
 ) -> Result<Reply, Stop> {
     match event {
@@ -37,8 +37,8 @@ pub(crate) fn call<J: Naming, R: Wait>(
 fn attach<J: Naming, R: Wait>(
     rt: &R,
     alloc: Global,
-    bus: &Bus<J, (), &R>,
-    pass: &mut Pass<J, ()>,
+    bus: &Bus<J, Letterbox, &R>,
+    pass: &mut Pass<J, Letterbox>,
     edition: Edition,
     bytes: &[u8],
 ) -> Result<Reply, Stop> {
@@ -51,8 +51,8 @@ fn attach<J: Naming, R: Wait>(
 
 fn request<J: Naming, R: Wait>(
     rt: &R,
-    bus: &Bus<J, (), &R>,
-    pass: &mut Pass<J, ()>,
+    bus: &Bus<J, Letterbox, &R>,
+    pass: &mut Pass<J, Letterbox>,
     name: &str,
     flags: u32,
 ) -> Result<Reply, Stop> {
@@ -62,8 +62,8 @@ fn request<J: Naming, R: Wait>(
 
 fn release<J: Naming, R: Wait>(
     rt: &R,
-    bus: &Bus<J, (), &R>,
-    pass: &mut Pass<J, ()>,
+    bus: &Bus<J, Letterbox, &R>,
+    pass: &mut Pass<J, Letterbox>,
     name: &str,
 ) -> Result<Reply, Stop> {
     let name = name_of(name)?;

@@ -6,7 +6,7 @@ use crate::stop::{Stop, text, text_of};
 use arrayvec::ArrayVec;
 use event_cases::PlayError;
 use message_view::View;
-use router::{Bus, Naming, Pass, Reply, Source};
+use router::{Bus, Letterbox, Naming, Pass, Reply, Source};
 use std::alloc::Global;
 use std::collections::BTreeMap;
 use std::sync::Wait;
@@ -20,11 +20,11 @@ type Recipients = ArrayVec<u64, 256>;
 pub(crate) struct Connected<'a, J: Naming, R: Wait> {
     rt: &'a R,
     alloc: Global,
-    bus: Bus<J, (), &'a R>,
+    bus: Bus<J, Letterbox, &'a R>,
     // The open ones, by the connection's number.
-    passes: BTreeMap<u64, Pass<J, ()>>,
+    passes: BTreeMap<u64, Pass<J, Letterbox>>,
     // The pass that was closed last.
-    closed: Option<Pass<J, ()>>,
+    closed: Option<Pass<J, Letterbox>>,
     // The last connection's number, 0 before the first.
     last: u64,
     jobs: Jobs,
@@ -32,7 +32,11 @@ pub(crate) struct Connected<'a, J: Naming, R: Wait> {
 
 impl<'a, J: Naming, R: Wait> Connected<'a, J, R> {
     /// A bus to which nobody is connected.
-    pub(crate) fn new(rt: &'a R, alloc: Global, bus: Bus<J, (), &'a R>) -> Connected<'a, J, R> {
+    pub(crate) fn new(
+        rt: &'a R,
+        alloc: Global,
+        bus: Bus<J, Letterbox, &'a R>,
+    ) -> Connected<'a, J, R> {
         Connected {
             rt,
             alloc,
@@ -89,7 +93,8 @@ impl<'a, J: Naming, R: Wait> Connected<'a, J, R> {
     }
 
     fn connect(&mut self) -> Result<Reply, Stop> {
-        let (pass, reply) = connect(self.rt, &self.bus)?;
+        let letterbox = Letterbox::new(self.alloc)?;
+        let (pass, reply) = connect(self.rt, &self.bus, letterbox)?;
         self.last = pass.connection();
         match self.passes.insert(self.last, pass) {
             Ok(_) => Ok(reply),
@@ -107,7 +112,7 @@ impl<'a, J: Naming, R: Wait> Connected<'a, J, R> {
 
     /// Keeps a pass that was closed, and gives back the one that was closed before it, so that a new connection gets
     /// its reader.
-    fn keep_closed(&mut self, pass: Pass<J, ()>) {
+    fn keep_closed(&mut self, pass: Pass<J, Letterbox>) {
         if let Some(before) = self.closed.take() {
             give_back(self.rt, &self.bus, before);
         }
@@ -176,9 +181,13 @@ impl<'a, J: Naming, R: Wait> Connected<'a, J, R> {
     }
 }
 
-fn connect<J: Naming, R: Wait>(rt: &R, bus: &Bus<J, (), &R>) -> Result<(Pass<J, ()>, Reply), Stop> {
+fn connect<J: Naming, R: Wait>(
+    rt: &R,
+    bus: &Bus<J, Letterbox, &R>,
+    letterbox: Letterbox,
+) -> Result<(Pass<J, Letterbox>, Reply), Stop> {
     let mut pass = bus.pass(rt)?;
-    match bus.connect(rt, &mut pass, ()) {
+    match bus.connect(rt, &mut pass, letterbox) {
         Ok(reply) => Ok((pass, reply)),
         Err(error) => {
             give_back(rt, bus, pass);
@@ -188,7 +197,7 @@ fn connect<J: Naming, R: Wait>(rt: &R, bus: &Bus<J, (), &R>) -> Result<(Pass<J, 
 }
 
 /// Gives back a pass that is over.
-fn give_back<J: Naming, R: Wait>(rt: &R, bus: &Bus<J, (), &R>, pass: Pass<J, ()>) {
+fn give_back<J: Naming, R: Wait>(rt: &R, bus: &Bus<J, Letterbox, &R>, pass: Pass<J, Letterbox>) {
     if pass.is_closed() || pass.connection() == 0 {
         bus.take_back(rt, pass);
     }
@@ -196,7 +205,7 @@ fn give_back<J: Naming, R: Wait>(rt: &R, bus: &Bus<J, (), &R>, pass: Pass<J, ()>
 
 /// Those who get a message, if the bytes are one.
 fn recipients<J: Naming>(
-    pass: &mut Pass<J, ()>,
+    pass: &mut Pass<J, Letterbox>,
     source: Source,
     bytes: &[u8],
 ) -> Result<Recipients, Stop> {

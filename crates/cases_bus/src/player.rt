@@ -4,7 +4,7 @@ ghost use Rattle.std.specs.Prelude.{◌≡◌};
 
 use crate::connected::Connected;
 use event_cases::{PlayError, Player};
-use router::{Bus, IndexKey, Naming, Opened};
+use router::{Bus, IndexKey, Letterbox, Naming, Opened};
 use std::alloc::Global;
 use std::marker::Brand;
 use std::sync::Wait;
@@ -34,7 +34,7 @@ fn play_on_new_bus<R: Wait>(
     alloc: Global,
     events: &[TextEvent<'_>],
 ) -> Result<Vec<String>, PlayError> {
-    let opened = Opened::<()>::new();
+    let opened = Opened::<Letterbox>::new();
     play_on::<Brand, R>(rt, alloc, opened, events)
 }
 
@@ -42,12 +42,12 @@ fn play_on_new_bus<R: Wait>(
 fn play_on<J: Naming, R: Wait>(
     rt: &R,
     alloc: Global,
-    opened: Opened<()>,
+    opened: Opened<Letterbox>,
     events: &[TextEvent<'_>],
 ) -> Result<Vec<String>, PlayError>
     requires { opened ≡ J.book }
 {
-    match Bus::<J, (), &R>::new(rt, alloc, KEY, opened) {
+    match Bus::<J, Letterbox, &R>::new(rt, alloc, KEY, opened) {
         Ok(bus) => {
             let mut connected = Connected::new(rt, alloc, bus);
             play_all(alloc, &mut connected, events)

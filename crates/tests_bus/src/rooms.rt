@@ -21,11 +21,15 @@ fn outbox_of<R: Abort>(rt: &R, alloc: Global, messages: usize, bytes: usize) -> 
     Outbox::with_room(alloc, Room { messages, bytes }).expect(rt, "an outbox")
 }
 
+fn takes_one<R: Wait + Abort>(rt: &R, alloc: Global, outbox: &Outbox) -> bool {
+    let mut seat = outbox.seat();
+    outbox.put(rt, &mut seat, signal(rt, alloc)).is_ok()
+}
+
 /// How many of ten messages an outbox takes until one is refused.
 fn count_taken<R: Wait + Abort>(rt: &R, alloc: Global, outbox: &Outbox) -> usize {
-    let mut seat = outbox.seat();
     for count in 0..10 {
-        if outbox.put(rt, &mut seat, signal(rt, alloc)).is_err() {
+        if !takes_one(rt, alloc, outbox) {
             return count;
         }
     }
@@ -55,8 +59,7 @@ fn an_empty_outbox_has_room_for_any_message(rt: HostRuntime) {
 }
 
 fn passes_one<R: Wait + Abort>(rt: &R, alloc: Global, outbox: &Outbox, taker: &mut Taker) -> bool {
-    let mut seat = outbox.seat();
-    outbox.put(rt, &mut seat, signal(rt, alloc)).is_ok() && taker.take(rt).is_some()
+    takes_one(rt, alloc, outbox) && taker.take(rt).is_some()
 }
 
 // What was taken doesn't wait, however often.

@@ -9,6 +9,7 @@ use program_table::Handle;
 use routing::{Gate, Mailbox, Recipient, Sender, Sent};
 use std::alloc::{AllocError, Global};
 use std::cell::Cell;
+use std::marker::Model;
 use std::mem::forget;
 use std::process::Abort;
 use std::rc::Rc;
@@ -24,6 +25,15 @@ struct Line {
     pushed: Rc<Cell<u32>>,
 }
 
+// Contracts see its outbox.
+impl Model for Line {
+    ghost use Rattle.outbox.specs.Seated.{OutboxId};
+
+    ghost Value = { OutboxId };
+
+    ghost view = { λ l. l.outbox };
+}
+
 impl Handle for Line {
     fn share(&self) -> Result<Line, AllocError> {
         Ok(Line {
@@ -34,7 +44,7 @@ impl Handle for Line {
 }
 
 impl Mailbox for Line {
-    ghost outbox_of = { λ l. l.outbox };
+    ghost outbox_of = { λ line. line };
 
     fn outbox(&self) -> &Outbox {
         &self.outbox
