@@ -1,0 +1,11 @@
+//! The calls that were passed on and wait for their replies. The layers above use that a reply is handed on only where its
+//! call is among them, and that a connection that goes leaves none behind.
+#![tactic(auto)]
+
+mod open_call;
+mod open_calls;
+mod shelves;
+
+pub use open_call::OpenCall;
+pub use open_calls::OpenCalls;
+pub use shelves::Shelves;
