@@ -4,8 +4,8 @@
 
 mod open_call;
 mod open_calls;
-mod shelves;
+mod shards;
 
 pub use open_call::OpenCall;
 pub use open_calls::OpenCalls;
-pub use shelves::Shelves;
+pub use shards::Shards;

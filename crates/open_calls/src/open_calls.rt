@@ -1,6 +1,6 @@
 // The calls of some connections that wait for their replies.
 
-ghost use Rattle.std.specs.Prelude.{◌≡◌, ◌<◌, ◌+◌, [], ◌∷◌, ◌++◌, length, OnOk};
+ghost use Rattle.std.specs.Prelude.{◌≡◌, ◌<◌, ◌+◌, [], ◌∷◌, ◌++◌, length, IfSome, OnOk};
 ghost use Rattle.open_calls.specs.OpenCalls.{calls_of, calls_of_others, is_among, oldest_to, without, without_any};
 
 use crate::open_call::OpenCall;
@@ -37,7 +37,10 @@ impl OpenCalls {
     pub fn count_of(&self, caller: u64) -> usize
         ensures { result ≡ length (calls_of caller self.now.calls) }
     {
-        self.calls.iter().filter(|call| call.caller == caller).count()
+        self.calls
+            .iter()
+            .filter(|call| call.caller == caller)
+            .count()
     }
 
     /// Takes memory for one call more.
@@ -84,6 +87,7 @@ impl OpenCalls {
     /// Takes away the oldest call to this connection, if there is one.
     pub fn take_call_to(&mut self, callee: u64) -> Option<OpenCall>
         ensures call { result ≡ oldest_to callee self.old.calls }
+        ensures callee { IfSome result (λ call. call.callee ≡ callee) }
         ensures rest { self.new.calls ≡ without_any result self.old.calls }
     {
         match oldest_to(&self.calls, callee) {
@@ -110,7 +114,8 @@ fn remove_calls_of(calls: &mut Vec<OpenCall>, caller: u64)
 
 // The oldest call to this connection.
 fn oldest_to(calls: &[OpenCall], callee: u64) -> Option<OpenCall>
-    ensures { result ≡ oldest_to callee calls.now }
+    ensures call { result ≡ oldest_to callee calls.now }
+    ensures callee { IfSome result (λ call. call.callee ≡ callee) }
 {
     for call in calls {
         if call.callee == callee {

@@ -104,7 +104,7 @@ module _ {M : Type 0} where
       shut m e = let W : PassState M → Type 0 = λ x. shut_at m x.stops ≡ true in subst W (sym is) e
 
       go : (r : Result Sent BusError) → IfOk r (IsDelivered found bytes mid new) → IfErr r (λ e. (e ≡ errors.NoMemory) × Unrouted mid new) → MatchResult r (λ sent. Unicasts outbox_of to bytes v sent w) (λ e. IsUnsent outbox_of e v w)
-      go (Ok Put) ok err = let done = put ok.0 ok.2 in (ok.0, owner ok.0 ok.1, done.0, done.1, done.2)
-      go (Ok Full) ok err = (not_put (full_unrouted ok.0 bytes mid new ok.2), ok.0, owner ok.0 ok.1, shut ok.0 ok.3)
+      go (Ok (Put n)) ok err = let done = put n ok.1 in (owner n ok.0, done.0, done.1, done.2)
+      go (Ok (Full n)) ok err = (not_put (full_unrouted n bytes mid new ok.1), owner n ok.0, shut n ok.2)
       go (Ok NoOwner) ok err = (not_put (unrouted_same mid new ok.1), nobody ok.0)
       go (Err e) ok err = inr (err.0, not_put err.1)

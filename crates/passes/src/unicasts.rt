@@ -18,11 +18,12 @@ use std::sync::Wait;
 /// What became of a unicast message.
 #[derive(Clone, Copy, Debug, PartialEq, Eq)]
 pub enum Sent {
-    Put,
+    /// It was put to the connection of this number.
+    Put(u64),
     /// Nobody owns the name.
     NoOwner,
-    /// The recipient's outbox is full or shut.
-    Full,
+    /// The outbox of the connection of this number is full or shut.
+    Full(u64),
 }
 
 // Puts a message to the connection that was found, if one was, once the sender has its seat there.
@@ -44,8 +45,8 @@ fn deliver<M: Mailbox, W: Wait>(
         Err(_) => return Err(BusError::NoMemory),
     };
     match sender.unicast(rt, alloc, number, bytes) {
-        Ok(PutOrFull::Put) => Ok(Sent::Put),
-        Ok(PutOrFull::Full) => Ok(Sent::Full),
+        Ok(PutOrFull::Put) => Ok(Sent::Put(number)),
+        Ok(PutOrFull::Full) => Ok(Sent::Full(number)),
         Err(_) => Err(BusError::NoMemory),
     }
 }
@@ -56,18 +57,19 @@ impl<J: Naming, M: Mailbox> Pass<J, M> {
     ///
     /// # Errors
     ///
-    /// Nothing was put then. `Closed` where the pass was never connected, or was closed, or the bus is gone;
-    /// `NoMemory`.
+    /// Nothing was put then. `Closed` where the pass was never connected, or was closed and the message isn't the bus's, or
+    /// the bus is gone; `NoMemory`.
     pub fn send_to<W: Wait>(
         &mut self,
         rt: &W,
         alloc: Global,
+        source: Source,
         to: &str,
         bytes: &Bytes,
     ) -> Result<Sent, BusError>
         ensures { MatchResult result (λ sent. Unicasts M.outbox_of to.now bytes.now self.old sent self.new) (λ error. IsUnsent M.outbox_of error self.old self.new) }
     {
-        let visit = self.enter(Source::Own)?;
+        let visit = self.enter(source)?;
         let mut sender = self.take_sender(alloc);
         let seated = seat_owner(visit.state(), &mut sender, to);
         self.leave(visit);

@@ -18,3 +18,5 @@ pub use Rattle.passes.specs.Calls
 pub use Rattle.passes.specs.Admission
 pub use Rattle.passes.specs.Readings
 pub use Rattle.passes.specs.Asking
+pub use Rattle.open_calls.specs.OpenCalls
+pub use Rattle.open_calls.specs.declared.open_call.OpenCall

@@ -1,6 +1,6 @@
 // The bus as threads share it.
 
-ghost use Rattle.std.specs.Prelude.{◌≡◌, ◌⊎◌, ◌<◌, MatchResult, IfErr, false, true, length};
+ghost use Rattle.std.specs.Prelude.{◌≡◌, ◌⊎◌, ◌<◌, MatchResult, IfErr, IfSome, false, true, length};
 ghost use mathlib.Core.List.{IsPrefix};
 ghost use Rattle.passes.specs.Command.TheVariants.{Detach, Request, Release, DropOne, Close};
 ghost use Rattle.passes.specs.Publication.{Publication};
@@ -9,6 +9,7 @@ ghost use Rattle.passes.specs.Calls.{Once, Answers, Connects};
 ghost use Rattle.passes.specs.Readings.{AddsMatch, RemovesMatch, Attaches};
 
 use bpf_code::Ins;
+use open_calls::{OpenCall, OpenCalls, Shards};
 use owners::WellKnown;
 use passes::{
     BusError, Control, Front, IndexKey, KeptPasses, Mailbox, Naming, Opened, Pass, Reply,
@@ -24,6 +25,8 @@ pub struct Bus<B: Naming, M: Mailbox, R: Wait + Drop> {
     kept: Mutex<KeptPasses<B, M>>,
     // The turn to change an owner and to announce the change.
     turns: Mutex<()>,
+    // The calls that went through and wait for their replies.
+    calls: Shards,
 }
 
 impl<B: Naming, M: Mailbox, R: Wait + Drop> Bus<B, M, R> {
@@ -45,6 +48,7 @@ impl<B: Naming, M: Mailbox, R: Wait + Drop> Bus<B, M, R> {
                 control: Mutex::new(control),
                 kept: Mutex::new(kept),
                 turns: Mutex::new(()),
+                calls: Shards::new(alloc),
             }),
             Err(_) => Err(BusError::NoMemory),
         }
@@ -60,6 +64,20 @@ impl<B: Naming, M: Mailbox, R: Wait + Drop> Bus<B, M, R> {
     /// takes the turn first and announces the change before giving it up, so that changes are announced in their order.
     pub fn turn(&self, rt: &impl Wait) -> MutexGuard<'_, ()> {
         self.turns.lock(rt)
+    }
+
+    /// Waits for the lock of the calls that this connection made and that wait for their replies, and keeps it while the
+    /// guard is there. Others' calls may be among them. Whoever passes on a call keeps it until the call is added, so that
+    /// no reply comes before it.
+    pub fn calls_of(&self, rt: &impl Wait, caller: u64) -> MutexGuard<'_, OpenCalls> {
+        self.calls.of_caller(rt, caller)
+    }
+
+    /// Takes away a call to this connection that waits for its reply, if there is one, whoever made it.
+    pub fn take_call_to(&self, rt: &impl Wait, callee: u64) -> Option<OpenCall>
+        ensures { IfSome result (λ call. call.callee ≡ callee) }
+    {
+        self.calls.take_call_to(rt, callee)
     }
 
     /// A new pass, which has no connection, and has sent nothing. A reader that was given back has seen what it had.

@@ -11,6 +11,7 @@ mod unicasts;
 
 pub use bus::Bus;
 pub use letterbox::Letterbox;
+pub use open_calls::{OpenCall, OpenCalls};
 pub use passes::{BusError, Control, Pass, RouteLists, Sent, Source};
 
 // Passed on from the crates below, so that the crates above need not name those in crates.txt.

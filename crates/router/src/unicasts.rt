@@ -5,7 +5,7 @@ ghost use Rattle.passes.specs.Unicasts.{Unicasts, IsUnsent};
 
 use crate::bus::Bus;
 use bytes::Bytes;
-use passes::{BusError, Mailbox, Naming, Pass, Sent};
+use passes::{BusError, Mailbox, Naming, Pass, Sent, Source};
 use std::alloc::Global;
 use std::sync::Wait;
 
@@ -27,6 +27,6 @@ impl<B: Naming, M: Mailbox, R: Wait + Drop> Bus<B, M, R> {
     ) -> Result<Sent, BusError>
         ensures { MatchResult result (λ sent. Unicasts M.outbox_of to.now bytes.now pass.old sent pass.new) (λ error. IsUnsent M.outbox_of error pass.old pass.new) }
     {
-        pass.send_to(rt, alloc, to, bytes)
+        pass.send_to(rt, alloc, Source::Own, to, bytes)
     }
 }

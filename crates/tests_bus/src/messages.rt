@@ -77,8 +77,8 @@ fn send_to_each_name<J: Naming, R: Wait + Abort>(
     pass: &mut Pass<J, Letterbox>,
 ) {
     for (name, wanted) in [
-        ("com.example.A", Sent::Put),
-        (":1.2", Sent::Put),
+        ("com.example.A", Sent::Put(2)),
+        (":1.2", Sent::Put(2)),
         (":1.02", Sent::NoOwner),
         (":1.3", Sent::NoOwner),
         (":1.+2", Sent::NoOwner),
@@ -122,7 +122,7 @@ fn fill_first<J: Naming, R: Wait + Abort>(
     pass: &mut Pass<J, Letterbox>,
 ) {
     for _ in 0..ROOM {
-        send_s1(rt, alloc, bus, pass, ":1.1", Sent::Put);
+        send_s1(rt, alloc, bus, pass, ":1.1", Sent::Put(1));
     }
-    send_s1(rt, alloc, bus, pass, ":1.1", Sent::Full);
+    send_s1(rt, alloc, bus, pass, ":1.1", Sent::Full(1));
 }

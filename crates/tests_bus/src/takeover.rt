@@ -39,7 +39,7 @@ fn take_over<J: Naming, R: Wait + Threads + Abort>(rt: &R, alloc: Global, opened
     expect_each_way(rt, &mut one, &[]);
     expect_each_way(rt, &mut second_pass, &[3]);
     look_up(rt, alloc, &mut one, &name);
-    send_s1(rt, alloc, &bus, &mut one, "com.example.A", Sent::Put);
+    send_s1(rt, alloc, &bus, &mut one, "com.example.A", Sent::Put(2));
     expect_s1(rt, alloc, &letterbox);
     close(rt, &bus, &mut second_pass);
     expect_each_way(rt, &mut one, &[3]);
