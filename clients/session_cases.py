@@ -43,8 +43,9 @@ class Bus:
     def answer(self, to, signature="", body=()):
         return wire.message(METHOD_RETURN, self.next_serial(), NO_REPLY_EXPECTED, signature, body, reply_serial=to, destination=self.name, sender=BUS)
 
-    def error(self, to, word, prefix="org.freedesktop.DBus.Error."):
-        return wire.message(ERROR, self.next_serial(), NO_REPLY_EXPECTED, "s", (word,), error_name=prefix + word, reply_serial=to, destination=self.name, sender=BUS)
+    def error(self, to, word, sentence, prefix="org.freedesktop.DBus.Error."):
+        return wire.message(ERROR, self.next_serial(), NO_REPLY_EXPECTED, "s", (f"{word}: {sentence}",), error_name=prefix + word, reply_serial=to,
+                            destination=self.name, sender=BUS)
 
     def signal(self, member, body, destination=None):
         return wire.message(SIGNAL, self.next_serial(), NO_REPLY_EXPECTED, "s" * len(body), body, path=BUS_PATH, interface=BUS, member=member,
@@ -191,12 +192,12 @@ def messages_of_the_bus():
     one.welcome()
     two.welcome()
     case("serials_of_answers_and_errors", "1 enters",
-         sends(1, call(7, "RequestName", "su", ("a", 0))), gets(1, one.error(7, "InvalidArgs")),
+         sends(1, call(7, "RequestName", "su", ("a", 0))), gets(1, one.error(7, "InvalidArgs", "these are not arguments of the method")),
          sends(1, call(8, "NameHasOwner", "s", (":1.1",))), gets(1, one.answer(8, "b", (True,))),
          sends(1, call(9, "ListNames", flags=1)), "1 gets nothing",
          sends(1, call(4294967295, "ListNames")), gets(1, one.answer(4294967295, "as", ([BUS, ":1.1"],))),
-         sends(1, call(10, "NoSuchMethod")), gets(1, one.error(10, "UnknownMethod")),
-         sends(1, call(11, "GetNameOwner", "s", ("a.b",))), gets(1, one.error(11, "NameHasNoOwner")))
+         sends(1, call(10, "NoSuchMethod")), gets(1, one.error(10, "UnknownMethod", "the bus has no such method")),
+         sends(1, call(11, "GetNameOwner", "s", ("a.b",))), gets(1, one.error(11, "NameHasNoOwner", "nobody owns the name")))
     one = Bus(1)
     one.welcome()
     one_adds = one.answer(2)
@@ -227,7 +228,7 @@ def most_connections():
     for client in range(1, 257):
         lines.append(f"{client} enters")
     lines += ["257 sends 00", "257 says AUTH ANONYMOUS", f"257 hears OK {GUID}", "257 says BEGIN", "257 calls 1 Hello"]
-    refused = wire.message(ERROR, 1, NO_REPLY_EXPECTED, "s", ("LimitsExceeded",), error_name="org.freedesktop.DBus.Error.LimitsExceeded", reply_serial=1, sender=BUS)
+    refused = wire.message(ERROR, 1, NO_REPLY_EXPECTED, "s", ("LimitsExceeded: connections of the bus",), error_name="org.freedesktop.DBus.Error.LimitsExceeded", reply_serial=1, sender=BUS)
     lines += [gets(257, refused), "257 ends NoHello", "1 ends Ok"]
     answer, _, acquired = Bus(257).welcome()
     lines += [sends(258, TALK + call(1, "Hello")), gets(258, *TALK_ANSWERS, answer, acquired), "258 ends Ok"]
@@ -240,7 +241,7 @@ def most_names():
     for number in range(1024):
         lines.append(f"1 calls 2 RequestName s:a.n{number} u:0 flags=1")
         lines += ["1 forgets"] if number % 500 == 499 else []
-    error = "error org.freedesktop.DBus -> :1.1 reply_serial=3 org.freedesktop.DBus.Error.LimitsExceeded (s) \"LimitsExceeded\""
+    error = "error org.freedesktop.DBus -> :1.1 reply_serial=3 org.freedesktop.DBus.Error.LimitsExceeded (s) \"LimitsExceeded: names of the bus\""
     lines += ["1 forgets", "1 calls 3 RequestName s:a.x u:0", f"1 reads {error}", "1 calls 4 ReleaseName s:a.n7 flags=1", "1 forgets",
               "1 calls 5 RequestName s:a.x u:0", "1 reads method_return org.freedesktop.DBus -> :1.1 reply_serial=5 (u) 1", "1 forgets"]
     case("most_names", *lines)

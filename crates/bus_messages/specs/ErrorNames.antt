@@ -1,23 +1,30 @@
--- The names of the errors that the bus answers (D-Bus Specification, "Message Bus Messages").
-use Rattle.std.specs.Prelude.{ℕ, List, codes, ◌++◌}
+-- The names of the errors that the bus answers, and what they say (D-Bus Specification, "Message Bus Messages"; the sentences
+-- are own).
+use Rattle.std.specs.Prelude.{ℕ, List, codes, ◌++◌, Option, None}
+use Rattle.match_key.specs.Errors.{name_of}
+use Rattle.bpf_code.specs.Numbers.{text_at}
+use Rattle.bpf_verify.specs.Numbers.{verify_error_name, verify_error_place}
 use Rattle.bus_messages.specs.declared.error_name.ErrorName.{ErrorName}
-use Rattle.bus_messages.specs.declared.error_name.ErrorName.TheVariants.{Failed, InvalidArgs, LimitsExceeded, MatchRuleInvalid, MatchRuleNotFound, NameHasNoOwner, NoMemory, ServiceUnknown, PropertyReadOnly, UnixProcessIdUnknown, UnknownInterface, UnknownMethod, UnknownProperty, BadProgram, BadEdition, NoAttachment}
+use Rattle.bus_messages.specs.declared.error_name.ErrorName.TheVariants.{Failed, InvalidArgs, LimitsExceeded, MatchRuleInvalid, MatchRuleNotFound, NameHasNoOwner, NoMemory, NoReply, ServiceUnknown, PropertyReadOnly, UnixProcessIdUnknown, UnknownInterface, UnknownMethod, UnknownProperty, BadProgram, BadEdition, NoAttachment}
+use Rattle.bus_messages.specs.declared.exceeded.Exceeded.{Exceeded}
+use Rattle.bus_messages.specs.declared.exceeded.Exceeded.TheVariants as limits
 
 abbrev pub word_of : ErrorName → List ℕ
 word_of Failed = codes "Failed"
 word_of InvalidArgs = codes "InvalidArgs"
-word_of LimitsExceeded = codes "LimitsExceeded"
-word_of MatchRuleInvalid = codes "MatchRuleInvalid"
+word_of (LimitsExceeded _) = codes "LimitsExceeded"
+word_of (MatchRuleInvalid _) = codes "MatchRuleInvalid"
 word_of MatchRuleNotFound = codes "MatchRuleNotFound"
 word_of NameHasNoOwner = codes "NameHasNoOwner"
 word_of NoMemory = codes "NoMemory"
+word_of NoReply = codes "NoReply"
 word_of ServiceUnknown = codes "ServiceUnknown"
 word_of UnixProcessIdUnknown = codes "UnixProcessIdUnknown"
 word_of UnknownInterface = codes "UnknownInterface"
 word_of UnknownMethod = codes "UnknownMethod"
 word_of UnknownProperty = codes "UnknownProperty"
 word_of PropertyReadOnly = codes "PropertyReadOnly"
-word_of BadProgram = codes "BadProgram"
+word_of (BadProgram _) = codes "BadProgram"
 word_of BadEdition = codes "BadEdition"
 word_of NoAttachment = codes "NoAttachment"
 
@@ -30,10 +37,56 @@ abbrev pub own_prefix : List ℕ
 own_prefix = codes "org.example.ProgramBus1.Error."
 
 abbrev pub prefix_of : ErrorName → List ℕ
-prefix_of BadProgram = own_prefix
+prefix_of (BadProgram _) = own_prefix
 prefix_of BadEdition = own_prefix
 prefix_of NoAttachment = own_prefix
 prefix_of _ = standard_prefix
 
 abbrev pub full_name : ErrorName → List ℕ
 full_name name = prefix_of name ++ word_of name
+
+-- what there is too much of
+abbrev pub limit_of : Exceeded → List ℕ
+limit_of limits.Rules = codes "rules and programs of this connection (limit rules)"
+limit_of limits.Instructions = codes "instructions of programs of this connection (limit instructions)"
+limit_of limits.Names = codes "names of this connection (limit names)"
+limit_of limits.Calls = codes "calls of this connection that wait for an answer (limit calls)"
+limit_of limits.AllInstructions = codes "instructions of programs of all connections (limit all-instructions)"
+limit_of limits.BusConnections = codes "connections of the bus"
+limit_of limits.BusEntries = codes "rules and programs of the bus"
+limit_of limits.BusNames = codes "names of the bus"
+limit_of limits.BusClaims = codes "owners of names of the bus, and those that wait"
+limit_of limits.BusReaders = codes "readers of the bus at one time"
+limit_of limits.BusWorkers = codes "workers of the bus"
+limit_of limits.BusBroadcasts = codes "broadcasts of the bus"
+limit_of limits.RuleLen = codes "instructions of the program of the rule"
+limit_of limits.MessageLen = codes "bytes of the message with its sender"
+
+-- what was wrong
+abbrev pub sentence_of : ErrorName → List ℕ
+sentence_of Failed = codes "Hello came before, or the bus has no answer"
+sentence_of InvalidArgs = codes "these are not arguments of the method"
+sentence_of (LimitsExceeded limit) = limit_of limit
+sentence_of (MatchRuleInvalid fault) = name_of fault
+sentence_of MatchRuleNotFound = codes "this connection has no such rule"
+sentence_of NameHasNoOwner = codes "nobody owns the name"
+sentence_of NoMemory = codes "the bus has no memory for this"
+sentence_of NoReply = codes "the connection that was called has gone"
+sentence_of ServiceUnknown = codes "nobody owns the name, and nothing is started here"
+sentence_of UnixProcessIdUnknown = codes "the bus knows no processes"
+sentence_of UnknownInterface = codes "the bus has no such interface"
+sentence_of UnknownMethod = codes "the bus has no such method"
+sentence_of UnknownProperty = codes "the interface has no such property"
+sentence_of PropertyReadOnly = codes "no property of the bus can be set"
+sentence_of (BadProgram fault) = verify_error_name fault
+sentence_of BadEdition = codes "there is no such edition of a summary"
+sentence_of NoAttachment = codes "this connection has no such program"
+
+-- the place of the instruction that is at fault
+abbrev pub place_of : ErrorName → Option ℕ
+place_of (BadProgram fault) = verify_error_place fault
+place_of _ = None
+
+-- what an error says: its word, what was wrong, and where
+abbrev pub text_of : ErrorName → List ℕ
+text_of name = text_at (word_of name ++ codes ": " ++ sentence_of name) (place_of name)

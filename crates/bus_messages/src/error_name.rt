@@ -1,20 +1,24 @@
 // The errors that the bus answers.
 
 ghost use Rattle.std.specs.Prelude.{◌≡◌, ◌++◌};
-ghost use Rattle.bus_messages.specs.ErrorNames.{full_name, word_of};
+ghost use Rattle.bus_messages.specs.ErrorNames.{full_name, word_of, sentence_of, place_of, text_of};
 
+use crate::exceeded::Exceeded;
+use bpf_verify::VerifyError;
+use match_key::RuleError;
 use std::fmt;
 
-/// The name of an error that the bus answers a call with. An error's body is its word.
+/// The error that the bus answers a call with, and what it says of it.
 #[derive(Clone, Copy, Debug, PartialEq, Eq)]
 pub enum ErrorName {
     Failed,
     InvalidArgs,
-    LimitsExceeded,
-    MatchRuleInvalid,
+    LimitsExceeded(Exceeded),
+    MatchRuleInvalid(RuleError),
     MatchRuleNotFound,
     NameHasNoOwner,
     NoMemory,
+    NoReply,
     ServiceUnknown,
     PropertyReadOnly,
     UnixProcessIdUnknown,
@@ -22,11 +26,20 @@ pub enum ErrorName {
     UnknownMethod,
     UnknownProperty,
     /// The program of an Attach isn't accepted.
-    BadProgram,
+    BadProgram(VerifyError),
     /// There is no such edition of a summary.
     BadEdition,
     /// There is no such attachment.
     NoAttachment,
+}
+
+/// What the table says of an error.
+#[derive(Clone, Copy)]
+struct Terms {
+    /// The last element of its name.
+    word: &'static str,
+    /// What was wrong.
+    sentence: &'static str,
 }
 
 impl ErrorName {
@@ -37,54 +50,130 @@ impl ErrorName {
         match self {
             ErrorName::Failed => "org.freedesktop.DBus.Error.Failed",
             ErrorName::InvalidArgs => "org.freedesktop.DBus.Error.InvalidArgs",
-            ErrorName::LimitsExceeded => "org.freedesktop.DBus.Error.LimitsExceeded",
-            ErrorName::MatchRuleInvalid => "org.freedesktop.DBus.Error.MatchRuleInvalid",
+            ErrorName::LimitsExceeded(_) => "org.freedesktop.DBus.Error.LimitsExceeded",
+            ErrorName::MatchRuleInvalid(_) => "org.freedesktop.DBus.Error.MatchRuleInvalid",
             ErrorName::MatchRuleNotFound => "org.freedesktop.DBus.Error.MatchRuleNotFound",
             ErrorName::NameHasNoOwner => "org.freedesktop.DBus.Error.NameHasNoOwner",
             ErrorName::NoMemory => "org.freedesktop.DBus.Error.NoMemory",
+            ErrorName::NoReply => "org.freedesktop.DBus.Error.NoReply",
             ErrorName::ServiceUnknown => "org.freedesktop.DBus.Error.ServiceUnknown",
             ErrorName::UnixProcessIdUnknown => "org.freedesktop.DBus.Error.UnixProcessIdUnknown",
             ErrorName::UnknownInterface => "org.freedesktop.DBus.Error.UnknownInterface",
             ErrorName::UnknownMethod => "org.freedesktop.DBus.Error.UnknownMethod",
             ErrorName::UnknownProperty => "org.freedesktop.DBus.Error.UnknownProperty",
             ErrorName::PropertyReadOnly => "org.freedesktop.DBus.Error.PropertyReadOnly",
-            ErrorName::BadProgram => "org.example.ProgramBus1.Error.BadProgram",
+            ErrorName::BadProgram(_) => "org.example.ProgramBus1.Error.BadProgram",
             ErrorName::BadEdition => "org.example.ProgramBus1.Error.BadEdition",
             ErrorName::NoAttachment => "org.example.ProgramBus1.Error.NoAttachment",
         }
     }
 
-    /// Its last element, which is also what `{}` prints.
+    /// Its last element.
     pub fn word(self) -> &'static str
         ensures { result.now ≡ word_of self }
     {
+        self.terms().word
+    }
+
+    /// The table of errors.
+    fn terms(self) -> Terms
+        ensures word { result.word.now ≡ word_of self }
+        ensures sentence { result.sentence.now ≡ sentence_of self }
+    {
         match self {
-            ErrorName::Failed => "Failed",
-            ErrorName::InvalidArgs => "InvalidArgs",
-            ErrorName::LimitsExceeded => "LimitsExceeded",
-            ErrorName::MatchRuleInvalid => "MatchRuleInvalid",
-            ErrorName::MatchRuleNotFound => "MatchRuleNotFound",
-            ErrorName::NameHasNoOwner => "NameHasNoOwner",
-            ErrorName::NoMemory => "NoMemory",
-            ErrorName::ServiceUnknown => "ServiceUnknown",
-            ErrorName::UnixProcessIdUnknown => "UnixProcessIdUnknown",
-            ErrorName::UnknownInterface => "UnknownInterface",
-            ErrorName::UnknownMethod => "UnknownMethod",
-            ErrorName::UnknownProperty => "UnknownProperty",
-            ErrorName::PropertyReadOnly => "PropertyReadOnly",
-            ErrorName::BadProgram => "BadProgram",
-            ErrorName::BadEdition => "BadEdition",
-            ErrorName::NoAttachment => "NoAttachment",
+            ErrorName::Failed => Terms {
+                word: "Failed",
+                sentence: "Hello came before, or the bus has no answer",
+            },
+            ErrorName::InvalidArgs => Terms {
+                word: "InvalidArgs",
+                sentence: "these are not arguments of the method",
+            },
+            ErrorName::LimitsExceeded(limit) => Terms {
+                word: "LimitsExceeded",
+                sentence: limit.words(),
+            },
+            ErrorName::MatchRuleInvalid(fault) => Terms {
+                word: "MatchRuleInvalid",
+                sentence: fault.name(),
+            },
+            ErrorName::MatchRuleNotFound => Terms {
+                word: "MatchRuleNotFound",
+                sentence: "this connection has no such rule",
+            },
+            ErrorName::NameHasNoOwner => Terms {
+                word: "NameHasNoOwner",
+                sentence: "nobody owns the name",
+            },
+            ErrorName::NoMemory => Terms {
+                word: "NoMemory",
+                sentence: "the bus has no memory for this",
+            },
+            ErrorName::NoReply => Terms {
+                word: "NoReply",
+                sentence: "the connection that was called has gone",
+            },
+            ErrorName::ServiceUnknown => Terms {
+                word: "ServiceUnknown",
+                sentence: "nobody owns the name, and nothing is started here",
+            },
+            ErrorName::UnixProcessIdUnknown => Terms {
+                word: "UnixProcessIdUnknown",
+                sentence: "the bus knows no processes",
+            },
+            ErrorName::UnknownInterface => Terms {
+                word: "UnknownInterface",
+                sentence: "the bus has no such interface",
+            },
+            ErrorName::UnknownMethod => Terms {
+                word: "UnknownMethod",
+                sentence: "the bus has no such method",
+            },
+            ErrorName::UnknownProperty => Terms {
+                word: "UnknownProperty",
+                sentence: "the interface has no such property",
+            },
+            ErrorName::PropertyReadOnly => Terms {
+                word: "PropertyReadOnly",
+                sentence: "no property of the bus can be set",
+            },
+            ErrorName::BadProgram(fault) => Terms {
+                word: "BadProgram",
+                sentence: fault.name(),
+            },
+            ErrorName::BadEdition => Terms {
+                word: "BadEdition",
+                sentence: "there is no such edition of a summary",
+            },
+            ErrorName::NoAttachment => Terms {
+                word: "NoAttachment",
+                sentence: "this connection has no such program",
+            },
+        }
+    }
+
+    /// The place of the instruction that is at fault, where there is one.
+    fn place(self) -> Option<usize>
+        ensures { result ≡ place_of self }
+    {
+        match self {
+            ErrorName::BadProgram(fault) => fault.place(),
+            _ => None,
         }
     }
 }
 
+/// Its word and its sentence, as the body of the error has them, and ` at ` with the place of an instruction.
 impl fmt::Display for ErrorName {
     ghost use Rattle.std.specs.Prelude.{Some};
 
-    ghost output = { λ name. Some (word_of name) };
+    ghost output = { λ name. Some (text_of name) };
 
     fn fmt<W: fmt::Write>(&self, f: &mut fmt::Formatter<W>) -> fmt::Result {
-        f.write_str(self.word())
+        let Terms { word, sentence } = self.terms();
+        match self.place() {
+            Some(place) => write!(f, "{word}: {sentence} at {place}"),
+            None => write!(f, "{word}: {sentence}"),
+        }
     }
 }

@@ -60,7 +60,7 @@ pub fn reply(
     finish_message(alloc, &builder)
 }
 
-/// The error that answers the message with a serial. Its argument is the error's word.
+/// The error that answers the message with a serial. Its argument is what the error says.
 ///
 /// # Errors
 ///
@@ -74,10 +74,11 @@ pub fn error(
 ) -> Result<Bytes, BuildError>
     ensures { Builds (error_asked serial (option_map (λ name. name.now) to.entry) reply_to name) result }
 {
+    let text = name.to_string(alloc)?;
     let mut builder = from_bus(alloc, Kind::Error, serial, to);
     builder.error_name(name.name());
     builder.reply_serial(reply_to);
-    builder.arg_str(name.word())?;
+    builder.arg_str(text.as_str())?;
     finish_message(alloc, &builder)
 }
 

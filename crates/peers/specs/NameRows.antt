@@ -20,7 +20,7 @@ use Rattle.peers.specs.Answers.{IsRefused}
 use Rattle.peers.specs.Holdings.{HoldingsState, after_request, after_release}
 use Rattle.peers.specs.PeerState.{PeerState}
 use Rattle.peers.specs.Refusals.{refusal_of}
-use Rattle.peers.specs.Shares.{WithinShare, WithinMemory, has_room_for_name}
+use Rattle.peers.specs.Shares.{WithinShare, WithinMemory, name_limit}
 use Rattle.peers.specs.declared.shares.Shares.{Shares}
 use Rattle.peers.specs.Rows.{Replies, HasCalled, with_holdings}
 
@@ -49,7 +49,7 @@ module _ {M : Type 0} where
   abbrev pub RequestsName : (M → OutboxId) → Shares → Request → List ℕ → (Result Reply BusError → PassState M → Type 0) → PeerState M → Result (Unit {0}) AnswerError → PeerState M → Type 0
   RequestsName outbox_of shares request name P v result w =
       IsUnclaimable request name v result w
-      ⊎ WithinShare (has_room_for_name shares name v.holdings) request (WithinMemory request (ChangesName outbox_of request P (after_request name) v result w) v result w) v result w
+      ⊎ WithinShare (name_limit shares name v.holdings) request (WithinMemory request (ChangesName outbox_of request P (after_request name) v result w) v result w) v result w
 
   abbrev pub ReleasesName : (M → OutboxId) → Request → List ℕ → (Result Reply BusError → PassState M → Type 0) → PeerState M → Result (Unit {0}) AnswerError → PeerState M → Type 0
   ReleasesName outbox_of request name P v result w = IsUnclaimable request name v result w ⊎ ChangesName outbox_of request P (after_release name) v result w

@@ -10,6 +10,7 @@ use Rattle.message_build.specs.Building.{IsTooLarge}
 use Rattle.message_build.specs.Stamped.{with_sender}
 use Rattle.bus_messages.specs.Sent.{no_reply_expected}
 use Rattle.bus_messages.specs.declared.error_name.ErrorName.TheVariants as names
+use Rattle.bus_messages.specs.declared.exceeded.Exceeded.TheVariants.{MessageLen}
 use Rattle.router.specs.BusError.{BusError}
 use Rattle.router.specs.Source.TheVariants.{Own}
 use Rattle.router.specs.History.{after}
@@ -26,7 +27,7 @@ use Rattle.peers.specs.declared.refused.Refused.{Refused}
 use Rattle.peers.specs.declared.refused.Refused.TheVariants.{Error, Ended}
 use Rattle.peers.specs.Answers.{IsRefused}
 use Rattle.peers.specs.PeerState.{PeerState, name_of}
-use Rattle.peers.specs.Refusals.{refusal_of}
+use Rattle.peers.specs.Refusals.{beyond, refusal_of}
 
 -- the message of some bytes, stamped with this sender, has these bytes
 abbrev pub IsStamped : List ℕ → List ℕ → List ℕ → Type 0
@@ -99,4 +100,4 @@ module _ {M : Type 0} where
   abbrev pub HasSent : (M → OutboxId) → List ℕ → List ℕ → PeerState M → Result (Unit {0}) AnswerError → PeerState M → Type 0
   HasSent outbox_of bytes to v result w =
       ((stamped : List ℕ) × IsStamped bytes (name_of v) stamped × SendsStamped outbox_of bytes to stamped v result w)
-      ⊎ ((IsOverLimit bytes (name_of v) × GivesUp bytes (Error names.LimitsExceeded) v result w) ⊎ GivesUp bytes (Error names.NoMemory) v result w)
+      ⊎ ((IsOverLimit bytes (name_of v) × GivesUp bytes (beyond MessageLen) v result w) ⊎ GivesUp bytes (Error names.NoMemory) v result w)

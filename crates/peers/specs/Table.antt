@@ -16,7 +16,7 @@ use Rattle.peers.specs.NameRows.{RequestsName, ReleasesName}
 use Rattle.peers.specs.PeerState.{PeerState}
 use Rattle.peers.specs.Queries.{RepliesText, RepliesTexts, RepliesDigits, RepliesMachineId, AnswersFound, AreAllNames, AreQueuedFor, AnswersOwner, NamesOwner, TellsWhetherOwned, TellsOfOwned, bus_id}
 use Rattle.peers.specs.Rows.{Replies, IsConfirmed, NumbersEntry}
-use Rattle.peers.specs.Shares.{WithinShare, WithinMemory, has_room_for_rule, has_room_for_program}
+use Rattle.peers.specs.Shares.{WithinShare, WithinMemory, rule_limit, program_limit}
 use Rattle.peers.specs.declared.error.AnswerError.{AnswerError}
 use Rattle.peers.specs.declared.refused.Refused.TheVariants.{Error}
 use Rattle.peers.specs.declared.request.Request.{Request}
@@ -30,10 +30,10 @@ module _ {M : Type 0} where
   abbrev pub Performs : (M → OutboxId) → Shares → Request → Call → PeerState M → Result (Unit {0}) AnswerError → PeerState M → Type 0
   Performs outbox_of shares request calls.Hello v result w = IsRefused request (Error names.Failed) v result w
   Performs outbox_of shares request (calls.AddMatch text) v result w =
-      WithinShare (has_room_for_rule shares v.holdings) request (IsConfirmed request (λ asked pass. Once (λ before next. AddsMatch text.now v.pass before asked pass next)) after_add v result w) v result w
+      WithinShare (rule_limit shares v.holdings) request (IsConfirmed request (λ asked pass. Once (λ before next. AddsMatch text.now v.pass before asked pass next)) after_add v result w) v result w
   Performs outbox_of shares request (calls.RemoveMatch text) v result w = IsConfirmed request (λ asked pass. Once (λ before next. RemovesMatch text.now v.pass before asked pass next)) after_remove v result w
   Performs outbox_of shares request (calls.Attach edition program) v result w =
-      WithinShare (has_room_for_program shares (vec_len program) v.holdings) request
+      WithinShare (program_limit shares (vec_len program) v.holdings) request
       (WithinMemory request (NumbersEntry request (λ asked pass. Once (λ before next. Attaches edition program.items v.pass before asked pass next)) (after_attach (vec_len program)) v result w) v result w) v result w
   Performs outbox_of shares request (calls.Detach id) v result w = IsConfirmed request (λ asked pass. Once (λ before next. Answers false v.pass before (Detach v.pass.connection id) asked pass next)) (after_detach id) v result w
   Performs outbox_of shares request (calls.RequestName name flags) v result w =

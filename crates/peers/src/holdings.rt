@@ -1,14 +1,14 @@
 // What a client has taken of the bus.
 
-ghost use Rattle.std.specs.Prelude.{◌≡◌, ◌+◌, ◌<◌, ◌≤◌, ◌^◌, ◌==◌, true, not, filter, nat_le, OnOk, vec_len, vec_capacity};
+ghost use Rattle.std.specs.Prelude.{◌≡◌, ◌+◌, ◌<◌, ◌≤◌, ◌^◌, ◌==◌, None, not, filter, nat_le, OnOk, vec_len, vec_capacity};
 ghost use Rattle.std.specs.Str.{bytes_eq};
 ghost use Rattle.peers.specs.Holdings.{nothing_held, instructions_of, is_held, with_name, without_name, after_add, after_remove, after_attach, after_detach, after_reply, after_request, after_release};
 ghost use Rattle.peers.specs.HeldLists.{holdings_of};
-ghost use Rattle.peers.specs.Shares.{IsWithin, has_room_for_rule, has_room_for_program, has_room_for_name};
+ghost use Rattle.peers.specs.Shares.{IsWithin, rule_limit, program_limit, name_limit};
 
 use crate::refused::Refused;
 use crate::shares::Shares;
-use bus_messages::ErrorName;
+use bus_messages::{ErrorName, Exceeded};
 use owners::{NameReply, WellKnown};
 use router::{BusError, Reply};
 use std::alloc::Global;
@@ -42,38 +42,55 @@ impl Holdings {
         }
     }
 
-    /// Whether the shares have room for one match rule more.
-    pub(crate) fn has_room_for_rule(&self, shares: Shares) -> bool
-        ensures room { result ≡ has_room_for_rule shares (holdings_of self.now) }
-        ensures few { result ≡ true → self.now.rules + 1 < 2 ^ 32 }
+    /// The limit that one match rule more would go beyond.
+    pub(crate) fn rule_limit(&self, shares: Shares) -> Option<Exceeded>
+        ensures limit { result ≡ rule_limit shares (holdings_of self.now) }
+        ensures few { result ≡ None → self.now.rules + 1 < 2 ^ 32 }
     {
-        self.rules as usize + self.programs.len() < shares.entries as usize
+        if self.rules as usize + self.programs.len() < shares.entries as usize {
+            None
+        } else {
+            Some(Exceeded::Rules)
+        }
     }
 
-    fn has_room_for_program(&self, shares: Shares, len: usize) -> bool
-        ensures { result ≡ has_room_for_program shares len (holdings_of self.now) }
+    /// The first limit that one program more would go beyond, of this many instructions.
+    fn program_limit(&self, shares: Shares, len: usize) -> Option<Exceeded>
+        ensures { result ≡ program_limit shares len (holdings_of self.now) }
     {
-        self.has_room_for_rule(shares) && has_room_for(&self.programs, shares.instructions, len)
+        if let Some(limit) = self.rule_limit(shares) {
+            return Some(limit);
+        }
+        if has_room_for(&self.programs, shares.instructions, len) {
+            None
+        } else {
+            Some(Exceeded::Instructions)
+        }
     }
 
-    fn has_room_for_name(&self, shares: Shares, name: &WellKnown) -> bool
-        ensures { result ≡ has_room_for_name shares name.now (holdings_of self.now) }
+    /// The limit that a name would go beyond.
+    fn name_limit(&self, shares: Shares, name: &WellKnown) -> Option<Exceeded>
+        ensures { result ≡ name_limit shares name.now (holdings_of self.now) }
     {
-        is_held(name, &self.names) || self.names.len() < shares.names as usize
+        if is_held(name, &self.names) || self.names.len() < shares.names as usize {
+            None
+        } else {
+            Some(Exceeded::Names)
+        }
     }
 
     /// Takes memory to note one program more, if the shares have room for it.
     ///
     /// # Errors
     ///
-    /// LimitsExceeded if they have none, and NoMemory.
+    /// LimitsExceeded with the limit if they have none, and NoMemory.
     pub(crate) fn admit_program(&mut self, shares: Shares, len: usize) -> Result<(), Refused>
-        ensures within { IsWithin (has_room_for_program shares len (holdings_of self.old)) result }
+        ensures within { IsWithin (program_limit shares len (holdings_of self.old)) result }
         ensures same { holdings_of self.new ≡ holdings_of self.old }
         ensures spare { OnOk result (vec_len self.new.programs < vec_capacity self.new.programs) }
     {
-        if !self.has_room_for_program(shares, len) {
-            return Err(Refused::Error(ErrorName::LimitsExceeded));
+        if let Some(limit) = self.program_limit(shares, len) {
+            return Err(Refused::beyond(limit));
         }
         match self.programs.reserve(1) {
             Ok(()) => Ok(()),
@@ -85,14 +102,14 @@ impl Holdings {
     ///
     /// # Errors
     ///
-    /// LimitsExceeded if they have none, and NoMemory.
+    /// LimitsExceeded with the limit if they have none, and NoMemory.
     pub(crate) fn admit_name(&mut self, shares: Shares, name: &WellKnown) -> Result<(), Refused>
-        ensures within { IsWithin (has_room_for_name shares name.now (holdings_of self.old)) result }
+        ensures within { IsWithin (name_limit shares name.now (holdings_of self.old)) result }
         ensures same { holdings_of self.new ≡ holdings_of self.old }
         ensures spare { OnOk result (vec_len self.new.names < vec_capacity self.new.names) }
     {
-        if !self.has_room_for_name(shares, name) {
-            return Err(Refused::Error(ErrorName::LimitsExceeded));
+        if let Some(limit) = self.name_limit(shares, name) {
+            return Err(Refused::beyond(limit));
         }
         match self.names.reserve(1) {
             Ok(()) => Ok(()),

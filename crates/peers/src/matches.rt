@@ -7,7 +7,7 @@ ghost use Rattle.router.specs.Command.TheVariants.{Detach};
 ghost use Rattle.peers.specs.Answers.{NeverSlow};
 ghost use Rattle.peers.specs.Holdings.{after_add, after_remove, after_attach, after_detach};
 ghost use Rattle.peers.specs.Rows.{Confirms, IsConfirmed, Numbers, NumbersEntry};
-ghost use Rattle.peers.specs.Shares.{WithinShare, WithinMemory, has_room_for_rule, has_room_for_program};
+ghost use Rattle.peers.specs.Shares.{WithinShare, WithinMemory, rule_limit, program_limit};
 
 use crate::context::Context;
 use crate::error::AnswerError;
@@ -15,7 +15,7 @@ use crate::peer::Peer;
 use crate::refused::Refused;
 use crate::request::Request;
 use bpf_code::Ins;
-use bus_messages::{Body, ErrorName};
+use bus_messages::Body;
 use router::{BusError, Mailbox, Naming, Reply};
 use std::sync::Wait;
 use summary::Edition;
@@ -27,11 +27,11 @@ impl<B: Naming, M: Mailbox> Peer<B, M> {
         request: Request,
         text: &str,
     ) -> Result<(), AnswerError>
-        ensures row { WithinShare (has_room_for_rule context.now.shares self.old.holdings) request (IsConfirmed request (λ asked pass. Once (λ before next. AddsMatch text.now self.old.pass before asked pass next)) after_add self.old result self.new) self.old result self.new }
+        ensures row { WithinShare (rule_limit context.now.shares self.old.holdings) request (IsConfirmed request (λ asked pass. Once (λ before next. AddsMatch text.now self.old.pass before asked pass next)) after_add self.old result self.new) self.old result self.new }
         ensures error { NeverSlow request.wants_answer result }
     {
-        if !self.holdings.has_room_for_rule(context.shares) {
-            return self.refuse(context, request, Refused::Error(ErrorName::LimitsExceeded));
+        if let Some(limit) = self.holdings.rule_limit(context.shares) {
+            return self.refuse(context, request, Refused::beyond(limit));
         }
         let bus = context.bus;
         let added = bus.add_match(context.rt, context.alloc, &mut self.pass, text);
@@ -91,7 +91,7 @@ impl<B: Naming, M: Mailbox> Peer<B, M> {
         edition: Edition,
         program: Vec<Ins>,
     ) -> Result<(), AnswerError>
-        ensures row { WithinShare (has_room_for_program context.now.shares (vec_len program) self.old.holdings) request (WithinMemory request (NumbersEntry request (λ asked pass. Once (λ before next. Attaches edition program.items self.old.pass before asked pass next)) (after_attach (vec_len program)) self.old result self.new) self.old result self.new) self.old result self.new }
+        ensures row { WithinShare (program_limit context.now.shares (vec_len program) self.old.holdings) request (WithinMemory request (NumbersEntry request (λ asked pass. Once (λ before next. Attaches edition program.items self.old.pass before asked pass next)) (after_attach (vec_len program)) self.old result self.new) self.old result self.new) self.old result self.new }
         ensures error { NeverSlow request.wants_answer result }
     {
         let len = program.len();

@@ -1,10 +1,10 @@
 // Calls that are refused.
 
 ghost use Rattle.std.specs.Prelude.{◌≡◌};
-ghost use Rattle.peers.specs.Refusals.{program_error};
+ghost use Rattle.peers.specs.Refusals.{beyond, program_error};
 
 use bpf_verify::VerifyError;
-use bus_messages::{CallError, ErrorName};
+use bus_messages::{CallError, ErrorName, Exceeded};
 use router::BusError;
 use std::alloc::{AllocError, AllocFailed};
 
@@ -15,6 +15,15 @@ pub enum Refused {
     Error(ErrorName),
     /// The bus has ended, and so does the session.
     Ended,
+}
+
+impl Refused {
+    /// A call that would go beyond this limit.
+    pub fn beyond(limit: Exceeded) -> Refused
+        ensures { result ≡ beyond limit }
+    {
+        Refused::Error(ErrorName::LimitsExceeded(limit))
+    }
 }
 
 impl From<BusError> for Refused {
@@ -29,16 +38,16 @@ impl From<BusError> for Refused {
             BusError::RuleNotFound => Refused::Error(ErrorName::MatchRuleNotFound),
             BusError::NoAttachment => Refused::Error(ErrorName::NoAttachment),
             BusError::Closed => Refused::Ended,
-            BusError::Rule(_) => Refused::Error(ErrorName::MatchRuleInvalid),
+            BusError::Rule(fault) => Refused::Error(ErrorName::MatchRuleInvalid(fault)),
             BusError::Program(fault) => Refused::Error(program_error(fault)),
-            BusError::ConnectionsFull
-            | BusError::EntriesFull
-            | BusError::NamesFull
-            | BusError::QueueFull
-            | BusError::TooLong
-            | BusError::Busy
-            | BusError::Fan(_)
-            | BusError::Counts => Refused::Error(ErrorName::LimitsExceeded),
+            BusError::ConnectionsFull => Refused::beyond(Exceeded::BusConnections),
+            BusError::EntriesFull => Refused::beyond(Exceeded::BusEntries),
+            BusError::NamesFull => Refused::beyond(Exceeded::BusNames),
+            BusError::QueueFull => Refused::beyond(Exceeded::BusClaims),
+            BusError::TooLong => Refused::beyond(Exceeded::RuleLen),
+            BusError::Busy => Refused::beyond(Exceeded::BusReaders),
+            BusError::Fan(_) => Refused::beyond(Exceeded::BusWorkers),
+            BusError::Counts => Refused::beyond(Exceeded::BusBroadcasts),
         }
     }
 }
@@ -49,7 +58,7 @@ fn program_error(fault: VerifyError) -> ErrorName
 {
     match fault {
         VerifyError::NoMemory => ErrorName::NoMemory,
-        _ => ErrorName::BadProgram,
+        fault => ErrorName::BadProgram(fault),
     }
 }
 

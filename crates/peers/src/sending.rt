@@ -13,7 +13,7 @@ use crate::error::AnswerError;
 use crate::peer::Peer;
 use crate::refused::Refused;
 use crate::request::Request;
-use bus_messages::{Bytes, ErrorName, UniqueName};
+use bus_messages::{Bytes, ErrorName, Exceeded, UniqueName};
 use message_build::{StampError, stamp};
 use message_view::{Kind, View};
 use router::{Mailbox, Naming, RouteLists, Sent, Source};
@@ -64,7 +64,7 @@ impl<B: Naming, M: Mailbox> Peer<B, M> {
         match stamp_message(context.alloc, view, &self.name) {
             Ok(bytes) => self.send_stamped(context, view, to, &bytes),
             Err(StampError::TooLarge) => {
-                self.give_up(context, view, Refused::Error(ErrorName::LimitsExceeded))
+                self.give_up(context, view, Refused::beyond(Exceeded::MessageLen))
             }
             Err(StampError::NoMemory) => {
                 self.give_up(context, view, Refused::Error(ErrorName::NoMemory))

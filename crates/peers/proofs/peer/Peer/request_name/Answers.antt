@@ -8,7 +8,7 @@ use Rattle.peers.specs.HeldLists.{holdings_of}
 use Rattle.peers.specs.Holdings.{HoldingsState, after_request}
 use Rattle.peers.specs.NameRows.{ChangesName}
 use Rattle.peers.specs.PeerState.{PeerState}
-use Rattle.peers.specs.Shares.{WithinShare, WithinMemory, has_room_for_name}
+use Rattle.peers.specs.Shares.{WithinShare, WithinMemory, name_limit}
 use Rattle.peers.proofs.AskedNames.{name_read}
 use Rattle.peers.proofs.Rows.{changed}
 use Rattle.peers.proofs.Sharing.{within_share}
@@ -20,7 +20,7 @@ returns-clause-row g c =
     let name : c.in-Ok.name ≡ c.args.name.now = (name_read c.args.name.now c.in-Ok.name (sym c.read.ensures ∙ c.in-Ok.is)).0 in
     let v : PeerState g.row.M.Denot = c.args.self.now in
     let change : List ℕ → Result Reply BusError → HoldingsState → HoldingsState = after_request in
-    let W : List ℕ → Type 0 = λ n. WithinShare (has_room_for_name c.args.context.now.shares n v.holdings) c.args.request (WithinMemory c.args.request (ChangesName g.M.Mailbox.outbox_of c.args.request (P n v.pass) (change n) v c.answer_named.result c.answer_named.new.self) v c.answer_named.result c.answer_named.new.self) v c.answer_named.result c.answer_named.new.self in
-    inr (subst W name (within_share (has_room_for_name c.args.context.now.shares c.in-Ok.name) c.args.request _ _ v c.answer_named.new.self c.answer_named.result c.self.view_is c.in_default-admit_name.ensures.within
+    let W : List ℕ → Type 0 = λ n. WithinShare (name_limit c.args.context.now.shares n v.holdings) c.args.request (WithinMemory c.args.request (ChangesName g.M.Mailbox.outbox_of c.args.request (P n v.pass) (change n) v c.answer_named.result c.answer_named.new.self) v c.answer_named.result c.answer_named.new.self) v c.answer_named.result c.answer_named.new.self in
+    inr (subst W name (within_share (name_limit c.args.context.now.shares c.in-Ok.name) c.args.request _ _ v c.answer_named.new.self c.answer_named.result c.self.view_is c.in_default-admit_name.ensures.within
     (inl (changed g.M.Mailbox.outbox_of c.args.request (P c.in-Ok.name) (change c.in-Ok.name) _ v c.answer_named.new.self c.request_name-asked.result c.request_name-asked.new.pass (holdings_of c.note_request.new.self) c.answer_named.result c.self.view_is c.request_name-asked.ensures.answer
     (c.note_request.ensures ∙ ap (change c.in-Ok.name c.request_name-asked.result) c.admit_name.ensures.same) c.answer_named.ensures.row))))
