@@ -123,6 +123,7 @@ fn shares_of(share: Share) -> Shares {
         entries: share.entries,
         instructions: share.instructions,
         names: share.names,
+        calls: share.calls,
     }
 }
 

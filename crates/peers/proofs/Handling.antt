@@ -5,7 +5,7 @@ use Rattle.message_view.specs.Message.{Message, destination_of}
 use Rattle.peers.specs.declared.error.AnswerError.{AnswerError}
 use Rattle.peers.specs.declared.shares.Shares.{Shares}
 use Rattle.peers.specs.Handling.{HandledAs, PassesOn, is_for_bus, is_known, is_signal}
-use Rattle.peers.specs.Passing.{HasSent}
+use Rattle.peers.specs.Calling.{HasSent}
 use Rattle.peers.specs.PeerState.{PeerState}
 
 module _ {M : Type 0} where

@@ -3,6 +3,7 @@ mod AskedNames
 mod Putting
 mod Passing
 mod Announcing
+mod Calling
 mod Rows
 mod Sharing
 mod Lists

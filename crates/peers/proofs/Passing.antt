@@ -1,16 +1,17 @@
 -- What a peer passes on.
 use Rattle.std.proofs.Common.{◌≡◌, ℕ, List, Result, Ok, Err, inr, ap, subst, ◌∙◌}
-use Rattle.std.specs.Prelude.{IfErr}
+use Rattle.std.specs.Prelude.{IfErr, MatchResult}
 use Rattle.outbox.specs.Seated.{OutboxId}
 use Rattle.router.specs.BusError.{BusError}
 use Rattle.router.specs.Source.TheVariants.{Own}
 use Rattle.router.specs.Passes.{PassState}
 use Rattle.router.specs.Sent.{Sent}
+use Rattle.router.specs.Unicasts.{Unicasts, IsUnsent}
 use Rattle.unique_name.specs.UniqueNames.{unique_name}
 use Rattle.peers.specs.declared.error.AnswerError.{AnswerError}
 use Rattle.peers.specs.declared.error.AnswerError.TheVariants.{NoMemory}
 use Rattle.peers.specs.Broadcasts.{Broadcasts}
-use Rattle.peers.specs.Passing.{HasSeenMore, IsStamped, IsOverLimit, HasBroadcast, SendsStamped, Delivers, with_pass}
+use Rattle.peers.specs.Passing.{HasSeenMore, IsStamped, IsOverLimit, HasBroadcast, SendsStamped, Concludes, with_pass}
 use Rattle.peers.specs.PeerState.{PeerState, name_of}
 
 -- stamped with the name of a number
@@ -31,5 +32,9 @@ module _ {M : Type 0} where
   broadcast_done outbox_of bytes stamped v u w (Err error) recipients refused is seen st err routed same =
       (err, same ∙ ap (λ (s : PeerState M). with_pass s w.pass) is, u.pass, seen, inr routed)
 
-  pub stamped_sent : (outbox_of : M → OutboxId) (bytes to stamped : List ℕ) (u v w : PeerState M) (mid : PassState M) (asked : Result Sent BusError) (result : Result (Unit {0}) AnswerError) → u ≡ v → Delivers outbox_of bytes to stamped u asked mid result w → SendsStamped outbox_of bytes to stamped v result w
-  stamped_sent outbox_of bytes to stamped u v w mid asked result is d = (mid, asked, let P : PeerState M → Type 0 = λ s. Delivers outbox_of bytes to stamped s asked mid result w in subst P is d)
+  pub stamped_sent : (outbox_of : M → OutboxId) (bytes to stamped : List ℕ) (u v w : PeerState M) (mid : PassState M) (asked : Result Sent BusError) (result : Result (Unit {0}) AnswerError) → u ≡ v
+      → MatchResult asked (λ sent. Unicasts outbox_of to stamped u.pass sent mid) (λ error. IsUnsent outbox_of error u.pass mid) → Concludes bytes asked (with_pass u mid) result w → SendsStamped outbox_of bytes to stamped v result w
+  stamped_sent outbox_of bytes to stamped u v w mid asked result is sent concluded =
+      let S : PeerState M → Type 0 = λ s. MatchResult asked (λ sent. Unicasts outbox_of to stamped s.pass sent mid) (λ error. IsUnsent outbox_of error s.pass mid) in
+      let C : PeerState M → Type 0 = λ s. Concludes bytes asked (with_pass s mid) result w in
+      (mid, asked, subst S is sent, subst C is concluded)

@@ -14,6 +14,7 @@ use Rattle.peers.specs.declared.leaving.Giving.TheVariants as givings
 use Rattle.peers.specs.declared.leaving.Leaving.{Leaving}
 use Rattle.peers.specs.declared.leaving.Leaving.TheVariants.{Done, Ended, Refused}
 use Rattle.peers.specs.Announcements.{Announces, HasSignalled, change_asked}
+use Rattle.peers.specs.Calling.{AnswersCallers}
 use Rattle.peers.specs.PeerState.{PeerState, name_of}
 use Rattle.peers.specs.Rows.{HasCalled}
 
@@ -42,10 +43,12 @@ module _ {M : Type 0} where
   AreGivenUp outbox_of false v w =
       (n : ℕ) × (mid : PeerState M) × GivesUpNames outbox_of n v mid × (GivesUpName outbox_of mid givings.Refused w ⊎ ((max_claims < n) × (w ≡ mid)))
 
-  -- What closing the pass comes to, by what the bus answered: that the client's own name is gone is announced.
+  -- What closing the pass comes to, by what the bus answered: that the client's own name is gone is announced, and who waits
+  -- for its replies is told that none will come.
   abbrev pub IsClosing : (M → OutboxId) → Result Reply BusError → PeerState M → Leaving → PeerState M → Type 0
   IsClosing outbox_of (Ok _) v leaving w =
-      (leaving ≡ Done) × (announced : Result (Unit {0}) AnswerError) × HasSignalled outbox_of (change_asked v.serial (name_of v) (Some v.pass.connection) None) v announced w
+      (leaving ≡ Done) × (announced : Result (Unit {0}) AnswerError) × (mid : PeerState M)
+      × HasSignalled outbox_of (change_asked v.serial (name_of v) (Some v.pass.connection) None) v announced mid × AnswersCallers outbox_of mid w
   IsClosing outbox_of (Err errors.NoMemory) v leaving w = (leaving ≡ Refused) × (w ≡ v)
   IsClosing outbox_of (Err _) v leaving w = (leaving ≡ Ended) × (w ≡ v)
 
@@ -57,8 +60,8 @@ module _ {M : Type 0} where
   ClosesIf outbox_of true v leaving w = Closes outbox_of v leaving w
   ClosesIf outbox_of false v leaving w = (leaving ≡ Refused) × (w ≡ v)
 
-  -- A peer leaves: it gives up its names one after the other, each change announced, closes its pass, and announces that its
-  -- own name is gone, in this order, and does nothing else.
+  -- A peer leaves: it gives up its names one after the other, each change announced, closes its pass, announces that its own
+  -- name is gone, and tells those who wait for its replies, in this order, and does nothing else.
   abbrev pub Leaves : (M → OutboxId) → PeerState M → Leaving → PeerState M → Type 0
   Leaves outbox_of v leaving w = (cleared : Bool) × (mid : PeerState M) × AreGivenUp outbox_of cleared v mid × ClosesIf outbox_of cleared mid leaving w
 

@@ -12,7 +12,8 @@ use Rattle.bus_messages.specs.declared.call.CallError.{CallError}
 use Rattle.bus_messages.specs.Calls.{IsReadAs}
 use Rattle.bus_messages.specs.CallErrors.{error_name_of}
 use Rattle.peers.specs.Answers.{IsRefused}
-use Rattle.peers.specs.Passing.{HasBroadcast, HasSent, IsRequestOf, is_call}
+use Rattle.peers.specs.Calling.{HasSent}
+use Rattle.peers.specs.Passing.{HasBroadcast, IsRequestOf, is_call}
 use Rattle.peers.specs.PeerState.{PeerState}
 use Rattle.peers.specs.Table.{Performs}
 use Rattle.peers.specs.declared.error.AnswerError.{AnswerError}

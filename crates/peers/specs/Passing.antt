@@ -1,5 +1,5 @@
 -- What a peer passes on for its client (D-Bus Specification, "Message Bus Message Routing").
-use Rattle.std.specs.Prelude.{ℕ, ◌≡◌, ◌⊎◌, Bool, true, false, ◌&&◌, ◌==◌, List, [], Some, Result, Ok, Err, bit_and}
+use Rattle.std.specs.Prelude.{ℕ, ◌≡◌, ◌⊎◌, Bool, true, false, ◌&&◌, ◌==◌, List, [], Some, Result, Ok, Err, MatchResult, bit_and}
 use mathlib.Core.List.{IsPrefix}
 use Rattle.outbox.specs.Seated.{OutboxId}
 use Rattle.message_view.specs.declared.kind.Kind.{Kind}
@@ -10,7 +10,6 @@ use Rattle.message_build.specs.Building.{IsTooLarge}
 use Rattle.message_build.specs.Stamped.{with_sender}
 use Rattle.bus_messages.specs.Sent.{no_reply_expected}
 use Rattle.bus_messages.specs.declared.error_name.ErrorName.TheVariants as names
-use Rattle.bus_messages.specs.declared.exceeded.Exceeded.TheVariants.{MessageLen}
 use Rattle.router.specs.BusError.{BusError}
 use Rattle.router.specs.Source.TheVariants.{Own}
 use Rattle.router.specs.History.{after}
@@ -27,7 +26,7 @@ use Rattle.peers.specs.declared.refused.Refused.{Refused}
 use Rattle.peers.specs.declared.refused.Refused.TheVariants.{Error, Ended}
 use Rattle.peers.specs.Answers.{IsRefused}
 use Rattle.peers.specs.PeerState.{PeerState, name_of}
-use Rattle.peers.specs.Refusals.{beyond, refusal_of}
+use Rattle.peers.specs.Refusals.{refusal_of}
 
 -- the message of some bytes, stamped with this sender, has these bytes
 abbrev pub IsStamped : List ℕ → List ℕ → List ℕ → Type 0
@@ -85,19 +84,14 @@ module _ {M : Type 0} where
   abbrev pub GivesUp : List ℕ → Refused → PeerState M → Result (Unit {0}) AnswerError → PeerState M → Type 0
   GivesUp bytes why v result w = (m : Message) → Valid bytes m → (request : Request) × IsRequestOf m request × IsGivenUp (is_call m.kind && request.wants_answer) request why v result w
 
-  -- what becomes of a stamped message to the owner of a name, of the bytes that the client sent
-  abbrev pub Delivers : (M → OutboxId) → List ℕ → List ℕ → List ℕ → PeerState M → Result Sent BusError → PassState M → Result (Unit {0}) AnswerError → PeerState M → Type 0
-  Delivers outbox_of bytes to stamped v (Ok sent.NoOwner) mid result w = Unicasts outbox_of to stamped v.pass sent.NoOwner mid × GivesUp bytes (Error names.ServiceUnknown) (with_pass v mid) result w
-  Delivers outbox_of bytes to stamped v (Ok put) mid result w = Unicasts outbox_of to stamped v.pass put mid × (result ≡ Ok tt) × (w ≡ with_pass v mid)
-  Delivers outbox_of bytes to stamped v (Err error) mid result w = IsUnsent outbox_of error v.pass mid × GivesUp bytes (refusal_of error) (with_pass v mid) result w
+  -- What comes of a message for its sender, by what became of it. It is given up if nobody owns the name, or for a fault.
+  abbrev pub Concludes : List ℕ → Result Sent BusError → PeerState M → Result (Unit {0}) AnswerError → PeerState M → Type 0
+  Concludes bytes (Ok sent.NoOwner) v result w = GivesUp bytes (Error names.ServiceUnknown) v result w
+  Concludes bytes (Ok put) v result w = (result ≡ Ok tt) × (w ≡ v)
+  Concludes bytes (Err error) v result w = GivesUp bytes (refusal_of error) v result w
 
+  -- a stamped message to the owner of a name, of the bytes that the client sent
   abbrev pub SendsStamped : (M → OutboxId) → List ℕ → List ℕ → List ℕ → PeerState M → Result (Unit {0}) AnswerError → PeerState M → Type 0
-  SendsStamped outbox_of bytes to stamped v result w = (mid : PassState M) × (asked : Result Sent BusError) × Delivers outbox_of bytes to stamped v asked mid result w
-
-  -- A message of the client to the owner of a name: it was put there, stamped with the client's name, or the owner's outbox
-  -- is shut; or it is given up, since nobody owns the name, the bus has ended, or memory was refused, or since it would be
-  -- above the limits with its sender.
-  abbrev pub HasSent : (M → OutboxId) → List ℕ → List ℕ → PeerState M → Result (Unit {0}) AnswerError → PeerState M → Type 0
-  HasSent outbox_of bytes to v result w =
-      ((stamped : List ℕ) × IsStamped bytes (name_of v) stamped × SendsStamped outbox_of bytes to stamped v result w)
-      ⊎ ((IsOverLimit bytes (name_of v) × GivesUp bytes (beyond MessageLen) v result w) ⊎ GivesUp bytes (Error names.NoMemory) v result w)
+  SendsStamped outbox_of bytes to stamped v result w =
+      (mid : PassState M) × (asked : Result Sent BusError)
+      × MatchResult asked (λ sent. Unicasts outbox_of to stamped v.pass sent mid) (λ error. IsUnsent outbox_of error v.pass mid) × Concludes bytes asked (with_pass v mid) result w

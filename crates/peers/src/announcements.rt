@@ -151,8 +151,12 @@ impl<B: Naming, M: Mailbox> Peer<B, M> {
         self.tell(context, &to, built_message)
     }
 
-    // Sends a signal to one connection, which may be gone by now.
-    fn tell<W: Wait, R: Wait + Drop>(
+    /// Sends a message of the bus to one connection, which may be gone by now.
+    ///
+    /// # Errors
+    ///
+    /// As those of `announce`.
+    pub(crate) fn tell<W: Wait, R: Wait + Drop>(
         &mut self,
         context: &Context<'_, B, M, W, R>,
         to: &UniqueName,
@@ -166,7 +170,7 @@ impl<B: Naming, M: Mailbox> Peer<B, M> {
         };
         match self
             .pass
-            .send_to(context.rt, context.alloc, to.as_str(), &bytes)
+            .send_to(context.rt, context.alloc, Source::Bus, to.as_str(), &bytes)
         {
             Ok(_) => Ok(()),
             Err(_) => Err(AnswerError::NoMemory),

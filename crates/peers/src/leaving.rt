@@ -34,7 +34,8 @@ enum Giving {
 
 impl<B: Naming, M: Mailbox> Peer<B, M> {
     /// Gives up the client's names one after the other, each change announced, closes its pass, announces that its own
-    /// name is gone, and writes out what was announced. An announcement that memory refuses is left out.
+    /// name is gone, answers NoReply to those who wait for the client's replies, and writes out what was put. A message that
+    /// memory refuses is left out.
     pub fn leave<W: Wait, R: Wait + Drop>(&mut self, context: &Context<'_, B, M, W, R>) -> Leaving
         ensures leaves { Leaves M.outbox_of self.old result self.new }
         ensures closed { HasLeft result self.new }
@@ -112,7 +113,7 @@ impl<B: Naming, M: Mailbox> Peer<B, M> {
         self.announce_closed(context, closed)
     }
 
-    // Announces that the client's unique name is gone, if its pass was closed.
+    // Announces that the client's unique name is gone, if its pass was closed, and ends the calls that wait.
     fn announce_closed<W: Wait, R: Wait + Drop>(
         &mut self,
         context: &Context<'_, B, M, W, R>,
@@ -123,6 +124,7 @@ impl<B: Naming, M: Mailbox> Peer<B, M> {
         match closed {
             Ok(_) => {
                 let _ = self.announce_departure(context);
+                self.end_calls(context);
                 Leaving::Done
             }
             Err(BusError::NoMemory) => Leaving::Refused,

@@ -9,6 +9,7 @@
 
 mod announcements;
 mod answers;
+mod calls;
 mod context;
 mod dispatch;
 mod error;

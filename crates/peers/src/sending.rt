@@ -5,7 +5,8 @@ ghost use Rattle.message_view.specs.Message.{Message};
 ghost use Rattle.message_view.specs.Valid.{Valid};
 ghost use Rattle.message_build.specs.Stamped.{Stamps};
 ghost use Rattle.unique_name.specs.UniqueNames.{unique_name};
-ghost use Rattle.peers.specs.Passing.{HasBroadcast, HasSent, SendsStamped, GivesUp};
+ghost use Rattle.peers.specs.Calling.{HasSent, GoesOn};
+ghost use Rattle.peers.specs.Passing.{HasBroadcast, SendsStamped, Concludes, GivesUp};
 ghost use Rattle.peers.specs.PeerState.{name_of};
 
 use crate::context::Context;
@@ -16,7 +17,7 @@ use crate::request::Request;
 use bus_messages::{Bytes, ErrorName, Exceeded, UniqueName};
 use message_build::{StampError, stamp};
 use message_view::{Kind, View};
-use router::{Mailbox, Naming, RouteLists, Sent, Source};
+use router::{BusError, Mailbox, Naming, RouteLists, Sent, Source};
 use std::alloc::Global;
 use std::sync::Wait;
 
@@ -48,7 +49,7 @@ impl<B: Naming, M: Mailbox> Peer<B, M> {
         }
     }
 
-    /// Passes on a message to the owner of a name, stamped with the client's name.
+    /// Passes on a message to the owner of a name, stamped with the client's name. A reply goes only to who waits for it.
     ///
     /// # Errors
     ///
@@ -79,11 +80,52 @@ impl<B: Naming, M: Mailbox> Peer<B, M> {
         to: &str,
         bytes: &Bytes,
     ) -> Result<(), AnswerError>
+        ensures { GoesOn M.outbox_of view.now to.now bytes.now self.old result self.new }
+    {
+        match view.kind() {
+            Kind::MethodCall => self.send_call(context, view, to, bytes),
+            Kind::MethodReturn => self.send_reply(context, view, to, bytes),
+            Kind::Error => self.send_reply(context, view, to, bytes),
+            _ => self.deliver(context, view, to, bytes),
+        }
+    }
+
+    /// Puts a stamped message into the outbox of the owner of a name.
+    ///
+    /// # Errors
+    ///
+    /// As those of `send_to`.
+    pub(crate) fn deliver<W: Wait, R: Wait + Drop>(
+        &mut self,
+        context: &Context<'_, B, M, W, R>,
+        view: &View<'_>,
+        to: &str,
+        bytes: &Bytes,
+    ) -> Result<(), AnswerError>
         ensures { SendsStamped M.outbox_of view.now to.now bytes.now self.old result self.new }
     {
-        match self.pass.send_to(context.rt, context.alloc, to, bytes) {
-            Ok(Sent::Put) => Ok(()),
-            Ok(Sent::Full) => Ok(()),
+        let sent = self
+            .pass
+            .send_to(context.rt, context.alloc, Source::Own, to, bytes);
+        self.conclude(context, view, sent)
+    }
+
+    /// What comes of a message for its sender, by what became of it. An outbox that is full drops it.
+    ///
+    /// # Errors
+    ///
+    /// As those of `send_to`.
+    pub(crate) fn conclude<W: Wait, R: Wait + Drop>(
+        &mut self,
+        context: &Context<'_, B, M, W, R>,
+        view: &View<'_>,
+        sent: Result<Sent, BusError>,
+    ) -> Result<(), AnswerError>
+        ensures { Concludes view.now sent self.old result self.new }
+    {
+        match sent {
+            Ok(Sent::Put(_)) => Ok(()),
+            Ok(Sent::Full(_)) => Ok(()),
             Ok(Sent::NoOwner) => {
                 self.give_up(context, view, Refused::Error(ErrorName::ServiceUnknown))
             }
@@ -93,7 +135,7 @@ impl<B: Naming, M: Mailbox> Peer<B, M> {
 
     /// A message that isn't passed on: a call whose caller waits is answered with the error. Another message is dropped;
     /// but none is lost for want of memory without a word: that ends the session.
-    fn give_up<W: Wait, R: Wait + Drop>(
+    pub(crate) fn give_up<W: Wait, R: Wait + Drop>(
         &mut self,
         context: &Context<'_, B, M, W, R>,
         view: &View<'_>,

@@ -13,28 +13,33 @@ pub struct Shares {
     /// Names that it asked for and hasn't released. A name that another connection took over counts until it is released,
     /// or asked for again in vain.
     pub names: u32,
+    /// Calls of other connections that wait for their replies.
+    pub calls: u32,
 }
 
 impl Shares {
     /// More than a bus has: only the bus itself refuses.
     pub fn unlimited() -> Shares
-        ensures { result ≡ record { entries = 4294967295; instructions = 4294967295; names = 4294967295 } }
+        ensures { result ≡ record { entries = 4294967295; instructions = 4294967295; names = 4294967295; calls = 4294967295 } }
     {
         Shares {
             entries: u32::MAX,
             instructions: u32::MAX,
             names: u32::MAX,
+            calls: u32::MAX,
         }
     }
 
-    /// What a client of `dbusfan serve` may have: 512 rules and programs, 65,536 instructions, 512 names.
+    /// What a client of `dbusfan serve` may have: 512 rules and programs, 65,536 instructions, 512 names, and
+    /// 1,024 calls that wait.
     pub fn standard() -> Shares
-        ensures { result ≡ record { entries = 512; instructions = 65536; names = 512 } }
+        ensures { result ≡ record { entries = 512; instructions = 65536; names = 512; calls = 1024 } }
     {
         Shares {
             entries: 512,
             instructions: 65_536,
             names: 512,
+            calls: 1_024,
         }
     }
 }

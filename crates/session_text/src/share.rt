@@ -10,17 +10,21 @@ pub struct Share {
     /// Instructions of programs, together.
     pub instructions: u32,
     pub names: u32,
+    /// Calls that wait for their replies.
+    pub calls: u32,
 }
 
 impl Share {
-    /// `2 100 1`: rules and programs, instructions, names.
+    /// `2 100 1 9`: rules and programs, instructions, names, calls.
     pub(crate) fn read(words: &str) -> Result<Share, LineError> {
         let (entries, words) = words.split_once(' ').ok_or(LineError::Unreadable)?;
-        let (instructions, names) = words.split_once(' ').ok_or(LineError::Unreadable)?;
+        let (instructions, words) = words.split_once(' ').ok_or(LineError::Unreadable)?;
+        let (names, calls) = words.split_once(' ').ok_or(LineError::Unreadable)?;
         Ok(Share {
             entries: entries.parse::<u32>()?,
             instructions: instructions.parse::<u32>()?,
             names: names.parse::<u32>()?,
+            calls: calls.parse::<u32>()?,
         })
     }
 }

@@ -1,0 +1,5 @@
+use Rattle.peers.specs.Calling.{AnswersMany}
+use Rattle.peers.proofs.peer.Peer.end_calls.Given as goal
+
+abbrev pub invariant-loop-underscore : goal.invariant-loop-underscore
+invariant-loop-underscore g l = AnswersMany g.M.Mailbox.outbox_of l.count l.fn.self l.self

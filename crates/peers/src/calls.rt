@@ -1,0 +1,137 @@
+// Calls that clients make of one another, and their replies.
+
+ghost use Rattle.std.specs.Prelude.{◌≡◌};
+ghost use Rattle.peers.specs.Calling.{SendsCall, SendsReply, AnswersCallers, AnswersCaller};
+
+use crate::context::Context;
+use crate::error::AnswerError;
+use crate::peer::Peer;
+use crate::refused::Refused;
+use crate::request::Request;
+use bus_messages::{Bytes, ErrorName, Exceeded, UniqueName, error};
+use message_view::View;
+use router::{BusError, Mailbox, Naming, OpenCall, Sent, Source};
+use std::sync::Wait;
+
+impl<B: Naming, M: Mailbox> Peer<B, M> {
+    /// Passes on a stamped call. One whose caller waits for the reply is remembered, within the client's share of calls that
+    /// wait; no reply comes before that.
+    ///
+    /// # Errors
+    ///
+    /// As those of `send_to`.
+    pub(crate) fn send_call<W: Wait, R: Wait + Drop>(
+        &mut self,
+        context: &Context<'_, B, M, W, R>,
+        view: &View<'_>,
+        to: &str,
+        bytes: &Bytes,
+    ) -> Result<(), AnswerError>
+        ensures { SendsCall M.outbox_of view.now to.now bytes.now self.old result self.new }
+    {
+        let request = Request::of(view);
+        if !request.wants_answer {
+            return self.deliver(context, view, to, bytes);
+        }
+        let caller = self.pass.connection();
+        let mut calls = context.bus.calls_of(context.rt, caller);
+        if calls.count_of(caller) >= context.shares.calls as usize {
+            return self.give_up(context, view, Refused::beyond(Exceeded::Calls));
+        }
+        if calls.reserve().is_err() {
+            return self.give_up(context, view, Refused::Error(ErrorName::NoMemory));
+        }
+        let sent = self
+            .pass
+            .send_to(context.rt, context.alloc, Source::Own, to, bytes);
+        if let Some(callee) = callee_of(&sent) {
+            calls.add(OpenCall {
+                caller,
+                serial: request.serial,
+                callee,
+            });
+        }
+        self.conclude(context, view, sent)
+    }
+
+    /// Passes on a stamped reply to the client that waits for it. One that nobody waits for is dropped.
+    ///
+    /// # Errors
+    ///
+    /// As those of `send_to`.
+    pub(crate) fn send_reply<W: Wait, R: Wait + Drop>(
+        &mut self,
+        context: &Context<'_, B, M, W, R>,
+        view: &View<'_>,
+        to: &str,
+        bytes: &Bytes,
+    ) -> Result<(), AnswerError>
+        ensures { SendsReply M.outbox_of view.now to.now bytes.now self.old result self.new }
+    {
+        let Some(call) = self.call_answered(view, to) else {
+            return Ok(());
+        };
+        let mut calls = context.bus.calls_of(context.rt, call.caller);
+        if !calls.has(call) {
+            return Ok(());
+        }
+        let sent = self.deliver(context, view, to, bytes);
+        if sent.is_ok() {
+            calls.remove(call);
+        }
+        sent
+    }
+
+    // The call of the connection with this name that the reply is to.
+    fn call_answered(&self, view: &View<'_>, to: &str) -> Option<OpenCall> {
+        match (UniqueName::number_of(to), view.reply_serial()) {
+            (Some(caller), Some(serial)) => Some(OpenCall {
+                caller,
+                serial,
+                callee: self.pass.connection(),
+            }),
+            _ => None,
+        }
+    }
+
+    /// Ends the calls that wait, of a client whose pass is closed: nobody waits for the replies to its own, and who waits
+    /// for its reply is answered NoReply, where memory allows.
+    pub(crate) fn end_calls<W: Wait, R: Wait + Drop>(&mut self, context: &Context<'_, B, M, W, R>)
+        ensures { AnswersCallers M.outbox_of self.old self.new }
+    {
+        let number = self.pass.connection();
+        context
+            .bus
+            .calls_of(context.rt, number)
+            .remove_calls_of(number);
+        for _count in 0..u32::MAX {
+            let Some(call) = context.bus.take_call_to(context.rt, number) else {
+                return;
+            };
+            self.answer_caller(context, call);
+        }
+    }
+
+    fn answer_caller<W: Wait, R: Wait + Drop>(
+        &mut self,
+        context: &Context<'_, B, M, W, R>,
+        call: OpenCall,
+    )
+        ensures { AnswersCaller M.outbox_of call.caller call.serial self.old self.new }
+    {
+        let to = UniqueName::new(call.caller);
+        let serial = self.serials.take();
+        let name = Some(to.as_str());
+        let built_message = error(context.alloc, serial, name, call.serial, ErrorName::NoReply);
+        let _ = self.tell(context, &to, built_message);
+    }
+}
+
+// The connection that a call was for. One whose outbox is shut is about to leave, and who waits is told so then.
+fn callee_of(sent: &Result<Sent, BusError>) -> Option<u64> {
+    match sent {
+        Ok(Sent::Put(callee)) => Some(*callee),
+        Ok(Sent::Full(callee)) => Some(*callee),
+        _ => None,
+    }
+}
