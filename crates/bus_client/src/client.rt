@@ -3,6 +3,7 @@
 use crate::calls::{BUS_NAME, Call};
 use crate::error::ClientError;
 use crate::lines::{log_in, read_some};
+use crate::refusal::Refusal;
 use crate::strings::{first_string, match_rules_of, strings_of};
 use bytes::Bytes;
 use frames::Frames;
@@ -35,8 +36,8 @@ pub struct Client<S> {
 #[derive(Drop)]
 enum Reading {
     Returned,
-    /// The call's answer is the error of this name.
-    Answered(String),
+    /// The call's answer is this error.
+    Answered(Refusal),
     Broadcast,
     /// To this client alone, and no answer to the call.
     Other,
@@ -48,10 +49,7 @@ fn read_answer(alloc: Global, message: &[u8], serial: u32) -> Result<Reading, Cl
     let is_answer = view.reply_serial() == Some(serial) && view.sender() == Some(BUS_NAME);
     match view.kind() {
         Kind::MethodReturn if is_answer => Ok(Reading::Returned),
-        Kind::Error if is_answer => {
-            let name = String::from_str(alloc, view.error_name().unwrap_or(""))?;
-            Ok(Reading::Answered(name))
-        }
+        Kind::Error if is_answer => Ok(Reading::Answered(Refusal::of(alloc, message)?)),
         _ if view.destination().is_none() => Ok(Reading::Broadcast),
         _ => Ok(Reading::Other),
     }
@@ -114,7 +112,7 @@ impl<S: Read + Write + Drop> Client<S> {
     pub fn name_owner(&mut self, name: &str) -> Result<Option<String>, ClientError> {
         match self.call(Call::GetNameOwner(name)) {
             Ok(answer) => first_string(self.alloc, answer.as_slice()),
-            Err(ClientError::Answered(error)) if error.as_str() == NO_OWNER => Ok(None),
+            Err(ClientError::Answered(error)) if error.name.as_str() == NO_OWNER => Ok(None),
             Err(other) => Err(other),
         }
     }
@@ -192,7 +190,7 @@ impl<S: Read + Write + Drop> Client<S> {
             let message = self.next_read()?;
             match read_answer(self.alloc, message.as_slice(), self.serial)? {
                 Reading::Returned => return Ok(message),
-                Reading::Answered(name) => return Err(ClientError::Answered(name)),
+                Reading::Answered(error) => return Err(ClientError::Answered(error)),
                 Reading::Broadcast => self.kept.push_back(message)?,
                 Reading::Other => {}
             }

@@ -1,5 +1,6 @@
 // Why a bus gave no answer.
 
+use crate::refusal::Refusal;
 use frames::FrameError;
 use message_build::BuildError;
 use message_view::MsgError;
@@ -17,7 +18,7 @@ pub enum ClientError {
     /// The bus sent bytes that are no message.
     Message(MsgError),
     /// The bus answered with this error.
-    Answered(String),
+    Answered(Refusal),
     NoMemory,
 }
 
@@ -27,7 +28,7 @@ impl fmt::Display for ClientError {
             ClientError::Socket => f.write_str("socket"),
             ClientError::Auth => f.write_str("auth"),
             ClientError::Message(fault) => write!(f, "message {fault}"),
-            ClientError::Answered(name) => write!(f, "error {name}"),
+            ClientError::Answered(refusal) => write!(f, "error {}", refusal.name),
             ClientError::NoMemory => f.write_str("memory"),
         }
     }

@@ -2,7 +2,7 @@
 use Rattle.std.specs.Prelude.{ℕ, ◌≡◌, ◌⊎◌, ◌+◌, ◌||◌, nat_lt, nat_le, List, length, Option, Some, None, Result, Ok, Err, if◌then◌else◌}
 use Rattle.bus_messages.specs.declared.error_name.ErrorName.TheVariants.{NoMemory}
 use Rattle.bus_messages.specs.declared.exceeded.Exceeded.{Exceeded}
-use Rattle.bus_messages.specs.declared.exceeded.Exceeded.TheVariants.{Rules, Instructions, Names}
+use Rattle.bus_messages.specs.declared.exceeded.Exceeded.TheVariants.{Rules, Instructions, Names, AllInstructions}
 use Rattle.peers.specs.declared.error.AnswerError.{AnswerError}
 use Rattle.peers.specs.declared.refused.Refused.{Refused}
 use Rattle.peers.specs.declared.refused.Refused.TheVariants.{Error}
@@ -32,6 +32,10 @@ abbrev pub IsWithin : Option Exceeded → Result (Unit {0}) Refused → Type 0
 IsWithin exceeded (Ok _) = exceeded ≡ None
 IsWithin exceeded (Err why) = ((limit : Exceeded) × (exceeded ≡ Some limit) × (why ≡ beyond limit)) ⊎ ((exceeded ≡ None) × (why ≡ Error NoMemory))
 
+-- The same of a program; or, though the client's share has room, all clients together have no room for its instructions.
+abbrev pub IsAdmitted : Option Exceeded → Result (Unit {0}) Refused → Type 0
+IsAdmitted exceeded result = IsWithin exceeded result ⊎ ((exceeded ≡ None) × (result ≡ Err (beyond AllInstructions)))
+
 module _ {M : Type 0} where
   -- What a call does that may go beyond a limit of the client's share. If it does, nothing is asked of the bus.
   abbrev pub WithinShare : Option Exceeded → Request → Type 0 → PeerState M → Result (Unit {0}) AnswerError → PeerState M → Type 0
@@ -41,3 +45,7 @@ module _ {M : Type 0} where
   -- or the call is refused for want of memory to note what the client has, and nothing is asked of the bus
   abbrev pub WithinMemory : Request → Type 0 → PeerState M → Result (Unit {0}) AnswerError → PeerState M → Type 0
   WithinMemory request Does v result w = Does ⊎ IsRefused request (Error NoMemory) v result w
+
+  -- or the call is refused since all clients together would have too many instructions, and nothing is asked of the bus
+  abbrev pub WithinAll : Request → Type 0 → PeerState M → Result (Unit {0}) AnswerError → PeerState M → Type 0
+  WithinAll request Does v result w = Does ⊎ IsRefused request (beyond AllInstructions) v result w

@@ -16,7 +16,7 @@ use Rattle.peers.specs.NameRows.{RequestsName, ReleasesName}
 use Rattle.peers.specs.PeerState.{PeerState}
 use Rattle.peers.specs.Queries.{RepliesText, RepliesTexts, RepliesDigits, RepliesMachineId, AnswersFound, AreAllNames, AreQueuedFor, AnswersOwner, NamesOwner, TellsWhetherOwned, TellsOfOwned, bus_id}
 use Rattle.peers.specs.Rows.{Replies, IsConfirmed, NumbersEntry}
-use Rattle.peers.specs.Shares.{WithinShare, WithinMemory, rule_limit, program_limit}
+use Rattle.peers.specs.Shares.{WithinShare, WithinMemory, WithinAll, rule_limit, program_limit}
 use Rattle.peers.specs.declared.error.AnswerError.{AnswerError}
 use Rattle.peers.specs.declared.refused.Refused.TheVariants.{Error}
 use Rattle.peers.specs.declared.request.Request.{Request}
@@ -34,7 +34,7 @@ module _ {M : Type 0} where
   Performs outbox_of shares request (calls.RemoveMatch text) v result w = IsConfirmed request (λ asked pass. Once (λ before next. RemovesMatch text.now v.pass before asked pass next)) after_remove v result w
   Performs outbox_of shares request (calls.Attach edition program) v result w =
       WithinShare (program_limit shares (vec_len program) v.holdings) request
-      (WithinMemory request (NumbersEntry request (λ asked pass. Once (λ before next. Attaches edition program.items v.pass before asked pass next)) (after_attach (vec_len program)) v result w) v result w) v result w
+      (WithinMemory request (WithinAll request (NumbersEntry request (λ asked pass. Once (λ before next. Attaches edition program.items v.pass before asked pass next)) (after_attach (vec_len program)) v result w) v result w) v result w) v result w
   Performs outbox_of shares request (calls.Detach id) v result w = IsConfirmed request (λ asked pass. Once (λ before next. Answers false v.pass before (Detach v.pass.connection id) asked pass next)) (after_detach id) v result w
   Performs outbox_of shares request (calls.RequestName name flags) v result w =
       RequestsName outbox_of shares request name.now (λ asked pass. Once (λ before next. Answers false v.pass before (RequestName v.pass.connection name.now flags) asked pass next)) v result w

@@ -4,14 +4,16 @@ ghost use Rattle.std.specs.Prelude.{◌≡◌, ◌+◌, ◌<◌, ◌≤◌, ◌^
 ghost use Rattle.std.specs.Str.{bytes_eq};
 ghost use Rattle.peers.specs.Holdings.{nothing_held, instructions_of, is_held, with_name, without_name, after_add, after_remove, after_attach, after_detach, after_reply, after_request, after_release};
 ghost use Rattle.peers.specs.HeldLists.{holdings_of};
-ghost use Rattle.peers.specs.Shares.{IsWithin, rule_limit, program_limit, name_limit};
+ghost use Rattle.peers.specs.Shares.{IsAdmitted, IsWithin, rule_limit, program_limit, name_limit};
 
+use crate::all_instructions::{AllInstructions, Taken};
 use crate::refused::Refused;
 use crate::shares::Shares;
 use bus_messages::{ErrorName, Exceeded};
 use owners::{NameReply, WellKnown};
 use router::{BusError, Reply};
 use std::alloc::Global;
+use std::sync::Arc;
 
 /// An attached program.
 #[derive(Clone, Copy, Debug)]
@@ -28,6 +30,8 @@ pub(crate) struct Holdings {
     rules: u32,
     programs: Vec<HeldProgram>,
     names: Vec<WellKnown>,
+    // Its instructions among those of all clients, which contracts don't see.
+    taken: Taken,
 }
 
 impl Holdings {
@@ -39,7 +43,15 @@ impl Holdings {
             rules: 0,
             programs: Vec::new(alloc),
             names: Vec::new(alloc),
+            taken: Taken::uncounted(),
         }
+    }
+
+    /// Counts the instructions of its programs among those of all clients, but for those that it has.
+    pub(crate) fn share_instructions(&mut self, all: Arc<AllInstructions>)
+        ensures { holdings_of self.new ≡ holdings_of self.old }
+    {
+        self.taken = Taken::of(all);
     }
 
     /// The limit that one match rule more would go beyond.
@@ -79,22 +91,27 @@ impl Holdings {
         }
     }
 
-    /// Takes memory to note one program more, if the shares have room for it.
+    /// Takes memory to note one program more, if the shares have room for it, and room for its instructions among those of
+    /// all clients.
     ///
     /// # Errors
     ///
     /// LimitsExceeded with the limit if they have none, and NoMemory.
     pub(crate) fn admit_program(&mut self, shares: Shares, len: usize) -> Result<(), Refused>
-        ensures within { IsWithin (program_limit shares len (holdings_of self.old)) result }
+        ensures within { IsAdmitted (program_limit shares len (holdings_of self.old)) result }
         ensures same { holdings_of self.new ≡ holdings_of self.old }
         ensures spare { OnOk result (vec_len self.new.programs < vec_capacity self.new.programs) }
     {
         if let Some(limit) = self.program_limit(shares, len) {
             return Err(Refused::beyond(limit));
         }
-        match self.programs.reserve(1) {
-            Ok(()) => Ok(()),
-            Err(_) => Err(Refused::Error(ErrorName::NoMemory)),
+        if self.programs.reserve(1).is_err() {
+            return Err(Refused::Error(ErrorName::NoMemory));
+        }
+        if self.taken.take(len) {
+            Ok(())
+        } else {
+            Err(Refused::beyond(Exceeded::AllInstructions))
         }
     }
 
@@ -144,6 +161,7 @@ impl Holdings {
         if let Ok(Reply::Entry(id)) = attached {
             self.programs.push_reserved(HeldProgram { id: *id, len });
         }
+        self.taken.keep(total_len(&self.programs));
     }
 
     /// Notes what Detach came to.
@@ -153,6 +171,7 @@ impl Holdings {
         if detached.is_ok() {
             remove_program(&mut self.programs, id);
         }
+        self.taken.keep(total_len(&self.programs));
     }
 
     /// Notes what RequestName came to.
@@ -213,6 +232,15 @@ fn has_room_for(programs: &[HeldProgram], share: u32, len: usize) -> bool
         left -= program.len;
     }
     len <= left
+}
+
+/// How many instructions these programs have.
+fn total_len(programs: &[HeldProgram]) -> u64 {
+    let mut total = 0u64;
+    for program in programs {
+        total = total.saturating_add(program.len as u64);
+    }
+    total
 }
 
 fn remove_program(programs: &mut Vec<HeldProgram>, id: u32)

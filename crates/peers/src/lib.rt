@@ -7,6 +7,7 @@
 //! for no answer never ends for want of room for one.
 #![tactic(auto)]
 
+mod all_instructions;
 mod announcements;
 mod answers;
 mod calls;
@@ -31,6 +32,7 @@ mod sending;
 mod serial;
 mod shares;
 
+pub use all_instructions::AllInstructions;
 pub use context::Context;
 pub use dispatch::is_for_bus;
 pub use error::AnswerError;

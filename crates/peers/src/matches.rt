@@ -7,7 +7,7 @@ ghost use Rattle.router.specs.Command.TheVariants.{Detach};
 ghost use Rattle.peers.specs.Answers.{NeverSlow};
 ghost use Rattle.peers.specs.Holdings.{after_add, after_remove, after_attach, after_detach};
 ghost use Rattle.peers.specs.Rows.{Confirms, IsConfirmed, Numbers, NumbersEntry};
-ghost use Rattle.peers.specs.Shares.{WithinShare, WithinMemory, rule_limit, program_limit};
+ghost use Rattle.peers.specs.Shares.{WithinShare, WithinMemory, WithinAll, rule_limit, program_limit};
 
 use crate::context::Context;
 use crate::error::AnswerError;
@@ -91,7 +91,7 @@ impl<B: Naming, M: Mailbox> Peer<B, M> {
         edition: Edition,
         program: Vec<Ins>,
     ) -> Result<(), AnswerError>
-        ensures row { WithinShare (program_limit context.now.shares (vec_len program) self.old.holdings) request (WithinMemory request (NumbersEntry request (λ asked pass. Once (λ before next. Attaches edition program.items self.old.pass before asked pass next)) (after_attach (vec_len program)) self.old result self.new) self.old result self.new) self.old result self.new }
+        ensures row { WithinShare (program_limit context.now.shares (vec_len program) self.old.holdings) request (WithinMemory request (WithinAll request (NumbersEntry request (λ asked pass. Once (λ before next. Attaches edition program.items self.old.pass before asked pass next)) (after_attach (vec_len program)) self.old result self.new) self.old result self.new) self.old result self.new) self.old result self.new }
         ensures error { NeverSlow request.wants_answer result }
     {
         let len = program.len();

@@ -4,6 +4,7 @@ ghost use Rattle.std.specs.Prelude.{◌≡◌};
 ghost use Rattle.peers.specs.Holdings.{nothing_held};
 ghost use Rattle.peers.specs.PeerState.{PeerState};
 
+use crate::all_instructions::AllInstructions;
 use crate::holdings::Holdings;
 use crate::identity::Identity;
 use crate::own_outbox::OwnOutbox;
@@ -14,7 +15,7 @@ use router::{Command, Mailbox, Naming, Pass, Published, Shown};
 use std::alloc::Global;
 use std::collections::LinkedList;
 use std::marker::Model;
-use std::sync::Wait;
+use std::sync::{Arc, Wait};
 
 /// A client on the bus. Its name is that of its pass's connection. Contracts see what its pass has seen and done, what
 /// the bus has put to the client itself, the serial of the next message that the bus makes for it, what it is told of the
@@ -62,6 +63,13 @@ impl<B: Naming, M: Mailbox> Peer<B, M> {
             own,
             holdings: Holdings::new(alloc),
         }
+    }
+
+    /// Counts the instructions of the programs that it attaches from now on among those of all clients.
+    pub fn share_instructions(&mut self, all: Arc<AllInstructions>)
+        ensures { self.new ≡ self.old }
+    {
+        self.holdings.share_instructions(all);
     }
 
     /// Whether the client's outbox was shut, since a message found no room.

@@ -66,6 +66,7 @@ impl<J: Naming> Connection<J> {
         let member = Arc::new(alloc, member)?;
         let mail = Mail::new(Arc::try_clone(&member)?);
         let mut session = Session::admitting(alloc, hub.identity.guid, admission, mail);
+        session.share_instructions(Arc::try_clone(&hub.instructions)?);
         if let Some(machine) = hub.identity.machine {
             session.set_machine_id(machine);
         }

@@ -3,9 +3,9 @@
 use crate::limits::{Limits, Places};
 use crate::unfinished::Unfinished;
 use members::Mail;
-use sessions::{Bus, Naming, Rest};
+use sessions::{AllInstructions, Bus, Naming, Rest};
 use std::alloc::{AllocError, Global};
-use std::sync::{Mutex, Wait};
+use std::sync::{Arc, Mutex, Wait};
 
 /// How many sessions' ends may wait for memory.
 const RESTS: usize = 256;
@@ -28,6 +28,7 @@ pub(crate) struct Hub<J: Naming, R: Wait + Drop> {
     /// Places of connections that haven't been answered their Hello.
     pub(crate) entries: Places,
     pub(crate) unfinished: Unfinished,
+    pub(crate) instructions: Arc<AllInstructions>,
     // The ends of sessions for which there was no memory.
     rests: Mutex<Vec<Rest<J, Mail>>>,
 }
@@ -39,6 +40,7 @@ impl<J: Naming, R: Wait + Drop> Hub<J, R> {
         identity: Identity,
         limits: Limits,
     ) -> Result<Hub<J, R>, AllocError> {
+        let instructions = Arc::new(alloc, AllInstructions::new(limits.all_instructions))?;
         let rests = Vec::with_capacity(alloc, RESTS)?;
         Ok(Hub {
             bus,
@@ -46,6 +48,7 @@ impl<J: Naming, R: Wait + Drop> Hub<J, R> {
             limits,
             entries: Places::new(limits.newcomers),
             unfinished: Unfinished::new(limits.unfinished),
+            instructions,
             rests: Mutex::new(rests),
         })
     }

@@ -10,6 +10,8 @@ pub enum Limit {
     Rules,
     /// Instructions of the programs that one connection has attached.
     Instructions,
+    /// Instructions of the programs that all connections have attached.
+    AllInstructions,
     /// Names that one connection asked for.
     Names,
     /// Messages that wait for one connection.
@@ -38,9 +40,10 @@ struct Terms {
 
 impl Limit {
     /// All of them, in the order of the table.
-    pub const ALL: [Limit; 9] = [
+    pub const ALL: [Limit; 10] = [
         Limit::Rules,
         Limit::Instructions,
+        Limit::AllInstructions,
         Limit::Names,
         Limit::Messages,
         Limit::Bytes,
@@ -85,6 +88,11 @@ impl Limit {
             Limit::Instructions => Terms {
                 name: "instructions",
                 standard: 65_536,
+                unit: "instructions",
+            },
+            Limit::AllInstructions => Terms {
+                name: "all-instructions",
+                standard: 4_096_000,
                 unit: "instructions",
             },
             Limit::Names => Terms {

@@ -18,6 +18,8 @@ pub struct Limits {
     pub workers: usize,
     /// How much of the bus one client may have.
     pub shares: Shares,
+    /// How many instructions the programs that all clients have attached may have together.
+    pub all_instructions: u32,
     /// How much may wait for one client.
     pub room: Room,
     /// How many bytes of messages that aren't whole all connections together may have sent.
@@ -39,6 +41,7 @@ impl Limits {
         Limits {
             workers: 1,
             shares: Shares::standard(),
+            all_instructions: Limit::AllInstructions.standard(),
             room: Room {
                 messages: Limit::Messages.standard() as usize,
                 bytes: Limit::Bytes.standard() as usize,
@@ -73,6 +76,7 @@ impl Limits {
         match limit {
             Limit::Rules => limits.shares.entries = number,
             Limit::Instructions => limits.shares.instructions = number,
+            Limit::AllInstructions => limits.all_instructions = number,
             Limit::Names => limits.shares.names = number,
             Limit::Messages => limits.room.messages = number as usize,
             Limit::Bytes => limits.room.bytes = number as usize,

@@ -8,12 +8,12 @@ use crate::greeting::greet;
 use crossbeam_utils::rule::Protocol;
 use message_view::View;
 use peers::{
-    AnswerError, Command, Context, Identity, Mailbox, Naming, OwnOutbox, Peer, Published, Request,
-    RouteLists, Shown,
+    AllInstructions, AnswerError, Command, Context, Identity, Mailbox, Naming, OwnOutbox, Peer,
+    Published, Request, RouteLists, Shown,
 };
 use std::collections::LinkedList;
 use std::marker::Model;
-use std::sync::Wait;
+use std::sync::{Arc, Wait};
 
 /// A client: its outbox before Hello, then its peer, which has the outbox. Contracts see the peer.
 #[derive(Drop)]
@@ -24,6 +24,8 @@ where
     pub(crate) own: Option<OwnOutbox<M>>,
     pub(crate) peer: Option<Peer<B, M>>,
     identity: Identity,
+    /// Among which the instructions of its programs are counted.
+    all: Option<Arc<AllInstructions>>,
 }
 
 impl<B: Naming, M: Mailbox> Model for Client<B, M>
@@ -47,6 +49,7 @@ impl<B: Naming, M: Mailbox> Client<B, M> {
             own: Some(OwnOutbox::new(mailbox)),
             peer: None,
             identity,
+            all: None,
         }
     }
 
@@ -55,6 +58,13 @@ impl<B: Naming, M: Mailbox> Client<B, M> {
         ensures { self.new ≡ self.old }
     {
         self.identity.machine_id = Some(id);
+    }
+
+    /// Counts the instructions of its programs among those of all clients.
+    pub(crate) fn share_instructions(&mut self, all: Arc<AllInstructions>)
+        ensures { self.new ≡ self.old }
+    {
+        self.all = Some(all);
     }
 
     /// Whether Hello was accepted.
@@ -113,6 +123,9 @@ impl<B: Naming, M: Mailbox> Client<B, M> {
         };
         match greet(context, own, self.identity, view) {
             Ok(mut peer) => {
+                if let Some(all) = self.all.take() {
+                    peer.share_instructions(all);
+                }
                 let registered = peer.register(context, Request::of(view));
                 self.peer = Some(peer);
                 outcome_of(registered)

@@ -16,12 +16,13 @@ use crossbeam_utils::rule::Protocol;
 use frames::Frames;
 use message_view::MsgError;
 use peers::{
-    Bus, Command, Context, Identity, Mailbox, Naming, Published, RouteLists, Shares, Shown,
+    AllInstructions, Bus, Command, Context, Identity, Mailbox, Naming, Published, RouteLists,
+    Shares, Shown,
 };
 use std::alloc::Global;
 use std::collections::LinkedList;
 use std::marker::Model;
-use std::sync::Wait;
+use std::sync::{Arc, Wait};
 
 /// One client's session: the talk, then messages, of which the first is Hello. What it answers, and what others send to
 /// its client, waits in the outbox of its mailbox. Contracts see where the talk stands, the bytes that wait to be handled,
@@ -88,6 +89,14 @@ impl<B: Naming, M: Mailbox> Session<B, M> {
         ensures { self.new ≡ self.old }
     {
         self.client.set_machine_id(id);
+    }
+
+    /// Counts the instructions of the programs that its client attaches among those of all clients that share this. Without
+    /// it, or after Hello, nobody counts them.
+    pub fn share_instructions(&mut self, all: Arc<AllInstructions>)
+        ensures { self.new ≡ self.old }
+    {
+        self.client.share_instructions(all);
     }
 
     /// Whether the talk is over and messages are read.

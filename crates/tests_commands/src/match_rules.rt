@@ -61,7 +61,7 @@ fn rules_that_a_bus_keeps(rt: HostRuntime) {
     put_answer(&rt, rt.alloc(), &mut says, 2, Some(name));
     let mut client = client_before(&rt, rt.alloc(), &says);
     match client.match_rules(":1.0") {
-        Err(ClientError::Answered(error)) => assert_eq!(rt; error.as_str(), name),
+        Err(ClientError::Answered(error)) => assert_eq!(rt; error.name.as_str(), name),
         _ => panic!(rt; "no answer, or no error"),
     }
 }

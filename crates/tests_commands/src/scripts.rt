@@ -68,6 +68,7 @@ pub(crate) fn put_answer<R: Abort>(
     answer.reply_serial(to);
     if let Some(name) = error {
         answer.error_name(name);
+        answer.arg_str("what was wrong").expect(rt, "memory");
     }
     answer.sender("org.freedesktop.DBus");
     answer.destination(":1.7");

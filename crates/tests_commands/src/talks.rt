@@ -95,7 +95,14 @@ fn refused_rule(rt: HostRuntime) {
     let says = bus_with_signals(&rt, rt.alloc(), Some(name));
     let mut client = open_client(&rt, rt.alloc(), &says, 50);
     match client.add_match("x") {
-        Err(ClientError::Answered(error)) => assert_eq!(rt; error.as_str(), name),
+        Err(ClientError::Answered(error)) => {
+            assert_eq!(rt; error.name.as_str(), name);
+            assert!(rt;
+                error
+                    .text
+                    .is_some_and(|text| text.as_str() == "what was wrong")
+            );
+        }
         _ => panic!(rt; "no answer, or no error"),
     }
 }

@@ -64,7 +64,7 @@ fn words_that_are_no_row(rt: HostRuntime) {
         ),
         (
             &["--limit", "rulez=5"],
-            "  --limit rulez=5: there is no such limit; there are rules, instructions, names, messages, bytes, unfinished, silence, newcomers, hello",
+            "  --limit rulez=5: there is no such limit; there are rules, instructions, all-instructions, names, messages, bytes, unfinished, silence, newcomers, hello",
         ),
         (
             &["--limit=rules=1", "--limit=rules=0"],

@@ -1,11 +1,11 @@
 // What `watch` is refused for.
 
-use bus_client::{AddressError, ClientError};
+use bus_client::{AddressError, ClientError, Refusal};
 use captures::CaptureError;
 use command_line::{Output, Writer};
 use message_value::MsgError;
 use std::alloc::{AllocError, AllocFailed, Global};
-use value_text::TextError;
+use value_text::{Line, TextError};
 
 /// The names of errors by which a bus says that it has no method for programs.
 const NO_METHOD: [&str; 3] = [
@@ -29,13 +29,13 @@ pub enum Fault {
     /// The bus lets nobody in who doesn't say who it is.
     Auth,
     /// The bus refuses the rule or the program by this error.
-    Refused(String),
+    Refused(Refusal),
     /// The bus knows no programs, as it says by this error.
-    NoPrograms(String),
+    NoPrograms(Refusal),
     /// The bus refuses to be monitored by this error.
-    NoMonitor(String),
+    NoMonitor(Refusal),
     /// The bus refuses by this error to tell which rules a connection has.
-    NoMatchRules(String),
+    NoMatchRules(Refusal),
     /// No connection has this name.
     NoConnection(String),
     /// The connection of this name has no match rules.
@@ -66,7 +66,7 @@ impl Fault {
     /// What a call for a program was refused for.
     pub(crate) fn of_attaching(error: ClientError) -> Fault {
         match error {
-            ClientError::Answered(name) => Fault::of_program(name),
+            ClientError::Answered(error) => Fault::of_program(error),
             other => Fault::from(other),
         }
     }
@@ -74,7 +74,7 @@ impl Fault {
     /// What a call to become a monitor was refused for.
     pub(crate) fn of_monitoring(error: ClientError) -> Fault {
         match error {
-            ClientError::Answered(name) => Fault::NoMonitor(name),
+            ClientError::Answered(error) => Fault::NoMonitor(error),
             other => Fault::from(other),
         }
     }
@@ -82,17 +82,17 @@ impl Fault {
     /// What a call for the rules of connections was refused for.
     pub(crate) fn of_match_rules(error: ClientError) -> Fault {
         match error {
-            ClientError::Answered(name) => Fault::NoMatchRules(name),
+            ClientError::Answered(error) => Fault::NoMatchRules(error),
             other => Fault::from(other),
         }
     }
 
-    /// What a bus says of a program by an error of this name.
-    fn of_program(name: String) -> Fault {
-        if says_no_method(name.as_str()) {
-            Fault::NoPrograms(name)
+    /// What a bus says of a program by this error.
+    fn of_program(error: Refusal) -> Fault {
+        if says_no_method(error.name.as_str()) {
+            Fault::NoPrograms(error)
         } else {
-            Fault::Refused(name)
+            Fault::Refused(error)
         }
     }
 
@@ -103,22 +103,18 @@ impl Fault {
             Fault::Capture(fault) => put_capture(alloc, *fault, err),
             Fault::Socket => err.put(b"dbusfan: socket\n"),
             Fault::Auth => err.put(b"dbusfan: auth\n"),
-            Fault::Refused(name) => put_named(alloc, name.as_str(), "", err),
-            Fault::NoPrograms(name) => {
-                put_named(
-                    alloc,
-                    name.as_str(),
-                    ": this bus can't attach programs",
-                    err,
-                );
+            Fault::Refused(error) => put_refusal(alloc, error, err),
+            Fault::NoPrograms(error) => {
+                let more = ": this bus can't attach programs";
+                put_sentence(alloc, "error ", error.name.as_str(), more, err);
             }
-            Fault::NoMonitor(name) => {
-                put_named(alloc, name.as_str(), "", err);
-                err.put(monitor_help(name.as_str()).as_bytes());
+            Fault::NoMonitor(error) => {
+                put_refusal(alloc, error, err);
+                err.put(monitor_help(error.name.as_str()).as_bytes());
             }
-            Fault::NoMatchRules(name) => {
-                put_named(alloc, name.as_str(), "", err);
-                err.put(match_rules_help(name.as_str()).as_bytes());
+            Fault::NoMatchRules(error) => {
+                put_refusal(alloc, error, err);
+                err.put(match_rules_help(error.name.as_str()).as_bytes());
             }
             Fault::NoConnection(name) => {
                 put_sentence(alloc, "no connection has the name ", name.as_str(), "", err);
@@ -171,8 +167,22 @@ fn put_sentence<E: Writer>(
 }
 
 /// Writes the line of an error that the bus answered.
-fn put_named<E: Writer>(alloc: Global, name: &str, more: &str, err: &mut Output<E>) {
-    put_sentence(alloc, "error ", name, more, err);
+fn put_refusal<E: Writer>(alloc: Global, error: &Refusal, err: &mut Output<E>) {
+    match refusal_line(alloc, error) {
+        Ok(line) => err.put(&line),
+        Err(_) => err.put_fault(command_line::Fault::Memory),
+    }
+}
+
+/// The error's name, and what the bus says of it.
+fn refusal_line(alloc: Global, error: &Refusal) -> Result<Vec<u8>, AllocError> {
+    let mut line = Line::new(alloc);
+    line.put(b"dbusfan: error")?;
+    line.put_word(error.name.as_bytes())?;
+    if let Some(text) = &error.text {
+        line.put_quoted(text.as_bytes())?;
+    }
+    line.end()
 }
 
 /// Writes the line of a capture's fault.
@@ -229,7 +239,7 @@ impl From<ClientError> for Fault {
             ClientError::Socket => Fault::Socket,
             ClientError::Auth => Fault::Auth,
             ClientError::Message(fault) => Fault::Tool(command_line::Fault::Message(fault)),
-            ClientError::Answered(name) => Fault::Refused(name),
+            ClientError::Answered(error) => Fault::Refused(error),
             ClientError::NoMemory => Fault::Tool(command_line::Fault::Memory),
         }
     }
