@@ -279,6 +279,12 @@ class Connection:
             if got.kind == SIGNAL and got.member == member:
                 return got
 
+    def receive_call(self, member, timeout=None):
+        while True:
+            got = self.receive(timeout)
+            if got.kind == METHOD_CALL and got.member == member:
+                return got
+
     def has_nothing(self, wait=0.1):
         """Whether no further message comes: a Ping's answer comes after all that was put before it."""
         self.call("Ping", interface="org.freedesktop.DBus.Peer")

@@ -1,7 +1,7 @@
 -- The limits of a server (own).
 use Rattle.std.specs.Prelude.{ℕ}
 use Rattle.server.specs.declared.limit.Limit.{Limit}
-use Rattle.server.specs.declared.limit.Limit.TheVariants.{Rules, Instructions, AllInstructions, Names, Messages, Bytes, Unfinished, Silence, Newcomers, Hello}
+use Rattle.server.specs.declared.limit.Limit.TheVariants.{Rules, Instructions, AllInstructions, Names, Calls, Messages, Bytes, Unfinished, Silence, Newcomers, Hello}
 use Rattle.server.specs.declared.limits.Limits.{Limits}
 
 -- the number of each limit where no other is asked for; of rules, names, newcomers and hello it is dbus-daemon's own
@@ -10,6 +10,7 @@ standard_of Rules = 512
 standard_of Instructions = 65536
 standard_of AllInstructions = 4096000
 standard_of Names = 512
+standard_of Calls = 1024
 standard_of Messages = 16384
 standard_of Bytes = 16777216
 standard_of Unfinished = 33554432
@@ -23,6 +24,7 @@ number_of limits Rules = limits.shares.entries
 number_of limits Instructions = limits.shares.instructions
 number_of limits AllInstructions = limits.all_instructions
 number_of limits Names = limits.shares.names
+number_of limits Calls = limits.shares.calls
 number_of limits Messages = limits.room.messages
 number_of limits Bytes = limits.room.bytes
 number_of limits Unfinished = limits.unfinished

@@ -14,6 +14,8 @@ pub enum Limit {
     AllInstructions,
     /// Names that one connection asked for.
     Names,
+    /// Calls of one connection that wait for their replies.
+    Calls,
     /// Messages that wait for one connection.
     Messages,
     /// Bytes of the messages that wait for one connection.
@@ -40,11 +42,12 @@ struct Terms {
 
 impl Limit {
     /// All of them, in the order of the table.
-    pub const ALL: [Limit; 10] = [
+    pub const ALL: [Limit; 11] = [
         Limit::Rules,
         Limit::Instructions,
         Limit::AllInstructions,
         Limit::Names,
+        Limit::Calls,
         Limit::Messages,
         Limit::Bytes,
         Limit::Unfinished,
@@ -99,6 +102,11 @@ impl Limit {
                 name: "names",
                 standard: 512,
                 unit: "names",
+            },
+            Limit::Calls => Terms {
+                name: "calls",
+                standard: 1_024,
+                unit: "calls",
             },
             Limit::Messages => Terms {
                 name: "messages",

@@ -78,6 +78,7 @@ impl Limits {
             Limit::Instructions => limits.shares.instructions = number,
             Limit::AllInstructions => limits.all_instructions = number,
             Limit::Names => limits.shares.names = number,
+            Limit::Calls => limits.shares.calls = number,
             Limit::Messages => limits.room.messages = number as usize,
             Limit::Bytes => limits.room.bytes = number as usize,
             Limit::Unfinished => limits.unfinished = number,
