@@ -1,6 +1,7 @@
 -- Calls within a client's share, and calls beyond it.
 use Rattle.std.proofs.Common.{◌≡◌, Option, Some, None, Result, Err, inl, inr, sym, ap, subst, ◌∙◌}
 use Rattle.bus_messages.specs.declared.exceeded.Exceeded.{Exceeded}
+use Rattle.bus_messages.specs.declared.exceeded.Exceeded.TheVariants.{AllInstructions}
 use Rattle.peers.specs.declared.error.AnswerError.{AnswerError}
 use Rattle.peers.specs.declared.refused.Refused.{Refused}
 use Rattle.peers.specs.declared.request.Request.{Request}
@@ -8,7 +9,7 @@ use Rattle.peers.specs.Answers.{IsRefused}
 use Rattle.peers.specs.Holdings.{HoldingsState}
 use Rattle.peers.specs.PeerState.{PeerState}
 use Rattle.peers.specs.Refusals.{beyond}
-use Rattle.peers.specs.Shares.{IsWithin, WithinShare, WithinMemory}
+use Rattle.peers.specs.Shares.{IsWithin, IsAdmitted, WithinShare, WithinMemory, WithinAll}
 
 module _ {M : Type 0} where
   with_room : (exceeded : Option Exceeded) (request : Request) (Does : Type 0) (v w : PeerState M) (result : Result (Unit {0}) AnswerError) → exceeded ≡ None → Does → WithinShare exceeded request Does v result w
@@ -39,3 +40,13 @@ module _ {M : Type 0} where
       let S : PeerState M → Type 0 = λ s. WithinShare (exceeded s.holdings) request (WithinMemory request Does s result w) s result w in
       let Q : HoldingsState → Type 0 = λ x. IsRefused request why (record u { holdings = x }) result w in
       subst S is (refused_for (exceeded u.holdings) request Does why u w result within (subst Q h refused))
+
+  -- an Attach that is kept from the bus, so or since all clients together have no room for its instructions
+  pub not_admitted : (exceeded : HoldingsState → Option Exceeded) (request : Request) (Does : Type 0) (why : Refused) (u v w : PeerState M) (held : HoldingsState) (result : Result (Unit {0}) AnswerError) → u ≡ v → held ≡ u.holdings → IsAdmitted (exceeded u.holdings) (Err why)
+      → IsRefused request why (record u { holdings = held }) result w → WithinShare (exceeded v.holdings) request (WithinMemory request (WithinAll request Does v result w) v result w) v result w
+  not_admitted exceeded request Does why u v w held result is h (inl within) refused = kept_out exceeded request (WithinAll request Does v result w) why u v w held result is h within refused
+  not_admitted exceeded request Does why u v w held result is h (inr (e, all)) refused =
+      let S : PeerState M → Type 0 = λ s. WithinShare (exceeded s.holdings) request (WithinMemory request (WithinAll request Does s result w) s result w) s result w in
+      let Q : HoldingsState → Type 0 = λ x. IsRefused request why (record u { holdings = x }) result w in
+      let P : Refused → Type 0 = λ y. IsRefused request y u result w in
+      subst S is (with_room (exceeded u.holdings) request (WithinMemory request (WithinAll request Does u result w) u result w) u w result e (inl (inr (subst P all (subst Q h refused)))))

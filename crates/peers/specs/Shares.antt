@@ -34,7 +34,8 @@ IsWithin exceeded (Err why) = ((limit : Exceeded) × (exceeded ≡ Some limit) �
 
 -- The same of a program; or, though the client's share has room, all clients together have no room for its instructions.
 abbrev pub IsAdmitted : Option Exceeded → Result (Unit {0}) Refused → Type 0
-IsAdmitted exceeded result = IsWithin exceeded result ⊎ ((exceeded ≡ None) × (result ≡ Err (beyond AllInstructions)))
+IsAdmitted exceeded (Ok _) = exceeded ≡ None
+IsAdmitted exceeded (Err why) = IsWithin exceeded (Err why) ⊎ ((exceeded ≡ None) × (why ≡ beyond AllInstructions))
 
 module _ {M : Type 0} where
   -- What a call does that may go beyond a limit of the client's share. If it does, nothing is asked of the bus.

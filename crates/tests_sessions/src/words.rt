@@ -76,7 +76,7 @@ fn words_that_are_no_row(rt: HostRuntime) {
         ),
         (
             &["--limit", "names"],
-            "  --limit names: NAME=N is wanted, NAME one of rules, instructions, names, messages, bytes, unfinished, silence, newcomers, hello",
+            "  --limit names: NAME=N is wanted, NAME one of rules, instructions, all-instructions, names, messages, bytes, unfinished, silence, newcomers, hello",
         ),
         (
             &["--print-address", "2"],
