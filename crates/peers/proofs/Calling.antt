@@ -1,5 +1,5 @@
 -- Calls that clients make of one another, and their replies.
-use Rattle.std.proofs.Common.{◌≡◌, ℕ, zero, suc, Bool, true, List, Option, Some, Result, Ok, Err, inl, inr, ap, subst, ◌∙◌}
+use Rattle.std.proofs.Common.{arith, ◌≡◌, ℕ, zero, suc, ◌+◌, Bool, true, List, Option, Some, Result, Ok, Err, inl, inr, ap, subst, ◌∙◌}
 use Rattle.outbox.specs.Seated.{OutboxId}
 use Rattle.message_view.specs.declared.kind.Kind.{Kind}
 use Rattle.message_view.specs.Message.{Message}
@@ -20,6 +20,9 @@ use Rattle.peers.specs.Calling.{IsOfKind, AnswersCaller, AnswersMany, AnswersCal
 use Rattle.peers.specs.Passing.{with_pass}
 use Rattle.peers.specs.PeerState.{PeerState}
 
+next_is : (n : ℕ) → suc n ≡ n + 1
+next_is n = omega arith
+
 -- the kind of a message is that of its view
 pub of_kind : (is : Kind → Bool) (bytes : List ℕ) (kind : Kind) → ((m : Message) → Valid bytes m → kind ≡ m.kind) → is kind ≡ true → IsOfKind is bytes
 of_kind is bytes kind same e m valid = let P : Kind → Type 0 = λ k. is k ≡ true in subst P (same m valid) e
@@ -37,13 +40,12 @@ module _ {M : Type 0} where
       let N : ℕ → Type 0 = λ k. IsTold outbox_of (gone_asked v.serial k reply_to) (unique_name k) u.pass result w.pass in
       let P : PeerState M → Type 0 = λ x. IsTold outbox_of (gone_asked v.serial caller reply_to) (unique_name caller) x.pass result w.pass in (
         result,
-        same ∙ ap (λ (x : PeerState M). with_pass x w.pass) is,
-        subst P is (subst N e (sent_as (gone_asked v.serial m reply_to) (gone_built v.serial m reply_to built (subst (B v.serial) t (subst (λ k. B k to) s b))))),
+        (same ∙ ap (λ (x : PeerState M). with_pass x w.pass) is, subst P is (subst N e (sent_as (gone_asked v.serial m reply_to) (gone_built v.serial m reply_to built (subst (B v.serial) t (subst (λ k. B k to) s b)))))),
       )
 
   -- one more was told
-  pub one_more : (outbox_of : M → OutboxId) (n caller serial : ℕ) (v mid w : PeerState M) → AnswersMany outbox_of n v mid → AnswersCaller outbox_of caller serial mid w → AnswersMany outbox_of (suc n) v w
-  one_more outbox_of n caller serial v mid w many one = (mid, caller, serial, many, one)
+  pub one_more : (outbox_of : M → OutboxId) (n caller serial : ℕ) (v mid w : PeerState M) → AnswersMany outbox_of n v mid → AnswersCaller outbox_of caller serial mid w → AnswersMany outbox_of (n + 1) v w
+  one_more outbox_of n caller serial v mid w many one = let P : ℕ → Type 0 = λ k. AnswersMany outbox_of k v w in subst P (next_is n) (mid, caller, serial, many, one)
 
   -- a message of the bus to one connection closes no pass and opens none
   unicast_closes_none : (outbox_of : M → OutboxId) (to bytes : List ℕ) (v w : PassState M) (s : Sent) → Unicasts outbox_of to bytes v s w → w.is_closed ≡ v.is_closed

@@ -104,7 +104,7 @@ impl<B: Naming, M: Mailbox> Peer<B, M> {
             .bus
             .calls_of(context.rt, number)
             .remove_calls_of(number);
-        for _count in 0..u32::MAX {
+        for count in 0..u32::MAX {
             let Some(call) = context.bus.take_call_to(context.rt, number) else {
                 return;
             };
