@@ -1,8 +1,8 @@
 // What a client has taken of the bus.
 
-ghost use Rattle.std.specs.Prelude.{◌≡◌, ◌+◌, ◌<◌, ◌≤◌, ◌^◌, ◌==◌, None, not, filter, nat_le, OnOk, vec_len, vec_capacity};
+ghost use Rattle.std.specs.Prelude.{◌≡◌, ◌+◌, ◌<◌, ◌≤◌, ◌^◌, ◌==◌, None, true, not, filter, nat_le, nat_lt, OnOk, vec_len, vec_capacity};
 ghost use Rattle.std.specs.Str.{bytes_eq};
-ghost use Rattle.peers.specs.Holdings.{nothing_held, instructions_of, is_held, with_name, without_name, after_add, after_remove, after_attach, after_detach, after_reply, after_request, after_release};
+ghost use Rattle.peers.specs.Holdings.{nothing_held, entries_of, instructions_of, is_held, with_name, without_name, after_add, after_remove, after_attach, after_detach, after_reply, after_request, after_release};
 ghost use Rattle.peers.specs.HeldLists.{holdings_of};
 ghost use Rattle.peers.specs.Shares.{IsAdmitted, IsWithin, rule_limit, program_limit, name_limit};
 
@@ -54,12 +54,20 @@ impl Holdings {
         self.taken = Taken::of(all);
     }
 
+    /// Whether there is room for one match rule or program more.
+    fn has_room_for_entry(&self, shares: Shares) -> bool
+        ensures room { result ≡ nat_lt (entries_of (holdings_of self.now)) shares.entries }
+        ensures few { result ≡ true → self.now.rules + 1 < 2 ^ 32 }
+    {
+        self.rules as usize + self.programs.len() < shares.entries as usize
+    }
+
     /// The limit that one match rule more would go beyond.
     pub(crate) fn rule_limit(&self, shares: Shares) -> Option<Exceeded>
         ensures limit { result ≡ rule_limit shares (holdings_of self.now) }
         ensures few { result ≡ None → self.now.rules + 1 < 2 ^ 32 }
     {
-        if self.rules as usize + self.programs.len() < shares.entries as usize {
+        if self.has_room_for_entry(shares) {
             None
         } else {
             Some(Exceeded::Rules)
@@ -70,10 +78,9 @@ impl Holdings {
     fn program_limit(&self, shares: Shares, len: usize) -> Option<Exceeded>
         ensures { result ≡ program_limit shares len (holdings_of self.now) }
     {
-        if let Some(limit) = self.rule_limit(shares) {
-            return Some(limit);
-        }
-        if has_room_for(&self.programs, shares.instructions, len) {
+        if !self.has_room_for_entry(shares) {
+            Some(Exceeded::Rules)
+        } else if has_room_for(&self.programs, shares.instructions, len) {
             None
         } else {
             Some(Exceeded::Instructions)
