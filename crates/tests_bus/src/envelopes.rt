@@ -1,6 +1,7 @@
 // Rules that ask for an envelope: for a kind, a sender by its own name, or any destination.
 
-use crate::state::{S1, connect, empty, expect_counted, read_message, subscribe};
+use crate::fixture::S1;
+use crate::state::{connect, empty, expect_counted, read_message, subscribe};
 use program_table::BusState;
 use std::mem::forget;
 use std::process::Abort;

@@ -1,6 +1,7 @@
 // How many programs are run.
 
-use crate::state::{M7, accept, connect, empty, expect_counted, read_message, subscribe};
+use crate::fixture::M7;
+use crate::state::{accept, connect, empty, expect_counted, read_message, subscribe};
 use fan_out::may_reach;
 use match_rule::Rule;
 use program_table::{BusState, Command};

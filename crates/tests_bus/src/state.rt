@@ -1,9 +1,10 @@
-// Commands of the tests, and the messages that are broadcast. A failure ends the test at once, so that a test has one
+// Commands of the tests of a state, and who gets a broadcast. A failure ends the test at once, so that a test has one
 // way out.
 
 ghost use Rattle.std.specs.Prelude.{◌<◌};
 
-use entry_table::{IndexKey, RuleProgram};
+use crate::fixture::KEY;
+use entry_table::RuleProgram;
 use fan_out::select_counted;
 use match_rule::Rule;
 use message_view::View;
@@ -11,25 +12,6 @@ use program_table::{BusState, Command, Reply};
 use std::alloc::Global;
 use std::mem::forget;
 use std::process::Abort;
-
-pub(crate) const KEY: IndexKey = IndexKey {
-    first: 1,
-    second: 2,
-};
-
-/// A signal of the path `/a`, the interface `a.b` and the member `c`.
-pub(crate) const S1: [u8; 64] = [
-    0x6c, 4, 0, 1, 0, 0, 0, 0, 1, 0, 0, 0, 0x2a, 0, 0, 0, 1, 1, b'o', 0, 2, 0, 0, 0, b'/', b'a', 0,
-    0, 0, 0, 0, 0, 2, 1, b's', 0, 3, 0, 0, 0, b'a', b'.', b'b', 0, 0, 0, 0, 0, 3, 1, b's', 0, 1, 0,
-    0, 0, b'c', 0, 0, 0, 0, 0, 0, 0,
-];
-
-/// The same with the member `m7`.
-pub(crate) const M7: [u8; 64] = [
-    0x6c, 4, 0, 1, 0, 0, 0, 0, 1, 0, 0, 0, 0x2b, 0, 0, 0, 1, 1, b'o', 0, 2, 0, 0, 0, b'/', b'a', 0,
-    0, 0, 0, 0, 0, 2, 1, b's', 0, 3, 0, 0, 0, b'a', b'.', b'b', 0, 0, 0, 0, 0, 3, 1, b's', 0, 2, 0,
-    0, 0, b'm', b'7', 0, 0, 0, 0, 0, 0,
-];
 
 /// A message. Nothing is promised of it, so that a test's body carries none of the reading's clauses.
 pub(crate) fn read_message<'a, R: Abort>(rt: &R, bytes: &'a [u8]) -> View<'a> {

@@ -1,6 +1,6 @@
-// Events of one call, and what the world is asked. What events are answered is in the files of cases_world.
+// Events of one call, and what the world is asked. What events are answered is in the files of cases_bus.
 
-use crate::state::{KEY, S1};
+use crate::fixture::{KEY, S1};
 use arrayvec::ArrayVec;
 use program_table::{Command, Refusal, Reply};
 use std::alloc::Global;

@@ -2,8 +2,9 @@
 
 ghost use Rattle.std.specs.Prelude.{◌<◌, ◌≤◌};
 
+use crate::fixture::S1;
 use crate::gates::open_gate;
-use crate::state::{S1, accept, connect, empty, read_message, subscribe};
+use crate::state::{accept, connect, empty, read_message, subscribe};
 use arrayvec::ArrayVec;
 use fan_out::{FanError, select, select_many, select_piece};
 use owners::WellKnown;

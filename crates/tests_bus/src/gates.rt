@@ -1,6 +1,7 @@
 // Workers run at once.
 
-use crate::state::{S1, empty, read_message};
+use crate::fixture::S1;
+use crate::state::{empty, read_message};
 use fan_out::{Gate, select_many};
 use program_table::BusState;
 use std::mem::forget;

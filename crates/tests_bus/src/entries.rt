@@ -1,6 +1,7 @@
 // Entries of two connections. A failure ends the test at once, so that a test has one way out.
 
-use crate::state::{KEY, S1, compile, read_message};
+use crate::fixture::{KEY, S1};
+use crate::state::{compile, read_message};
 use bpf_code::Ins;
 use bpf_verify::{Verified, verify};
 use entry_table::{Attachment, EntryTable, Filter};
