@@ -1,5 +1,4 @@
-// Names, and the slots that they get. What requests and releases are answered is in the files of cases_world and
-// cases_bus.
+// Names, and the slots that they get. What requests and releases are answered is in the files of cases_bus.
 
 use owners::{Claims, MAX_RULES, NameReply, WellKnown};
 use std::alloc::Global;

@@ -1,0 +1,15 @@
+// How much of the bus a client may have.
+
+use case_files::LineError;
+use sessions::Shares;
+
+/// `2 100 1`: rules and programs, instructions, names.
+pub(crate) fn read_shares(words: &str) -> Result<Shares, LineError> {
+    let (entries, words) = words.split_once(' ').ok_or(LineError::Unreadable)?;
+    let (instructions, names) = words.split_once(' ').ok_or(LineError::Unreadable)?;
+    Ok(Shares {
+        entries: entries.parse::<u32>()?,
+        instructions: instructions.parse::<u32>()?,
+        names: names.parse::<u32>()?,
+    })
+}
