@@ -41,6 +41,14 @@ impl Gate for SecondFirst {
     }
 }
 
+/// A gate whose second piece is still to be done.
+pub(crate) fn second_first() -> SecondFirst {
+    SecondFirst {
+        second_done: AtomicBool::new(false),
+        given_up: AtomicBool::new(false),
+    }
+}
+
 /// A gate that is always open: its second piece counts as done. It has no type of its own, so that what workers do is
 /// proved for one type of gate.
 pub(crate) fn open_gate() -> SecondFirst {
@@ -50,17 +58,19 @@ pub(crate) fn open_gate() -> SecondFirst {
     }
 }
 
+/// The second piece was done, and the first waited for it.
+pub(crate) fn expect_second_first<R: Abort>(rt: &R, gate: &SecondFirst) {
+    assert!(rt; gate.second_done.load(Ordering::SeqCst));
+    assert!(rt; !gate.given_up.load(Ordering::SeqCst));
+}
+
 /// The first of two workers waits until the second is done.
 fn expect_both_at_once<R: Threads + Wait + Abort>(rt: &R, state: &BusState<()>) {
     let view = read_message(rt, &S1);
-    let gate = SecondFirst {
-        second_done: AtomicBool::new(false),
-        given_up: AtomicBool::new(false),
-    };
+    let gate = second_first();
     let found = select_many(rt, state, None, &view, 2, &gate).expect(rt, "the recipients");
     assert!(rt; found.is_empty());
-    assert!(rt; gate.second_done.load(Ordering::SeqCst));
-    assert!(rt; !gate.given_up.load(Ordering::SeqCst));
+    expect_second_first(rt, &gate);
 }
 
 #[test]
