@@ -8,6 +8,7 @@ mod error;
 mod guid;
 mod limit_fault;
 mod listening;
+mod log;
 mod machine;
 mod mechanisms;
 mod options;

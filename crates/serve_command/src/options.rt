@@ -3,7 +3,7 @@
 use crate::guid::Guid;
 use crate::words::{WordFault, Words};
 use endpoints::Address;
-use server::Limits;
+use server::{Limits, Verbosity};
 
 /// Where `serve` listens if no address is said.
 #[derive(Clone, Copy, Debug, PartialEq, Eq)]
@@ -42,6 +42,8 @@ pub(crate) struct Options<'a> {
     pub(crate) connections: Option<u32>,
     /// How much clients may take.
     pub(crate) limits: Limits,
+    /// What is told on standard error.
+    pub(crate) verbosity: Verbosity,
 }
 
 impl<'a> Options<'a> {
@@ -61,6 +63,7 @@ impl<'a> Options<'a> {
             allows_anonymous: words.allows_anonymous,
             connections: words.connections,
             limits: words.limits,
+            verbosity: words.verbosity(),
         })
     }
 }

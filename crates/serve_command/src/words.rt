@@ -5,7 +5,7 @@ use crate::guid::Guid;
 use crate::limit_fault::LimitFault;
 use crate::options::Announcement;
 use endpoints::Address;
-use server::{Limit, Limits};
+use server::{Limit, Limits, Verbosity};
 use std::fmt;
 
 /// An option that has a value.
@@ -53,6 +53,7 @@ pub(crate) enum WordFault<'a> {
     Connections(&'a str),
     Limit(LimitFault<'a>),
     Descriptor(&'a str),
+    LogAndQuiet,
 }
 
 impl<'a> fmt::Display for WordFault<'a> {
@@ -79,6 +80,7 @@ impl<'a> fmt::Display for WordFault<'a> {
                 f,
                 "--print-address {text}: the number of an open descriptor is wanted"
             ),
+            WordFault::LogAndQuiet => f.write_str("--log and --quiet exclude one another"),
         }
     }
 }
@@ -103,6 +105,8 @@ pub(crate) struct Words<'a> {
     pub(crate) is_session: bool,
     pub(crate) allows_external: bool,
     pub(crate) allows_anonymous: bool,
+    has_log: bool,
+    is_quiet: bool,
     awaited: Awaited,
 }
 
@@ -117,6 +121,8 @@ impl<'a> Words<'a> {
             is_session: false,
             allows_external: false,
             allows_anonymous: false,
+            has_log: false,
+            is_quiet: false,
             awaited: Awaited::Option,
         }
     }
@@ -137,7 +143,19 @@ impl<'a> Words<'a> {
     fn at_end(self) -> Result<Words<'a>, WordFault<'a>> {
         match self.awaited {
             Awaited::Value(option) => Err(WordFault::NoValue(option)),
+            _ if self.has_log && self.is_quiet => Err(WordFault::LogAndQuiet),
             Awaited::Option | Awaited::Descriptor => Ok(self),
+        }
+    }
+
+    /// What `--log` and `--quiet` say of the log.
+    pub(crate) fn verbosity(&self) -> Verbosity {
+        if self.is_quiet {
+            Verbosity::None
+        } else if self.has_log {
+            Verbosity::All
+        } else {
+            Verbosity::Faults
         }
     }
 
@@ -163,9 +181,8 @@ impl<'a> Words<'a> {
         }
         match name {
             "--print-address" => self.with_print_address(value),
-            "--session" | "--nofork" | "--allow-external" | "--allow-anonymous" => {
-                self.with_flag(name, value)
-            }
+            "--session" | "--nofork" | "--allow-external" | "--allow-anonymous" | "--log"
+            | "--quiet" => self.with_flag(name, value),
             _ => Err(WordFault::UnknownOption(name)),
         }
     }
@@ -224,8 +241,8 @@ impl<'a> Words<'a> {
         Ok(words)
     }
 
-    /// `--session` says where to listen if no address does, `--nofork` what `serve` does anyway, and the others whom the
-    /// bus lets in.
+    /// `--session` says where to listen if no address does, `--nofork` what `serve` does anyway, `--log` and `--quiet` what
+    /// it tells, and the others whom the bus lets in.
     fn with_flag(self, name: &'a str, value: Option<&str>) -> Result<Words<'a>, WordFault<'a>> {
         if value.is_some() {
             return Err(WordFault::HasNoValue(name));
@@ -234,6 +251,8 @@ impl<'a> Words<'a> {
             is_session: self.is_session || name == "--session",
             allows_external: self.allows_external || name == "--allow-external",
             allows_anonymous: self.allows_anonymous || name == "--allow-anonymous",
+            has_log: self.has_log || name == "--log",
+            is_quiet: self.is_quiet || name == "--quiet",
             awaited: Awaited::Option,
             ..self
         })

@@ -2,6 +2,7 @@
 
 use crate::hub::Hub;
 use crate::mechanisms::Mechanisms;
+use crate::note::Note;
 use crate::reserve::Reserve;
 use endpoints::{Link, Listener, is_of_descriptors};
 use members::{Arrival, Post};
@@ -36,32 +37,56 @@ where
     let mut reserve = Reserve::new(rt);
     for number in 1..=count.unwrap_or(u64::MAX) {
         hub.entries.take(rt);
-        let link = accept(rt, listener, &mut reserve);
+        let link = accept(rt, listener, hub, &mut reserve);
         let post = &posts[(number % posts.len() as u64) as usize];
         let admission = mechanisms.admission(rt, alloc);
         if post.hand_in(rt, Arrival { link, admission }).is_err() {
-            hub.entries.give_back(rt);
+            hub.turn_away(rt);
         }
     }
 }
 
 /// The next connection. An accept that fails is tried again, since a connection that was reset in the queue is gone; a
 /// connection for which no descriptor is left is closed.
-fn accept<W: Files<File = File> + Wait + Clock>(
+fn accept<J: Naming, R: Wait + Drop, W: Files<File = File> + Wait + Clock>(
     rt: &W,
     listener: &Listener,
+    hub: &Hub<J, R>,
     reserve: &mut Reserve,
 ) -> Link {
     for _ in rt.forever() {
         match listener.accept() {
-            Ok(link) => return link,
-            Err(error) if is_of_descriptors(&error) && reserve.is_there(rt) => {
-                if let Some(link) = reserve.accept(rt, listener) {
+            Ok(link) => {
+                reserve.note(false);
+                return link;
+            }
+            Err(error) if is_of_descriptors(&error) => {
+                if reserve.note(true) {
+                    hub.notes.leave(rt, Note::NoDescriptor);
+                }
+                if let Some(link) = accept_by_reserve(rt, listener, reserve) {
                     return link;
                 }
             }
-            Err(_) => thread::sleep(rt, Duration::from_millis(PAUSE)),
+            Err(_) => pause(rt),
         }
     }
     unreachable!()
+}
+
+/// The next connection, if a descriptor came back meanwhile; else it is closed. Where there is no reserve, none is accepted.
+fn accept_by_reserve<W: Files<File = File> + Wait + Clock>(
+    rt: &W,
+    listener: &Listener,
+    reserve: &mut Reserve,
+) -> Option<Link> {
+    if reserve.is_there(rt) {
+        return reserve.accept(rt, listener);
+    }
+    pause(rt);
+    None
+}
+
+fn pause<W: Wait + Clock>(rt: &W) {
+    thread::sleep(rt, Duration::from_millis(PAUSE));
 }

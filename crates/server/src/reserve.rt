@@ -11,13 +11,23 @@ const NOTHING: &str = "/dev/null";
 #[derive(Drop)]
 pub(crate) struct Reserve {
     file: Option<File>,
+    // No other is left since an accept failed for want of one.
+    is_needed: bool,
 }
 
 impl Reserve {
     pub(crate) fn new<R: Files<File = File>>(rt: &R) -> Reserve {
         Reserve {
             file: File::open(rt, NOTHING).ok(),
+            is_needed: false,
         }
+    }
+
+    /// Notes whether another descriptor was left for an accept. Answers whether this is the first for which none was.
+    pub(crate) fn note(&mut self, is_needed: bool) -> bool {
+        let was_needed = self.is_needed;
+        self.is_needed = is_needed;
+        is_needed && !was_needed
     }
 
     /// Whether there is one, or could be had now.

@@ -6,6 +6,8 @@ use crate::accepting::accept_all;
 use crate::hub::{Hub, Identity};
 use crate::limits::Limits;
 use crate::mechanisms::Mechanisms;
+use crate::note::Verbosity;
+use crate::notes::Log;
 use crate::worker::{Desk, work};
 use endpoints::Listener;
 use members::Mail;
@@ -21,51 +23,47 @@ use std::thread::{Builder, Threads};
 use std::time::Clock;
 use std::{io, thread};
 
+/// What a server begins with.
+#[derive(Drop)]
+pub struct Start {
+    pub key: IndexKey,
+    pub identity: Identity,
+    pub mechanisms: Mechanisms,
+    pub limits: Limits,
+    /// After how many connections to end, if ever.
+    pub count: Option<u64>,
+    /// What is written to the log.
+    pub verbosity: Verbosity,
+}
+
 /// Serves as many connections as are asked for, or without end, on a bus of their own. It answers once all of them have
 /// ended, or where memory or threads are refused at the start.
-pub fn serve<R>(
+pub fn serve<R, L>(
     rt: &R,
     alloc: Global,
-    key: IndexKey,
-    identity: Identity,
-    mechanisms: Mechanisms,
-    limits: Limits,
+    start: Start,
     listener: &Listener,
-    count: Option<u64>,
+    log: L,
 ) -> io::Result<()>
 where
     R: Files<File = File> + RandomSource + Threads + Wait + Clock + Net + Sync,
+    L: Log + Send + Drop,
 {
     let opened = Opened::<Mail>::new();
-    let start = Start {
-        key,
-        identity,
-        mechanisms,
-        limits,
-        count,
-    };
-    serve_on::<Brand, R>(rt, alloc, opened, start, listener)
+    serve_on::<Brand, R, L>(rt, alloc, opened, start, listener, log)
 }
 
-/// What a server begins with.
-#[derive(Drop)]
-struct Start {
-    key: IndexKey,
-    identity: Identity,
-    mechanisms: Mechanisms,
-    limits: Limits,
-    count: Option<u64>,
-}
-
-fn serve_on<J: Naming + Send + Sync, R>(
+fn serve_on<J: Naming + Send + Sync, R, L>(
     rt: &R,
     alloc: Global,
     opened: Opened<Mail>,
     start: Start,
     listener: &Listener,
+    log: L,
 ) -> io::Result<()>
 where
     R: Files<File = File> + RandomSource + Threads + Wait + Clock + Net + Sync,
+    L: Log + Send + Drop,
     requires { opened ≡ J.book }
 {
     let Start {
@@ -74,12 +72,39 @@ where
         mechanisms,
         limits,
         count,
+        verbosity,
     } = start;
     let Ok(bus) = Bus::<J, Mail, &R>::new(rt, alloc, key, opened) else {
         return Err(ErrorKind::OutOfMemory.into());
     };
-    let hub = Hub::new(alloc, bus, identity, limits)?;
-    run(rt, alloc, &hub, &mechanisms, listener, count)
+    let hub = Hub::new(alloc, bus, identity, limits, verbosity)?;
+    if !hub.notes.are_wanted() {
+        return run(rt, alloc, &hub, &mechanisms, listener, count);
+    }
+    run_with_log(rt, alloc, &hub, &mechanisms, listener, count, log)
+}
+
+/// The same as `run`, with a thread that writes the notes. Where there is none, the bus goes on without its log.
+fn run_with_log<J: Naming + Send + Sync, R, L>(
+    rt: &R,
+    alloc: Global,
+    hub: &Hub<J, &R>,
+    mechanisms: &Mechanisms,
+    listener: &Listener,
+    count: Option<u64>,
+    log: L,
+) -> io::Result<()>
+where
+    R: Files<File = File> + RandomSource + Threads + Wait + Clock + Net + Sync,
+    L: Log + Send + Drop,
+{
+    thread::scope(thread::scope_env(), rt, |scope| {
+        let writer = move || hub.notes.write_all(rt, log);
+        let _ = Builder::new().spawn_scoped(scope, writer);
+        let served = run(rt, alloc, hub, mechanisms, listener, count);
+        hub.notes.finish(rt);
+        served
+    })
 }
 
 /// Starts the workers, accepts, and waits for the workers to end.
