@@ -4,15 +4,14 @@ ghost use Rattle.serve_command.specs.Status.{IsStatus};
 
 use crate::error::Refusal;
 use crate::guid::Guid;
-use crate::listening::{announce, bind, say};
+use crate::doors::open_doors;
+use crate::listening::{announce, announcement_of, say};
 use crate::log::Lines;
 use crate::machine::machine_id;
-use crate::mechanisms::mechanisms_of;
 use crate::options::Options;
-use crate::place::Place;
+use crate::target::Target;
 use command_line::{Output, Writer, text_for};
-use endpoints::{Address, Listener};
-use server::{Identity, IndexKey, Mechanisms, Start};
+use server::{Door, Identity, IndexKey, Start};
 use std::alloc::Global;
 use std::fs::{File, Files};
 use std::net::{Net, TcpListener, TcpStream};
@@ -94,7 +93,7 @@ fn help<O: Writer>(alloc: Global, out: &mut Output<O>) -> Result<(), Refusal> {
     }
 }
 
-/// Serves at the address that is asked for, or at the usual place.
+/// Serves at the addresses that are asked for, or at the usual place.
 fn serve_as_asked<R, O: Writer, E: Writer + Send>(
     rt: &R,
     alloc: Global,
@@ -113,25 +112,19 @@ where
         + Sync
         + Alloc,
 {
-    let place = match options.address {
-        Some(Address::Folder { path }) => Place::new_in(rt, alloc, path)?,
-        Some(Address::Runtime) => Place::of_runtime(rt, alloc)?,
-        Some(address) => return listen_and_serve(rt, alloc, options, address, out, err),
-        None => Place::usual(rt, alloc, options.usual_place)?,
-    };
-    let address = Address::Unix {
-        path: place.value.as_str(),
-    };
-    let served = listen_and_serve(rt, alloc, options, address, out, err);
-    place.remove(rt);
+    let targets = Target::all(rt, alloc, &options)?;
+    let served = open_and_serve(rt, alloc, options, targets.as_slice(), out, err);
+    for target in targets.iter() {
+        target.remove(rt);
+    }
     served
 }
 
-fn listen_and_serve<R, O: Writer, E: Writer + Send>(
+fn open_and_serve<R, O: Writer, E: Writer + Send>(
     rt: &R,
     alloc: Global,
     options: Options<'_>,
-    asked: Address<'_>,
+    targets: &[Target<'_>],
     out: &mut Output<O>,
     err: &mut Output<E>,
 ) -> Result<(), Refusal>
@@ -147,9 +140,14 @@ where
         + Alloc,
 {
     let guid = guid_of(rt, options)?;
-    let listener = bind(rt, alloc, asked)?;
-    let served = announce_and_serve(rt, alloc, options, asked, &listener, guid, out, err);
-    listener.close(rt);
+    let mut doors = Vec::new(alloc);
+    let served = match open_doors(rt, alloc, options, targets, &mut doors) {
+        Ok(()) => announce_and_serve(rt, alloc, options, targets, &doors, guid, out, err),
+        Err(refusal) => Err(refusal),
+    };
+    for door in doors {
+        door.listener.close(rt);
+    }
     served
 }
 
@@ -157,8 +155,8 @@ fn announce_and_serve<R, O: Writer, E: Writer + Send>(
     rt: &R,
     alloc: Global,
     options: Options<'_>,
-    asked: Address<'_>,
-    listener: &Listener,
+    targets: &[Target<'_>],
+    doors: &[Door],
     guid: Guid,
     out: &mut Output<O>,
     err: &mut Output<E>,
@@ -174,12 +172,9 @@ where
         + Sync
         + Alloc,
 {
-    let mechanisms = mechanisms_of(rt, alloc, options, listener)?;
-    match listener.address(asked) {
-        Ok(taken) => announce(rt, alloc, options.announcement, taken, guid, out)?,
-        Err(error) => return Err(Refusal::of_place(alloc, &asked, &error, None)),
-    }
-    serve_at(rt, alloc, options, guid, mechanisms, listener, err)
+    let text = announcement_of(alloc, options.announcement, targets, doors, guid)?;
+    announce(rt, alloc, options.announcement, text.as_bytes(), out)?;
+    serve_at(rt, alloc, options, guid, doors, err)
 }
 
 /// The id that is asked for, or a new one.
@@ -195,8 +190,7 @@ fn serve_at<R, E: Writer + Send>(
     alloc: Global,
     options: Options<'_>,
     guid: Guid,
-    mechanisms: Mechanisms,
-    listener: &Listener,
+    doors: &[Door],
     err: &mut Output<E>,
 ) -> Result<(), Refusal>
 where
@@ -221,12 +215,11 @@ where
     let start = Start {
         key,
         identity,
-        mechanisms,
         limits: options.limits.with_workers(workers),
         count: options.connections.map(u64::from),
         verbosity: options.verbosity,
     };
-    match server::serve(rt, alloc, start, listener, Lines::new(alloc, err)) {
+    match server::serve(rt, alloc, start, doors, Lines::new(alloc, err)) {
         Ok(()) => Ok(()),
         Err(_) => Err(Refusal::no_thread()),
     }

@@ -3,6 +3,8 @@
 #![tactic(auto)]
 
 mod address_fault;
+mod addresses;
+mod doors;
 mod entry;
 mod error;
 mod guid;
@@ -14,6 +16,7 @@ mod mechanisms;
 mod options;
 mod place;
 mod reasons;
+mod target;
 mod words;
 
 pub use entry::serve;

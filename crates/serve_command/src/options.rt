@@ -1,8 +1,8 @@
 // What the words of `serve` ask for.
 
+use crate::addresses::Addresses;
 use crate::guid::Guid;
 use crate::words::{WordFault, Words};
-use endpoints::Address;
 use server::{Limits, Verbosity};
 
 /// Where `serve` listens if no address is said.
@@ -28,8 +28,8 @@ pub(crate) enum Announcement {
 /// What the words of `serve` ask for.
 #[derive(Clone, Copy)]
 pub(crate) struct Options<'a> {
-    /// Where to listen, if it is said.
-    pub(crate) address: Option<Address<'a>>,
+    /// Where to listen, as far as it is said.
+    pub(crate) addresses: Addresses<'a>,
     pub(crate) usual_place: UsualPlace,
     /// The bus's id, if it is said.
     pub(crate) guid: Option<Guid>,
@@ -47,11 +47,11 @@ pub(crate) struct Options<'a> {
 }
 
 impl<'a> Options<'a> {
-    /// What some words ask for: options in any order, each once at most but for `--limit`, with its value as the next word or after a `=`.
+    /// What some words ask for: options in any order, each once at most but for `--limit` and `--listen`, with its value as the next word or after a `=`.
     pub(crate) fn read(words: &[&'a str]) -> Result<Options<'a>, WordFault<'a>> {
         let words = Words::read(words)?;
         Ok(Options {
-            address: words.address,
+            addresses: words.addresses,
             usual_place: if words.is_session {
                 UsualPlace::OfSession
             } else {

@@ -1,6 +1,7 @@
 // The words of `serve`, one after another.
 
 use crate::address_fault::AddressFault;
+use crate::addresses::{Addresses, MOST};
 use crate::guid::Guid;
 use crate::limit_fault::LimitFault;
 use crate::options::Announcement;
@@ -49,6 +50,8 @@ pub(crate) enum WordFault<'a> {
     /// A value after an option that has none.
     HasNoValue(&'a str),
     Address(AddressFault<'a>),
+    AddressTwice(&'a str),
+    TooManyAddresses,
     Guid(&'a str),
     Connections(&'a str),
     Limit(LimitFault<'a>),
@@ -68,6 +71,10 @@ impl<'a> fmt::Display for WordFault<'a> {
             }
             WordFault::HasNoValue(name) => write!(f, "{name} takes no value"),
             WordFault::Address(fault) => write!(f, "--listen {fault}"),
+            WordFault::AddressTwice(text) => write!(f, "--listen {text} is given twice"),
+            WordFault::TooManyAddresses => {
+                write!(f, "--listen is given more than {MOST} times")
+            }
             WordFault::Guid(text) => {
                 write!(f, "--guid {text}: 32 hexadecimal digits are wanted")
             }
@@ -97,7 +104,7 @@ enum Awaited {
 /// What the words say so far.
 #[derive(Clone, Copy)]
 pub(crate) struct Words<'a> {
-    pub(crate) address: Option<Address<'a>>,
+    pub(crate) addresses: Addresses<'a>,
     pub(crate) guid: Option<Guid>,
     pub(crate) connections: Option<u32>,
     pub(crate) limits: Limits,
@@ -113,7 +120,7 @@ pub(crate) struct Words<'a> {
 impl<'a> Words<'a> {
     fn nothing() -> Words<'a> {
         Words {
-            address: None,
+            addresses: Addresses::none(),
             guid: None,
             connections: None,
             limits: Limits::standard(),
@@ -208,10 +215,9 @@ impl<'a> Words<'a> {
     /// Whether an option is there that may be given once alone.
     fn has(&self, option: Valued) -> bool {
         match option {
-            Valued::Listen => self.address.is_some(),
+            Valued::Listen | Valued::Limit => false,
             Valued::Guid => self.guid.is_some(),
             Valued::Connections => self.connections.is_some(),
-            Valued::Limit => false,
         }
     }
 
@@ -222,8 +228,7 @@ impl<'a> Words<'a> {
         };
         match option {
             Valued::Listen => {
-                let address = read_address(value)?;
-                words.address = Some(address);
+                words.addresses = words.addresses_with(value)?;
             }
             Valued::Guid => {
                 let guid = Guid::read(value).ok_or(WordFault::Guid(value))?;
@@ -239,6 +244,16 @@ impl<'a> Words<'a> {
             }
         }
         Ok(words)
+    }
+
+    fn addresses_with(&self, value: &'a str) -> Result<Addresses<'a>, WordFault<'a>> {
+        let address = read_address(value)?;
+        if self.addresses.has(address) {
+            return Err(WordFault::AddressTwice(value));
+        }
+        self.addresses
+            .with(address)
+            .ok_or(WordFault::TooManyAddresses)
     }
 
     /// `--session` says where to listen if no address does, `--nofork` what `serve` does anyway, `--log` and `--quiet` what

@@ -1,22 +1,25 @@
-//! The bus on a listening socket: one thread that accepts, and a few workers, each of which waits at a poll of its own
+//! The bus on its listening sockets: one thread that accepts, and a few workers, each of which waits at a poll of its own
 //! for its share of the connections. A session never waits for its client, and whoever puts a message writes it. What
 //! happens is noted, and a thread of its own writes the notes.
 #![tactic(auto)]
 
 mod accepting;
 mod connection;
+mod door;
 mod hub;
 mod limit;
 mod limits;
 mod mechanisms;
 mod note;
 mod notes;
+mod porch;
 mod reserve;
 mod scratch;
 mod serving;
 mod unfinished;
 mod worker;
 
+pub use door::Door;
 pub use hub::Identity;
 pub use limit::Limit;
 pub use limits::Limits;

@@ -3,13 +3,13 @@
 ghost use Rattle.std.specs.Prelude.{◌≡◌};
 
 use crate::accepting::accept_all;
+use crate::door::Door;
 use crate::hub::{Hub, Identity};
 use crate::limits::Limits;
-use crate::mechanisms::Mechanisms;
 use crate::note::Verbosity;
 use crate::notes::Log;
+use crate::porch::Porch;
 use crate::worker::{Desk, work};
-use endpoints::Listener;
 use members::Mail;
 use sessions::{Bus, IndexKey, Naming, Opened};
 use std::alloc::Global;
@@ -28,7 +28,6 @@ use std::{io, thread};
 pub struct Start {
     pub key: IndexKey,
     pub identity: Identity,
-    pub mechanisms: Mechanisms,
     pub limits: Limits,
     /// After how many connections to end, if ever.
     pub count: Option<u64>,
@@ -36,13 +35,13 @@ pub struct Start {
     pub verbosity: Verbosity,
 }
 
-/// Serves as many connections as are asked for, or without end, on a bus of their own. It answers once all of them have
-/// ended, or where memory or threads are refused at the start.
+/// Serves as many connections as are asked for, or without end, on a bus of their own, whichever of the doors they come
+/// by. It answers once all of them have ended, or where memory or threads are refused at the start.
 pub fn serve<R, L>(
     rt: &R,
     alloc: Global,
     start: Start,
-    listener: &Listener,
+    doors: &[Door],
     log: L,
 ) -> io::Result<()>
 where
@@ -50,7 +49,7 @@ where
     L: Log + Send + Drop,
 {
     let opened = Opened::<Mail>::new();
-    serve_on::<Brand, R, L>(rt, alloc, opened, start, listener, log)
+    serve_on::<Brand, R, L>(rt, alloc, opened, start, doors, log)
 }
 
 fn serve_on<J: Naming + Send + Sync, R, L>(
@@ -58,7 +57,7 @@ fn serve_on<J: Naming + Send + Sync, R, L>(
     alloc: Global,
     opened: Opened<Mail>,
     start: Start,
-    listener: &Listener,
+    doors: &[Door],
     log: L,
 ) -> io::Result<()>
 where
@@ -69,7 +68,6 @@ where
     let Start {
         key,
         identity,
-        mechanisms,
         limits,
         count,
         verbosity,
@@ -79,9 +77,9 @@ where
     };
     let hub = Hub::new(alloc, bus, identity, limits, verbosity)?;
     if !hub.notes.are_wanted() {
-        return run(rt, alloc, &hub, &mechanisms, listener, count);
+        return run(rt, alloc, &hub, doors, count);
     }
-    run_with_log(rt, alloc, &hub, &mechanisms, listener, count, log)
+    run_with_log(rt, alloc, &hub, doors, count, log)
 }
 
 /// The same as `run`, with a thread that writes the notes. Where there is none, the bus goes on without its log.
@@ -89,8 +87,7 @@ fn run_with_log<J: Naming + Send + Sync, R, L>(
     rt: &R,
     alloc: Global,
     hub: &Hub<J, &R>,
-    mechanisms: &Mechanisms,
-    listener: &Listener,
+    doors: &[Door],
     count: Option<u64>,
     log: L,
 ) -> io::Result<()>
@@ -101,7 +98,7 @@ where
     thread::scope(thread::scope_env(), rt, |scope| {
         let writer = move || hub.notes.write_all(rt, log);
         let _ = Builder::new().spawn_scoped(scope, writer);
-        let served = run(rt, alloc, hub, mechanisms, listener, count);
+        let served = run(rt, alloc, hub, doors, count);
         hub.notes.finish(rt);
         served
     })
@@ -112,13 +109,13 @@ fn run<J: Naming + Send + Sync, R>(
     rt: &R,
     alloc: Global,
     hub: &Hub<J, &R>,
-    mechanisms: &Mechanisms,
-    listener: &Listener,
+    doors: &[Door],
     count: Option<u64>,
 ) -> io::Result<()>
 where
     R: Files<File = File> + RandomSource + Threads + Wait + Clock + Net + Sync,
 {
+    let mut porch = Porch::new(rt, alloc, doors)?;
     let mut posts = Vec::with_capacity(alloc, hub.limits.workers)?;
     thread::scope(thread::scope_env(), rt, |scope| {
         for _ in 0..hub.limits.workers {
@@ -135,15 +132,7 @@ where
                 }
             }
         }
-        accept_all(
-            rt,
-            alloc,
-            listener,
-            count,
-            hub,
-            mechanisms,
-            posts.as_slice(),
-        );
+        accept_all(rt, alloc, &mut porch, count, hub, posts.as_slice());
         for post in posts.iter() {
             post.finish();
         }
