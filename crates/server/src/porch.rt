@@ -116,8 +116,7 @@ impl<'a> Porch<'a> {
 }
 
 impl<'a> Entrance<'a> {
-    /// The next connection, if there is one. A connection that was reset in the queue is gone; one for which no descriptor is
-    /// left is closed.
+    /// The next connection, if there is one. A connection for which no descriptor is left is closed.
     fn accept<W: Files<File = File> + Wait + Clock>(
         &mut self,
         rt: &W,
@@ -129,34 +128,42 @@ impl<'a> Entrance<'a> {
                 reserve.note(false);
                 Some(link)
             }
-            Err(error) if error.kind() == ErrorKind::WouldBlock => {
-                self.has_clients = false;
-                None
-            }
-            Err(error) if is_of_descriptors(&error) => {
-                if reserve.note(true) {
-                    notes.leave(rt, Note::NoDescriptor);
-                }
-                self.accept_by_reserve(rt, reserve)
-            }
-            Err(_) => {
-                pause(rt);
+            Err(error) if is_of_descriptors(&error) => self.accept_by_reserve(rt, notes, reserve),
+            Err(error) => {
+                self.note_failure(rt, &error);
                 None
             }
         }
     }
 
-    /// The next connection, if a descriptor came back meanwhile; else it is closed. Where there is no reserve, it waits.
     fn accept_by_reserve<W: Files<File = File> + Wait + Clock>(
-        &self,
+        &mut self,
         rt: &W,
+        notes: &Notes,
         reserve: &mut Reserve,
     ) -> Option<Link> {
-        if reserve.is_there(rt) {
-            return reserve.accept(rt, &self.door.listener);
+        match reserve.accept(rt, &self.door.listener) {
+            Ok(Some(link)) => Some(link),
+            Ok(None) => {
+                if reserve.note(true) {
+                    notes.leave(rt, Note::NoDescriptor);
+                }
+                None
+            }
+            Err(error) => {
+                self.note_failure(rt, &error);
+                None
+            }
         }
-        pause(rt);
-        None
+    }
+
+    /// Nobody waits at the door, or the accept is tried again in a while: a connection that was reset in the queue is gone.
+    fn note_failure<W: Wait + Clock>(&mut self, rt: &W, error: &io::Error) {
+        if error.kind() == ErrorKind::WouldBlock {
+            self.has_clients = false;
+        } else {
+            pause(rt);
+        }
     }
 }
 
