@@ -24,9 +24,7 @@ impl<'a> Addresses<'a> {
 
     /// Whether a socket of this address is asked for already. A new one is another each time.
     pub(crate) fn has(&self, address: Address<'_>) -> bool {
-        self.items
-            .iter()
-            .any(|item| item.is_some_and(|item| is_same_socket(item, address)))
+        self.items.iter().any(|item| item.is_some_and(|item| is_same_socket(item, address)))
     }
 
     /// The same and one more, if there is room.

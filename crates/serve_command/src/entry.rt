@@ -2,9 +2,9 @@
 
 ghost use Rattle.serve_command.specs.Status.{IsStatus};
 
+use crate::doors::open_doors;
 use crate::error::Refusal;
 use crate::guid::Guid;
-use crate::doors::open_doors;
 use crate::listening::{announce, announcement_of, say};
 use crate::log::Lines;
 use crate::machine::machine_id;

@@ -72,9 +72,7 @@ impl<'a> fmt::Display for WordFault<'a> {
             WordFault::HasNoValue(name) => write!(f, "{name} takes no value"),
             WordFault::Address(fault) => write!(f, "--listen {fault}"),
             WordFault::AddressTwice(text) => write!(f, "--listen {text} is given twice"),
-            WordFault::TooManyAddresses => {
-                write!(f, "--listen is given more than {MOST} times")
-            }
+            WordFault::TooManyAddresses => { write!(f, "--listen is given more than {MOST} times") }
             WordFault::Guid(text) => {
                 write!(f, "--guid {text}: 32 hexadecimal digits are wanted")
             }
@@ -188,7 +186,11 @@ impl<'a> Words<'a> {
         }
         match name {
             "--print-address" => self.with_print_address(value),
-            "--session" | "--nofork" | "--allow-external" | "--allow-anonymous" | "--log"
+            "--session"
+            | "--nofork"
+            | "--allow-external"
+            | "--allow-anonymous"
+            | "--log"
             | "--quiet" => self.with_flag(name, value),
             _ => Err(WordFault::UnknownOption(name)),
         }

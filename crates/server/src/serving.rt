@@ -37,13 +37,7 @@ pub struct Start {
 
 /// Serves as many connections as are asked for, or without end, on a bus of their own, whichever of the doors they come
 /// by. It answers once all of them have ended, or where memory or threads are refused at the start.
-pub fn serve<R, L>(
-    rt: &R,
-    alloc: Global,
-    start: Start,
-    doors: &[Door],
-    log: L,
-) -> io::Result<()>
+pub fn serve<R, L>(rt: &R, alloc: Global, start: Start, doors: &[Door], log: L) -> io::Result<()>
 where
     R: Files<File = File> + RandomSource + Threads + Wait + Clock + Net + Sync,
     L: Log + Send + Drop,

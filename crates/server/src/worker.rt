@@ -182,7 +182,9 @@ impl<'a, J: Naming, R: Wait + Drop> Worker<'a, J, R> {
         }
         let was_watched = connection.is_watched();
         let turn = connection.read(rt, self.alloc, self.hub, &mut self.scratch, has_ended);
-        if !connection.is_in && let Some(number) = connection.number() {
+        if !connection.is_in
+            && let Some(number) = connection.number()
+        {
             connection.is_in = true;
             self.hub.entries.give_back(rt);
             self.hub.notes.leave(rt, Note::Came(number));
