@@ -1,7 +1,7 @@
 #!/usr/bin/env python3
 """Writes the cases of sessions whose bytes are compared one by one, and those of each cut and of each call that fails.
 
-    clients/session_cases.py > crates/cases_sessions/data/bytes.cases
+    clients/session_cases.py > crates/cases_bus/data/bytes.cases
 
 It shares no code with the bus: the messages are marshalled by wire.py, and what the bus has to say, in which order and
 under which serials, stands here once more. Cases that are said in words stand in the other files of that folder.

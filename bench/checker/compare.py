@@ -21,7 +21,7 @@ def add_options(parser):
     parser.add_argument("--seed", type=int, default=None)
     parser.add_argument("--events", type=int, default=300, help="about how many events a list has")
     parser.add_argument("--jobs", type=int, default=1, help="how many lists are played at once")
-    parser.add_argument("--both", action="store_true", help="only what cases_world and cases_bus answer alike")
+    parser.add_argument("--both", action="store_true", help="only what the core and passes answer alike")
     parser.add_argument("--near", action="store_true", help="lists full of near misses for the namespaces of rules")
     parser.add_argument("--unreadable", action="store_true", help="lists with a line of no form")
     parser.add_argument("--seconds", type=int, default=600, help="how long one list may take")

@@ -1,13 +1,13 @@
 // The connections of a bus, each a pass.
 
-use crate::calls::call;
+use crate::answers::text_of_reply;
 use crate::jobs::Jobs;
-use crate::stop::{Stop, text, text_of};
+use crate::pass_calls::call;
+use crate::stop::Stop;
 use arrayvec::ArrayVec;
-use event_cases::PlayError;
 use message_view::View;
 use router::{Bus, Letterbox, Naming, Pass, Reply, Source};
-use std::alloc::Global;
+use std::alloc::{AllocError, Global};
 use std::collections::BTreeMap;
 use std::sync::Wait;
 use world_text::{TextAnswer, TextEvent};
@@ -49,7 +49,11 @@ impl<'a, J: Naming, R: Wait> Connected<'a, J, R> {
     }
 
     /// Plays the event of this number, from 0: its answer as text.
-    pub(crate) fn play(&mut self, number: u64, event: &TextEvent<'_>) -> Result<String, PlayError> {
+    pub(crate) fn play(
+        &mut self,
+        number: u64,
+        event: &TextEvent<'_>,
+    ) -> Result<String, AllocError> {
         match event {
             TextEvent::Begin { sender, bytes } => self.begin(number, *sender, bytes.as_slice()),
             TextEvent::Piece { job, part } => self.piece(*job, *part),
@@ -98,7 +102,7 @@ impl<'a, J: Naming, R: Wait> Connected<'a, J, R> {
         self.last = pass.connection();
         match self.passes.insert(self.last, pass) {
             Ok(_) => Ok(reply),
-            Err(_) => Err(Stop::Failed(PlayError::NoMemory)),
+            Err(_) => Err(Stop::NoMemory),
         }
     }
 
@@ -125,7 +129,7 @@ impl<'a, J: Naming, R: Wait> Connected<'a, J, R> {
         number: u64,
         sender: Option<u64>,
         bytes: &[u8],
-    ) -> Result<String, PlayError> {
+    ) -> Result<String, AllocError> {
         let found = match sender {
             Some(connection) => self.recipients(connection, Source::Own, bytes),
             None => self.recipients_of_bus(bytes),
@@ -133,7 +137,7 @@ impl<'a, J: Naming, R: Wait> Connected<'a, J, R> {
         match found {
             Ok(recipients) => {
                 self.jobs.begin(number, recipients.as_slice())?;
-                text(self.alloc, TextAnswer::Begun)
+                TextAnswer::Begun.to_string(self.alloc)
             }
             Err(stop) => stop.text(self.alloc),
         }
@@ -170,12 +174,12 @@ impl<'a, J: Naming, R: Wait> Connected<'a, J, R> {
         }
     }
 
-    fn piece(&mut self, job: u64, part: u64) -> Result<String, PlayError> {
+    fn piece(&mut self, job: u64, part: u64) -> Result<String, AllocError> {
         let numbers = self.jobs.piece(job, part)?;
         text_of_job(self.alloc, numbers)
     }
 
-    fn end(&mut self, job: u64) -> Result<String, PlayError> {
+    fn end(&mut self, job: u64) -> Result<String, AllocError> {
         let numbers = self.jobs.end(job);
         text_of_job(self.alloc, numbers)
     }
@@ -214,9 +218,17 @@ fn recipients<J: Naming>(
 }
 
 /// The answer of a piece or of an end: the recipients, where there was something to be asked for.
-fn text_of_job(alloc: Global, numbers: Option<Vec<u64>>) -> Result<String, PlayError> {
+fn text_of_job(alloc: Global, numbers: Option<Vec<u64>>) -> Result<String, AllocError> {
     match numbers {
-        Some(numbers) => text(alloc, TextAnswer::Recipients(numbers.as_slice())),
-        None => text(alloc, TextAnswer::Ignored),
+        Some(numbers) => TextAnswer::Recipients(numbers.as_slice()).to_string(alloc),
+        None => TextAnswer::Ignored.to_string(alloc),
+    }
+}
+
+/// What came of a call, as text.
+fn text_of(alloc: Global, came: Result<Reply, Stop>) -> Result<String, AllocError> {
+    match came {
+        Ok(reply) => text_of_reply(&reply).to_string(alloc),
+        Err(stop) => stop.text(alloc),
     }
 }

@@ -1,17 +1,20 @@
-// Why an event has no reply of the bus.
+// Why an event of a list has no reply of the bus.
 
+use crate::answers::text_of_refusal;
 use bpf_verify::VerifyError;
-use event_cases::{PlayError, text_of_refusal, text_of_reply};
 use message_view::MsgError;
-use router::{BusError, Refusal, Reply};
-use std::alloc::{AllocError, Global};
+use router::{BusError, Refusal};
+use std::alloc::{AllocError, AllocFailed, Global};
 use world_text::TextAnswer;
 
-/// Why an event has no reply of the bus.
+/// Why an event of a list has no reply of the bus.
 #[derive(Drop)]
 pub(crate) enum Stop {
+    /// It is answered by a fault or a refusal, which may come before the bus is asked.
     Answered(TextAnswer<'static>),
-    Failed(PlayError),
+    NoMemory,
+    /// The bus gave an error that no answer of a list says.
+    Unnamed,
 }
 
 impl Stop {
@@ -20,15 +23,16 @@ impl Stop {
         Stop::refused_stop(Refusal::Closed)
     }
 
-    fn refused_stop(refusal: Refusal) -> Stop {
+    pub(crate) fn refused_stop(refusal: Refusal) -> Stop {
         Stop::Answered(text_of_refusal(refusal))
     }
 
-    /// The answer as text, if it is one.
-    pub(crate) fn text(self, alloc: Global) -> Result<String, PlayError> {
+    /// The answer as text.
+    pub(crate) fn text(self, alloc: Global) -> Result<String, AllocError> {
         match self {
-            Stop::Answered(answer) => text(alloc, answer),
-            Stop::Failed(error) => Err(error),
+            Stop::Answered(answer) => answer.to_string(alloc),
+            Stop::NoMemory => Err(AllocError),
+            Stop::Unnamed => String::from_str(alloc, "an answer that no list says"),
         }
     }
 }
@@ -45,13 +49,9 @@ impl From<BusError> for Stop {
             BusError::Closed => Stop::closed_stop(),
             BusError::Rule(fault) => Stop::Answered(TextAnswer::Rule(fault)),
             BusError::TooLong => Stop::Answered(TextAnswer::TooLong),
-            BusError::NoMemory | BusError::Program(VerifyError::NoMemory) => {
-                Stop::Failed(PlayError::NoMemory)
-            }
+            BusError::NoMemory | BusError::Program(VerifyError::NoMemory) => Stop::NoMemory,
             BusError::Program(fault) => Stop::Answered(TextAnswer::Program(fault)),
-            BusError::Busy | BusError::Fan(_) | BusError::Counts => {
-                Stop::Failed(PlayError::NoText)
-            }
+            BusError::Busy | BusError::Fan(_) | BusError::Counts => Stop::Unnamed,
         }
     }
 }
@@ -70,19 +70,12 @@ impl From<TextAnswer<'static>> for Stop {
 
 impl From<AllocError> for Stop {
     fn from(_refused: AllocError) -> Stop {
-        Stop::Failed(PlayError::NoMemory)
+        Stop::NoMemory
     }
 }
 
-/// An answer as text.
-pub(crate) fn text(alloc: Global, answer: TextAnswer<'_>) -> Result<String, PlayError> {
-    Ok(answer.to_string(alloc)?)
-}
-
-/// What came of a call, as text.
-pub(crate) fn text_of(alloc: Global, came: Result<Reply, Stop>) -> Result<String, PlayError> {
-    match came {
-        Ok(reply) => text(alloc, text_of_reply(&reply)),
-        Err(stop) => stop.text(alloc),
+impl<T: Drop> From<AllocFailed<T>> for Stop {
+    fn from(_refused: AllocFailed<T>) -> Stop {
+        Stop::NoMemory
     }
 }

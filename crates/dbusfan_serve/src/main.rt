@@ -27,7 +27,7 @@ fn main(rt: HostRuntime) -> ExitCode {
 }
 
 /// Serves a bus as the words after the program's name ask for. An `Err` says that there are none to read.
-fn run<R, E: Writer>(rt: &R, err: &mut Output<E>) -> Result<u8, Fault>
+fn run<R, E: Writer + Send>(rt: &R, err: &mut Output<E>) -> Result<u8, Fault>
 where
     R: Runtime<A = Global>
         + Files<File = File>

@@ -2,16 +2,16 @@
 
 ghost use Rattle.serve_command.specs.Status.{IsStatus};
 
+use crate::doors::open_doors;
 use crate::error::Refusal;
 use crate::guid::Guid;
-use crate::listening::{announce, bind, say};
+use crate::listening::{announce, announcement_of, say};
+use crate::log::Lines;
 use crate::machine::machine_id;
-use crate::mechanisms::mechanisms_of;
 use crate::options::Options;
-use crate::place::Place;
+use crate::target::Target;
 use command_line::{Output, Writer, text_for};
-use endpoints::{Address, Listener};
-use server::{Identity, IndexKey, Mechanisms};
+use server::{Door, Identity, IndexKey, Start};
 use std::alloc::Global;
 use std::fs::{File, Files};
 use std::net::{Net, TcpListener, TcpStream};
@@ -29,7 +29,7 @@ const HELP: [&str; 2] = ["serve", "--help"];
 /// connections as they name were accepted and have ended, 3 for words that are no such options, 4 where the address
 /// can't be listened at or `out` can't be written, 5 for want of memory. The line that says where it listens is written
 /// and flushed before the first accept.
-pub fn serve<R, O: Writer, E: Writer>(
+pub fn serve<R, O: Writer, E: Writer + Send>(
     rt: &R,
     alloc: Global,
     words: &[&str],
@@ -48,17 +48,18 @@ where
         + Alloc,
     ensures { IsStatus result }
 {
-    match serve_words(rt, alloc, words, out) {
+    match serve_words(rt, alloc, words, out, err) {
         Ok(()) => 0,
         Err(refusal) => refusal.tell(alloc, err),
     }
 }
 
-fn serve_words<R, O: Writer>(
+fn serve_words<R, O: Writer, E: Writer + Send>(
     rt: &R,
     alloc: Global,
     words: &[&str],
     out: &mut Output<O>,
+    err: &mut Output<E>,
 ) -> Result<(), Refusal>
 where
     R: Files<File = File>
@@ -75,7 +76,7 @@ where
         return help(alloc, out);
     }
     match Options::read(words) {
-        Ok(options) => serve_as_asked(rt, alloc, options, out),
+        Ok(options) => serve_as_asked(rt, alloc, options, out, err),
         Err(fault) => Err(Refusal::of_words(alloc, fault)),
     }
 }
@@ -92,12 +93,13 @@ fn help<O: Writer>(alloc: Global, out: &mut Output<O>) -> Result<(), Refusal> {
     }
 }
 
-/// Serves at the address that is asked for, or at the usual place.
-fn serve_as_asked<R, O: Writer>(
+/// Serves at the addresses that are asked for, or at the usual place.
+fn serve_as_asked<R, O: Writer, E: Writer + Send>(
     rt: &R,
     alloc: Global,
     options: Options<'_>,
     out: &mut Output<O>,
+    err: &mut Output<E>,
 ) -> Result<(), Refusal>
 where
     R: Files<File = File>
@@ -110,26 +112,21 @@ where
         + Sync
         + Alloc,
 {
-    let place = match options.address {
-        Some(Address::Folder { path }) => Place::new_in(rt, alloc, path)?,
-        Some(Address::Runtime) => Place::of_runtime(rt, alloc)?,
-        Some(address) => return listen_and_serve(rt, alloc, options, address, out),
-        None => Place::usual(rt, alloc, options.usual_place)?,
-    };
-    let address = Address::Unix {
-        path: place.value.as_str(),
-    };
-    let served = listen_and_serve(rt, alloc, options, address, out);
-    place.remove(rt);
+    let targets = Target::all(rt, alloc, &options)?;
+    let served = open_and_serve(rt, alloc, options, targets.as_slice(), out, err);
+    for target in targets.iter() {
+        target.remove(rt);
+    }
     served
 }
 
-fn listen_and_serve<R, O: Writer>(
+fn open_and_serve<R, O: Writer, E: Writer + Send>(
     rt: &R,
     alloc: Global,
     options: Options<'_>,
-    asked: Address<'_>,
+    targets: &[Target<'_>],
     out: &mut Output<O>,
+    err: &mut Output<E>,
 ) -> Result<(), Refusal>
 where
     R: Files<File = File>
@@ -143,20 +140,26 @@ where
         + Alloc,
 {
     let guid = guid_of(rt, options)?;
-    let listener = bind(rt, alloc, asked)?;
-    let served = announce_and_serve(rt, alloc, options, asked, &listener, guid, out);
-    listener.close(rt);
+    let mut doors = Vec::new(alloc);
+    let served = match open_doors(rt, alloc, options, targets, &mut doors) {
+        Ok(()) => announce_and_serve(rt, alloc, options, targets, &doors, guid, out, err),
+        Err(refusal) => Err(refusal),
+    };
+    for door in doors {
+        door.listener.close(rt);
+    }
     served
 }
 
-fn announce_and_serve<R, O: Writer>(
+fn announce_and_serve<R, O: Writer, E: Writer + Send>(
     rt: &R,
     alloc: Global,
     options: Options<'_>,
-    asked: Address<'_>,
-    listener: &Listener,
+    targets: &[Target<'_>],
+    doors: &[Door],
     guid: Guid,
     out: &mut Output<O>,
+    err: &mut Output<E>,
 ) -> Result<(), Refusal>
 where
     R: Files<File = File>
@@ -169,12 +172,9 @@ where
         + Sync
         + Alloc,
 {
-    let mechanisms = mechanisms_of(rt, alloc, options, listener)?;
-    match listener.address(asked) {
-        Ok(taken) => announce(rt, alloc, options.announcement, taken, guid, out)?,
-        Err(error) => return Err(Refusal::of_place(alloc, &asked, &error, None)),
-    }
-    serve_at(rt, alloc, options, guid, mechanisms, listener)
+    let text = announcement_of(alloc, options.announcement, targets, doors, guid)?;
+    announce(rt, alloc, options.announcement, text.as_bytes(), out)?;
+    serve_at(rt, alloc, options, guid, doors, err)
 }
 
 /// The id that is asked for, or a new one.
@@ -185,13 +185,13 @@ fn guid_of<R: RandomSource>(rt: &R, options: Options<'_>) -> Result<Guid, Refusa
     }
 }
 
-fn serve_at<R>(
+fn serve_at<R, E: Writer + Send>(
     rt: &R,
     alloc: Global,
     options: Options<'_>,
     guid: Guid,
-    mechanisms: Mechanisms,
-    listener: &Listener,
+    doors: &[Door],
+    err: &mut Output<E>,
 ) -> Result<(), Refusal>
 where
     R: Files<File = File>
@@ -205,20 +205,21 @@ where
         + Alloc,
 {
     let key = index_key(rt)?;
-    let digits = guid.digits;
-    let machine = machine_id(rt);
     let identity = Identity {
-        guid: digits,
-        machine,
+        guid: guid.digits,
+        machine: machine_id(rt),
     };
     let workers = thread::available_parallelism(rt)
         .map(|count| count.get())
         .unwrap_or(1);
-    let limits = options.limits.with_workers(workers);
-    let count = options.connections.map(u64::from);
-    match server::serve(
-        rt, alloc, key, identity, mechanisms, limits, listener, count,
-    ) {
+    let start = Start {
+        key,
+        identity,
+        limits: options.limits.with_workers(workers),
+        count: options.connections.map(u64::from),
+        verbosity: options.verbosity,
+    };
+    match server::serve(rt, alloc, start, doors, Lines::new(alloc, err)) {
         Ok(()) => Ok(()),
         Err(_) => Err(Refusal::no_thread()),
     }

@@ -3,16 +3,20 @@
 #![tactic(auto)]
 
 mod address_fault;
+mod addresses;
+mod doors;
 mod entry;
 mod error;
 mod guid;
 mod limit_fault;
 mod listening;
+mod log;
 mod machine;
 mod mechanisms;
 mod options;
 mod place;
 mod reasons;
+mod target;
 mod words;
 
 pub use entry::serve;

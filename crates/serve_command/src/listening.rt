@@ -1,12 +1,14 @@
-// Listening, and the line that says where.
+// Listening, and the lines that say where.
 
 use crate::error::Refusal;
 use crate::guid::Guid;
 use crate::options::Announcement;
 use crate::reasons::reason_of_address;
+use crate::target::Target;
 use command_line::{Output, Writer};
 use endpoints::{Address, Listener, respell};
 use os::FromRawFd;
+use server::Door;
 use std::alloc::Global;
 use std::fs::{File, Files, OpenOptions};
 use std::io;
@@ -28,32 +30,68 @@ where
     }
 }
 
-/// Writes where clients find the bus, as each of them reads it.
+/// What says where clients find the bus, as each of them reads it: a line for each address, or all of them in one.
+pub(crate) fn announcement_of(
+    alloc: Global,
+    announcement: Announcement,
+    targets: &[Target<'_>],
+    doors: &[Door],
+    guid: Guid,
+) -> Result<String, Refusal> {
+    let mut text = String::new(alloc);
+    for (target, door) in targets.iter().zip(doors.iter()) {
+        let before = match announcement {
+            Announcement::Listening => "listening ",
+            _ if text.is_empty() => "",
+            _ => ";",
+        };
+        let after = match announcement {
+            Announcement::Listening => "\n",
+            _ => "",
+        };
+        let address = address_text(alloc, target.address(), &door.listener, guid)?;
+        let address = address.as_str();
+        let Ok(part) = format!(in alloc; "{before}{address}{after}") else {
+            return Err(Refusal::memory());
+        };
+        text.push_str(part.as_str()).map_err(|_| Refusal::memory())?;
+    }
+    if announcement != Announcement::Listening {
+        text.push('\n').map_err(|_| Refusal::memory())?;
+    }
+    Ok(text)
+}
+
+/// The address of a listener that was bound as this one asks, with its escapes and the bus's id.
+fn address_text(
+    alloc: Global,
+    asked: Address<'_>,
+    listener: &Listener,
+    guid: Guid,
+) -> Result<String, Refusal> {
+    let address = match listener.address(asked) {
+        Ok(address) => address,
+        Err(error) => return Err(Refusal::of_place(alloc, &asked, &error, None)),
+    };
+    let value = respell(alloc, address.value()).map_err(|_| Refusal::memory())?;
+    let address = address.with_value(value.as_str());
+    format!(in alloc; "{address},guid={guid}").map_err(|_| Refusal::memory())
+}
+
+/// Writes where the bus is, at once and as a whole.
 pub(crate) fn announce<R: Files, O: Writer>(
     rt: &R,
     alloc: Global,
     announcement: Announcement,
-    address: Address<'_>,
-    guid: Guid,
+    text: &[u8],
     out: &mut Output<O>,
 ) -> Result<(), Refusal> {
-    let words = match announcement {
-        Announcement::Listening => "listening ",
-        Announcement::Address | Announcement::AddressAt(_) => "",
-    };
-    let Ok(value) = respell(alloc, address.value()) else {
-        return Err(Refusal::memory());
-    };
-    let address = address.with_value(value.as_str());
-    let Ok(line) = format!(in alloc; "{words}{address},guid={guid}\n") else {
-        return Err(Refusal::memory());
-    };
     match announcement {
-        Announcement::AddressAt(number) => match write_at(rt, alloc, number, line.as_bytes()) {
+        Announcement::AddressAt(number) => match write_at(rt, alloc, number, text) {
             Ok(()) => Ok(()),
             Err(error) => Err(Refusal::of_descriptor(alloc, number, &error)),
         },
-        Announcement::Listening | Announcement::Address => say(line.as_bytes(), out),
+        Announcement::Listening | Announcement::Address => say(text, out),
     }
 }
 

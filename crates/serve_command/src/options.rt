@@ -1,9 +1,9 @@
 // What the words of `serve` ask for.
 
+use crate::addresses::Addresses;
 use crate::guid::Guid;
 use crate::words::{WordFault, Words};
-use endpoints::Address;
-use server::Limits;
+use server::{Limits, Verbosity};
 
 /// Where `serve` listens if no address is said.
 #[derive(Clone, Copy, Debug, PartialEq, Eq)]
@@ -28,8 +28,8 @@ pub(crate) enum Announcement {
 /// What the words of `serve` ask for.
 #[derive(Clone, Copy)]
 pub(crate) struct Options<'a> {
-    /// Where to listen, if it is said.
-    pub(crate) address: Option<Address<'a>>,
+    /// Where to listen, as far as it is said.
+    pub(crate) addresses: Addresses<'a>,
     pub(crate) usual_place: UsualPlace,
     /// The bus's id, if it is said.
     pub(crate) guid: Option<Guid>,
@@ -42,14 +42,16 @@ pub(crate) struct Options<'a> {
     pub(crate) connections: Option<u32>,
     /// How much clients may take.
     pub(crate) limits: Limits,
+    /// What is told on standard error.
+    pub(crate) verbosity: Verbosity,
 }
 
 impl<'a> Options<'a> {
-    /// What some words ask for: options in any order, each once at most but for `--limit`, with its value as the next word or after a `=`.
+    /// What some words ask for: options in any order, each once at most but for `--limit` and `--listen`, with its value as the next word or after a `=`.
     pub(crate) fn read(words: &[&'a str]) -> Result<Options<'a>, WordFault<'a>> {
         let words = Words::read(words)?;
         Ok(Options {
-            address: words.address,
+            addresses: words.addresses,
             usual_place: if words.is_session {
                 UsualPlace::OfSession
             } else {
@@ -61,6 +63,7 @@ impl<'a> Options<'a> {
             allows_anonymous: words.allows_anonymous,
             connections: words.connections,
             limits: words.limits,
+            verbosity: words.verbosity(),
         })
     }
 }

@@ -1,11 +1,12 @@
 // The words of `serve`, one after another.
 
 use crate::address_fault::AddressFault;
+use crate::addresses::{Addresses, MOST};
 use crate::guid::Guid;
 use crate::limit_fault::LimitFault;
 use crate::options::Announcement;
 use endpoints::Address;
-use server::{Limit, Limits};
+use server::{Limit, Limits, Verbosity};
 use std::fmt;
 
 /// An option that has a value.
@@ -49,10 +50,13 @@ pub(crate) enum WordFault<'a> {
     /// A value after an option that has none.
     HasNoValue(&'a str),
     Address(AddressFault<'a>),
+    AddressTwice(&'a str),
+    TooManyAddresses,
     Guid(&'a str),
     Connections(&'a str),
     Limit(LimitFault<'a>),
     Descriptor(&'a str),
+    LogAndQuiet,
 }
 
 impl<'a> fmt::Display for WordFault<'a> {
@@ -67,6 +71,8 @@ impl<'a> fmt::Display for WordFault<'a> {
             }
             WordFault::HasNoValue(name) => write!(f, "{name} takes no value"),
             WordFault::Address(fault) => write!(f, "--listen {fault}"),
+            WordFault::AddressTwice(text) => write!(f, "--listen {text} is given twice"),
+            WordFault::TooManyAddresses => { write!(f, "--listen is given more than {MOST} times") }
             WordFault::Guid(text) => {
                 write!(f, "--guid {text}: 32 hexadecimal digits are wanted")
             }
@@ -79,6 +85,7 @@ impl<'a> fmt::Display for WordFault<'a> {
                 f,
                 "--print-address {text}: the number of an open descriptor is wanted"
             ),
+            WordFault::LogAndQuiet => f.write_str("--log and --quiet exclude one another"),
         }
     }
 }
@@ -95,7 +102,7 @@ enum Awaited {
 /// What the words say so far.
 #[derive(Clone, Copy)]
 pub(crate) struct Words<'a> {
-    pub(crate) address: Option<Address<'a>>,
+    pub(crate) addresses: Addresses<'a>,
     pub(crate) guid: Option<Guid>,
     pub(crate) connections: Option<u32>,
     pub(crate) limits: Limits,
@@ -103,13 +110,15 @@ pub(crate) struct Words<'a> {
     pub(crate) is_session: bool,
     pub(crate) allows_external: bool,
     pub(crate) allows_anonymous: bool,
+    has_log: bool,
+    is_quiet: bool,
     awaited: Awaited,
 }
 
 impl<'a> Words<'a> {
     fn nothing() -> Words<'a> {
         Words {
-            address: None,
+            addresses: Addresses::none(),
             guid: None,
             connections: None,
             limits: Limits::standard(),
@@ -117,6 +126,8 @@ impl<'a> Words<'a> {
             is_session: false,
             allows_external: false,
             allows_anonymous: false,
+            has_log: false,
+            is_quiet: false,
             awaited: Awaited::Option,
         }
     }
@@ -137,7 +148,19 @@ impl<'a> Words<'a> {
     fn at_end(self) -> Result<Words<'a>, WordFault<'a>> {
         match self.awaited {
             Awaited::Value(option) => Err(WordFault::NoValue(option)),
+            _ if self.has_log && self.is_quiet => Err(WordFault::LogAndQuiet),
             Awaited::Option | Awaited::Descriptor => Ok(self),
+        }
+    }
+
+    /// What `--log` and `--quiet` say of the log.
+    pub(crate) fn verbosity(&self) -> Verbosity {
+        if self.is_quiet {
+            Verbosity::None
+        } else if self.has_log {
+            Verbosity::All
+        } else {
+            Verbosity::Faults
         }
     }
 
@@ -163,9 +186,12 @@ impl<'a> Words<'a> {
         }
         match name {
             "--print-address" => self.with_print_address(value),
-            "--session" | "--nofork" | "--allow-external" | "--allow-anonymous" => {
-                self.with_flag(name, value)
-            }
+            "--session"
+            | "--nofork"
+            | "--allow-external"
+            | "--allow-anonymous"
+            | "--log"
+            | "--quiet" => self.with_flag(name, value),
             _ => Err(WordFault::UnknownOption(name)),
         }
     }
@@ -191,10 +217,9 @@ impl<'a> Words<'a> {
     /// Whether an option is there that may be given once alone.
     fn has(&self, option: Valued) -> bool {
         match option {
-            Valued::Listen => self.address.is_some(),
+            Valued::Listen | Valued::Limit => false,
             Valued::Guid => self.guid.is_some(),
             Valued::Connections => self.connections.is_some(),
-            Valued::Limit => false,
         }
     }
 
@@ -205,8 +230,7 @@ impl<'a> Words<'a> {
         };
         match option {
             Valued::Listen => {
-                let address = read_address(value)?;
-                words.address = Some(address);
+                words.addresses = words.addresses_with(value)?;
             }
             Valued::Guid => {
                 let guid = Guid::read(value).ok_or(WordFault::Guid(value))?;
@@ -224,8 +248,18 @@ impl<'a> Words<'a> {
         Ok(words)
     }
 
-    /// `--session` says where to listen if no address does, `--nofork` what `serve` does anyway, and the others whom the
-    /// bus lets in.
+    fn addresses_with(&self, value: &'a str) -> Result<Addresses<'a>, WordFault<'a>> {
+        let address = read_address(value)?;
+        if self.addresses.has(address) {
+            return Err(WordFault::AddressTwice(value));
+        }
+        self.addresses
+            .with(address)
+            .ok_or(WordFault::TooManyAddresses)
+    }
+
+    /// `--session` says where to listen if no address does, `--nofork` what `serve` does anyway, `--log` and `--quiet` what
+    /// it tells, and the others whom the bus lets in.
     fn with_flag(self, name: &'a str, value: Option<&str>) -> Result<Words<'a>, WordFault<'a>> {
         if value.is_some() {
             return Err(WordFault::HasNoValue(name));
@@ -234,6 +268,8 @@ impl<'a> Words<'a> {
             is_session: self.is_session || name == "--session",
             allows_external: self.allows_external || name == "--allow-external",
             allows_anonymous: self.allows_anonymous || name == "--allow-anonymous",
+            has_log: self.has_log || name == "--log",
+            is_quiet: self.is_quiet || name == "--quiet",
             awaited: Awaited::Option,
             ..self
         })

@@ -1,30 +1,23 @@
 // Accepting connections.
 
 use crate::hub::Hub;
-use crate::mechanisms::Mechanisms;
-use crate::reserve::Reserve;
-use endpoints::{Link, Listener, is_of_descriptors};
+use crate::porch::Porch;
 use members::{Arrival, Post};
 use sessions::Naming;
 use std::alloc::Global;
 use std::fs::{File, Files};
 use std::random::RandomSource;
 use std::sync::{Arc, Wait};
-use std::thread;
-use std::time::{Clock, Duration};
-
-/// How many milliseconds to wait after an accept that failed.
-const PAUSE: u64 = 50;
+use std::time::Clock;
 
 /// Accepts as many connections as are asked for, or without end, and hands them to the workers in turn, with what their
 /// talks admit.
 pub(crate) fn accept_all<J: Naming, R: Wait + Drop, W>(
     rt: &W,
     alloc: Global,
-    listener: &Listener,
+    porch: &mut Porch<'_>,
     count: Option<u64>,
     hub: &Hub<J, R>,
-    mechanisms: &Mechanisms,
     posts: &[Arc<Post>],
 )
 where
@@ -33,35 +26,13 @@ where
     if posts.is_empty() {
         return;
     }
-    let mut reserve = Reserve::new(rt);
     for number in 1..=count.unwrap_or(u64::MAX) {
         hub.entries.take(rt);
-        let link = accept(rt, listener, &mut reserve);
+        let (link, door) = porch.accept(rt, &hub.notes);
         let post = &posts[(number % posts.len() as u64) as usize];
-        let admission = mechanisms.admission(rt, alloc);
+        let admission = door.mechanisms.admission(rt, alloc);
         if post.hand_in(rt, Arrival { link, admission }).is_err() {
-            hub.entries.give_back(rt);
+            hub.turn_away(rt);
         }
     }
-}
-
-/// The next connection. An accept that fails is tried again, since a connection that was reset in the queue is gone; a
-/// connection for which no descriptor is left is closed.
-fn accept<W: Files<File = File> + Wait + Clock>(
-    rt: &W,
-    listener: &Listener,
-    reserve: &mut Reserve,
-) -> Link {
-    for _ in rt.forever() {
-        match listener.accept() {
-            Ok(link) => return link,
-            Err(error) if is_of_descriptors(&error) && reserve.is_there(rt) => {
-                if let Some(link) = reserve.accept(rt, listener) {
-                    return link;
-                }
-            }
-            Err(_) => thread::sleep(rt, Duration::from_millis(PAUSE)),
-        }
-    }
-    unreachable!()
 }

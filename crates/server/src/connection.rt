@@ -1,7 +1,9 @@
 // A connection of a worker.
 
 use crate::hub::Hub;
+use crate::limit::Limit;
 use crate::limits::Limits;
+use crate::note::Cause;
 use crate::scratch::Scratch;
 use crate::unfinished::Beginning;
 use endpoints::Link;
@@ -33,7 +35,10 @@ pub(crate) enum Turn {
     Waits,
     /// More may be there to read.
     Again,
-    Ends,
+    /// Its client is gone.
+    Gone,
+    /// The bus ends it.
+    Ends(Cause),
 }
 
 /// A connection. One worker owns it.
@@ -89,9 +94,15 @@ impl<J: Naming> Connection<J> {
         !self.is_in || self.beginning.is_some()
     }
 
-    /// Whether it has been without Hello for too long, or silent in the middle of a message.
-    pub(crate) fn is_overdue(&self, now: Instant, limits: &Limits) -> bool {
-        self.is_late(now, limits.patience()) || self.is_silent(now, limits.silence())
+    /// The limit that it exceeds, if it has been without Hello for too long, or silent in the middle of a message.
+    pub(crate) fn overdue(&self, now: Instant, limits: &Limits) -> Option<Limit> {
+        if self.is_late(now, limits.patience()) {
+            return Some(Limit::Hello);
+        }
+        if self.is_silent(now, limits.silence()) {
+            return Some(Limit::Silence);
+        }
+        None
     }
 
     fn is_late(&self, now: Instant, patience: Duration) -> bool {
@@ -103,9 +114,9 @@ impl<J: Naming> Connection<J> {
             .is_some_and(|beginning| beginning.is_silent(now, silence))
     }
 
-    /// Whether its Hello was answered.
-    pub(crate) fn is_connected(&self) -> bool {
-        self.session.is_connected()
+    /// The number of its unique name, once its Hello was answered.
+    pub(crate) fn number(&self) -> Option<u64> {
+        self.session.number()
     }
 
     /// The poll told of room to write.
@@ -129,13 +140,14 @@ impl<J: Naming> Connection<J> {
         let (block, lists) = (scratch.block.as_mut_slice(), &mut scratch.lists);
         for _ in 0..READS {
             match self.link.receive(block) {
-                Ok(0) => return Turn::Ends,
+                Ok(0) => return self.at_end(rt, alloc, hub, lists),
                 Ok(count) => {
-                    let Ok(treated) = self.treat(rt, alloc, hub, lists, &block[..count]) else {
-                        return Turn::Ends;
+                    let treated = match self.treat(rt, alloc, hub, lists, &block[..count]) {
+                        Ok(treated) => treated,
+                        Err(error) => return Turn::Ends(Cause::Session(error)),
                     };
                     if self.note_beginning(rt, alloc, hub).is_err() {
-                        return Turn::Ends;
+                        return Turn::Ends(Cause::Limit(Limit::Unfinished));
                     }
                     if count < block.len() && treated < BUSY && !has_ended {
                         return Turn::Waits;
@@ -144,11 +156,26 @@ impl<J: Naming> Connection<J> {
                 Err(error) => match error.kind() {
                     ErrorKind::Interrupted => {}
                     ErrorKind::WouldBlock => return Turn::Waits,
-                    _ => return Turn::Ends,
+                    _ => return self.at_end(rt, alloc, hub, lists),
                 },
             }
         }
         Turn::Again
+    }
+
+    /// What becomes of it where nothing more can be read: its client is gone, unless the bus itself has shut the socket.
+    fn at_end<W: Wait, R: Wait + Drop>(
+        &mut self,
+        rt: &W,
+        alloc: Global,
+        hub: &Hub<J, R>,
+        lists: &mut RouteLists,
+    ) -> Turn {
+        let shares = hub.limits.shares;
+        match self.session.step(rt, alloc, &hub.bus, shares, lists) {
+            Ok(_) => Turn::Gone,
+            Err(error) => Turn::Ends(Cause::Session(error)),
+        }
     }
 
     /// Treats the lines and messages that are whole now, and tells how many there were. What they put is written after

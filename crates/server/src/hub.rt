@@ -1,6 +1,8 @@
 // What the workers share.
 
 use crate::limits::{Limits, Places};
+use crate::note::{Cause, Note, Verbosity};
+use crate::notes::Notes;
 use crate::unfinished::Unfinished;
 use members::Mail;
 use sessions::{AllInstructions, Bus, Naming, Rest};
@@ -29,6 +31,7 @@ pub(crate) struct Hub<J: Naming, R: Wait + Drop> {
     pub(crate) entries: Places,
     pub(crate) unfinished: Unfinished,
     pub(crate) instructions: Arc<AllInstructions>,
+    pub(crate) notes: Notes,
     // The ends of sessions for which there was no memory.
     rests: Mutex<Vec<Rest<J, Mail>>>,
 }
@@ -39,6 +42,7 @@ impl<J: Naming, R: Wait + Drop> Hub<J, R> {
         bus: Bus<J, Mail, R>,
         identity: Identity,
         limits: Limits,
+        verbosity: Verbosity,
     ) -> Result<Hub<J, R>, AllocError> {
         let instructions = Arc::new(alloc, AllInstructions::new(limits.all_instructions))?;
         let rests = Vec::with_capacity(alloc, RESTS)?;
@@ -49,8 +53,15 @@ impl<J: Naming, R: Wait + Drop> Hub<J, R> {
             entries: Places::new(limits.newcomers),
             unfinished: Unfinished::new(limits.unfinished),
             instructions,
+            notes: Notes::new(alloc, verbosity),
             rests: Mutex::new(rests),
         })
+    }
+
+    /// Gives back the place of a connection that is closed for want of memory.
+    pub(crate) fn turn_away<W: Wait>(&self, rt: &W) {
+        self.entries.give_back(rt);
+        self.notes.leave(rt, Note::Ended(None, Cause::MEMORY));
     }
 
     /// Keeps the end of a session, for which there was no memory, for the next call of `retry_rests`.

@@ -1,24 +1,32 @@
-//! The bus on a listening socket: one thread that accepts, and a few workers, each of which waits at a poll of its own
-//! for its share of the connections. A session never waits for its client, and whoever puts a message writes it.
+//! The bus on its listening sockets: one thread that accepts, and a few workers, each of which waits at a poll of its own
+//! for its share of the connections. A session never waits for its client, and whoever puts a message writes it. What
+//! happens is noted, and a thread of its own writes the notes.
 #![tactic(auto)]
 
 mod accepting;
 mod connection;
+mod door;
 mod hub;
 mod limit;
 mod limits;
 mod mechanisms;
+mod note;
+mod notes;
+mod porch;
 mod reserve;
 mod scratch;
 mod serving;
 mod unfinished;
 mod worker;
 
+pub use door::Door;
 pub use hub::Identity;
 pub use limit::Limit;
 pub use limits::Limits;
 pub use mechanisms::Mechanisms;
-pub use serving::serve;
+pub use note::{Cause, Note, Verbosity};
+pub use notes::Log;
+pub use serving::{Start, serve};
 
 // Passed on from the crates below, so that the crates above need not name those in crates.txt.
 pub use sessions::{External, IndexKey};

@@ -2,6 +2,7 @@
 
 use endpoints::{Link, Listener};
 use std::fs::{File, Files};
+use std::io;
 
 /// A file that can always be opened (null(4)).
 const NOTHING: &str = "/dev/null";
@@ -11,21 +12,23 @@ const NOTHING: &str = "/dev/null";
 #[derive(Drop)]
 pub(crate) struct Reserve {
     file: Option<File>,
+    // Connections are closed for want of another one.
+    is_needed: bool,
 }
 
 impl Reserve {
     pub(crate) fn new<R: Files<File = File>>(rt: &R) -> Reserve {
         Reserve {
             file: File::open(rt, NOTHING).ok(),
+            is_needed: false,
         }
     }
 
-    /// Whether there is one, or could be had now.
-    pub(crate) fn is_there<R: Files<File = File>>(&mut self, rt: &R) -> bool {
-        if self.file.is_none() {
-            self.refill(rt);
-        }
-        self.file.is_some()
+    /// Notes whether a connection was closed for want of a descriptor. Answers whether it is the first one since others weren't.
+    pub(crate) fn note(&mut self, is_needed: bool) -> bool {
+        let was_needed = self.is_needed;
+        self.is_needed = is_needed;
+        is_needed && !was_needed
     }
 
     fn refill<R: Files<File = File>>(&mut self, rt: &R) {
@@ -38,14 +41,18 @@ impl Reserve {
         &mut self,
         rt: &R,
         listener: &Listener,
-    ) -> Option<Link> {
+    ) -> io::Result<Option<Link>> {
         self.file = None;
-        let link = listener.accept().ok()?;
-        if self.is_there(rt) {
-            return Some(link);
-        }
-        drop(link);
+        let accepted = listener.accept();
         self.refill(rt);
-        None
+        match accepted {
+            Ok(link) if self.file.is_some() => Ok(Some(link)),
+            Ok(link) => {
+                drop(link);
+                self.refill(rt);
+                Ok(None)
+            }
+            Err(error) => Err(error),
+        }
     }
 }

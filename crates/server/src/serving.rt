@@ -3,11 +3,13 @@
 ghost use Rattle.std.specs.Prelude.{◌≡◌};
 
 use crate::accepting::accept_all;
+use crate::door::Door;
 use crate::hub::{Hub, Identity};
 use crate::limits::Limits;
-use crate::mechanisms::Mechanisms;
+use crate::note::Verbosity;
+use crate::notes::Log;
+use crate::porch::Porch;
 use crate::worker::{Desk, work};
-use endpoints::Listener;
 use members::Mail;
 use sessions::{Bus, IndexKey, Naming, Opened};
 use std::alloc::Global;
@@ -21,65 +23,79 @@ use std::thread::{Builder, Threads};
 use std::time::Clock;
 use std::{io, thread};
 
-/// Serves as many connections as are asked for, or without end, on a bus of their own. It answers once all of them have
-/// ended, or where memory or threads are refused at the start.
-pub fn serve<R>(
-    rt: &R,
-    alloc: Global,
-    key: IndexKey,
-    identity: Identity,
-    mechanisms: Mechanisms,
-    limits: Limits,
-    listener: &Listener,
-    count: Option<u64>,
-) -> io::Result<()>
-where
-    R: Files<File = File> + RandomSource + Threads + Wait + Clock + Net + Sync,
-{
-    let opened = Opened::<Mail>::new();
-    let start = Start {
-        key,
-        identity,
-        mechanisms,
-        limits,
-        count,
-    };
-    serve_on::<Brand, R>(rt, alloc, opened, start, listener)
-}
-
 /// What a server begins with.
 #[derive(Drop)]
-struct Start {
-    key: IndexKey,
-    identity: Identity,
-    mechanisms: Mechanisms,
-    limits: Limits,
-    count: Option<u64>,
+pub struct Start {
+    pub key: IndexKey,
+    pub identity: Identity,
+    pub limits: Limits,
+    /// After how many connections to end, if ever.
+    pub count: Option<u64>,
+    /// What is written to the log.
+    pub verbosity: Verbosity,
 }
 
-fn serve_on<J: Naming + Send + Sync, R>(
+/// Serves as many connections as are asked for, or without end, on a bus of their own, whichever of the doors they come
+/// by. It answers once all of them have ended, or where memory or threads are refused at the start.
+pub fn serve<R, L>(rt: &R, alloc: Global, start: Start, doors: &[Door], log: L) -> io::Result<()>
+where
+    R: Files<File = File> + RandomSource + Threads + Wait + Clock + Net + Sync,
+    L: Log + Send + Drop,
+{
+    let opened = Opened::<Mail>::new();
+    serve_on::<Brand, R, L>(rt, alloc, opened, start, doors, log)
+}
+
+fn serve_on<J: Naming + Send + Sync, R, L>(
     rt: &R,
     alloc: Global,
     opened: Opened<Mail>,
     start: Start,
-    listener: &Listener,
+    doors: &[Door],
+    log: L,
 ) -> io::Result<()>
 where
     R: Files<File = File> + RandomSource + Threads + Wait + Clock + Net + Sync,
+    L: Log + Send + Drop,
     requires { opened ≡ J.book }
 {
     let Start {
         key,
         identity,
-        mechanisms,
         limits,
         count,
+        verbosity,
     } = start;
     let Ok(bus) = Bus::<J, Mail, &R>::new(rt, alloc, key, opened) else {
         return Err(ErrorKind::OutOfMemory.into());
     };
-    let hub = Hub::new(alloc, bus, identity, limits)?;
-    run(rt, alloc, &hub, &mechanisms, listener, count)
+    let hub = Hub::new(alloc, bus, identity, limits, verbosity)?;
+    if !hub.notes.are_wanted() {
+        return run(rt, alloc, &hub, doors, count);
+    }
+    run_with_log(rt, alloc, &hub, doors, count, log)
+}
+
+/// The same as `run`, with a thread that writes the notes. Where there is none, the bus goes on without its log.
+fn run_with_log<J: Naming + Send + Sync, R, L>(
+    rt: &R,
+    alloc: Global,
+    hub: &Hub<J, &R>,
+    doors: &[Door],
+    count: Option<u64>,
+    log: L,
+) -> io::Result<()>
+where
+    R: Files<File = File> + RandomSource + Threads + Wait + Clock + Net + Sync,
+    L: Log + Send + Drop,
+{
+    thread::scope(thread::scope_env(), rt, |scope| {
+        let writer = move || hub.notes.write_all(rt, log);
+        let _ = Builder::new().spawn_scoped(scope, writer);
+        let served = run(rt, alloc, hub, doors, count);
+        hub.notes.finish(rt);
+        served
+    })
 }
 
 /// Starts the workers, accepts, and waits for the workers to end.
@@ -87,13 +103,13 @@ fn run<J: Naming + Send + Sync, R>(
     rt: &R,
     alloc: Global,
     hub: &Hub<J, &R>,
-    mechanisms: &Mechanisms,
-    listener: &Listener,
+    doors: &[Door],
     count: Option<u64>,
 ) -> io::Result<()>
 where
     R: Files<File = File> + RandomSource + Threads + Wait + Clock + Net + Sync,
 {
+    let mut porch = Porch::new(rt, alloc, doors)?;
     let mut posts = Vec::with_capacity(alloc, hub.limits.workers)?;
     thread::scope(thread::scope_env(), rt, |scope| {
         for _ in 0..hub.limits.workers {
@@ -110,15 +126,7 @@ where
                 }
             }
         }
-        accept_all(
-            rt,
-            alloc,
-            listener,
-            count,
-            hub,
-            mechanisms,
-            posts.as_slice(),
-        );
+        accept_all(rt, alloc, &mut porch, count, hub, posts.as_slice());
         for post in posts.iter() {
             post.finish();
         }

@@ -2,6 +2,8 @@
 
 use crate::connection::{Connection, Turn};
 use crate::hub::Hub;
+use crate::limit::Limit;
+use crate::note::{Cause, Note};
 use crate::scratch::Scratch;
 use members::{Arrival, BELL, Post};
 use mio::{Events, Poll, Token};
@@ -152,7 +154,7 @@ impl<'a, J: Naming, R: Wait + Drop> Worker<'a, J, R> {
         for arrival in self.post.take_arrivals(rt, self.alloc) {
             self.hub.retry_rests(rt, self.alloc);
             if self.welcome(rt, arrival).is_err() {
-                self.hub.entries.give_back(rt);
+                self.hub.turn_away(rt);
             }
         }
     }
@@ -180,19 +182,27 @@ impl<'a, J: Naming, R: Wait + Drop> Worker<'a, J, R> {
         }
         let was_watched = connection.is_watched();
         let turn = connection.read(rt, self.alloc, self.hub, &mut self.scratch, has_ended);
-        if !connection.is_in && connection.is_connected() {
+        if !connection.is_in
+            && let Some(number) = connection.number()
+        {
             connection.is_in = true;
             self.hub.entries.give_back(rt);
+            self.hub.notes.leave(rt, Note::Came(number));
         }
         let is_watched = connection.is_watched();
         self.recount(was_watched, is_watched);
-        let goes_on = match turn {
-            Turn::Waits => true,
-            Turn::Again => self.again.push(key).is_ok(),
-            Turn::Ends => false,
-        };
-        if !goes_on {
-            self.end(rt, key);
+        match turn {
+            Turn::Waits => {}
+            Turn::Again => self.call_again(rt, key),
+            Turn::Gone => self.end(rt, key, None),
+            Turn::Ends(cause) => self.end(rt, key, Some(cause)),
+        }
+    }
+
+    /// Has a connection get another turn.
+    fn call_again<W: Wait>(&mut self, rt: &W, key: usize) {
+        if self.again.push(key).is_err() {
+            self.end(rt, key, Some(Cause::MEMORY));
         }
     }
 
@@ -215,10 +225,10 @@ impl<'a, J: Naming, R: Wait + Drop> Worker<'a, J, R> {
             return;
         };
         for _ in 0..EVENTS {
-            let Some(key) = self.overdue_one(now) else {
+            let Some((key, limit)) = self.overdue_one(now) else {
                 return;
             };
-            self.end(rt, key);
+            self.end(rt, key, Some(Cause::Limit(limit)));
         }
     }
 
@@ -239,17 +249,18 @@ impl<'a, J: Naming, R: Wait + Drop> Worker<'a, J, R> {
         Some(now)
     }
 
-    fn overdue_one(&self, now: Instant) -> Option<usize> {
+    /// One that is overdue, and by which limit.
+    fn overdue_one(&self, now: Instant) -> Option<(usize, Limit)> {
         for (key, connection) in self.connections.iter() {
-            if connection.is_overdue(now, &self.hub.limits) {
-                return Some(key);
+            if let Some(limit) = connection.overdue(now, &self.hub.limits) {
+                return Some((key, limit));
             }
         }
         None
     }
 
-    /// Ends a connection.
-    fn end<W: Wait>(&mut self, rt: &W, key: usize) {
+    /// Ends a connection, for a cause unless its client is gone.
+    fn end<W: Wait>(&mut self, rt: &W, key: usize, cause: Option<Cause>) {
         let Some(connection) = self.connections.try_remove(key) else {
             return;
         };
@@ -257,6 +268,10 @@ impl<'a, J: Naming, R: Wait + Drop> Worker<'a, J, R> {
         if !connection.is_in {
             self.hub.entries.give_back(rt);
         }
+        let number = connection.number();
         connection.end(rt, self.alloc, self.hub);
+        if let Some(note) = Note::of_end(number, cause) {
+            self.hub.notes.leave(rt, note);
+        }
     }
 }

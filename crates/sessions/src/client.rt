@@ -23,6 +23,8 @@ where
 {
     pub(crate) own: Option<OwnOutbox<M>>,
     pub(crate) peer: Option<Peer<B, M>>,
+    // The number of its connection, 0 before Hello.
+    number: u64,
     identity: Identity,
     /// Among which the instructions of its programs are counted.
     all: Option<Arc<AllInstructions>>,
@@ -48,6 +50,7 @@ impl<B: Naming, M: Mailbox> Client<B, M> {
         Client {
             own: Some(OwnOutbox::new(mailbox)),
             peer: None,
+            number: 0,
             identity,
             all: None,
         }
@@ -72,6 +75,17 @@ impl<B: Naming, M: Mailbox> Client<B, M> {
         ensures { result ≡ is_some self.now }
     {
         self.peer.is_some()
+    }
+
+    /// The number of its connection, once Hello was accepted.
+    pub(crate) fn number(&self) -> Option<u64>
+        ensures { is_some result ≡ is_some self.now }
+    {
+        if self.is_connected() {
+            Some(self.number)
+        } else {
+            None
+        }
     }
 
     /// Whether the client's outbox was shut, since a message found no room.
@@ -122,7 +136,8 @@ impl<B: Naming, M: Mailbox> Client<B, M> {
             return Err(SessionError::NoHello);
         };
         match greet(context, own, self.identity, view) {
-            Ok(mut peer) => {
+            Ok((mut peer, number)) => {
+                self.number = number;
                 if let Some(all) = self.all.take() {
                     peer.share_instructions(all);
                 }

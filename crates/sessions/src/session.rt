@@ -113,6 +113,13 @@ impl<B: Naming, M: Mailbox> Session<B, M> {
         self.client.is_connected()
     }
 
+    /// The number of its client's connection, by which its unique name is made, once Hello was accepted.
+    pub fn number(&self) -> Option<u64>
+        ensures { is_some result ≡ is_some self.now.peer }
+    {
+        self.client.number()
+    }
+
     /// How many bytes wait to be handled. Once a step waits, they are of a line or a message that isn't whole.
     pub fn unread_len(&self) -> usize
         ensures { result ≡ length self.now.unread }

@@ -22,10 +22,17 @@ pub(crate) const KEY: IndexKey = IndexKey {
 };
 
 /// A signal of the path `/a`, the interface `a.b` and the member `c`.
-const S1: [u8; 64] = [
+pub(crate) const S1: [u8; 64] = [
     0x6c, 4, 0, 1, 0, 0, 0, 0, 1, 0, 0, 0, 0x2a, 0, 0, 0, 1, 1, b'o', 0, 2, 0, 0, 0, b'/', b'a', 0,
     0, 0, 0, 0, 0, 2, 1, b's', 0, 3, 0, 0, 0, b'a', b'.', b'b', 0, 0, 0, 0, 0, 3, 1, b's', 0, 1, 0,
     0, 0, b'c', 0, 0, 0, 0, 0, 0, 0,
+];
+
+/// The same with the member `m7`.
+pub(crate) const M7: [u8; 64] = [
+    0x6c, 4, 0, 1, 0, 0, 0, 0, 1, 0, 0, 0, 0x2b, 0, 0, 0, 1, 1, b'o', 0, 2, 0, 0, 0, b'/', b'a', 0,
+    0, 0, 0, 0, 0, 2, 1, b's', 0, 3, 0, 0, 0, b'a', b'.', b'b', 0, 0, 0, 0, 0, 3, 1, b's', 0, 2, 0,
+    0, 0, b'm', b'7', 0, 0, 0, 0, 0, 0,
 ];
 
 /// A rule that holds of S1.

@@ -2,7 +2,7 @@
 
 ghost use Rattle.std.specs.Prelude.{◌≡◌};
 
-use crate::fixture::{add_rule, expect_recipients_of, expect_reply, new_bus};
+use crate::fixture::{M7, add_rule, expect_recipients_of, expect_reply, new_bus};
 use crate::letters::connect;
 use program_table::Reply;
 use published::{Naming, Opened};
@@ -12,13 +12,6 @@ use std::marker::Brand;
 use std::mem::forget;
 use std::process::Abort;
 use std::sync::Wait;
-
-/// A signal of the path `/a`, the interface `a.b` and the member `m7`.
-const M7: [u8; 64] = [
-    0x6c, 4, 0, 1, 0, 0, 0, 0, 1, 0, 0, 0, 0x2b, 0, 0, 0, 1, 1, b'o', 0, 2, 0, 0, 0, b'/', b'a', 0,
-    0, 0, 0, 0, 0, 2, 1, b's', 0, 3, 0, 0, 0, b'a', b'.', b'b', 0, 0, 0, 0, 0, 3, 1, b's', 0, 2, 0,
-    0, 0, b'm', b'7', 0, 0, 0, 0, 0, 0,
-];
 
 #[test]
 fn index_runs(rt: HostRuntime) {

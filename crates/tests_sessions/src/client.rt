@@ -50,7 +50,11 @@ fn enter<S: Read + Write, R: Abort>(rt: &R, stream: &mut S) {
 }
 
 /// Adds a rule at the first client, sends a signal by the second, and gives what the first one reads.
-pub fn talk<S: Read + Write, R: Abort>(rt: &R, first: &mut S, second: &mut S) -> [u8; 80] {
+pub fn talk<S: Read + Write, T: Read + Write, R: Abort>(
+    rt: &R,
+    first: &mut S,
+    second: &mut T,
+) -> [u8; 80] {
     enter(rt, first);
     say(rt, first, ADD_MATCH);
     skip(rt, first, MATCH_ANSWER);

@@ -1,5 +1,5 @@
 // Messages of the bus, byte for byte. The answers to Hello and to AddMatch, and NameAcquired, are in the files of
-// cases_sessions (`hello_reply`, `hello_and_match`).
+// cases_bus (`hello_reply`, `hello_and_match`).
 
 use bus_messages::{
     Body, BuildError, Bytes, ErrorName, error, name_lost, name_owner_changed, reply,

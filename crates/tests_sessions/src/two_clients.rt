@@ -149,3 +149,41 @@ fn a_bus_of_no_address(rt: HostRuntime) {
     let folder = path.as_str().trim_end_matches("/bus");
     assert!(rt; fs::metadata(&rt, folder).is_err());
 }
+
+fn over_both<R: Net<Stream = TcpStream> + Wait + Abort>(
+    rt: &R,
+    announced: &Announced,
+    path: &str,
+) -> [u8; 80] {
+    let port = announced.port(rt).expect(rt, "a port");
+    let mut first = connect_unix(rt, path);
+    let mut second = connect_tcp(rt, port);
+    talk(rt, &mut first, &mut second)
+}
+
+#[test]
+fn a_client_at_each_of_two_addresses(rt: HostRuntime) {
+    let announced = Announced::new(rt.alloc());
+    let mut out = Output::new(Announcer {
+        rt: &rt,
+        to: &announced,
+    });
+    let mut err = Output::new(Vec::new(rt.alloc()));
+    let words = [
+        "--listen=unix:path=both.sock",
+        "--listen=tcp:host=127.0.0.1,port=0",
+        "--allow-external",
+        "--connections=2",
+        "--log",
+    ];
+    let (got, status) = join(
+        &rt,
+        || over_both(&rt, &announced, "both.sock"),
+        || serve(&rt, rt.alloc(), words.as_slice(), &mut out, &mut err),
+    );
+    assert_eq!(rt; got, *S1_STAMPED);
+    assert_eq!(rt; status, 0);
+    assert!(rt; fs::symlink_metadata(&rt, "both.sock").is_err());
+    let log = err.writer.as_slice();
+    assert!(rt; log.starts_with(b"dbusfan: :1.1 came\ndbusfan: :1.2 came\n"));
+}

@@ -43,13 +43,26 @@ where
 
 #[test]
 fn words_that_are_no_row(rt: HostRuntime) {
-    let rows: [(&[&str], &str); 19] = [
+    let rows: [(&[&str], &str); 23] = [
         (&["--verbose"], "  unknown option --verbose"),
         (&["--verbose=1"], "  unknown option --verbose"),
         (&["bus"], "  bus is no option"),
         (&["--listen"], "  --listen has no value"),
         (&["--guid", GUID, "--guid", GUID], "  --guid is given twice"),
         (&["--session=1"], "  --session takes no value"),
+        (&["--quiet=yes"], "  --quiet takes no value"),
+        (
+            &["--log", "--nofork", "--quiet"],
+            "  --log and --quiet exclude one another",
+        ),
+        (
+            &["--listen=unix:path=/a", "--listen", "unix:path=/a"],
+            "  --listen unix:path=/a is given twice",
+        ),
+        (
+            &["--listen", "tcp:host=a,port=0", "--listen", "tcp:port=1"],
+            "  --listen tcp:port=1, at 4: host and port are wanted, once each, the port as a number up to 65535",
+        ),
         (
             &["--allow-external=yes"],
             "  --allow-external takes no value",
@@ -183,6 +196,40 @@ fn places_that_cannot_be_bound(rt: HostRuntime) {
         listen.as_str(),
         "a program listens at that port",
     );
+}
+
+#[test]
+fn seventeen_addresses(rt: HostRuntime) {
+    let words = ["--listen=tcp:host=127.0.0.1,port=0"; 17];
+    expect_error(
+        &rt,
+        rt.alloc(),
+        words.as_slice(),
+        3,
+        "dbusfan: usage",
+        "  --listen is given more than 16 times; see dbusfan serve --help",
+    );
+}
+
+// Where a later address can't be bound, no file is left of those before it.
+#[test]
+fn a_second_address_that_cannot_be_bound(rt: HostRuntime) {
+    let words = [
+        "--listen",
+        "unix:path=first.sock",
+        "--listen",
+        "unix:path=none/second.sock",
+    ];
+    expect_error(
+        &rt,
+        rt.alloc(),
+        words.as_slice(),
+        4,
+        "dbusfan: socket",
+        "  unix:path=none/second.sock: the folder that it is to be in isn't there",
+    );
+    assert!(rt; fs::symlink_metadata(&rt, "first.sock").is_err());
+    assert!(rt; fs::symlink_metadata(&rt, "first.sock.lock").is_err());
 }
 
 #[test]

@@ -1,4 +1,0 @@
-use Rattle.cases_bus.proofs.player.play_on_new_bus.Given as goal
-
-abbrev pub ghosts-play_on : goal.ghosts-play_on
-ghosts-play_on g a = record { book = a.opened }

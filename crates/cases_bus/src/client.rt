@@ -1,0 +1,160 @@
+// A client whose session is driven by hand.
+
+use crate::client_line::Action;
+use crate::place::{GUID, Place};
+use crate::received::{Received, Wanted};
+use crate::taker::take_all;
+use case_files::LineError;
+use crossbeam_utils::rule::Protocol;
+use outbox::Taker;
+use routing::Mailbox;
+use sessions::{
+    Command, Letterbox, Naming, Published, Rest, RouteLists, Session, SessionError, Shares, Shown,
+    Step,
+};
+use std::alloc::{AllocError, Global};
+use std::collections::LinkedList;
+use std::sync::Wait;
+
+/// A client's session, and what it got.
+#[derive(Drop)]
+pub(crate) struct Client<J: Naming>
+where
+    Published: Protocol<Shown<J, Letterbox>, LinkedList<Command<Letterbox>>>,
+{
+    // None after its end.
+    session: Option<Session<J, Letterbox>>,
+    taker: Taker,
+    received: Received,
+    at_once: usize,
+    shares: Shares,
+}
+
+impl<J: Naming> Client<J> {
+    pub(crate) fn new(alloc: Global) -> Result<Client<J>, AllocError> {
+        let letterbox = Letterbox::new(alloc)?;
+        let taker = Taker::new(letterbox.outbox())?;
+        Ok(Client {
+            session: Some(Session::new(alloc, GUID, letterbox)),
+            taker,
+            received: Received::new(alloc),
+            at_once: usize::MAX,
+            shares: Shares::unlimited(),
+        })
+    }
+
+    /// Plays a line of this client: what came, where it isn't what the line wants.
+    pub(crate) fn act<R: Wait>(
+        &mut self,
+        place: &Place<'_, '_, J, R>,
+        action: Action<'_>,
+    ) -> Result<Option<String>, LineError> {
+        match action {
+            Action::Send(bytes) => self.send(place, bytes.as_slice()),
+            Action::Enter(bytes) => {
+                self.send(place, bytes.as_slice());
+                self.forget(place)?;
+            }
+            Action::Forget => self.forget(place)?,
+            Action::Cut(len) => self.at_once = len,
+            Action::Share(shares) => self.shares = shares,
+            Action::Machine(id) => self.set_machine_id(id),
+            Action::Get(wanted) => return self.get(place, &wanted),
+            Action::End(words) => return self.end(place, words),
+            Action::Serve(_) => return Err(LineError::Unreadable),
+        }
+        Ok(None)
+    }
+
+    /// What it got that no line looked at.
+    pub(crate) fn unread<R: Wait>(
+        &mut self,
+        place: &Place<'_, '_, J, R>,
+    ) -> Result<Option<String>, LineError> {
+        self.get(place, &Wanted::Nothing)
+    }
+
+    fn send<R: Wait>(&mut self, place: &Place<'_, '_, J, R>, bytes: &[u8]) {
+        if let Some(session) = &mut self.session {
+            for piece in bytes.chunks(self.at_once.max(1)) {
+                treat(place, session, self.shares, piece);
+            }
+        }
+    }
+
+    fn set_machine_id(&mut self, id: [u8; 32]) {
+        if let Some(session) = &mut self.session {
+            session.set_machine_id(id);
+        }
+    }
+
+    fn forget<R: Wait>(&mut self, place: &Place<'_, '_, J, R>) -> Result<(), LineError> {
+        take_all(place.rt, &mut self.taker, &mut self.received)?;
+        self.received.clear();
+        Ok(())
+    }
+
+    fn get<R: Wait>(
+        &mut self,
+        place: &Place<'_, '_, J, R>,
+        wanted: &Wanted<'_>,
+    ) -> Result<Option<String>, LineError> {
+        take_all(place.rt, &mut self.taker, &mut self.received)?;
+        self.received.miss(place.alloc, wanted)
+    }
+
+    fn end<R: Wait>(
+        &mut self,
+        place: &Place<'_, '_, J, R>,
+        wanted: &str,
+    ) -> Result<Option<String>, LineError> {
+        match self.session.take() {
+            Some(session) => {
+                let outcome = session.end_of_input();
+                let rest = session.end(place.rt, place.alloc, place.bus);
+                other_end(place.alloc, outcome, rest.is_some(), wanted)
+            }
+            None => Err(LineError::Unreadable),
+        }
+    }
+}
+
+/// Feeds a session, and lets it treat all that is there whole. Why it ends is told at its end.
+fn treat<J: Naming, R: Wait>(
+    place: &Place<'_, '_, J, R>,
+    session: &mut Session<J, Letterbox>,
+    shares: Shares,
+    piece: &[u8],
+) {
+    if session.feed(piece).is_err() {
+        return;
+    }
+    let mut lists = RouteLists::new();
+    for _ in 0..u64::MAX {
+        match session.step(place.rt, place.alloc, place.bus, shares, &mut lists) {
+            Ok(Step::Done) => {}
+            Ok(Step::Waits) | Err(_) => return,
+        }
+    }
+}
+
+/// How a session ended, where it isn't the wanted end.
+pub(crate) fn other_end(
+    alloc: Global,
+    outcome: Result<(), SessionError>,
+    has_rest: bool,
+    wanted: &str,
+) -> Result<Option<String>, LineError> {
+    let came = match outcome {
+        Ok(()) => String::from_str(alloc, "Ok")?,
+        Err(error) => format!(in alloc; "{error}")?,
+    };
+    if has_rest {
+        return Ok(Some(format!(in alloc; "{came} with a rest")?));
+    }
+    Ok(if came.as_str() == wanted {
+        None
+    } else {
+        Some(came)
+    })
+}

@@ -1,0 +1,140 @@
+// The lines of cases of sessions.
+
+use crate::message::{bus_call, message};
+use crate::received::Wanted;
+use crate::serving::Serving;
+use crate::shares::read_shares;
+use case_files::{LineError, digits};
+use sessions::Shares;
+use std::alloc::Global;
+
+/// What a client says before its messages.
+const TALK: &[u8] = b"\0AUTH EXTERNAL\r\nDATA\r\nBEGIN\r\n";
+
+/// The client whose session reads and writes by itself, as one thread serves it.
+const SERVED: &str = "served";
+
+/// A line of a case: what happens at a client.
+#[derive(Drop)]
+pub(crate) struct ClientLine<'a> {
+    /// The client's number, from 1 in the order of their first lines; None is the served one.
+    pub(crate) client: Option<usize>,
+    pub(crate) action: Action<'a>,
+}
+
+/// What happens at a client.
+#[derive(Drop)]
+pub(crate) enum Action<'a> {
+    /// It sends these bytes.
+    Send(Vec<u8>),
+    /// From here on its bytes come in pieces of this length.
+    Cut(usize),
+    /// The client says its talk and Hello. What it got is forgotten.
+    Enter(Vec<u8>),
+    /// What it got until here is forgotten.
+    Forget,
+    /// From here on it may have so much of the bus.
+    Share(Shares),
+    /// The bus gets this machine's id.
+    Machine([u8; 32]),
+    /// What it got next.
+    Get(Wanted<'a>),
+    /// Its bytes end here, and this is how its session ends.
+    End(&'a str),
+    /// All that it sends is served now.
+    Serve(Serving),
+}
+
+impl<'a> ClientLine<'a> {
+    /// What a line says.
+    ///
+    /// # Errors
+    ///
+    /// `Unreadable` and `NoMemory`.
+    pub(crate) fn read(alloc: Global, line: &'a str) -> Result<ClientLine<'a>, LineError> {
+        let (client, words) = line.split_once(' ').ok_or(LineError::Unreadable)?;
+        let client = if client == SERVED {
+            None
+        } else {
+            Some(client.parse::<usize>()?)
+        };
+        let (verb, rest) = words.split_once(' ').unwrap_or((words, ""));
+        Ok(ClientLine {
+            client,
+            action: Action::read(alloc, verb, rest)?,
+        })
+    }
+}
+
+impl<'a> Action<'a> {
+    fn read(alloc: Global, verb: &str, rest: &'a str) -> Result<Action<'a>, LineError> {
+        match verb {
+            "says" | "sends" | "repeats" | "calls" | "posts" => {
+                Ok(Action::Send(send_event(alloc, verb, rest)?))
+            }
+            "gets" | "hears" | "reads" => Ok(Action::Get(wanted_event(alloc, verb, rest)?)),
+            "cuts" => Ok(Action::Cut(rest.parse::<usize>()?)),
+            "shares" => Ok(Action::Share(read_shares(rest)?)),
+            "enters" => Ok(Action::Enter(entry(alloc)?)),
+            "forgets" => Ok(Action::Forget),
+            "machine" => Ok(Action::Machine(machine_id(rest)?)),
+            "ends" => Ok(Action::End(rest)),
+            "runs" => Ok(Action::Serve(Serving::read(rest)?)),
+            _ => Err(LineError::Unreadable),
+        }
+    }
+}
+
+/// The bytes that a line sends.
+fn send_event(alloc: Global, verb: &str, rest: &str) -> Result<Vec<u8>, LineError> {
+    match verb {
+        "says" => line_bytes(alloc, rest),
+        "sends" => digits(alloc, rest),
+        "repeats" => repeat_bytes(alloc, rest),
+        "calls" => bus_call(alloc, rest),
+        _ => message(alloc, rest),
+    }
+}
+
+fn wanted_event<'a>(alloc: Global, verb: &str, rest: &'a str) -> Result<Wanted<'a>, LineError> {
+    match (verb, rest) {
+        ("gets", "nothing") => Ok(Wanted::Nothing),
+        ("gets", words) => Ok(Wanted::Bytes(digits(alloc, words)?)),
+        ("hears", words) => Ok(Wanted::Bytes(line_bytes(alloc, words)?)),
+        (_, words) => Ok(Wanted::Line(words)),
+    }
+}
+
+/// A line of the talk.
+fn line_bytes(alloc: Global, words: &str) -> Result<Vec<u8>, LineError> {
+    let mut bytes = words.as_bytes().to_vec(alloc)?;
+    bytes.extend_from_slice(b"\r\n")?;
+    Ok(bytes)
+}
+
+/// `N DIGITS`: these bytes N times.
+fn repeat_bytes(alloc: Global, words: &str) -> Result<Vec<u8>, LineError> {
+    let (count, words) = words.split_once(' ').ok_or(LineError::Unreadable)?;
+    let once = digits(alloc, words)?;
+    let mut bytes = Vec::new(alloc);
+    for _ in 0..count.parse::<u32>()? {
+        bytes.extend_from_slice(once.as_slice())?;
+    }
+    Ok(bytes)
+}
+
+/// The talk, and Hello with serial 1.
+fn entry(alloc: Global) -> Result<Vec<u8>, LineError> {
+    let mut bytes = TALK.to_vec(alloc)?;
+    bytes.extend_from_slice(bus_call(alloc, "1 Hello")?.as_slice())?;
+    Ok(bytes)
+}
+
+fn machine_id(digits: &str) -> Result<[u8; 32], LineError> {
+    let mut id = [0; 32];
+    if digits.len() != id.len() {
+        return Err(LineError::Unreadable);
+    }
+    id.copy_from_slice(digits.as_bytes());
+    Ok(id)
+}

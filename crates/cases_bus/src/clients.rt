@@ -1,0 +1,79 @@
+// The clients of a case.
+
+use crate::client::Client;
+use crate::client_line::{Action, ClientLine};
+use crate::place::Place;
+use crate::served::Served;
+use case_files::LineError;
+use crossbeam_utils::rule::Protocol;
+use sessions::{Command, Letterbox, Naming, Published, Shown};
+use std::alloc::Global;
+use std::collections::LinkedList;
+use std::sync::Wait;
+
+/// The clients of a case, in the order of their first lines, and the served one.
+#[derive(Drop)]
+pub(crate) struct Clients<J: Naming>
+where
+    Published: Protocol<Shown<J, Letterbox>, LinkedList<Command<Letterbox>>>,
+{
+    clients: Vec<Client<J>>,
+    served: Served,
+}
+
+impl<J: Naming> Clients<J> {
+    pub(crate) fn new(alloc: Global) -> Clients<J> {
+        Clients {
+            clients: Vec::new(alloc),
+            served: Served::new(alloc),
+        }
+    }
+
+    /// Plays a line: what came, where it isn't what the line wants.
+    pub(crate) fn play<R: Wait>(
+        &mut self,
+        place: &Place<'_, '_, J, R>,
+        words: &str,
+    ) -> Result<Option<String>, LineError> {
+        let Ok(line) = ClientLine::read(place.alloc, words) else {
+            return unreadable(place.alloc);
+        };
+        match line.client {
+            None => self.served.act(place, line.action),
+            Some(number) => self.act(place, number, line.action),
+        }
+    }
+
+    fn act<R: Wait>(
+        &mut self,
+        place: &Place<'_, '_, J, R>,
+        number: usize,
+        action: Action<'_>,
+    ) -> Result<Option<String>, LineError> {
+        let index = number.wrapping_sub(1);
+        if index == self.clients.len() {
+            self.clients.push(Client::new(place.alloc)?)?;
+        }
+        match self.clients.get_mut(index) {
+            Some(client) => client.act(place, action),
+            None => unreadable(place.alloc),
+        }
+    }
+
+    /// What clients got that no line looked at.
+    pub(crate) fn unread<R: Wait>(
+        &mut self,
+        place: &Place<'_, '_, J, R>,
+    ) -> Result<Option<String>, LineError> {
+        for client in self.clients.iter_mut() {
+            if let Some(came) = client.unread(place)? {
+                return Ok(Some(came));
+            }
+        }
+        self.served.unread(place.alloc)
+    }
+}
+
+fn unreadable(alloc: Global) -> Result<Option<String>, LineError> {
+    Ok(Some(String::from_str(alloc, "a line that can't be read")?))
+}

@@ -1,4 +1,0 @@
-use Rattle.cases_sessions.proofs.play.on_new_bus.Given as goal
-
-abbrev pub ghosts-play : goal.ghosts-play
-ghosts-play g a = record { book = a.opened }

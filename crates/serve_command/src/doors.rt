@@ -1,0 +1,71 @@
+// The doors of a bus.
+
+use crate::error::Refusal;
+use crate::listening::bind;
+use crate::mechanisms::mechanisms_of;
+use crate::options::Options;
+use crate::target::Target;
+use endpoints::Address;
+use server::Door;
+use std::alloc::Global;
+use std::fs::{File, Files};
+use std::net::{Net, TcpListener, TcpStream};
+use std::random::RandomSource;
+use std::rt::Env;
+use std::sync::Wait;
+use std::time::Clock;
+
+/// Adds a door for each address. After an error those that were opened before it are there.
+pub(crate) fn open_doors<R>(
+    rt: &R,
+    alloc: Global,
+    options: Options<'_>,
+    targets: &[Target<'_>],
+    doors: &mut Vec<Door>,
+) -> Result<(), Refusal>
+where
+    R: Files<File = File>
+        + Env
+        + Net<Listener = TcpListener, Stream = TcpStream>
+        + Wait
+        + Clock
+        + RandomSource
+        + Alloc,
+{
+    for target in targets {
+        let door = open(rt, alloc, options, target.address())?;
+        if let Err(refused) = doors.push(door) {
+            refused.value.listener.close(rt);
+            return Err(Refusal::memory());
+        }
+    }
+    Ok(())
+}
+
+fn open<R>(
+    rt: &R,
+    alloc: Global,
+    options: Options<'_>,
+    address: Address<'_>,
+) -> Result<Door, Refusal>
+where
+    R: Files<File = File>
+        + Env
+        + Net<Listener = TcpListener, Stream = TcpStream>
+        + Wait
+        + Clock
+        + RandomSource
+        + Alloc,
+{
+    let listener = bind(rt, alloc, address)?;
+    match mechanisms_of(rt, alloc, options, &listener) {
+        Ok(mechanisms) => Ok(Door {
+            listener,
+            mechanisms,
+        }),
+        Err(refusal) => {
+            listener.close(rt);
+            Err(refusal)
+        }
+    }
+}

@@ -1,0 +1,26 @@
+// The log, on standard error.
+
+use command_line::{Output, Writer};
+use server::{Log, Note};
+use std::alloc::Global;
+
+/// Writes each note as one line, at once and as a whole.
+#[derive(Drop)]
+pub(crate) struct Lines<'a, E> {
+    alloc: Global,
+    err: &'a mut Output<E>,
+}
+
+impl<'a, E> Lines<'a, E> {
+    pub(crate) fn new(alloc: Global, err: &'a mut Output<E>) -> Lines<'a, E> {
+        Lines { alloc, err }
+    }
+}
+
+impl<'a, E: Writer> Log for Lines<'a, E> {
+    fn write(&mut self, note: Note) {
+        if let Ok(line) = format!(in self.alloc; "dbusfan: {note}\n") {
+            self.err.put(line.as_bytes());
+        }
+    }
+}

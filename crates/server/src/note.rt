@@ -1,0 +1,84 @@
+// What whoever runs a bus may want to know.
+
+use crate::limit::Limit;
+use sessions::SessionError;
+use std::fmt;
+
+/// Why the bus ended a session.
+#[derive(Clone, Copy, Debug, PartialEq, Eq)]
+pub enum Cause {
+    /// What its client sent or took, or want of memory.
+    Session(SessionError),
+    /// It was kept by no limit of this kind.
+    Limit(Limit),
+}
+
+impl Cause {
+    pub(crate) const MEMORY: Cause = Cause::Session(SessionError::NoMemory);
+}
+
+impl fmt::Display for Cause {
+    fn fmt<W: fmt::Write>(&self, f: &mut fmt::Formatter<W>) -> fmt::Result {
+        match self {
+            Cause::Session(error) => write!(f, "{error}"),
+            Cause::Limit(limit) => f.write_str(limit.name()),
+        }
+    }
+}
+
+/// What happened on a bus. A client is known by the number of its unique name, which it has from Hello on.
+#[derive(Clone, Copy, Debug, PartialEq, Eq)]
+pub enum Note {
+    /// Its Hello was accepted.
+    Came(u64),
+    /// It closed its socket, and has left the bus.
+    Went(u64),
+    /// The bus ended its session.
+    Ended(Option<u64>, Cause),
+    /// No descriptor is left to accept the next connection by.
+    NoDescriptor,
+    /// So many notes found no room.
+    Lost(u64),
+}
+
+impl Note {
+    /// That a session has ended, for a cause unless its client is gone. A client that goes before Hello is none to speak of.
+    pub(crate) fn of_end(number: Option<u64>, cause: Option<Cause>) -> Option<Note> {
+        match cause {
+            Some(cause) => Some(Note::Ended(number, cause)),
+            None => number.map(Note::Went),
+        }
+    }
+}
+
+impl fmt::Display for Note {
+    fn fmt<W: fmt::Write>(&self, f: &mut fmt::Formatter<W>) -> fmt::Result {
+        match self {
+            Note::Came(number) => write!(f, ":1.{number} came"),
+            Note::Went(number) => write!(f, ":1.{number} went"),
+            Note::Ended(Some(number), cause) => write!(f, ":1.{number} was ended: {cause}"),
+            Note::Ended(None, cause) => write!(f, "a newcomer was ended: {cause}"),
+            Note::NoDescriptor => f.write_str("no descriptor is left, newcomers are closed"),
+            Note::Lost(count) => write!(f, "{count} lines are missing here"),
+        }
+    }
+}
+
+/// Which notes are wanted.
+#[derive(Clone, Copy, Debug, PartialEq, Eq)]
+pub enum Verbosity {
+    None,
+    /// What went wrong, and not who came and went.
+    Faults,
+    All,
+}
+
+impl Verbosity {
+    pub(crate) fn wants(self, note: Note) -> bool {
+        match (self, note) {
+            (Verbosity::None, _) => false,
+            (Verbosity::Faults, Note::Came(_) | Note::Went(_)) => false,
+            _ => true,
+        }
+    }
+}

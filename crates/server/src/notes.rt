@@ -1,0 +1,111 @@
+// Notes that wait to be written.
+
+use crate::note::{Note, Verbosity};
+use std::alloc::Global;
+use std::collections::VecDeque;
+use std::mem;
+use std::sync::{Condvar, Mutex, Wait};
+
+/// How many notes may wait to be written.
+const ROOM: usize = 256;
+
+/// Where notes are written, one after the other.
+pub trait Log {
+    /// Writes a note. One that can't be written is given up.
+    fn write(&mut self, note: Note);
+}
+
+/// Notes on their way to the one thread that writes them. Whoever leaves a note doesn't wait until it is written.
+#[derive(Drop)]
+pub(crate) struct Notes {
+    waiting: Mutex<Waiting>,
+    grown: Condvar,
+    verbosity: Verbosity,
+}
+
+impl Notes {
+    pub(crate) fn new(alloc: Global, verbosity: Verbosity) -> Notes {
+        Notes {
+            waiting: Mutex::new(Waiting::new(alloc)),
+            grown: Condvar::new(),
+            verbosity,
+        }
+    }
+
+    /// Whether any notes are wanted.
+    pub(crate) fn are_wanted(&self) -> bool {
+        self.verbosity != Verbosity::None
+    }
+
+    /// Leaves a note, if such notes are wanted.
+    pub(crate) fn leave<R: Wait>(&self, rt: &R, note: Note) {
+        if self.verbosity.wants(note) {
+            self.waiting.lock(rt).add(note);
+            self.grown.notify_one();
+        }
+    }
+
+    /// Says that no more notes come.
+    pub(crate) fn finish<R: Wait>(&self, rt: &R) {
+        self.waiting.lock(rt).is_finished = true;
+        self.grown.notify_one();
+    }
+
+    /// Writes all notes, each as soon as it comes.
+    pub(crate) fn write_all<R: Wait, L: Log + Drop>(&self, rt: &R, mut log: L) {
+        for _ in rt.forever() {
+            let Some(note) = self.next(rt) else {
+                return;
+            };
+            log.write(note);
+        }
+    }
+
+    /// The next note, waited for, or `None` after the last one.
+    fn next<R: Wait>(&self, rt: &R) -> Option<Note> {
+        let mut waiting = self
+            .grown
+            .wait_while(rt, self.waiting.lock(rt), |waiting| waiting.is_idle());
+        waiting.take()
+    }
+}
+
+#[derive(Drop)]
+struct Waiting {
+    notes: VecDeque<Note>,
+    // How many found no room since the last one of them.
+    lost: u64,
+    // No more come.
+    is_finished: bool,
+}
+
+impl Waiting {
+    fn new(alloc: Global) -> Waiting {
+        Waiting {
+            notes: VecDeque::new(alloc),
+            lost: 0,
+            is_finished: false,
+        }
+    }
+
+    fn is_idle(&self) -> bool {
+        self.notes.is_empty() && self.lost == 0 && !self.is_finished
+    }
+
+    fn add(&mut self, note: Note) {
+        if self.lost > 0 || self.notes.len() >= ROOM || self.notes.push_back(note).is_err() {
+            self.lost = self.lost.saturating_add(1);
+        }
+    }
+
+    /// The next note. Those that found no room come after those that did.
+    fn take(&mut self) -> Option<Note> {
+        if let Some(note) = self.notes.pop_front() {
+            return Some(note);
+        }
+        match mem::replace(&mut self.lost, 0) {
+            0 => None,
+            count => Some(Note::Lost(count)),
+        }
+    }
+}

@@ -1,0 +1,107 @@
+// Entries of two connections. A failure ends the test at once, so that a test has one way out.
+
+use crate::fixture::{KEY, S1};
+use crate::state::{compile, read_message};
+use bpf_code::Ins;
+use bpf_verify::{Verified, verify};
+use entry_table::{Attachment, EntryTable, Filter};
+use match_rule::Rule;
+use std::alloc::Global;
+use std::mem::forget;
+use std::process::Abort;
+use summary::Edition;
+
+fn new_table<R: Abort>(rt: &R, alloc: Global) -> EntryTable {
+    EntryTable::new(alloc, KEY).expect(rt, "a table")
+}
+
+// `ret #1`
+fn one<R: Abort>(rt: &R, alloc: Global) -> Verified {
+    let mut code = Vec::new(alloc);
+    code.push(Ins {
+        code: 0x06,
+        jt: 0,
+        jf: 0,
+        k: 1,
+    })
+    .expect(rt, "memory");
+    match verify(code) {
+        Ok(program) => program,
+        Err(_) => panic!(rt; "ret #1 is a program"),
+    }
+}
+
+fn add<R: Abort>(rt: &R, alloc: Global, table: &mut EntryTable, connection: u64, text: &str) {
+    let filter = Filter::Rule(compile(rt, alloc, text));
+    assert!(rt; !table.is_full());
+    let _ = table.add(connection, filter);
+}
+
+fn attach<R: Abort>(rt: &R, alloc: Global, table: &mut EntryTable) {
+    let attached = Attachment::new(alloc, Edition::One, one(rt, alloc));
+    let filter = Filter::Attached(attached.expect(rt, "an attachment"));
+    assert!(rt; !table.is_full());
+    assert_eq!(rt; table.add(1, filter), 4);
+}
+
+// The entries that S1 is offered to have these ids.
+fn expect_offered<R: Abort>(rt: &R, alloc: Global, table: &EntryTable, wanted: &[u32]) {
+    let view = read_message(rt, &S1);
+    let mut ids = Vec::new(alloc);
+    for entry in table.entries_for(&view) {
+        ids.push(entry.id).expect(rt, "memory");
+    }
+    ids.sort().expect(rt, "memory");
+    assert_eq!(rt; ids.as_slice(), wanted);
+}
+
+fn expect_found<R: Abort>(rt: &R, alloc: Global, table: &EntryTable) {
+    let same = Rule::read(alloc, " member=c,").expect(rt, "a rule");
+    assert_eq!(rt; table.find_rule(1, &same), Some(1));
+    assert_eq!(rt; table.find_rule(2, &same), None);
+    assert!(rt; table.has_attachment(1, 4) && !table.has_attachment(1, 1));
+}
+
+fn remove<R: Abort>(rt: &R, table: &mut EntryTable) {
+    assert_eq!(rt; table.remove(1, 1).map(|entry| entry.id), Some(1));
+    assert_eq!(rt; table.remove_oldest(2).map(|entry| entry.id), Some(2));
+    table.remove_all(2);
+}
+
+#[test]
+fn entries_of_two_connections(rt: HostRuntime) {
+    let alloc = rt.alloc();
+    let mut table = new_table(&rt, alloc);
+    add(&rt, alloc, &mut table, 1, "member='c'");
+    add(&rt, alloc, &mut table, 2, "member='d'");
+    add(&rt, alloc, &mut table, 2, "path='/a'");
+    attach(&rt, alloc, &mut table);
+    expect_offered(&rt, alloc, &table, &[1, 3, 4]);
+    expect_found(&rt, alloc, &table);
+    remove(&rt, &mut table);
+    expect_offered(&rt, alloc, &table, &[4]);
+    assert_eq!(rt; table.last_id(), 4);
+    forget(table);
+}
+
+// Some entry of the connection goes; its id.
+fn take_any<R: Abort>(rt: &R, table: &mut EntryTable, connection: u64) -> u32 {
+    match table.remove_any(connection) {
+        Some(entry) => entry.id,
+        None => panic!(rt; "an entry was wanted"),
+    }
+}
+
+#[test]
+fn entries_go_in_any_order(rt: HostRuntime) {
+    let alloc = rt.alloc();
+    let mut table = new_table(&rt, alloc);
+    add(&rt, alloc, &mut table, 1, "member='c'");
+    add(&rt, alloc, &mut table, 2, "member='d'");
+    add(&rt, alloc, &mut table, 2, "path='/a'");
+    let ids = [take_any(&rt, &mut table, 2), take_any(&rt, &mut table, 2)];
+    assert!(rt; ids == [2, 3] || ids == [3, 2]);
+    assert!(rt; table.remove_any(2).is_none());
+    expect_offered(&rt, alloc, &table, &[1]);
+    forget(table);
+}
