@@ -2,7 +2,7 @@
 
 ghost use Rattle.serve_command.specs.Status.{IsStatus};
 
-use crate::doors::open_doors;
+use crate::binding::bind_all;
 use crate::error::Refusal;
 use crate::guid::Guid;
 use crate::listening::{announce, announcement_of, say};
@@ -11,7 +11,7 @@ use crate::machine::machine_id;
 use crate::options::Options;
 use crate::target::Target;
 use command_line::{Output, Writer, text_for};
-use server::{Door, Identity, IndexKey, Start};
+use server::{Endpoint, Identity, IndexKey, Start};
 use std::alloc::Global;
 use std::fs::{File, Files};
 use std::net::{Net, TcpListener, TcpStream};
@@ -140,13 +140,13 @@ where
         + Alloc,
 {
     let guid = guid_of(rt, options)?;
-    let mut doors = Vec::new(alloc);
-    let served = match open_doors(rt, alloc, options, targets, &mut doors) {
-        Ok(()) => announce_and_serve(rt, alloc, options, targets, &doors, guid, out, err),
+    let mut endpoints = Vec::new(alloc);
+    let served = match bind_all(rt, alloc, options, targets, &mut endpoints) {
+        Ok(()) => announce_and_serve(rt, alloc, options, targets, &endpoints, guid, out, err),
         Err(refusal) => Err(refusal),
     };
-    for door in doors {
-        door.listener.close(rt);
+    for endpoint in endpoints {
+        endpoint.listener.close(rt);
     }
     served
 }
@@ -156,7 +156,7 @@ fn announce_and_serve<R, O: Writer, E: Writer + Send>(
     alloc: Global,
     options: Options<'_>,
     targets: &[Target<'_>],
-    doors: &[Door],
+    endpoints: &[Endpoint],
     guid: Guid,
     out: &mut Output<O>,
     err: &mut Output<E>,
@@ -172,9 +172,9 @@ where
         + Sync
         + Alloc,
 {
-    let text = announcement_of(alloc, options.announcement, targets, doors, guid)?;
+    let text = announcement_of(alloc, options.announcement, targets, endpoints, guid)?;
     announce(rt, alloc, options.announcement, text.as_bytes(), out)?;
-    serve_at(rt, alloc, options, guid, doors, err)
+    serve_at(rt, alloc, options, guid, endpoints, err)
 }
 
 /// The id that is asked for, or a new one.
@@ -190,7 +190,7 @@ fn serve_at<R, E: Writer + Send>(
     alloc: Global,
     options: Options<'_>,
     guid: Guid,
-    doors: &[Door],
+    endpoints: &[Endpoint],
     err: &mut Output<E>,
 ) -> Result<(), Refusal>
 where
@@ -219,7 +219,7 @@ where
         count: options.connections.map(u64::from),
         verbosity: options.verbosity,
     };
-    match server::serve(rt, alloc, start, doors, Lines::new(alloc, err)) {
+    match server::serve(rt, alloc, start, endpoints, Lines::new(alloc, err)) {
         Ok(()) => Ok(()),
         Err(_) => Err(Refusal::no_thread()),
     }

@@ -4,7 +4,7 @@
 
 mod address_fault;
 mod addresses;
-mod doors;
+mod binding;
 mod entry;
 mod error;
 mod guid;

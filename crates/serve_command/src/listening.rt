@@ -8,7 +8,7 @@ use crate::target::Target;
 use command_line::{Output, Writer};
 use endpoints::{Address, Listener, respell};
 use os::FromRawFd;
-use server::Door;
+use server::Endpoint;
 use std::alloc::Global;
 use std::fs::{File, Files, OpenOptions};
 use std::io;
@@ -35,11 +35,11 @@ pub(crate) fn announcement_of(
     alloc: Global,
     announcement: Announcement,
     targets: &[Target<'_>],
-    doors: &[Door],
+    endpoints: &[Endpoint],
     guid: Guid,
 ) -> Result<String, Refusal> {
     let mut text = String::new(alloc);
-    for (target, door) in targets.iter().zip(doors.iter()) {
+    for (target, endpoint) in targets.iter().zip(endpoints.iter()) {
         let before = match announcement {
             Announcement::Listening => "listening ",
             _ if text.is_empty() => "",
@@ -49,7 +49,7 @@ pub(crate) fn announcement_of(
             Announcement::Listening => "\n",
             _ => "",
         };
-        let address = address_text(alloc, target.address(), &door.listener, guid)?;
+        let address = address_text(alloc, target.address(), &endpoint.listener, guid)?;
         let address = address.as_str();
         let Ok(part) = format!(in alloc; "{before}{address}{after}") else {
             return Err(Refusal::memory());

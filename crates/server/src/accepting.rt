@@ -1,7 +1,7 @@
 // Accepting connections.
 
 use crate::hub::Hub;
-use crate::porch::Porch;
+use crate::acceptor::Acceptor;
 use members::{Arrival, Post};
 use sessions::Naming;
 use std::alloc::Global;
@@ -15,7 +15,7 @@ use std::time::Clock;
 pub(crate) fn accept_all<J: Naming, R: Wait + Drop, W>(
     rt: &W,
     alloc: Global,
-    porch: &mut Porch<'_>,
+    acceptor: &mut Acceptor<'_>,
     count: Option<u64>,
     hub: &Hub<J, R>,
     posts: &[Arc<Post>],
@@ -27,10 +27,10 @@ where
         return;
     }
     for number in 1..=count.unwrap_or(u64::MAX) {
-        hub.entries.take(rt);
-        let (link, door) = porch.accept(rt, &hub.notes);
+        let (link, endpoint) = acceptor.accept(rt, &hub.notes);
+        hub.newcomers.take_place(rt);
         let post = &posts[(number % posts.len() as u64) as usize];
-        let admission = door.mechanisms.admission(rt, alloc);
+        let admission = endpoint.mechanisms.admission(rt, alloc);
         if post.hand_in(rt, Arrival { link, admission }).is_err() {
             hub.turn_away(rt);
         }

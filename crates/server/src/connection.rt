@@ -52,6 +52,8 @@ pub(crate) struct Connection<J: Naming> {
     beginning: Option<Beginning>,
     /// Its Hello was answered, and it no longer counts among the newcomers.
     pub(crate) is_in: bool,
+    /// By which the newcomers know it.
+    pub(crate) ticket: u64,
 }
 
 impl<J: Naming> Connection<J> {
@@ -82,7 +84,18 @@ impl<J: Naming> Connection<J> {
             begun,
             beginning: None,
             is_in: false,
+            ticket: 0,
         })
+    }
+
+    /// Counts it among the newcomers, for which it has a place.
+    pub(crate) fn enter<W: Wait, R: Wait + Drop>(
+        &mut self,
+        rt: &W,
+        hub: &Hub<J, R>,
+    ) -> io::Result<()> {
+        self.ticket = hub.newcomers.enter(rt, Arc::try_clone(&self.link)?);
+        Ok(())
     }
 
     pub(crate) fn link(&self) -> &Link {
@@ -258,6 +271,7 @@ impl<J: Naming> Connection<J> {
             begun: _,
             beginning: _,
             is_in: _,
+            ticket: _,
         } = self;
         if let Some(rest) = session.end(rt, alloc, &hub.bus) {
             hub.keep_rest(rt, rest);

@@ -1,6 +1,7 @@
 // What the workers share.
 
-use crate::limits::{Limits, Places};
+use crate::limits::Limits;
+use crate::newcomers::Newcomers;
 use crate::note::{Cause, Note, Verbosity};
 use crate::notes::Notes;
 use crate::unfinished::Unfinished;
@@ -27,8 +28,7 @@ pub(crate) struct Hub<J: Naming, R: Wait + Drop> {
     pub(crate) bus: Bus<J, Mail, R>,
     pub(crate) identity: Identity,
     pub(crate) limits: Limits,
-    /// Places of connections that haven't been answered their Hello.
-    pub(crate) entries: Places,
+    pub(crate) newcomers: Newcomers,
     pub(crate) unfinished: Unfinished,
     pub(crate) instructions: Arc<AllInstructions>,
     pub(crate) notes: Notes,
@@ -50,7 +50,7 @@ impl<J: Naming, R: Wait + Drop> Hub<J, R> {
             bus,
             identity,
             limits,
-            entries: Places::new(limits.newcomers),
+            newcomers: Newcomers::new(alloc, limits.newcomers),
             unfinished: Unfinished::new(limits.unfinished),
             instructions,
             notes: Notes::new(alloc, verbosity),
@@ -60,7 +60,7 @@ impl<J: Naming, R: Wait + Drop> Hub<J, R> {
 
     /// Gives back the place of a connection that is closed for want of memory.
     pub(crate) fn turn_away<W: Wait>(&self, rt: &W) {
-        self.entries.give_back(rt);
+        self.newcomers.give_back(rt);
         self.notes.leave(rt, Note::Ended(None, Cause::MEMORY));
     }
 

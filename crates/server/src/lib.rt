@@ -4,22 +4,23 @@
 #![tactic(auto)]
 
 mod accepting;
+mod acceptor;
 mod connection;
-mod door;
+mod endpoint;
 mod hub;
 mod limit;
 mod limits;
 mod mechanisms;
+mod newcomers;
 mod note;
 mod notes;
-mod porch;
 mod reserve;
 mod scratch;
 mod serving;
 mod unfinished;
 mod worker;
 
-pub use door::Door;
+pub use endpoint::Endpoint;
 pub use hub::Identity;
 pub use limit::Limit;
 pub use limits::Limits;

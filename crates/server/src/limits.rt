@@ -7,7 +7,6 @@ ghost use Rattle.server.specs.Limits.{standard_of, number_of};
 use crate::limit::Limit;
 use members::Room;
 use sessions::Shares;
-use std::sync::{Condvar, Mutex, Wait};
 use std::time::Duration;
 
 /// The limits of a server. How many connections there are after Hello is the bus's limit, which it tells a client; so
@@ -97,34 +96,5 @@ impl Limits {
     /// How long after its accept a connection may be without Hello.
     pub(crate) fn patience(&self) -> Duration {
         Duration::from_secs(u64::from(self.hello))
-    }
-}
-
-/// Places that are taken before an accept: while none is free, clients wait in the system's queue.
-#[derive(Drop)]
-pub(crate) struct Places {
-    free: Mutex<u32>,
-    given_back: Condvar,
-}
-
-impl Places {
-    pub(crate) fn new(count: u32) -> Places {
-        Places {
-            free: Mutex::new(count),
-            given_back: Condvar::new(),
-        }
-    }
-
-    pub(crate) fn take<R: Wait>(&self, rt: &R) {
-        let mut free = self
-            .given_back
-            .wait_while(rt, self.free.lock(rt), |free| *free == 0);
-        *free -= 1;
-    }
-
-    pub(crate) fn give_back<R: Wait>(&self, rt: &R) {
-        let mut free = self.free.lock(rt);
-        *free = free.saturating_add(1);
-        self.given_back.notify_one();
     }
 }

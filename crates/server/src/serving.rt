@@ -3,12 +3,12 @@
 ghost use Rattle.std.specs.Prelude.{◌≡◌};
 
 use crate::accepting::accept_all;
-use crate::door::Door;
+use crate::endpoint::Endpoint;
 use crate::hub::{Hub, Identity};
 use crate::limits::Limits;
 use crate::note::Verbosity;
 use crate::notes::Log;
-use crate::porch::Porch;
+use crate::acceptor::Acceptor;
 use crate::worker::{Desk, work};
 use members::Mail;
 use sessions::{Bus, IndexKey, Naming, Opened};
@@ -35,15 +35,15 @@ pub struct Start {
     pub verbosity: Verbosity,
 }
 
-/// Serves as many connections as are asked for, or without end, on a bus of their own, whichever of the doors they come
+/// Serves as many connections as are asked for, or without end, on a bus of their own, whichever of the endpoints they come
 /// by. It answers once all of them have ended, or where memory or threads are refused at the start.
-pub fn serve<R, L>(rt: &R, alloc: Global, start: Start, doors: &[Door], log: L) -> io::Result<()>
+pub fn serve<R, L>(rt: &R, alloc: Global, start: Start, endpoints: &[Endpoint], log: L) -> io::Result<()>
 where
     R: Files<File = File> + RandomSource + Threads + Wait + Clock + Net + Sync,
     L: Log + Send + Drop,
 {
     let opened = Opened::<Mail>::new();
-    serve_on::<Brand, R, L>(rt, alloc, opened, start, doors, log)
+    serve_on::<Brand, R, L>(rt, alloc, opened, start, endpoints, log)
 }
 
 fn serve_on<J: Naming + Send + Sync, R, L>(
@@ -51,7 +51,7 @@ fn serve_on<J: Naming + Send + Sync, R, L>(
     alloc: Global,
     opened: Opened<Mail>,
     start: Start,
-    doors: &[Door],
+    endpoints: &[Endpoint],
     log: L,
 ) -> io::Result<()>
 where
@@ -71,9 +71,9 @@ where
     };
     let hub = Hub::new(alloc, bus, identity, limits, verbosity)?;
     if !hub.notes.are_wanted() {
-        return run(rt, alloc, &hub, doors, count);
+        return run(rt, alloc, &hub, endpoints, count);
     }
-    run_with_log(rt, alloc, &hub, doors, count, log)
+    run_with_log(rt, alloc, &hub, endpoints, count, log)
 }
 
 /// The same as `run`, with a thread that writes the notes. Where there is none, the bus goes on without its log.
@@ -81,7 +81,7 @@ fn run_with_log<J: Naming + Send + Sync, R, L>(
     rt: &R,
     alloc: Global,
     hub: &Hub<J, &R>,
-    doors: &[Door],
+    endpoints: &[Endpoint],
     count: Option<u64>,
     log: L,
 ) -> io::Result<()>
@@ -92,7 +92,7 @@ where
     thread::scope(thread::scope_env(), rt, |scope| {
         let writer = move || hub.notes.write_all(rt, log);
         let _ = Builder::new().spawn_scoped(scope, writer);
-        let served = run(rt, alloc, hub, doors, count);
+        let served = run(rt, alloc, hub, endpoints, count);
         hub.notes.finish(rt);
         served
     })
@@ -103,13 +103,13 @@ fn run<J: Naming + Send + Sync, R>(
     rt: &R,
     alloc: Global,
     hub: &Hub<J, &R>,
-    doors: &[Door],
+    endpoints: &[Endpoint],
     count: Option<u64>,
 ) -> io::Result<()>
 where
     R: Files<File = File> + RandomSource + Threads + Wait + Clock + Net + Sync,
 {
-    let mut porch = Porch::new(rt, alloc, doors)?;
+    let mut acceptor = Acceptor::new(rt, alloc, endpoints)?;
     let mut posts = Vec::with_capacity(alloc, hub.limits.workers)?;
     thread::scope(thread::scope_env(), rt, |scope| {
         for _ in 0..hub.limits.workers {
@@ -126,7 +126,7 @@ where
                 }
             }
         }
-        accept_all(rt, alloc, &mut porch, count, hub, posts.as_slice());
+        accept_all(rt, alloc, &mut acceptor, count, hub, posts.as_slice());
         for post in posts.iter() {
             post.finish();
         }

@@ -159,13 +159,14 @@ impl<'a, J: Naming, R: Wait + Drop> Worker<'a, J, R> {
         }
     }
 
-    fn welcome<W: Clock>(&mut self, rt: &W, arrival: Arrival) -> io::Result<()> {
+    fn welcome<W: Wait + Clock>(&mut self, rt: &W, arrival: Arrival) -> io::Result<()> {
         let begun = Instant::now(rt)?;
         self.connections.reserve(1)?;
         let token = Token(self.connections.vacant_key());
         let post = Arc::try_clone(&self.post)?;
-        let connection = Connection::new(self.alloc, self.hub, arrival, post, token, begun)?;
+        let mut connection = Connection::new(self.alloc, self.hub, arrival, post, token, begun)?;
         self.post.register(connection.link(), token)?;
+        connection.enter(rt, self.hub)?;
         self.connections.insert_reserved(connection);
         self.recount(false, true);
         Ok(())
@@ -186,7 +187,7 @@ impl<'a, J: Naming, R: Wait + Drop> Worker<'a, J, R> {
             && let Some(number) = connection.number()
         {
             connection.is_in = true;
-            self.hub.entries.give_back(rt);
+            self.hub.newcomers.leave(rt, connection.ticket);
             self.hub.notes.leave(rt, Note::Came(number));
         }
         let is_watched = connection.is_watched();
@@ -260,13 +261,13 @@ impl<'a, J: Naming, R: Wait + Drop> Worker<'a, J, R> {
     }
 
     /// Ends a connection, for a cause unless its client is gone.
-    fn end<W: Wait>(&mut self, rt: &W, key: usize, cause: Option<Cause>) {
+    fn end<W: Wait>(&mut self, rt: &W, key: usize, mut cause: Option<Cause>) {
         let Some(connection) = self.connections.try_remove(key) else {
             return;
         };
         self.recount(connection.is_watched(), false);
-        if !connection.is_in {
-            self.hub.entries.give_back(rt);
+        if !connection.is_in && !self.hub.newcomers.leave(rt, connection.ticket) {
+            cause = Some(Cause::Limit(Limit::Newcomers));
         }
         let number = connection.number();
         connection.end(rt, self.alloc, self.hub);

@@ -1,4 +1,4 @@
-// The doors of a bus.
+// The endpoints of a bus.
 
 use crate::error::Refusal;
 use crate::listening::bind;
@@ -6,7 +6,7 @@ use crate::mechanisms::mechanisms_of;
 use crate::options::Options;
 use crate::target::Target;
 use endpoints::Address;
-use server::Door;
+use server::Endpoint;
 use std::alloc::Global;
 use std::fs::{File, Files};
 use std::net::{Net, TcpListener, TcpStream};
@@ -15,13 +15,13 @@ use std::rt::Env;
 use std::sync::Wait;
 use std::time::Clock;
 
-/// Adds a door for each address. After an error those that were opened before it are there.
-pub(crate) fn open_doors<R>(
+/// Adds an endpoint for each address. After an error those that were opened before it are there.
+pub(crate) fn bind_all<R>(
     rt: &R,
     alloc: Global,
     options: Options<'_>,
     targets: &[Target<'_>],
-    doors: &mut Vec<Door>,
+    endpoints: &mut Vec<Endpoint>,
 ) -> Result<(), Refusal>
 where
     R: Files<File = File>
@@ -33,8 +33,8 @@ where
         + Alloc,
 {
     for target in targets {
-        let door = open(rt, alloc, options, target.address())?;
-        if let Err(refused) = doors.push(door) {
+        let endpoint = open(rt, alloc, options, target.address())?;
+        if let Err(refused) = endpoints.push(endpoint) {
             refused.value.listener.close(rt);
             return Err(Refusal::memory());
         }
@@ -47,7 +47,7 @@ fn open<R>(
     alloc: Global,
     options: Options<'_>,
     address: Address<'_>,
-) -> Result<Door, Refusal>
+) -> Result<Endpoint, Refusal>
 where
     R: Files<File = File>
         + Env
@@ -59,7 +59,7 @@ where
 {
     let listener = bind(rt, alloc, address)?;
     match mechanisms_of(rt, alloc, options, &listener) {
-        Ok(mechanisms) => Ok(Door {
+        Ok(mechanisms) => Ok(Endpoint {
             listener,
             mechanisms,
         }),

@@ -7,12 +7,12 @@ use std::os::fd::{AsRawFd, RawFd};
 
 /// A listener, and whom it lets in.
 #[derive(Drop)]
-pub struct Door {
+pub struct Endpoint {
     pub listener: Listener,
     pub mechanisms: Mechanisms,
 }
 
-impl Door {
+impl Endpoint {
     /// From now on an accept that would wait answers `WouldBlock`.
     pub(crate) fn set_nonblocking(&self) -> io::Result<()> {
         match &self.listener {

@@ -1,6 +1,6 @@
-// The doors of a bus, and where clients wait.
+// The endpoints of a bus, and where clients wait.
 
-use crate::door::Door;
+use crate::endpoint::Endpoint;
 use crate::note::Note;
 use crate::notes::Notes;
 use crate::reserve::Reserve;
@@ -18,104 +18,104 @@ use std::{io, thread};
 /// How many milliseconds to wait after an accept, or a look at the poll, that failed.
 const PAUSE: u64 = 50;
 
-/// A door, and whether clients may wait there.
+/// An endpoint, and whether clients may wait there.
 #[derive(Drop)]
-struct Entrance<'a> {
-    door: &'a Door,
+struct Backlog<'a> {
+    endpoint: &'a Endpoint,
     has_clients: bool,
 }
 
-/// All doors of a bus, with a poll over them. The doors take turns.
+/// All endpoints of a bus, with a poll over them. The endpoints take turns.
 #[derive(Drop)]
-pub(crate) struct Porch<'a> {
+pub(crate) struct Acceptor<'a> {
     poll: Poll,
     events: Events,
-    entrances: Vec<Entrance<'a>>,
+    backlogs: Vec<Backlog<'a>>,
     // Whose turn it is.
     turn: usize,
     reserve: Reserve,
 }
 
-impl<'a> Porch<'a> {
+impl<'a> Acceptor<'a> {
     pub(crate) fn new<R: Files<File = File> + Net>(
         rt: &R,
         alloc: Global,
-        doors: &'a [Door],
-    ) -> io::Result<Porch<'a>> {
+        endpoints: &'a [Endpoint],
+    ) -> io::Result<Acceptor<'a>> {
         let poll = Poll::new(rt)?;
-        let mut entrances = Vec::with_capacity(alloc, doors.len())?;
-        for (i, door) in doors.iter().enumerate() {
-            door.set_nonblocking()?;
-            let descriptor = door.descriptor();
+        let mut backlogs = Vec::with_capacity(alloc, endpoints.len())?;
+        for (i, endpoint) in endpoints.iter().enumerate() {
+            endpoint.set_nonblocking()?;
+            let descriptor = endpoint.descriptor();
             let mut source = SourceFd(&descriptor);
             poll.registry()
                 .register(&mut source, Token(i), Interest::READABLE)?;
-            entrances.push(Entrance {
-                door,
+            backlogs.push(Backlog {
+                endpoint,
                 has_clients: false,
             })?;
         }
-        Ok(Porch {
+        Ok(Acceptor {
             poll,
-            events: Events::with_capacity(alloc, doors.len())?,
-            entrances,
+            events: Events::with_capacity(alloc, endpoints.len())?,
+            backlogs,
             turn: 0,
             reserve: Reserve::new(rt),
         })
     }
 
-    /// The next connection, waited for, and the door by which it comes.
+    /// The next connection, waited for, and the endpoint by which it comes.
     pub(crate) fn accept<W: Files<File = File> + Wait + Clock>(
         &mut self,
         rt: &W,
         notes: &Notes,
-    ) -> (Link, &'a Door) {
+    ) -> (Link, &'a Endpoint) {
         for _ in rt.forever() {
-            for _ in 0..self.entrances.len() {
+            for _ in 0..self.backlogs.len() {
                 if let Some(accepted) = self.accept_in_turn(rt, notes) {
                     return accepted;
                 }
             }
-            if !self.entrances.iter().any(|entrance| entrance.has_clients) {
+            if !self.backlogs.iter().any(|backlog| backlog.has_clients) {
                 self.wait(rt);
             }
         }
         unreachable!()
     }
 
-    /// The next connection at the door whose turn it is, if there is one.
+    /// The next connection at the endpoint whose turn it is, if there is one.
     fn accept_in_turn<W: Files<File = File> + Wait + Clock>(
         &mut self,
         rt: &W,
         notes: &Notes,
-    ) -> Option<(Link, &'a Door)> {
+    ) -> Option<(Link, &'a Endpoint)> {
         self.turn = self.turn.checked_add(1).unwrap_or(0);
-        if self.turn >= self.entrances.len() {
+        if self.turn >= self.backlogs.len() {
             self.turn = 0;
         }
-        let entrance = self.entrances.get_mut(self.turn)?;
-        if !entrance.has_clients {
+        let backlog = self.backlogs.get_mut(self.turn)?;
+        if !backlog.has_clients {
             return None;
         }
-        let link = entrance.accept(rt, notes, &mut self.reserve)?;
-        Some((link, entrance.door))
+        let link = backlog.accept(rt, notes, &mut self.reserve)?;
+        Some((link, backlog.endpoint))
     }
 
-    /// Waits until clients come to a door.
+    /// Waits until clients come to an endpoint.
     fn wait<W: Wait + Clock>(&mut self, rt: &W) {
         if self.poll.poll(&mut self.events, None).is_err() {
             pause(rt);
             return;
         }
         for event in self.events.iter() {
-            if let Some(entrance) = self.entrances.get_mut(event.token().0) {
-                entrance.has_clients = true;
+            if let Some(backlog) = self.backlogs.get_mut(event.token().0) {
+                backlog.has_clients = true;
             }
         }
     }
 }
 
-impl<'a> Entrance<'a> {
+impl<'a> Backlog<'a> {
     /// The next connection, if there is one. A connection for which no descriptor is left is closed.
     fn accept<W: Files<File = File> + Wait + Clock>(
         &mut self,
@@ -123,7 +123,7 @@ impl<'a> Entrance<'a> {
         notes: &Notes,
         reserve: &mut Reserve,
     ) -> Option<Link> {
-        match self.door.listener.accept() {
+        match self.endpoint.listener.accept() {
             Ok(link) => {
                 reserve.note(false);
                 Some(link)
@@ -142,7 +142,7 @@ impl<'a> Entrance<'a> {
         notes: &Notes,
         reserve: &mut Reserve,
     ) -> Option<Link> {
-        match reserve.accept(rt, &self.door.listener) {
+        match reserve.accept(rt, &self.endpoint.listener) {
             Ok(Some(link)) => Some(link),
             Ok(None) => {
                 if reserve.note(true) {
@@ -157,7 +157,7 @@ impl<'a> Entrance<'a> {
         }
     }
 
-    /// Nobody waits at the door, or the accept is tried again in a while: a connection that was reset in the queue is gone.
+    /// Nobody waits at the endpoint, or the accept is tried again in a while: a connection that was reset in the queue is gone.
     fn note_failure<W: Wait + Clock>(&mut self, rt: &W, error: &io::Error) {
         if error.kind() == ErrorKind::WouldBlock {
             self.has_clients = false;

@@ -1,0 +1,100 @@
+// Connections that haven't said Hello.
+
+use endpoints::Link;
+use std::alloc::Global;
+use std::sync::{Arc, Condvar, Mutex, Wait};
+
+/// A connection that hasn't said Hello.
+#[derive(Drop)]
+struct Newcomer {
+    ticket: u64,
+    link: Arc<Link>,
+}
+
+#[derive(Drop)]
+struct Places {
+    free: u32,
+    // Somebody waits for a place.
+    is_wanted: bool,
+    last_ticket: u64,
+    // Those that workers have taken in, the oldest first.
+    newcomers: Vec<Newcomer>,
+}
+
+impl Places {
+    /// Makes the oldest newcomer go: its worker finds its socket shut, and gives its place back.
+    fn send_off_the_oldest(&mut self) {
+        if !self.newcomers.is_empty() {
+            self.newcomers.remove(0).link.shut();
+        }
+    }
+
+    /// Whether a newcomer of this ticket was there, which is there no longer.
+    fn remove(&mut self, ticket: u64) -> bool {
+        let before = self.newcomers.len();
+        self.newcomers.retain(|newcomer| newcomer.ticket != ticket);
+        self.newcomers.len() < before
+    }
+}
+
+/// Places of connections that haven't said Hello. Where none is free, the oldest of them goes when a new one comes.
+#[derive(Drop)]
+pub(crate) struct Newcomers {
+    places: Mutex<Places>,
+    given_back: Condvar,
+}
+
+impl Newcomers {
+    pub(crate) fn new(alloc: Global, count: u32) -> Newcomers {
+        Newcomers {
+            places: Mutex::new(Places {
+                free: count,
+                is_wanted: false,
+                last_ticket: 0,
+                newcomers: Vec::new(alloc),
+            }),
+            given_back: Condvar::new(),
+        }
+    }
+
+    /// Takes a place for a connection that was accepted, and waits for it where none is free.
+    pub(crate) fn take_place<R: Wait>(&self, rt: &R) {
+        let mut places = self.places.lock(rt);
+        if places.free == 0 {
+            places.is_wanted = true;
+            places.send_off_the_oldest();
+        }
+        let mut places = self
+            .given_back
+            .wait_while(rt, places, |places| places.free == 0);
+        places.is_wanted = false;
+        places.free = places.free.saturating_sub(1);
+    }
+
+    /// Notes a connection that has a place, and gives its ticket. One for which memory is refused isn't known as the
+    /// oldest.
+    pub(crate) fn enter<R: Wait>(&self, rt: &R, link: Arc<Link>) -> u64 {
+        let mut places = self.places.lock(rt);
+        let ticket = places.last_ticket.saturating_add(1);
+        places.last_ticket = ticket;
+        let _ = places.newcomers.push(Newcomer { ticket, link });
+        if places.is_wanted && places.free == 0 {
+            places.send_off_the_oldest();
+        }
+        ticket
+    }
+
+    /// Gives back the place of a connection. Answers false if it was the oldest and had to go.
+    pub(crate) fn leave<R: Wait>(&self, rt: &R, ticket: u64) -> bool {
+        let was_there = self.places.lock(rt).remove(ticket);
+        self.give_back(rt);
+        was_there
+    }
+
+    /// Gives back a place of a connection that has no ticket.
+    pub(crate) fn give_back<R: Wait>(&self, rt: &R) {
+        let mut places = self.places.lock(rt);
+        places.free = places.free.saturating_add(1);
+        self.given_back.notify_one();
+    }
+}
