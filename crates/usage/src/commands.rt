@@ -64,7 +64,7 @@ pub(crate) static COMMANDS: [CommandHelp; 7] = [
                 name: "listen",
                 form: Form::Value("ADDRESS"),
                 is_required: false,
-                text: "Where to listen (unix:path=P, tcp:host=H,port=P); else the user's place",
+                text: "Where to listen, once for each place (unix:path=P, tcp:host=H,port=P); else the user's place",
             },
             ArgumentHelp {
                 name: "guid",
@@ -113,6 +113,18 @@ pub(crate) static COMMANDS: [CommandHelp; 7] = [
                 form: Form::Value("NAME=N"),
                 is_required: false,
                 text: "Sets a limit: rules, instructions, all-instructions, names, calls, messages, bytes, unfinished, silence, newcomers, hello",
+            },
+            ArgumentHelp {
+                name: "log",
+                form: Form::Flag,
+                is_required: false,
+                text: "Says who comes and goes, on standard error",
+            },
+            ArgumentHelp {
+                name: "quiet",
+                form: Form::Flag,
+                is_required: false,
+                text: "Doesn't say whom the bus has ended, and why",
             },
         ],
     },
