@@ -1,7 +1,6 @@
 -- Calls within a client's share, and calls beyond it.
 use Rattle.std.proofs.Common.{◌≡◌, Option, Some, None, Result, Err, inl, inr, sym, ap, subst, ◌∙◌}
 use Rattle.bus_messages.specs.declared.exceeded.Exceeded.{Exceeded}
-use Rattle.bus_messages.specs.declared.exceeded.Exceeded.TheVariants.{AllInstructions}
 use Rattle.peers.specs.declared.error.AnswerError.{AnswerError}
 use Rattle.peers.specs.declared.refused.Refused.{Refused}
 use Rattle.peers.specs.declared.request.Request.{Request}
