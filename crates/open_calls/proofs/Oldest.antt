@@ -1,5 +1,5 @@
 -- The oldest call to a connection.
-use Rattle.std.proofs.Common.{ℕ, ◌≡◌, ◌==◌, Bool, true, false, refl, List, [], ◌∷◌, Option, Some, None, if◌then◌else◌, eqb-true}
+use Rattle.std.proofs.Common.{ℕ, ◌≡◌, ◌==◌, Bool, true, false, refl, List, [], ◌∷◌, Option, Some, if◌then◌else◌, eqb-true}
 use Rattle.std.specs.Prelude.{IfSome}
 use Rattle.open_calls.specs.declared.open_call.OpenCall.{OpenCall}
 use Rattle.open_calls.specs.OpenCalls.{oldest_to}

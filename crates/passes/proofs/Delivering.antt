@@ -1,7 +1,6 @@
 -- Unicast messages.
-use Rattle.std.proofs.Common.{◌≡◌, ◌⊎◌, inl, inr, ℕ, ◌==◌, ◌&&◌, ◌++◌, append-nil, Bool, true, false, cond, List, [], ◌∷◌, Option, Some, None, refl, sym, ap, subst, ◌∙◌}
+use Rattle.std.proofs.Common.{◌≡◌, inr, ℕ, ◌==◌, ◌&&◌, ◌++◌, append-nil, Bool, true, false, cond, List, [], ◌∷◌, Option, Some, None, refl, sym, ap, subst, ◌∙◌}
 use Rattle.std.specs.Prelude.{Result, Ok, Err, IfOk, IfErr, IfSome, MatchOption, MatchResult}
-use mathlib.Core.List.{IsPrefix}
 use Rattle.outbox.specs.Items.{Item}
 use Rattle.outbox.specs.Seated.{OutboxId}
 use Rattle.program_table.specs.declared.command.Command.{Command}

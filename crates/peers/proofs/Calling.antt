@@ -1,5 +1,5 @@
 -- Calls that clients make of one another, and their replies.
-use Rattle.std.proofs.Common.{arith, ◌≡◌, ℕ, zero, suc, ◌+◌, Bool, true, List, Option, Some, Result, Ok, Err, inl, inr, ap, subst, ◌∙◌}
+use Rattle.std.proofs.Common.{arith, ◌≡◌, ℕ, zero, suc, ◌+◌, Bool, true, List, Some, Result, Ok, Err, inl, inr, ap, subst, ◌∙◌}
 use Rattle.outbox.specs.Seated.{OutboxId}
 use Rattle.message_view.specs.declared.kind.Kind.{Kind}
 use Rattle.message_view.specs.Message.{Message}
@@ -14,7 +14,7 @@ use Rattle.router.specs.Sent.TheVariants as sent
 use Rattle.router.specs.Unicasts.{Unicasts}
 use Rattle.unique_name.specs.UniqueNames.{unique_name}
 use Rattle.peers.specs.declared.error.AnswerError.{AnswerError}
-use Rattle.peers.specs.Announcements.{IsTold, HasTold}
+use Rattle.peers.specs.Announcements.{IsTold}
 use Rattle.peers.specs.Answers.{after_serial}
 use Rattle.peers.specs.Calling.{IsOfKind, AnswersCaller, AnswersMany, AnswersCallers, gone_asked}
 use Rattle.peers.specs.Passing.{with_pass}

@@ -1,5 +1,5 @@
 -- Calls that clients make of one another, and their replies (D-Bus Specification, "Message Types").
-use Rattle.std.specs.Prelude.{ℕ, zero, suc, ◌≡◌, ◌⊎◌, Bool, true, false, List, Option, Some, Result, Ok}
+use Rattle.std.specs.Prelude.{ℕ, zero, suc, ◌≡◌, ◌⊎◌, Bool, true, false, List, Some, Result, Ok}
 use Rattle.outbox.specs.Seated.{OutboxId}
 use Rattle.message_view.specs.declared.kind.Kind.{Kind}
 use Rattle.message_view.specs.declared.kind.Kind.TheVariants as kinds

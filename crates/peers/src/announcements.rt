@@ -168,10 +168,7 @@ impl<B: Naming, M: Mailbox> Peer<B, M> {
         let Ok(bytes) = built_message else {
             return Err(AnswerError::NoMemory);
         };
-        match self
-            .pass
-            .send_to(context.rt, context.alloc, Source::Bus, to.as_str(), &bytes)
-        {
+        match self.pass.send_to(context.rt, context.alloc, Source::Bus, to.as_str(), &bytes) {
             Ok(_) => Ok(()),
             Err(_) => Err(AnswerError::NoMemory),
         }

@@ -1,7 +1,7 @@
 // Accepting connections.
 
-use crate::hub::Hub;
 use crate::acceptor::Acceptor;
+use crate::hub::Hub;
 use members::{Arrival, Post};
 use sessions::Naming;
 use std::alloc::Global;

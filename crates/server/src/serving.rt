@@ -3,12 +3,12 @@
 ghost use Rattle.std.specs.Prelude.{◌≡◌};
 
 use crate::accepting::accept_all;
+use crate::acceptor::Acceptor;
 use crate::endpoint::Endpoint;
 use crate::hub::{Hub, Identity};
 use crate::limits::Limits;
 use crate::note::Verbosity;
 use crate::notes::Log;
-use crate::acceptor::Acceptor;
 use crate::worker::{Desk, work};
 use members::Mail;
 use sessions::{Bus, IndexKey, Naming, Opened};
@@ -37,7 +37,13 @@ pub struct Start {
 
 /// Serves as many connections as are asked for, or without end, on a bus of their own, whichever of the endpoints they come
 /// by. It answers once all of them have ended, or where memory or threads are refused at the start.
-pub fn serve<R, L>(rt: &R, alloc: Global, start: Start, endpoints: &[Endpoint], log: L) -> io::Result<()>
+pub fn serve<R, L>(
+    rt: &R,
+    alloc: Global,
+    start: Start,
+    endpoints: &[Endpoint],
+    log: L,
+) -> io::Result<()>
 where
     R: Files<File = File> + RandomSource + Threads + Wait + Clock + Net + Sync,
     L: Log + Send + Drop,
