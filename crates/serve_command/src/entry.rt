@@ -219,7 +219,8 @@ where
         count: options.connections.map(u64::from),
         verbosity: options.verbosity,
     };
-    match server::serve(rt, alloc, start, endpoints, Lines::new(alloc, err)) {
+    let log = Lines::new(alloc, err);
+    match server::serve(rt, alloc, start, endpoints, &log) {
         Ok(()) => Ok(()),
         Err(_) => Err(Refusal::no_thread()),
     }

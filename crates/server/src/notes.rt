@@ -12,7 +12,7 @@ const ROOM: usize = 256;
 /// Where notes are written, one after the other.
 pub trait Log {
     /// Writes a note. One that can't be written is given up.
-    fn write(&mut self, note: Note);
+    fn write<R: Wait>(&self, rt: &R, note: Note);
 }
 
 /// Notes on their way to the one thread that writes them. Whoever leaves a note doesn't wait until it is written.
@@ -45,19 +45,26 @@ impl Notes {
         }
     }
 
-    /// Says that no more notes come.
+    /// Says that one thread more leaves notes from now on.
+    pub(crate) fn begin<R: Wait>(&self, rt: &R) {
+        let mut waiting = self.waiting.lock(rt);
+        waiting.threads = waiting.threads.saturating_add(1);
+    }
+
+    /// Says that a thread leaves no more notes.
     pub(crate) fn finish<R: Wait>(&self, rt: &R) {
-        self.waiting.lock(rt).is_finished = true;
+        let mut waiting = self.waiting.lock(rt);
+        waiting.threads = waiting.threads.saturating_sub(1);
         self.grown.notify_one();
     }
 
-    /// Writes all notes, each as soon as it comes.
-    pub(crate) fn write_all<R: Wait, L: Log + Drop>(&self, rt: &R, mut log: L) {
+    /// Writes all notes, each as soon as it comes, until no thread leaves any.
+    pub(crate) fn write_all<R: Wait, L: Log>(&self, rt: &R, log: &L) {
         for _ in rt.forever() {
             let Some(note) = self.next(rt) else {
                 return;
             };
-            log.write(note);
+            log.write(rt, note);
         }
     }
 
@@ -75,8 +82,8 @@ struct Waiting {
     notes: VecDeque<Note>,
     // How many found no room since the last one of them.
     lost: u64,
-    // No more come.
-    is_finished: bool,
+    // How many threads leave notes.
+    threads: u32,
 }
 
 impl Waiting {
@@ -84,12 +91,12 @@ impl Waiting {
         Waiting {
             notes: VecDeque::new(alloc),
             lost: 0,
-            is_finished: false,
+            threads: 1,
         }
     }
 
     fn is_idle(&self) -> bool {
-        self.notes.is_empty() && self.lost == 0 && !self.is_finished
+        self.notes.is_empty() && self.lost == 0 && self.threads > 0
     }
 
     fn add(&mut self, note: Note) {

@@ -35,18 +35,18 @@ pub struct Start {
     pub verbosity: Verbosity,
 }
 
-/// Serves as many connections as are asked for, or without end, on a bus of their own, whichever of the endpoints they come
-/// by. It answers once all of them have ended, or where memory or threads are refused at the start.
+/// Serves as many connections as are asked for, or without end, on a bus of their own, whichever of the endpoints they
+/// come by. It answers once all of them have ended, or where memory or threads are refused at the start.
 pub fn serve<R, L>(
     rt: &R,
     alloc: Global,
     start: Start,
     endpoints: &[Endpoint],
-    log: L,
+    log: &L,
 ) -> io::Result<()>
 where
     R: Files<File = File> + RandomSource + Threads + Wait + Clock + Net + Sync,
-    L: Log + Send + Drop,
+    L: Log + Sync,
 {
     let opened = Opened::<Mail>::new();
     serve_on::<Brand, R, L>(rt, alloc, opened, start, endpoints, log)
@@ -58,11 +58,11 @@ fn serve_on<J: Naming + Send + Sync, R, L>(
     opened: Opened<Mail>,
     start: Start,
     endpoints: &[Endpoint],
-    log: L,
+    log: &L,
 ) -> io::Result<()>
 where
     R: Files<File = File> + RandomSource + Threads + Wait + Clock + Net + Sync,
-    L: Log + Send + Drop,
+    L: Log + Sync,
     requires { opened ≡ J.book }
 {
     let Start {
@@ -76,48 +76,30 @@ where
         return Err(ErrorKind::OutOfMemory.into());
     };
     let hub = Hub::new(alloc, bus, identity, limits, verbosity)?;
-    if !hub.notes.are_wanted() {
-        return run(rt, alloc, &hub, endpoints, count);
-    }
-    run_with_log(rt, alloc, &hub, endpoints, count, log)
+    run(rt, alloc, &hub, endpoints, count, log)
 }
 
-/// The same as `run`, with a thread that writes the notes. Where there is none, the bus goes on without its log.
-fn run_with_log<J: Naming + Send + Sync, R, L>(
+/// Starts the workers and, where notes are wanted, the thread that writes them; accepts, and waits for all of them to end. Where
+/// there is no thread for the log, the bus goes on without it.
+fn run<J: Naming + Send + Sync, R, L>(
     rt: &R,
     alloc: Global,
     hub: &Hub<J, &R>,
     endpoints: &[Endpoint],
     count: Option<u64>,
-    log: L,
+    log: &L,
 ) -> io::Result<()>
 where
     R: Files<File = File> + RandomSource + Threads + Wait + Clock + Net + Sync,
-    L: Log + Send + Drop,
-{
-    thread::scope(thread::scope_env(), rt, |scope| {
-        let writer = move || hub.notes.write_all(rt, log);
-        let _ = Builder::new().spawn_scoped(scope, writer);
-        let served = run(rt, alloc, hub, endpoints, count);
-        hub.notes.finish(rt);
-        served
-    })
-}
-
-/// Starts the workers, accepts, and waits for the workers to end.
-fn run<J: Naming + Send + Sync, R>(
-    rt: &R,
-    alloc: Global,
-    hub: &Hub<J, &R>,
-    endpoints: &[Endpoint],
-    count: Option<u64>,
-) -> io::Result<()>
-where
-    R: Files<File = File> + RandomSource + Threads + Wait + Clock + Net + Sync,
+    L: Log + Sync,
 {
     let mut acceptor = Acceptor::new(rt, alloc, endpoints)?;
     let mut posts = Vec::with_capacity(alloc, hub.limits.workers)?;
     thread::scope(thread::scope_env(), rt, |scope| {
+        if hub.notes.are_wanted() {
+            let writer = move || hub.notes.write_all(rt, log);
+            let _ = Builder::new().spawn_scoped(scope, writer);
+        }
         for _ in 0..hub.limits.workers {
             let Ok(desk) = Desk::new(rt, alloc) else {
                 continue;
@@ -125,17 +107,19 @@ where
             let Ok(post) = desk.post() else {
                 continue;
             };
+            hub.notes.begin(rt);
             let worker = move || work(rt, alloc, hub, desk);
-            if Builder::new().spawn_scoped(scope, worker).is_ok() {
-                if let Err(refused) = posts.push(post) {
-                    refused.value.finish();
-                }
+            if Builder::new().spawn_scoped(scope, worker).is_err() {
+                hub.notes.finish(rt);
+            } else if let Err(refused) = posts.push(post) {
+                refused.value.finish();
             }
         }
         accept_all(rt, alloc, &mut acceptor, count, hub, posts.as_slice());
         for post in posts.iter() {
             post.finish();
         }
+        hub.notes.finish(rt);
     });
     if posts.is_empty() {
         return Err(ErrorKind::OutOfMemory.into());

@@ -92,6 +92,7 @@ pub(crate) fn work<J: Naming, R: Wait + Drop, W: Wait + Clock>(
         worker.go_on(rt);
         worker.end_overdue_ones(rt);
         if worker.is_done(rt) {
+            hub.notes.finish(rt);
             return;
         }
     }
