@@ -205,9 +205,11 @@ where
         + Alloc,
 {
     let key = index_key(rt)?;
+    let digits = guid.digits;
+    let machine = machine_id(rt);
     let identity = Identity {
-        guid: guid.digits,
-        machine: machine_id(rt),
+        guid: digits,
+        machine,
     };
     let workers = thread::available_parallelism(rt)
         .map(|count| count.get())

@@ -30,14 +30,12 @@ impl<'a> Target<'a> {
         for address in options.addresses.as_slice() {
             if let Some(address) = *address {
                 let target = Target::of(rt, alloc, address)?;
-                targets.push(target).map_err(|_| Refusal::memory())?;
+                add(&mut targets, target)?;
             }
         }
         if targets.is_empty() {
             let place = Place::usual(rt, alloc, options.usual_place)?;
-            targets
-                .push(Target::Chosen(place))
-                .map_err(|_| Refusal::memory())?;
+            add(&mut targets, Target::Chosen(place))?;
         }
         Ok(targets)
     }
@@ -67,5 +65,12 @@ impl<'a> Target<'a> {
         if let Target::Chosen(place) = self {
             place.remove(rt);
         }
+    }
+}
+
+fn add<'a>(targets: &mut Vec<Target<'a>>, target: Target<'a>) -> Result<(), Refusal> {
+    match targets.push(target) {
+        Ok(()) => Ok(()),
+        Err(_) => Err(Refusal::memory()),
     }
 }
