@@ -94,7 +94,7 @@ impl<J: Naming> Connection<J> {
         rt: &W,
         hub: &Hub<J, R>,
     ) -> io::Result<()> {
-        self.ticket = hub.newcomers.enter(rt, Arc::try_clone(&self.link)?);
+        self.ticket = hub.newcomers.enter(rt, Arc::try_clone(&self.link)?)?;
         Ok(())
     }
 

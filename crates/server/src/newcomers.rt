@@ -2,6 +2,7 @@
 
 use endpoints::Link;
 use std::alloc::Global;
+use std::io;
 use std::sync::{Arc, Condvar, Mutex, Wait};
 
 /// A connection that hasn't said Hello.
@@ -14,7 +15,7 @@ struct Newcomer {
 #[derive(Drop)]
 struct Places {
     free: u32,
-    // Somebody waits for a place.
+    // Somebody waits for a place, and no newcomer was there to go for it.
     is_wanted: bool,
     last_ticket: u64,
     // Those that workers have taken in, the oldest first.
@@ -22,11 +23,14 @@ struct Places {
 }
 
 impl Places {
-    /// Makes the oldest newcomer go: its worker finds its socket shut, and gives its place back.
+    /// Makes the oldest newcomer go: its worker finds its socket shut, and gives its place back. Where none is there yet,
+    /// the first that comes has to go.
     fn send_off_the_oldest(&mut self) {
-        if !self.newcomers.is_empty() {
+        let is_there = !self.newcomers.is_empty();
+        if is_there {
             self.newcomers.remove(0).link.shut();
         }
+        self.is_wanted = !is_there;
     }
 
     /// Whether a newcomer of this ticket was there, which is there no longer.
@@ -61,7 +65,6 @@ impl Newcomers {
     pub(crate) fn take_place<R: Wait>(&self, rt: &R) {
         let mut places = self.places.lock(rt);
         if places.free == 0 {
-            places.is_wanted = true;
             places.send_off_the_oldest();
         }
         let mut places = self
@@ -71,17 +74,16 @@ impl Newcomers {
         places.free = places.free.saturating_sub(1);
     }
 
-    /// Notes a connection that has a place, and gives its ticket. One for which memory is refused isn't known as the
-    /// oldest.
-    pub(crate) fn enter<R: Wait>(&self, rt: &R, link: Arc<Link>) -> u64 {
+    /// Notes a connection that has a place, and gives its ticket.
+    pub(crate) fn enter<R: Wait>(&self, rt: &R, link: Arc<Link>) -> io::Result<u64> {
         let mut places = self.places.lock(rt);
         let ticket = places.last_ticket.saturating_add(1);
+        places.newcomers.push(Newcomer { ticket, link })?;
         places.last_ticket = ticket;
-        let _ = places.newcomers.push(Newcomer { ticket, link });
         if places.is_wanted && places.free == 0 {
             places.send_off_the_oldest();
         }
-        ticket
+        Ok(ticket)
     }
 
     /// Gives back the place of a connection. Answers false if it was the oldest and had to go.
