@@ -168,7 +168,8 @@ def is_built(rt, crate):
 def in_lanes(tasks, lanes, memory):
     """Runs tasks side by side, each once those that it waits for have ended, those first that begin the longest chain of
     others. A task is what it waits for, its work in lines, its memory, and a call that takes how many jobs
-    it may use and says whether it went well. Nothing begins that waits for one that didn't; returns those that did."""
+    it may use and says whether it went well. There is a job more than there are lanes, since a check loads and links with one
+    processor, whatever it may use. Nothing begins that waits for one that didn't; returns those that did."""
     chain = {key: work for key, (_, work, _, _) in tasks.items()}
     for key in reversed([*tasks]):
         for it in tasks[key][0]:
@@ -178,7 +179,7 @@ def in_lanes(tasks, lanes, memory):
         while True:
             ready = [it for it in left if done.issuperset(tasks[it][0])]
             for at, key in enumerate(ready):
-                idle = lanes - sum(jobs for _, jobs in running.values())
+                idle = lanes + 1 - sum(jobs for _, jobs in running.values())
                 room = memory - sum(tasks[it][2] for it, _ in running.values())
                 if idle <= 0 or (running and tasks[key][2] > room):
                     break
