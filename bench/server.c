@@ -86,19 +86,30 @@ static void measure_windows(const char *object, const char *member, const char *
     measure(window, 8);
 }
 
-static void one_of_250(const char *rule, const char *object, const char *member, const char *argument) {
+/* Has 250 clients join, each with as many rules, the k-th of all by the k-th of the texts in turn. */
+static void join_250(int each, const char *const *rules, int texts) {
     char text[256];
     for (int i = 1; i <= 250; i++) {
         join(&clients[i]);
-        for (int k = 0; k < 4; k++) {
-            snprintf(text, sizeof text, rule, (i - 1) * 4 + k);
+        for (int k = (i - 1) * each; k < i * each; k++) {
+            snprintf(text, sizeof text, rules[k % texts], k);
             add(&clients[i], text);
         }
     }
-    /* the one that the message is for stands first */
-    clients[0] = clients[126];
+}
+
+/* A signal for the one whose rule has this number, which is then the first of the clients. */
+static void for_one(int number, int each, const char *object, const char *interface, const char *member, const char *argument) {
+    clients[0] = clients[1 + number / each];
     readers = 1;
-    measure_windows(object, member, argument);
+    if (!sender.fd) join(&sender);
+    of_windows = made(SIGNAL, 1, NULL, object, interface, member, argument);
+    measure(window, 8);
+}
+
+static void one_of_250(const char *rule, const char *object, const char *member, const char *argument) {
+    join_250(4, &rule, 1);
+    for_one(500, 4, object, "a.b", member, argument);
 }
 
 static void by_member(void) { one_of_250("member='m%d'", "/a", "m500", "text"); }
@@ -107,8 +118,51 @@ static void by_arg0(void) {
     one_of_250("type='signal',interface='a.b',member='changed',arg0='com.example.N%d'", "/a", "changed", "com.example.N500");
 }
 
+static void by_arg0namespace(void) {
+    one_of_250("member='changed',arg0namespace='com.example.n%d'", "/a", "changed", "com.example.n500.more");
+}
+
+static void by_path(void) { one_of_250("path='/com/example/n%d'", "/com/example/n500", "m", "text"); }
+
 static void by_path_namespace(void) {
     one_of_250("path_namespace='/com/example/n%d'", "/com/example/n500/more", "m", "text");
+}
+
+static void by_interface(void) {
+    const char *rule = "interface='com.example.n%d'";
+    join_250(4, &rule, 1);
+    for_one(500, 4, "/a", "com.example.n500", "m", "text");
+}
+
+/* The rules are for unique names. That of the sender is the last one's. */
+static void by_sender(void) {
+    const char *rule = "sender=':2.%d'";
+    char own[128];
+    join_250(4, &rule, 1);
+    join(&sender);
+    snprintf(own, sizeof own, "sender='%s'", sender.name);
+    add(&clients[126], own);
+    for_one(500, 4, "/a", "a.b", "m", "text");
+}
+
+/* What the programs of a desktop ask for, in turn. */
+static void by_mixed_keys(void) {
+    static const char *const rules[] = {
+        "type='signal',sender='org.freedesktop.DBus',interface='org.freedesktop.DBus',member='NameOwnerChanged',arg0='com.example.N%d'",
+        "type='signal',interface='org.freedesktop.DBus.Properties',member='PropertiesChanged',path='/com/example/n%d'",
+        "type='signal',path_namespace='/com/example/n%d'",
+        "type='signal',sender=':2.%d'",
+        "type='signal',interface='com.example.n%d'",
+        "type='signal',member='changed',arg0namespace='com.example.n%d'",
+    };
+    join_250(4, rules, 6);
+    for_one(499, 4, "/com/example/n499", "org.freedesktop.DBus.Properties", "PropertiesChanged", "text");
+}
+
+static void of_16000(void) {
+    const char *rule = "member='m%d'";
+    join_250(64, &rule, 1);
+    for_one(8000, 64, "/a", "a.b", "m8000", "text");
 }
 
 static void all_of_100(void) {
@@ -181,6 +235,51 @@ static void latency(void) {
     printf("%.2f %.2f\n", late[lates / 2] * 1e6, late[lates * 99 / 100] * 1e6);
 }
 
+/* What one client asks for and then takes back, among 250 with four rules each. Both are counted together. */
+static void among_250(void (*part)(void)) {
+    const char *rule = "member='m%d'";
+    join_250(4, &rule, 1);
+    join(&sender);
+    measure(part, 64);
+}
+
+static void add_and_remove(void) {
+    const char *rule = "type='signal',interface='a.b',member='asked',path='/a'";
+    add(&sender, rule);
+    call(&sender, bus_call(BUS_NAME, "RemoveMatch", rule));
+    sent++;
+}
+
+static void request_and_release(void) {
+    struct message m = begun(CALL, 0, 1), body = {.len = 0};
+    text(&body, "com.example.Asked");
+    pad(&body, 4);
+    word(&body, 0);
+    field(&m, PATH, "o", BUS_OBJECT);
+    field(&m, INTERFACE, "s", BUS_NAME);
+    field(&m, MEMBER, "s", "RequestName");
+    field(&m, DESTINATION, "s", BUS_NAME);
+    field(&m, SIGNATURE, "g", "su");
+    add_body(&m, &body);
+    call(&sender, m);
+    call(&sender, bus_call(BUS_NAME, "ReleaseName", "com.example.Asked"));
+    sent++;
+}
+
+static void come_and_go(void) {
+    join(&clients[0]);
+    close(clients[0].fd);
+    sent++;
+}
+
+static void rules(void) { among_250(add_and_remove); }
+static void names(void) { among_250(request_and_release); }
+
+static void comings(void) {
+    for (int i = 1; i <= 100; i++) join(&clients[i]);
+    measure(come_and_go, 16);
+}
+
 enum { PAIRS = 4, BATCH = 64, PAIR_TIMES = 102400, UNREAD = 512 };
 
 struct pair {
@@ -236,8 +335,10 @@ static const struct mode {
     const char *name;
     void (*run)(void);
 } modes[] = {
-    {"member", by_member}, {"arg0", by_arg0}, {"path_namespace", by_path_namespace}, {"all", all_of_100},
-    {"nobody", nobody_listens}, {"burst", bursts}, {"late", latency}, {"pairs", pairs},
+    {"member", by_member}, {"arg0", by_arg0}, {"arg0namespace", by_arg0namespace}, {"path", by_path},
+    {"path_namespace", by_path_namespace}, {"interface", by_interface}, {"sender", by_sender}, {"mixed", by_mixed_keys},
+    {"many", of_16000}, {"all", all_of_100}, {"nobody", nobody_listens}, {"burst", bursts}, {"late", latency},
+    {"rules", rules}, {"names", names}, {"comings", comings}, {"pairs", pairs},
 };
 
 int main(int words, char **word) {
