@@ -65,6 +65,13 @@ impl<B: Naming, M: Mailbox> Peer<B, M> {
         }
     }
 
+    /// The number of its connection, by which its unique name is made.
+    pub fn connection(&self) -> u64
+        ensures { result ≡ self.now.pass.connection }
+    {
+        self.pass.connection()
+    }
+
     /// Counts the instructions of the programs that it attaches from now on among those of all clients.
     pub fn share_instructions(&mut self, all: Arc<AllInstructions>)
         ensures { self.new ≡ self.old }

@@ -47,7 +47,8 @@ pub(crate) struct Options<'a> {
 }
 
 impl<'a> Options<'a> {
-    /// What some words ask for: options in any order, each once at most but for `--limit` and `--listen`, with its value as the next word or after a `=`.
+    /// What some words ask for: options in any order, each once at most but for `--limit` and `--listen`, with its value
+    /// as the next word or after a `=`.
     pub(crate) fn read(words: &[&'a str]) -> Result<Options<'a>, WordFault<'a>> {
         let words = Words::read(words)?;
         Ok(Options {

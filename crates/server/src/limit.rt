@@ -63,23 +63,23 @@ impl Limit {
 
     /// Its name, as words have it.
     pub fn name(self) -> &'static str {
-        self.row().name
+        self.terms().name
     }
 
     /// The number where no other is asked for.
     pub fn standard(self) -> u32
         ensures { result ≡ standard_of self }
     {
-        self.row().standard
+        self.terms().standard
     }
 
     /// What its number counts.
     pub fn unit(self) -> &'static str {
-        self.row().unit
+        self.terms().unit
     }
 
     /// The table of limits.
-    fn row(self) -> Terms
+    fn terms(self) -> Terms
         ensures { result.standard ≡ standard_of self }
     {
         match self {

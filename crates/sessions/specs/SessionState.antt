@@ -1,5 +1,5 @@
 -- What clauses see of a session (own).
-use Rattle.std.specs.Prelude.{Bool, false, ℕ, List, [], Option, None}
+use Rattle.std.specs.Prelude.{Bool, false, ℕ, List, [], Option, Some, None}
 use Rattle.auth.specs.Talk.{Standing, opening_with}
 use Rattle.auth.specs.declared.terms.Terms.{Terms}
 use Rattle.peers.specs.PeerState.{PeerState}
@@ -17,3 +17,8 @@ pub record SessionState (M : Type 0) : Type 0 where
 -- before the first byte, on these terms
 abbrev pub new_session : {M : Type 0} → Terms → SessionState M
 new_session terms = record { standing = opening_with terms; has_begun = false; unread = []; peer = None; fault = None }
+
+-- the number of the connection of a client whose peer is there
+abbrev pub connection_of : {M : Type 0} → Option (PeerState M) → Option ℕ
+connection_of (Some v) = Some v.pass.connection
+connection_of None = None

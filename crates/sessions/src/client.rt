@@ -1,6 +1,7 @@
 // The client that a session serves.
 
 ghost use Rattle.std.specs.Prelude.{◌≡◌, None, is_some};
+ghost use Rattle.sessions.specs.SessionState.{connection_of};
 ghost use Rattle.sessions.specs.Steps.{Takes, outcome_of};
 
 use crate::error::SessionError;
@@ -23,8 +24,6 @@ where
 {
     pub(crate) own: Option<OwnOutbox<M>>,
     pub(crate) peer: Option<Peer<B, M>>,
-    // The number of its connection, 0 before Hello.
-    number: u64,
     identity: Identity,
     /// Among which the instructions of its programs are counted.
     all: Option<Arc<AllInstructions>>,
@@ -50,7 +49,6 @@ impl<B: Naming, M: Mailbox> Client<B, M> {
         Client {
             own: Some(OwnOutbox::new(mailbox)),
             peer: None,
-            number: 0,
             identity,
             all: None,
         }
@@ -79,12 +77,11 @@ impl<B: Naming, M: Mailbox> Client<B, M> {
 
     /// The number of its connection, once Hello was accepted.
     pub(crate) fn number(&self) -> Option<u64>
-        ensures { is_some result ≡ is_some self.now }
+        ensures { result ≡ connection_of self.now }
     {
-        if self.is_connected() {
-            Some(self.number)
-        } else {
-            None
+        match &self.peer {
+            Some(peer) => Some(peer.connection()),
+            None => None,
         }
     }
 
@@ -136,8 +133,7 @@ impl<B: Naming, M: Mailbox> Client<B, M> {
             return Err(SessionError::NoHello);
         };
         match greet(context, own, self.identity, view) {
-            Ok((mut peer, number)) => {
-                self.number = number;
+            Ok(mut peer) => {
                 if let Some(all) = self.all.take() {
                     peer.share_instructions(all);
                 }

@@ -16,8 +16,7 @@ use peers::{
 };
 use std::sync::Wait;
 
-/// The peer that the first message makes of an outbox, and the number of its connection; the outbox comes back if it
-/// makes none.
+/// The peer that the first message makes of an outbox, which comes back if it makes none.
 ///
 /// # Errors
 ///
@@ -28,19 +27,15 @@ pub(crate) fn greet<B: Naming, M: Mailbox, W: Wait, R: Wait + Drop>(
     mut own: OwnOutbox<M>,
     identity: Identity,
     view: &View<'_>,
-) -> Result<(Peer<B, M>, u64), (SessionError, OwnOutbox<M>)>
-    ensures peer { IfOk result (λ arrived. IsNewcomer arrived.0) }
-    ensures number { IfOk result (λ arrived. arrived.1 ≡ arrived.0.pass.connection) }
+) -> Result<Peer<B, M>, (SessionError, OwnOutbox<M>)>
+    ensures peer { IfOk result (λ peer. IsNewcomer peer) }
     ensures hello { IfOk result (λ _. (m : Message) → Valid view.now m → is_hello m ≡ true) }
 {
     if !is_hello(view) {
         return Err((SessionError::NoHello, own));
     }
     match connect_pass(context, &own, view) {
-        Ok(pass) => {
-            let number = pass.connection();
-            Ok((Peer::new(context.alloc, pass, own, identity), number))
-        }
+        Ok(pass) => Ok(Peer::new(context.alloc, pass, own, identity)),
         Err(Refused::Ended) => Err((SessionError::NoMemory, own)),
         Err(Refused::Error(name)) => {
             match put_refusal(context, &mut own, Request::of(view), name) {

@@ -4,7 +4,7 @@ ghost use Rattle.std.specs.Prelude.{◌≡◌, [], None, IfOk, is_some, length, 
 ghost use Rattle.auth.specs.Admissions.{any_admission};
 ghost use Rattle.sessions.specs.Steps.{Feeds, Steps, TakesNext, TakesMessage, TakesLine};
 ghost use Rattle.sessions.specs.Ends.{EndsAny};
-ghost use Rattle.sessions.specs.SessionState.{new_session};
+ghost use Rattle.sessions.specs.SessionState.{connection_of, new_session};
 
 use crate::client::Client;
 use crate::ending::{Rest, end};
@@ -115,7 +115,7 @@ impl<B: Naming, M: Mailbox> Session<B, M> {
 
     /// The number of its client's connection, by which its unique name is made, once Hello was accepted.
     pub fn number(&self) -> Option<u64>
-        ensures { is_some result ≡ is_some self.now.peer }
+        ensures { result ≡ connection_of self.now.peer }
     {
         self.client.number()
     }
