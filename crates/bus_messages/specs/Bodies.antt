@@ -7,7 +7,7 @@ use Rattle.message_value.specs.Value.{Value, text, number, elements, entries, of
 use Rattle.message_build.specs.Asked.{Asked}
 use Rattle.message_build.specs.Adding.{with_argument, with_raw, string_values}
 use Rattle.bus_messages.specs.declared.body.Body.{Body}
-use Rattle.bus_messages.specs.declared.body.Body.TheVariants.{Nothing, Text, Number, Truth, Texts, EmptyDict, EmptyList, Properties}
+use Rattle.bus_messages.specs.declared.body.Body.TheVariants.{Nothing, Text, Number, Truth, Texts, EmptyDict, EmptyList, Properties, User}
 
 -- a variant of an empty array of strings
 abbrev pub empty_list : Value
@@ -16,6 +16,10 @@ empty_list = of_type (array (basic 115)) (elements no_values)
 -- the bus's properties, none of which has an element
 abbrev pub bus_properties : Value
 bus_properties = entries (one_entry (text (codes "Features")) empty_list (one_entry (text (codes "Interfaces")) empty_list no_entries))
+
+-- what is known of a client: the number of the user that it runs as
+abbrev pub user_properties : ℕ → Value
+user_properties n = entries (one_entry (text (codes "UnixUserID")) (of_type (basic 117) (number n)) no_entries)
 
 -- the message with one value as its whole body
 abbrev pub with_value : Asked → DataType → Value → Asked
@@ -40,3 +44,4 @@ with_body asked (Texts strings) = with_argument asked (array (basic 115)) (eleme
 with_body asked EmptyDict = with_value asked (dict 115 variant) (entries no_entries)
 with_body asked EmptyList = with_value asked variant empty_list
 with_body asked Properties = with_value asked (dict 115 variant) bus_properties
+with_body asked (User n) = with_value asked (dict 115 variant) (user_properties n)

@@ -1,7 +1,11 @@
 // What the messages of the bus carry.
 
+ghost use Rattle.std.specs.Prelude.{◌≡◌};
+ghost use Rattle.signature.specs.DataType.{variant, dict};
+ghost use Rattle.message_value.specs.declared.order.Order.TheVariants.{Little};
+ghost use Rattle.message_value.specs.Spelling.{value_bytes};
 ghost use Rattle.message_build.specs.Adding.{Adds};
-ghost use Rattle.bus_messages.specs.Bodies.{with_body};
+ghost use Rattle.bus_messages.specs.Bodies.{user_properties, with_body};
 
 use message_build::{BuildError, Builder};
 
@@ -18,6 +22,17 @@ const EMPTY_LIST: &[u8] = b"\x02as\0\0\0\0\0";
 const BUS_PROPERTIES: &[u8] =
     b"\x30\0\0\0\0\0\0\0\x08\0\0\0Features\0\x02as\0\0\0\0\0\0\0\0\x0a\0\0\0Interfaces\0\x02as\0\0\0\0\0\0";
 
+/// The user of this number as an `a{sv}`, whose one entry is UnixUserID: 24 bytes.
+fn user_bytes(number: u32) -> [u8; 32]
+    ensures { result ≡ value_bytes Little 0 (dict 115 variant) (user_properties number) }
+{
+    let [n0, n1, n2, n3] = number.to_le_bytes();
+    [
+        24, 0, 0, 0, 0, 0, 0, 0, 10, 0, 0, 0, b'U', b'n', b'i', b'x', b'U', b's', b'e', b'r', b'I',
+        b'D', 0, 1, b'u', 0, 0, 0, n0, n1, n2, n3,
+    ]
+}
+
 /// The arguments of an answer or a signal of the bus.
 #[derive(Clone, Copy)]
 pub enum Body<'a> {
@@ -32,6 +47,8 @@ pub enum Body<'a> {
     EmptyList,
     /// All properties of the bus, as an `a{sv}`.
     Properties,
+    /// What is known of a client, as an `a{sv}`: the number of the user that it runs as.
+    User(u32),
 }
 
 impl Body<'_> {
@@ -52,6 +69,7 @@ impl Body<'_> {
             Body::EmptyDict => builder.raw_body(PROPERTIES, NO_PROPERTIES),
             Body::EmptyList => builder.raw_body(b"v", EMPTY_LIST),
             Body::Properties => builder.raw_body(PROPERTIES, BUS_PROPERTIES),
+            Body::User(number) => builder.raw_body(PROPERTIES, &user_bytes(number)),
         }
     }
 }

@@ -59,6 +59,7 @@ impl<J: Naming> Client<J> {
             Action::Cut(len) => self.at_once = len,
             Action::Share(shares) => self.shares = shares,
             Action::Machine(id) => self.set_machine_id(id),
+            Action::User(number) => self.set_user(number),
             Action::Get(wanted) => return self.get(place, &wanted),
             Action::End(words) => return self.end(place, words),
             Action::Serve(_) => return Err(LineError::Unreadable),
@@ -85,6 +86,12 @@ impl<J: Naming> Client<J> {
     fn set_machine_id(&mut self, id: [u8; 32]) {
         if let Some(session) = &mut self.session {
             session.set_machine_id(id);
+        }
+    }
+
+    fn set_user(&mut self, number: u32) {
+        if let Some(session) = &mut self.session {
+            session.set_user(number);
         }
     }
 

@@ -37,6 +37,8 @@ pub(crate) enum Action<'a> {
     Share(Shares),
     /// The bus gets this machine's id.
     Machine([u8; 32]),
+    /// Each client runs as the user of this number.
+    User(u32),
     /// What it got next.
     Get(Wanted<'a>),
     /// Its bytes end here, and this is how its session ends.
@@ -78,6 +80,7 @@ impl<'a> Action<'a> {
             "enters" => Ok(Action::Enter(entry(alloc)?)),
             "forgets" => Ok(Action::Forget),
             "machine" => Ok(Action::Machine(machine_id(rest)?)),
+            "user" => Ok(Action::User(rest.parse::<u32>()?)),
             "ends" => Ok(Action::End(rest)),
             "runs" => Ok(Action::Serve(Serving::read(rest)?)),
             _ => Err(LineError::Unreadable),

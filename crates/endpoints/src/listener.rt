@@ -89,6 +89,15 @@ impl Listener {
         }
     }
 
+    /// The number of the user that alone reaches it, but for root, if that is so: of a path in a folder of this process's
+    /// user that nobody else enters.
+    pub fn only_user<R: Files>(&self, rt: &R) -> Option<u32> {
+        match self {
+            Listener::Unix(_, Some(file)) => file.only_user(rt),
+            _ => None,
+        }
+    }
+
     /// Stops listening, and removes the file of a Unix socket, if it is still the one that was made.
     pub fn close<R: Files>(self, rt: &R) {
         if let Listener::Unix(listener, file) = self {

@@ -37,15 +37,17 @@ pub(crate) fn make_own_folder<R: Files>(rt: &R, path: &str, user: u32) -> io::Re
         Err(error) if error.kind() != ErrorKind::AlreadyExists => return Err(error),
         _ => {}
     }
-    let metadata = fs::symlink_metadata(rt, path)?;
-    if metadata.is_dir()
-        && metadata.uid() == user
-        && metadata.mode() & PERMISSIONS == OWNER_ENTERS
-    {
+    if is_own_folder(rt, path, user)? {
         Ok(())
     } else {
         Err(io::Error::from(ErrorKind::AlreadyExists))
     }
+}
+
+/// Whether a folder is this user's, and nobody else but root enters it. A link is not followed.
+pub(crate) fn is_own_folder<R: Files>(rt: &R, path: &str, user: u32) -> io::Result<bool> {
+    let metadata = fs::symlink_metadata(rt, path)?;
+    Ok(metadata.is_dir() && metadata.uid() == user && metadata.mode() & PERMISSIONS == OWNER_ENTERS)
 }
 
 /// Whether a plain file of this user is at a path, or nothing. A link is not followed.

@@ -1,7 +1,7 @@
 // The files of Unix sockets.
 
 use crate::node::Node;
-use crate::own::{make_own_folder, own_user};
+use crate::own::{is_own_folder, make_own_folder, own_user};
 use crate::socket_lock::SocketLock;
 use std::alloc::Global;
 use std::fs::{File, Files, Permissions};
@@ -54,6 +54,16 @@ impl SocketFile {
         }
     }
 
+    /// The number of this process's user, if the file lies in a folder that is that user's, and nobody else but root
+    /// enters it.
+    pub(crate) fn only_user<R: Files>(&self, rt: &R) -> Option<u32> {
+        let user = own_user(rt).ok()?;
+        match is_own_folder(rt, folder_of(self.path.as_str()), user) {
+            Ok(true) => Some(user),
+            _ => None,
+        }
+    }
+
     /// Removes the file, and nothing else that may stand there by now.
     pub(crate) fn remove<R: Files>(self, rt: &R) {
         let SocketFile { path, node, lock } = self;
@@ -63,6 +73,15 @@ impl SocketFile {
             let _ = fs::remove_file(rt, path.as_str());
         }
         lock.release(rt);
+    }
+}
+
+/// The folder of a path.
+fn folder_of(path: &str) -> &str {
+    match path.rsplit_once('/') {
+        Some((folder, _)) if !folder.is_empty() => folder,
+        Some(_) => "/",
+        None => ".",
     }
 }
 

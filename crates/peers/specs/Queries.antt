@@ -31,6 +31,16 @@ use Rattle.peers.specs.declared.request.Request.{Request}
 abbrev pub bus_id : Identity → List ℕ
 bus_id identity = map to_ascii_lowercase identity.guid
 
+-- the number of the user that a client runs as, where it is known
+abbrev pub user_found : Option ℕ → Result Body ErrorName
+user_found (Some number) = Ok (bodies.Number number)
+user_found None = Err names.Failed
+
+-- all that is known of a client
+abbrev pub credentials_of : Option ℕ → Body
+credentials_of (Some number) = bodies.User number
+credentials_of None = bodies.EmptyDict
+
 -- why a list can't be told: the bus has ended, or memory was refused
 abbrev pub CannotList : Refused → Type 0
 CannotList why = (why ≡ Ended) ⊎ (why ≡ Error names.NoMemory)

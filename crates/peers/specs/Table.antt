@@ -14,7 +14,7 @@ use Rattle.peers.specs.Answers.{IsRefused}
 use Rattle.peers.specs.Holdings.{after_add, after_remove, after_attach, after_detach}
 use Rattle.peers.specs.NameRows.{RequestsName, ReleasesName}
 use Rattle.peers.specs.PeerState.{PeerState}
-use Rattle.peers.specs.Queries.{RepliesText, RepliesTexts, RepliesDigits, RepliesMachineId, AnswersFound, AreAllNames, AreQueuedFor, AnswersOwner, NamesOwner, TellsWhetherOwned, TellsOfOwned, bus_id}
+use Rattle.peers.specs.Queries.{RepliesText, RepliesTexts, RepliesDigits, RepliesMachineId, AnswersFound, AreAllNames, AreQueuedFor, AnswersOwner, NamesOwner, TellsWhetherOwned, TellsOfOwned, bus_id, credentials_of, user_found}
 use Rattle.peers.specs.Rows.{Replies, IsConfirmed, NumbersEntry}
 use Rattle.peers.specs.Shares.{WithinShare, WithinMemory, WithinAll, rule_limit, program_limit}
 use Rattle.peers.specs.declared.error.AnswerError.{AnswerError}
@@ -42,9 +42,9 @@ module _ {M : Type 0} where
   Performs outbox_of shares request (calls.GetNameOwner name) v result w = AnswersOwner name.now (NamesOwner request) v result w
   Performs outbox_of shares request (calls.NameHasOwner name) v result w = AnswersOwner name.now (TellsWhetherOwned request) v result w
   Performs outbox_of shares request (calls.StartServiceByName name) v result w = AnswersOwner name.now (TellsOfOwned request (Ok (bodies.Number already_running)) names.ServiceUnknown) v result w
-  Performs outbox_of shares request (calls.GetConnectionUnixUser name) v result w = AnswersOwner name.now (TellsOfOwned request (Err names.Failed) names.NameHasNoOwner) v result w
+  Performs outbox_of shares request (calls.GetConnectionUnixUser name) v result w = AnswersOwner name.now (TellsOfOwned request (user_found v.identity.user) names.NameHasNoOwner) v result w
   Performs outbox_of shares request (calls.GetConnectionUnixProcessId name) v result w = AnswersOwner name.now (TellsOfOwned request (Err names.UnixProcessIdUnknown) names.NameHasNoOwner) v result w
-  Performs outbox_of shares request (calls.GetConnectionCredentials name) v result w = AnswersOwner name.now (TellsOfOwned request (Ok bodies.EmptyDict) names.NameHasNoOwner) v result w
+  Performs outbox_of shares request (calls.GetConnectionCredentials name) v result w = AnswersOwner name.now (TellsOfOwned request (Ok (credentials_of v.identity.user)) names.NameHasNoOwner) v result w
   Performs outbox_of shares request calls.ListActivatableNames v result w = RepliesTexts request (bus_name ∷ []) v result w
   Performs outbox_of shares request calls.Ping v result w = Replies request bodies.Nothing v result w
   Performs outbox_of shares request calls.Get v result w = Replies request bodies.EmptyList v result w

@@ -4,7 +4,7 @@ ghost use Rattle.std.specs.Prelude.{◌≡◌, map};
 ghost use Rattle.std.specs.Char.{to_ascii_lowercase};
 ghost use Rattle.bus_messages.specs.Introspection.{introspection_text};
 ghost use Rattle.peers.specs.Answers.{NeverSlow};
-ghost use Rattle.peers.specs.Queries.{RepliesText, RepliesDigits, RepliesMachineId, bus_id};
+ghost use Rattle.peers.specs.Queries.{RepliesText, RepliesDigits, RepliesMachineId, bus_id, credentials_of, user_found};
 ghost use Rattle.peers.specs.Table.{Performs};
 
 use crate::context::Context;
@@ -54,8 +54,8 @@ impl<B: Naming, M: Mailbox> Peer<B, M> {
             }
             Call::GetConnectionUnixUser(name) => {
                 let missing = ErrorName::NameHasNoOwner;
-                let unknown = Err(ErrorName::Failed);
-                self.answer_of_owned(context, request, name, unknown, missing)
+                let found = user_found(self.identity.user);
+                self.answer_of_owned(context, request, name, found, missing)
             }
             Call::GetConnectionUnixProcessId(name) => {
                 let missing = ErrorName::NameHasNoOwner;
@@ -64,8 +64,8 @@ impl<B: Naming, M: Mailbox> Peer<B, M> {
             }
             Call::GetConnectionCredentials(name) => {
                 let missing = ErrorName::NameHasNoOwner;
-                let nothing_known = Ok(Body::EmptyDict);
-                self.answer_of_owned(context, request, name, nothing_known, missing)
+                let found = Ok(credentials_of(self.identity.user));
+                self.answer_of_owned(context, request, name, found, missing)
             }
             Call::Ping => self.answer(context, request, Body::Nothing),
             Call::GetId => self.get_id(context, request),
@@ -131,6 +131,26 @@ impl<B: Naming, M: Mailbox> Peer<B, M> {
             Ok(text) => self.answer_text(context, request, text.as_str()),
             Err(_) => self.refuse(context, request, Refused::Error(ErrorName::NoMemory)),
         }
+    }
+}
+
+/// The number of the user that a client runs as, where it is known.
+fn user_found(user: Option<u32>) -> Result<Body<'static>, ErrorName>
+    ensures { result ≡ user_found user }
+{
+    match user {
+        Some(number) => Ok(Body::Number(number)),
+        None => Err(ErrorName::Failed),
+    }
+}
+
+/// All that is known of a client.
+fn credentials_of(user: Option<u32>) -> Body<'static>
+    ensures { result ≡ credentials_of user }
+{
+    match user {
+        Some(number) => Body::User(number),
+        None => Body::EmptyDict,
     }
 }
 

@@ -69,3 +69,13 @@ where
         }
     }
 }
+
+/// The number of the user that each client runs as, but for root: where each endpoint is one that this process's user
+/// alone reaches.
+pub(crate) fn only_user<R: Files>(rt: &R, endpoints: &[Endpoint]) -> Option<u32> {
+    let mut found = None;
+    for endpoint in endpoints {
+        found = Some(endpoint.listener.only_user(rt)?);
+    }
+    found
+}

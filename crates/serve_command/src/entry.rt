@@ -2,7 +2,7 @@
 
 ghost use Rattle.serve_command.specs.Status.{IsStatus};
 
-use crate::binding::bind_all;
+use crate::binding::{bind_all, only_user};
 use crate::error::Refusal;
 use crate::guid::Guid;
 use crate::listening::{announce, announcement_of, say};
@@ -210,6 +210,7 @@ where
     let identity = Identity {
         guid: digits,
         machine,
+        user: only_user(rt, endpoints),
     };
     let workers = thread::available_parallelism(rt)
         .map(|count| count.get())

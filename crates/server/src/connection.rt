@@ -77,6 +77,9 @@ impl<J: Naming> Connection<J> {
         if let Some(machine) = hub.identity.machine {
             session.set_machine_id(machine);
         }
+        if let Some(user) = hub.identity.user {
+            session.set_user(user);
+        }
         Ok(Connection {
             session,
             member,

@@ -20,6 +20,8 @@ pub struct Identity {
     pub guid: [u8; 32],
     /// The machine's id, as hexadecimal digits.
     pub machine: Option<[u8; 32]>,
+    /// The number of the user that each client runs as, and the server too, where no other gets in.
+    pub user: Option<u32>,
 }
 
 /// The bus, and what the workers share beside it.

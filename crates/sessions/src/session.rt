@@ -75,6 +75,7 @@ impl<B: Naming, M: Mailbox> Session<B, M> {
         let identity = Identity {
             guid,
             machine_id: None,
+            user: None,
         };
         Session {
             talk: Talk::admitting(guid, admission),
@@ -89,6 +90,14 @@ impl<B: Naming, M: Mailbox> Session<B, M> {
         ensures { self.new ≡ self.old }
     {
         self.client.set_machine_id(id);
+    }
+
+    /// Sets the number of the user that each client runs as, where no other gets in: GetConnectionUnixUser and
+    /// GetConnectionCredentials tell it once Hello came. Without one it isn't known.
+    pub fn set_user(&mut self, number: u32)
+        ensures { self.new ≡ self.old }
+    {
+        self.client.set_user(number);
     }
 
     /// Counts the instructions of the programs that its client attaches among those of all clients that share this. Without
