@@ -15,6 +15,8 @@ mod client;
 #[cfg(test)]
 mod described;
 #[cfg(test)]
+mod folders;
+#[cfg(test)]
 mod messages;
 #[cfg(test)]
 mod two_clients;
