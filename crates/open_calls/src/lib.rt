@@ -1,5 +1,5 @@
 //! The calls that were passed on and wait for their replies. The layers above use that a reply is handed on only where its
-//! call is among them, and that a connection that goes leaves none behind.
+//! call is among them, and that none of a connection stays when it goes.
 #![tactic(auto)]
 
 mod open_call;

@@ -11,7 +11,7 @@ use std::sync::{Mutex, MutexGuard, Wait};
 /// How many shards there are.
 const COUNT: usize = 64;
 
-/// The calls of all connections that wait for their replies, as threads share them: those of a few connections behind one
+/// The calls of all connections that wait for their replies, as threads share them: those of a few connections under one
 /// lock, so that who calls seldom waits for another.
 #[derive(Drop)]
 pub struct Shards {

@@ -61,8 +61,8 @@ module _ {M : Type 0} where
 
   many_close_none : (outbox_of : M → OutboxId) (n : ℕ) (v w : PeerState M) → AnswersMany outbox_of n v w → w.pass.is_closed ≡ v.pass.is_closed
   many_close_none outbox_of zero v w same = ap (λ (p : PeerState M). p.pass.is_closed) same
-  many_close_none outbox_of (suc n) v w (mid, caller, serial, many, (told, (made, is))) =
-      told_closes_none outbox_of (gone_asked mid.serial caller serial) (unique_name caller) mid.pass w.pass told is ∙ many_close_none outbox_of n v mid many
+  many_close_none outbox_of (suc n) v w (mid, caller, serial, many, (outcome, (made, is))) =
+      told_closes_none outbox_of (gone_asked mid.serial caller serial) (unique_name caller) mid.pass w.pass outcome is ∙ many_close_none outbox_of n v mid many
 
   -- who tells those that wait closes no pass and opens none
   pub callers_close_none : (outbox_of : M → OutboxId) (v w : PeerState M) → AnswersCallers outbox_of v w → w.pass.is_closed ≡ v.pass.is_closed

@@ -42,10 +42,10 @@ module _ {M : Type 0} where
 
   -- whoever is done has closed its pass
   pub left : (outbox_of : M → OutboxId) (v w : PeerState M) (asked : Result Reply BusError) (pass : PassState M) (leaving : Leaving) → Once (λ before next. Answers true v.pass before (Close v.pass.connection) asked pass next) → IsClosing outbox_of asked (with_pass v pass) leaving w → HasLeft leaving w
-  left outbox_of v w (Ok reply) pass leaving (before, next, done) (is, announced, mid, (made, signal), told) =
+  left outbox_of v w (Ok reply) pass leaving (before, next, done) (is, announced, mid, (made, signal), outcome) =
       let P : Leaving → Type 0 = λ l. HasLeft l w in
       let u : PeerState M = with_pass v pass in
-      subst P (sym is) (callers_close_none outbox_of mid w told ∙ (signalled outbox_of (change_asked u.serial (name_of u) (Some pass.connection) None) pass mid.pass announced signal ∙ done.2))
+      subst P (sym is) (callers_close_none outbox_of mid w outcome ∙ (signalled outbox_of (change_asked u.serial (name_of u) (Some pass.connection) None) pass mid.pass announced signal ∙ done.2))
   left outbox_of v w (Err errors.NoMemory) pass leaving once (is, same) = let P : Leaving → Type 0 = λ l. HasLeft l w in subst P (sym is) tt
   left outbox_of v w (Err error) pass leaving once (is, same) = let P : Leaving → Type 0 = λ l. HasLeft l w in subst P (sym is) tt
 

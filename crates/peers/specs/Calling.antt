@@ -58,7 +58,7 @@ module _ {M : Type 0} where
 
   -- who waits for the reply to the call of this serial is told that none will come, unless memory was refused
   abbrev pub AnswersCaller : (M → OutboxId) → ℕ → ℕ → PeerState M → PeerState M → Type 0
-  AnswersCaller outbox_of caller serial v w = (told : Result (Unit {0}) AnswerError) × HasTold outbox_of (gone_asked v.serial caller serial) (unique_name caller) v told w
+  AnswersCaller outbox_of caller serial v w = (outcome : Result (Unit {0}) AnswerError) × HasTold outbox_of (gone_asked v.serial caller serial) (unique_name caller) v outcome w
 
   -- this many were told so, one after the other
   abbrev pub AnswersMany : (M → OutboxId) → ℕ → PeerState M → PeerState M → Type 0

@@ -45,7 +45,7 @@ pub(crate) struct Taken {
 
 impl Taken {
     /// Of a client whose instructions nobody counts.
-    pub(crate) fn uncounted() -> Taken {
+    pub(crate) fn not_counted() -> Taken {
         Taken { all: None, len: 0 }
     }
 

@@ -43,7 +43,7 @@ impl Holdings {
             rules: 0,
             programs: Vec::new(alloc),
             names: Vec::new(alloc),
-            taken: Taken::uncounted(),
+            taken: Taken::not_counted(),
         }
     }
 

@@ -37,7 +37,7 @@ pub enum Note {
     Ended(Option<u64>, Cause),
     /// No descriptor is left to accept the next connection by.
     NoDescriptor,
-    /// So many notes found no room.
+    /// As many notes found no room.
     Lost(u64),
 }
 
