@@ -1,7 +1,7 @@
 // A client whose session is driven by hand.
 
 use crate::client_line::Action;
-use crate::place::{GUID, Place};
+use crate::place::Place;
 use crate::received::{Received, Wanted};
 use crate::taker::take_all;
 use case_files::LineError;
@@ -9,8 +9,8 @@ use crossbeam_utils::rule::Protocol;
 use outbox::Taker;
 use routing::Mailbox;
 use sessions::{
-    Command, Letterbox, Naming, Published, Rest, RouteLists, Session, SessionError, Shares, Shown,
-    Step,
+    Admission, Command, Identity, Letterbox, Naming, Published, Rest, RouteLists, Session,
+    SessionError, Shares, Shown, Step,
 };
 use std::alloc::{AllocError, Global};
 use std::collections::LinkedList;
@@ -31,11 +31,12 @@ where
 }
 
 impl<J: Naming> Client<J> {
-    pub(crate) fn new(alloc: Global) -> Result<Client<J>, AllocError> {
+    /// A client that has said nothing, on a bus that says this of itself.
+    pub(crate) fn new(alloc: Global, identity: Identity) -> Result<Client<J>, AllocError> {
         let letterbox = Letterbox::new(alloc)?;
         let taker = Taker::new(letterbox.outbox())?;
         Ok(Client {
-            session: Some(Session::new(alloc, GUID, letterbox)),
+            session: Some(Session::admitting(alloc, identity, Admission::any(), letterbox)),
             taker,
             received: Received::new(alloc),
             at_once: usize::MAX,
@@ -58,11 +59,11 @@ impl<J: Naming> Client<J> {
             Action::Forget => self.forget(place)?,
             Action::Cut(len) => self.at_once = len,
             Action::Share(shares) => self.shares = shares,
-            Action::Machine(id) => self.set_machine_id(id),
-            Action::User(number) => self.set_user(number),
             Action::Get(wanted) => return self.get(place, &wanted),
             Action::End(words) => return self.end(place, words),
-            Action::Serve(_) => return Err(LineError::Unreadable),
+            Action::Serve(_) | Action::Machine(_) | Action::User(_) => {
+                return Err(LineError::Unreadable);
+            }
         }
         Ok(None)
     }
@@ -80,18 +81,6 @@ impl<J: Naming> Client<J> {
             for piece in bytes.chunks(self.at_once.max(1)) {
                 treat(place, session, self.shares, piece);
             }
-        }
-    }
-
-    fn set_machine_id(&mut self, id: [u8; 32]) {
-        if let Some(session) = &mut self.session {
-            session.set_machine_id(id);
-        }
-    }
-
-    fn set_user(&mut self, number: u32) {
-        if let Some(session) = &mut self.session {
-            session.set_user(number);
         }
     }
 

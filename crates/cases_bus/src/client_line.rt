@@ -11,18 +11,25 @@ use std::alloc::Global;
 /// What a client says before its messages.
 const TALK: &[u8] = b"\0AUTH EXTERNAL\r\nDATA\r\nBEGIN\r\n";
 
-/// The client whose session reads and writes by itself, as one thread serves it.
-const SERVED: &str = "served";
+/// Where something happens.
+#[derive(Drop)]
+pub(crate) enum Who {
+    /// At the bus, for the clients that come later.
+    Bus,
+    /// At the client whose session reads and writes by itself, as one thread serves it.
+    Served,
+    /// At the client of this number, from 1 in the order of their first lines.
+    Client(usize),
+}
 
-/// A line of a case: what happens at a client.
+/// A line of a case: what happens where.
 #[derive(Drop)]
 pub(crate) struct ClientLine<'a> {
-    /// The client's number, from 1 in the order of their first lines; None is the served one.
-    pub(crate) client: Option<usize>,
+    pub(crate) who: Who,
     pub(crate) action: Action<'a>,
 }
 
-/// What happens at a client.
+/// What happens at a client, or at the bus.
 #[derive(Drop)]
 pub(crate) enum Action<'a> {
     /// It sends these bytes.
@@ -35,7 +42,7 @@ pub(crate) enum Action<'a> {
     Forget,
     /// From here on it may have so much of the bus.
     Share(Shares),
-    /// The bus gets this machine's id.
+    /// It has this machine's id.
     Machine([u8; 32]),
     /// Each client runs as the user of this number.
     User(u32),
@@ -54,17 +61,24 @@ impl<'a> ClientLine<'a> {
     ///
     /// `Unreadable` and `NoMemory`.
     pub(crate) fn read(alloc: Global, line: &'a str) -> Result<ClientLine<'a>, LineError> {
-        let (client, words) = line.split_once(' ').ok_or(LineError::Unreadable)?;
-        let client = if client == SERVED {
-            None
-        } else {
-            Some(client.parse::<usize>()?)
-        };
+        let (who, words) = line.split_once(' ').ok_or(LineError::Unreadable)?;
         let (verb, rest) = words.split_once(' ').unwrap_or((words, ""));
         Ok(ClientLine {
-            client,
+            who: Who::read(who)?,
             action: Action::read(alloc, verb, rest)?,
         })
+    }
+}
+
+impl Who {
+    fn read(word: &str) -> Result<Who, LineError> {
+        if word == "bus" {
+            return Ok(Who::Bus);
+        }
+        if word == "served" {
+            return Ok(Who::Served);
+        }
+        Ok(Who::Client(word.parse::<usize>()?))
     }
 }
 

@@ -1,17 +1,18 @@
 // The clients of a case.
 
 use crate::client::Client;
-use crate::client_line::{Action, ClientLine};
-use crate::place::Place;
+use crate::client_line::{Action, ClientLine, Who};
+use crate::place::{GUID, Place};
 use crate::served::Served;
 use case_files::LineError;
 use crossbeam_utils::rule::Protocol;
-use sessions::{Command, Letterbox, Naming, Published, Shown};
+use sessions::{Command, Identity, Letterbox, Naming, Published, Shown};
 use std::alloc::Global;
 use std::collections::LinkedList;
 use std::sync::Wait;
 
-/// The clients of a case, in the order of their first lines, and the served one.
+/// The clients of a case, in the order of their first lines, and the served one; and what the bus says of itself to those
+/// that come.
 #[derive(Drop)]
 pub(crate) struct Clients<J: Naming>
 where
@@ -19,6 +20,7 @@ where
 {
     clients: Vec<Client<J>>,
     served: Served,
+    identity: Identity,
 }
 
 impl<J: Naming> Clients<J> {
@@ -26,6 +28,11 @@ impl<J: Naming> Clients<J> {
         Clients {
             clients: Vec::new(alloc),
             served: Served::new(alloc),
+            identity: Identity {
+                guid: GUID,
+                machine_id: None,
+                user: None,
+            },
         }
     }
 
@@ -38,10 +45,21 @@ impl<J: Naming> Clients<J> {
         let Ok(line) = ClientLine::read(place.alloc, words) else {
             return unreadable(place.alloc);
         };
-        match line.client {
-            None => self.served.act(place, line.action),
-            Some(number) => self.act(place, number, line.action),
+        match line.who {
+            Who::Bus => self.describe(place.alloc, line.action),
+            Who::Served => self.served.act(place, line.action),
+            Who::Client(number) => self.act(place, number, line.action),
         }
+    }
+
+    /// Sets what the bus says of itself to the clients that come from here on.
+    fn describe(&mut self, alloc: Global, action: Action<'_>) -> Result<Option<String>, LineError> {
+        match action {
+            Action::Machine(id) => self.identity.machine_id = Some(id),
+            Action::User(number) => self.identity.user = Some(number),
+            _ => return unreadable(alloc),
+        }
+        Ok(None)
     }
 
     fn act<R: Wait>(
@@ -52,7 +70,7 @@ impl<J: Naming> Clients<J> {
     ) -> Result<Option<String>, LineError> {
         let index = number.wrapping_sub(1);
         if index == self.clients.len() {
-            self.clients.push(Client::new(place.alloc)?)?;
+            self.clients.push(Client::new(place.alloc, self.identity)?)?;
         }
         match self.clients.get_mut(index) {
             Some(client) => client.act(place, action),

@@ -205,11 +205,9 @@ where
         + Alloc,
 {
     let key = index_key(rt)?;
-    let digits = guid.digits;
-    let machine = machine_id(rt);
     let identity = Identity {
-        guid: digits,
-        machine,
+        guid: guid.digits,
+        machine_id: machine_id(rt),
         user: only_user(rt, endpoints),
     };
     let workers = thread::available_parallelism(rt)

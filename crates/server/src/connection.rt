@@ -69,17 +69,12 @@ impl<J: Naming> Connection<J> {
         let Arrival { link, admission } = arrival;
         link.set_nonblocking()?;
         let link = Arc::new(alloc, link)?;
+        let instructions = Arc::try_clone(&hub.instructions)?;
         let member = Member::new(alloc, Arc::try_clone(&link)?, post, token, hub.limits.room)?;
         let member = Arc::new(alloc, member)?;
         let mail = Mail::new(Arc::try_clone(&member)?);
-        let mut session = Session::admitting(alloc, hub.identity.guid, admission, mail);
-        session.share_instructions(Arc::try_clone(&hub.instructions)?);
-        if let Some(machine) = hub.identity.machine {
-            session.set_machine_id(machine);
-        }
-        if let Some(user) = hub.identity.user {
-            session.set_user(user);
-        }
+        let mut session = Session::admitting(alloc, hub.identity, admission, mail);
+        session.share_instructions(instructions);
         Ok(Connection {
             session,
             member,

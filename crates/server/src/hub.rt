@@ -6,23 +6,12 @@ use crate::note::{Cause, Note, Verbosity};
 use crate::notes::Notes;
 use crate::unfinished::Unfinished;
 use members::Mail;
-use sessions::{AllInstructions, Bus, Naming, Rest};
+use sessions::{AllInstructions, Bus, Identity, Naming, Rest};
 use std::alloc::{AllocError, Global};
 use std::sync::{Arc, Mutex, Wait};
 
 /// How many sessions' ends may wait for memory.
 const RESTS: usize = 256;
-
-/// Who the bus says it is.
-#[derive(Clone, Copy)]
-pub struct Identity {
-    /// The GUID of the server, as hexadecimal digits.
-    pub guid: [u8; 32],
-    /// The machine's id, as hexadecimal digits.
-    pub machine: Option<[u8; 32]>,
-    /// The number of the user that each client runs as, and the server too, where no other gets in.
-    pub user: Option<u32>,
-}
 
 /// The bus, and what the workers share beside it.
 #[derive(Drop)]

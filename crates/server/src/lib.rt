@@ -21,7 +21,6 @@ mod unfinished;
 mod worker;
 
 pub use endpoint::Endpoint;
-pub use hub::Identity;
 pub use limit::Limit;
 pub use limits::Limits;
 pub use mechanisms::Mechanisms;
@@ -30,4 +29,4 @@ pub use notes::Log;
 pub use serving::{Start, serve};
 
 // Passed on from the crates below, so that the crates above need not name those in crates.txt.
-pub use sessions::{External, IndexKey};
+pub use sessions::{External, Identity, IndexKey};

@@ -54,20 +54,6 @@ impl<B: Naming, M: Mailbox> Client<B, M> {
         }
     }
 
-    /// Sets the machine's id, which GetMachineId answers once Hello came.
-    pub(crate) fn set_machine_id(&mut self, id: [u8; 32])
-        ensures { self.new ≡ self.old }
-    {
-        self.identity.machine_id = Some(id);
-    }
-
-    /// Sets the user that each client runs as, of whom clients are told once Hello came.
-    pub(crate) fn set_user(&mut self, number: u32)
-        ensures { self.new ≡ self.old }
-    {
-        self.identity.user = Some(number);
-    }
-
     /// Counts the instructions of its programs among those of all clients.
     pub(crate) fn share_instructions(&mut self, all: Arc<AllInstructions>)
         ensures { self.new ≡ self.old }

@@ -60,44 +60,29 @@ impl<B: Naming, M: Mailbox> Session<B, M> {
     pub fn new(alloc: Global, guid: [u8; 32], mailbox: M) -> Session<B, M>
         ensures { result ≡ new_session (record { guid = guid; admission = any_admission }) }
     {
-        Session::admitting(alloc, guid, Admission::any(), mailbox)
-    }
-
-    /// The same of a session that admits what is asked for.
-    pub fn admitting(
-        alloc: Global,
-        guid: [u8; 32],
-        admission: Admission,
-        mailbox: M,
-    ) -> Session<B, M>
-        ensures { result ≡ new_session (record { guid = guid; admission = admission }) }
-    {
         let identity = Identity {
             guid,
             machine_id: None,
             user: None,
         };
+        Session::admitting(alloc, identity, Admission::any(), mailbox)
+    }
+
+    /// The same of a session that admits what is asked for, on a bus that says this of itself.
+    pub fn admitting(
+        alloc: Global,
+        identity: Identity,
+        admission: Admission,
+        mailbox: M,
+    ) -> Session<B, M>
+        ensures { result ≡ new_session (record { guid = identity.guid; admission = admission }) }
+    {
         Session {
-            talk: Talk::admitting(guid, admission),
+            talk: Talk::admitting(identity.guid, admission),
             input: Frames::new(alloc),
             client: Client::new(mailbox, identity),
             fault: None,
         }
-    }
-
-    /// Sets the machine's id, which GetMachineId answers once Hello came. Without one it is refused.
-    pub fn set_machine_id(&mut self, id: [u8; 32])
-        ensures { self.new ≡ self.old }
-    {
-        self.client.set_machine_id(id);
-    }
-
-    /// Sets the number of the user that each client runs as, where no other gets in: GetConnectionUnixUser and
-    /// GetConnectionCredentials tell it once Hello came. Without one it isn't known.
-    pub fn set_user(&mut self, number: u32)
-        ensures { self.new ≡ self.old }
-    {
-        self.client.set_user(number);
     }
 
     /// Counts the instructions of the programs that its client attaches among those of all clients that share this. Without
