@@ -57,22 +57,27 @@ pub(crate) struct Connection<J: Naming> {
 }
 
 impl<J: Naming> Connection<J> {
-    /// A connection that has just been accepted.
-    pub(crate) fn new<R: Wait + Drop>(
+    /// A connection that has just been accepted. The post tells of it by the token, and it is one of the newcomers.
+    ///
+    /// All that may fail comes before its session, so that none has to be dropped.
+    pub(crate) fn new<W: Wait + Clock, R: Wait + Drop>(
+        rt: &W,
         alloc: Global,
         hub: &Hub<J, R>,
         arrival: Arrival,
         post: Arc<Post>,
         token: Token,
-        begun: Instant,
     ) -> io::Result<Connection<J>> {
+        let begun = Instant::now(rt)?;
         let Arrival { link, admission } = arrival;
         link.set_nonblocking()?;
         let link = Arc::new(alloc, link)?;
+        post.register(&link, token)?;
         let instructions = Arc::try_clone(&hub.instructions)?;
         let member = Member::new(alloc, Arc::try_clone(&link)?, post, token, hub.limits.room)?;
         let member = Arc::new(alloc, member)?;
         let mail = Mail::new(Arc::try_clone(&member)?);
+        let ticket = hub.newcomers.enter(rt, Arc::try_clone(&link)?)?;
         let mut session = Session::admitting(alloc, hub.identity, admission, mail);
         session.share_instructions(instructions);
         Ok(Connection {
@@ -82,22 +87,8 @@ impl<J: Naming> Connection<J> {
             begun,
             beginning: None,
             is_in: false,
-            ticket: 0,
+            ticket,
         })
-    }
-
-    /// Counts it among the newcomers, for which it has a place.
-    pub(crate) fn enter<W: Wait, R: Wait + Drop>(
-        &mut self,
-        rt: &W,
-        hub: &Hub<J, R>,
-    ) -> io::Result<()> {
-        self.ticket = hub.newcomers.enter(rt, Arc::try_clone(&self.link)?)?;
-        Ok(())
-    }
-
-    pub(crate) fn link(&self) -> &Link {
-        &self.link
     }
 
     /// Whether it may become overdue: it is without Hello, or in the middle of a message.

@@ -1,13 +1,18 @@
 // What the workers share.
 
+ghost use Rattle.std.specs.Prelude.{◌≡◌};
+
 use crate::limits::Limits;
 use crate::newcomers::Newcomers;
-use crate::note::{Cause, Note, Verbosity};
+use crate::note::{Cause, Note};
 use crate::notes::Notes;
+use crate::serving::Start;
 use crate::unfinished::Unfinished;
 use members::Mail;
-use sessions::{AllInstructions, Bus, Identity, Naming, Rest};
-use std::alloc::{AllocError, Global};
+use sessions::{AllInstructions, Bus, Identity, Naming, Opened, Rest};
+use std::alloc::Global;
+use std::io;
+use std::io::ErrorKind;
 use std::sync::{Arc, Mutex, Wait};
 
 /// How many sessions' ends may wait for memory.
@@ -28,23 +33,31 @@ pub(crate) struct Hub<J: Naming, R: Wait + Drop> {
 }
 
 impl<J: Naming, R: Wait + Drop> Hub<J, R> {
+    /// A bus to which nobody is connected, and what stands beside it.
+    ///
+    /// All that may fail comes before the bus, so that none has to be dropped.
     pub(crate) fn new(
+        rt: R,
         alloc: Global,
-        bus: Bus<J, Mail, R>,
-        identity: Identity,
-        limits: Limits,
-        verbosity: Verbosity,
-    ) -> Result<Hub<J, R>, AllocError> {
+        opened: Opened<Mail>,
+        start: &Start,
+    ) -> io::Result<Hub<J, R>>
+        requires { opened ≡ J.book }
+    {
+        let limits = start.limits;
         let instructions = Arc::new(alloc, AllInstructions::new(limits.all_instructions))?;
         let rests = Vec::with_capacity(alloc, RESTS)?;
+        let Ok(bus) = Bus::new(rt, alloc, start.key, opened) else {
+            return Err(ErrorKind::OutOfMemory.into());
+        };
         Ok(Hub {
             bus,
-            identity,
+            identity: start.identity,
             limits,
             newcomers: Newcomers::new(alloc, limits.newcomers),
             unfinished: Unfinished::new(limits.unfinished),
             instructions,
-            notes: Notes::new(alloc, verbosity),
+            notes: Notes::new(alloc, start.verbosity),
             rests: Mutex::new(rests),
         })
     }

@@ -11,7 +11,7 @@ use crate::note::Verbosity;
 use crate::notes::Log;
 use crate::worker::{Desk, work};
 use members::Mail;
-use sessions::{Bus, Identity, IndexKey, Naming, Opened};
+use sessions::{Identity, IndexKey, Naming, Opened};
 use std::alloc::Global;
 use std::fs::{File, Files};
 use std::io::ErrorKind;
@@ -65,18 +65,8 @@ where
     L: Log + Sync,
     requires { opened ≡ J.book }
 {
-    let Start {
-        key,
-        identity,
-        limits,
-        count,
-        verbosity,
-    } = start;
-    let Ok(bus) = Bus::<J, Mail, &R>::new(rt, alloc, key, opened) else {
-        return Err(ErrorKind::OutOfMemory.into());
-    };
-    let hub = Hub::new(alloc, bus, identity, limits, verbosity)?;
-    run(rt, alloc, &hub, endpoints, count, log)
+    let hub = Hub::<J, &R>::new(rt, alloc, opened, &start)?;
+    run(rt, alloc, &hub, endpoints, start.count, log)
 }
 
 /// Starts the workers and, where notes are wanted, the thread that writes them; accepts, and waits for all of them to end. Where

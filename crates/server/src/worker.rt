@@ -161,13 +161,10 @@ impl<'a, J: Naming, R: Wait + Drop> Worker<'a, J, R> {
     }
 
     fn welcome<W: Wait + Clock>(&mut self, rt: &W, arrival: Arrival) -> io::Result<()> {
-        let begun = Instant::now(rt)?;
         self.connections.reserve(1)?;
         let token = Token(self.connections.vacant_key());
         let post = Arc::try_clone(&self.post)?;
-        let mut connection = Connection::new(self.alloc, self.hub, arrival, post, token, begun)?;
-        self.post.register(connection.link(), token)?;
-        connection.enter(rt, self.hub)?;
+        let connection = Connection::new(rt, self.alloc, self.hub, arrival, post, token)?;
         self.connections.insert_reserved(connection);
         self.recount(false, true);
         Ok(())
