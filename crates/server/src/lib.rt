@@ -8,6 +8,7 @@ mod acceptor;
 mod connection;
 mod endpoint;
 mod hub;
+mod input;
 mod limit;
 mod limits;
 mod mechanisms;
@@ -22,6 +23,7 @@ mod worker;
 
 pub use endpoint::Endpoint;
 pub use hub::Identity;
+pub use input::can_watch_input;
 pub use limit::Limit;
 pub use limits::Limits;
 pub use mechanisms::Mechanisms;

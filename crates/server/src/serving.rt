@@ -31,12 +31,15 @@ pub struct Start {
     pub limits: Limits,
     /// After how many connections to end, if ever.
     pub count: Option<u64>,
+    /// Whether to end once standard input is closed at its other end, which `can_watch_input` says that a bus can be told.
+    pub until_closed: bool,
     /// What is written to the log.
     pub verbosity: Verbosity,
 }
 
 /// Serves as many connections as are asked for, or without end, on a bus of their own, whichever of the endpoints they
-/// come by. It answers once all of them have ended, or where memory or threads are refused at the start.
+/// come by. Where that is asked for, the end of standard input ends them all. It answers once all of them have ended, or where
+/// memory or threads are refused at the start.
 pub fn serve<R, L>(
     rt: &R,
     alloc: Global,
@@ -70,13 +73,14 @@ where
         identity,
         limits,
         count,
+        until_closed,
         verbosity,
     } = start;
     let Ok(bus) = Bus::<J, Mail, &R>::new(rt, alloc, key, opened) else {
         return Err(ErrorKind::OutOfMemory.into());
     };
     let hub = Hub::new(alloc, bus, identity, limits, verbosity)?;
-    run(rt, alloc, &hub, endpoints, count, log)
+    run(rt, alloc, &hub, endpoints, count, until_closed, log)
 }
 
 /// Starts the workers and, where notes are wanted, the thread that writes them; accepts, and waits for all of them to end. Where
@@ -87,13 +91,14 @@ fn run<J: Naming + Send + Sync, R, L>(
     hub: &Hub<J, &R>,
     endpoints: &[Endpoint],
     count: Option<u64>,
+    until_closed: bool,
     log: &L,
 ) -> io::Result<()>
 where
     R: Files<File = File> + RandomSource + Threads + Wait + Clock + Net + Sync,
     L: Log + Sync,
 {
-    let mut acceptor = Acceptor::new(rt, alloc, endpoints)?;
+    let mut acceptor = Acceptor::new(rt, alloc, endpoints, until_closed)?;
     let mut posts = Vec::with_capacity(alloc, hub.limits.workers)?;
     thread::scope(thread::scope_env(), rt, |scope| {
         if hub.notes.are_wanted() {
@@ -101,7 +106,7 @@ where
             let _ = Builder::new().spawn_scoped(scope, writer);
         }
         for _ in 0..hub.limits.workers {
-            let Ok(desk) = Desk::new(rt, alloc) else {
+            let Ok(desk) = Desk::new(rt, alloc, until_closed) else {
                 continue;
             };
             let Ok(post) = desk.post() else {
