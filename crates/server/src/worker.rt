@@ -274,9 +274,13 @@ impl<'a, J: Naming, R: Wait + Drop> Worker<'a, J, R> {
         None
     }
 
-    /// Ends all connections, and those that come from now on, since the bus ends.
+    /// Ends all connections, and those that come from now on, since the bus ends. Their sockets are shut first, so that no client
+    /// has to wait for the ends of those before it.
     fn end_all<W: Wait>(&mut self, rt: &W) {
         self.is_ending = true;
+        for (_, connection) in self.connections.iter() {
+            connection.link().shut();
+        }
         for key in 0..self.connections.capacity() {
             self.end(rt, key, Some(Cause::BusEnds));
         }
