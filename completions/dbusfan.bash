@@ -4,7 +4,7 @@ _dbusfan_options() {
     match) echo --owns --each --help ;;
     run) echo --edition --each --help ;;
     asm | check | compile) echo --help ;;
-    serve) echo --listen --guid --connections --limit --print-address --session --nofork --allow-anonymous --allow-external --log --quiet --help ;;
+    serve) echo --listen --guid --connections --until-closed --limit --print-address --session --nofork --allow-anonymous --allow-external --log --quiet --help ;;
     watch) echo --program --edition --attach --monitor --invert --rules --of --hex --json --time --names --count --seconds --read --write --help ;;
     esac
 }

@@ -11,7 +11,7 @@ use crate::machine::machine_id;
 use crate::options::Options;
 use crate::target::Target;
 use command_line::{Output, Writer, text_for};
-use server::{Endpoint, Identity, IndexKey, Start};
+use server::{Endpoint, Identity, IndexKey, Start, can_watch_input};
 use std::alloc::Global;
 use std::fs::{File, Files};
 use std::net::{Net, TcpListener, TcpStream};
@@ -26,9 +26,9 @@ use std::time::Clock;
 const HELP: [&str; 2] = ["serve", "--help"];
 
 /// Serves a bus as the words after `serve` ask for, and answers the status that the program ends with: 0 once as many
-/// connections as they name were accepted and have ended, 3 for words that are no such options, 4 where the address
-/// can't be listened at or `out` can't be written, 5 for want of memory. The line that says where it listens is written
-/// and flushed before the first accept.
+/// connections as they name were accepted and have ended, or standard input was closed where they ask for that, 3 for words
+/// that are no such options, 4 where the address can't be listened at, `out` can't be written or standard input can't be
+/// watched, 5 for want of memory. The line that says where it listens is written and flushed before the first accept.
 pub fn serve<R, O: Writer, E: Writer + Send>(
     rt: &R,
     alloc: Global,
@@ -112,6 +112,9 @@ where
         + Sync
         + Alloc,
 {
+    if options.until_closed && !can_watch_input(rt) {
+        return Err(Refusal::no_input_to_watch());
+    }
     let targets = Target::all(rt, alloc, &options)?;
     let served = open_and_serve(rt, alloc, options, targets.as_slice(), out, err);
     for target in targets.iter() {
@@ -218,6 +221,7 @@ where
         identity,
         limits: options.limits.with_workers(workers),
         count: options.connections.map(u64::from),
+        until_closed: options.until_closed,
         verbosity: options.verbosity,
     };
     let log = Lines::new(alloc, err);

@@ -17,7 +17,7 @@ use std::{fmt, io};
 pub(crate) enum Fault {
     /// The words are no row of the command line.
     Usage,
-    /// Standard output can't be written.
+    /// Standard output can't be written, or standard input can't be watched.
     File,
     /// The address can't be listened at.
     Socket,
@@ -142,6 +142,13 @@ impl Refusal {
 
     pub(crate) fn closed_output() -> Refusal {
         Refusal::of_sentence(Fault::File, "standard output can't be written")
+    }
+
+    pub(crate) fn no_input_to_watch() -> Refusal {
+        Refusal::of_sentence(
+            Fault::File,
+            "standard input can't be watched: it has to be a pipe or a socket",
+        )
     }
 
     pub(crate) fn of_descriptor(alloc: Global, number: u16, error: &io::Error) -> Refusal {

@@ -40,6 +40,8 @@ pub(crate) struct Options<'a> {
     pub(crate) allows_anonymous: bool,
     /// After how many connections to end; at least one.
     pub(crate) connections: Option<u32>,
+    /// Whether to end once standard input is closed at its other end.
+    pub(crate) until_closed: bool,
     /// How much clients may take.
     pub(crate) limits: Limits,
     /// What is told on standard error.
@@ -63,6 +65,7 @@ impl<'a> Options<'a> {
             allows_external: words.allows_external,
             allows_anonymous: words.allows_anonymous,
             connections: words.connections,
+            until_closed: words.until_closed,
             limits: words.limits,
             verbosity: words.verbosity(),
         })

@@ -110,6 +110,7 @@ pub(crate) struct Words<'a> {
     pub(crate) is_session: bool,
     pub(crate) allows_external: bool,
     pub(crate) allows_anonymous: bool,
+    pub(crate) until_closed: bool,
     has_log: bool,
     is_quiet: bool,
     awaited: Awaited,
@@ -126,6 +127,7 @@ impl<'a> Words<'a> {
             is_session: false,
             allows_external: false,
             allows_anonymous: false,
+            until_closed: false,
             has_log: false,
             is_quiet: false,
             awaited: Awaited::Option,
@@ -190,6 +192,7 @@ impl<'a> Words<'a> {
             | "--nofork"
             | "--allow-external"
             | "--allow-anonymous"
+            | "--until-closed"
             | "--log"
             | "--quiet" => self.with_flag(name, value),
             _ => Err(WordFault::UnknownOption(name)),
@@ -258,8 +261,8 @@ impl<'a> Words<'a> {
             .ok_or(WordFault::TooManyAddresses)
     }
 
-    /// `--session` says where to listen if no address does, `--nofork` what `serve` does anyway, `--log` and `--quiet` what
-    /// it tells, and the others whom the bus lets in.
+    /// `--session` says where to listen if no address does, `--nofork` what `serve` does anyway, `--until-closed` when it ends,
+    /// `--log` and `--quiet` what it tells, and the others whom the bus lets in.
     fn with_flag(self, name: &'a str, value: Option<&str>) -> Result<Words<'a>, WordFault<'a>> {
         if value.is_some() {
             return Err(WordFault::HasNoValue(name));
@@ -268,6 +271,7 @@ impl<'a> Words<'a> {
             is_session: self.is_session || name == "--session",
             allows_external: self.allows_external || name == "--allow-external",
             allows_anonymous: self.allows_anonymous || name == "--allow-anonymous",
+            until_closed: self.until_closed || name == "--until-closed",
             has_log: self.has_log || name == "--log",
             is_quiet: self.is_quiet || name == "--quiet",
             awaited: Awaited::Option,

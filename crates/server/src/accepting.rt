@@ -2,6 +2,7 @@
 
 use crate::acceptor::Acceptor;
 use crate::hub::Hub;
+use crate::note::Cause;
 use members::{Arrival, Post};
 use sessions::Naming;
 use std::alloc::Global;
@@ -10,8 +11,8 @@ use std::random::RandomSource;
 use std::sync::{Arc, Wait};
 use std::time::Clock;
 
-/// Accepts as many connections as are asked for, or without end, and hands them to the workers in turn, with what their
-/// talks admit.
+/// Accepts as many connections as are asked for, or until the input that is watched is closed, and hands them to the workers in
+/// turn, with what their talks admit.
 pub(crate) fn accept_all<J: Naming, R: Wait + Drop, W>(
     rt: &W,
     alloc: Global,
@@ -27,12 +28,14 @@ where
         return;
     }
     for number in 1..=count.unwrap_or(u64::MAX) {
-        let (link, endpoint) = acceptor.accept(rt, &hub.notes);
+        let Some((link, endpoint)) = acceptor.accept(rt, &hub.notes) else {
+            return;
+        };
         hub.newcomers.take_place(rt);
         let post = &posts[(number % posts.len() as u64) as usize];
         let admission = endpoint.mechanisms.admission(rt, alloc);
         if post.hand_in(rt, Arrival { link, admission }).is_err() {
-            hub.turn_away(rt);
+            hub.turn_away(rt, Cause::MEMORY);
         }
     }
 }

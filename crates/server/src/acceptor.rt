@@ -1,6 +1,7 @@
-// The endpoints of a bus, and where clients wait.
+// The endpoints of a bus, and where clients wait; and the input by whose end it ends.
 
 use crate::endpoint::Endpoint;
+use crate::input::{INPUT, watch_input};
 use crate::note::Note;
 use crate::notes::Notes;
 use crate::reserve::Reserve;
@@ -25,7 +26,7 @@ struct Backlog<'a> {
     has_clients: bool,
 }
 
-/// All endpoints of a bus, with a poll over them. The endpoints take turns.
+/// All endpoints of a bus, with a poll over them and, where that is asked for, over standard input. The endpoints take turns.
 #[derive(Drop)]
 pub(crate) struct Acceptor<'a> {
     poll: Poll,
@@ -34,6 +35,8 @@ pub(crate) struct Acceptor<'a> {
     // Whose turn it is.
     turn: usize,
     reserve: Reserve,
+    // Standard input is watched, and its other end was closed.
+    is_input_closed: bool,
 }
 
 impl<'a> Acceptor<'a> {
@@ -41,8 +44,12 @@ impl<'a> Acceptor<'a> {
         rt: &R,
         alloc: Global,
         endpoints: &'a [Endpoint],
+        until_closed: bool,
     ) -> io::Result<Acceptor<'a>> {
         let poll = Poll::new(rt)?;
+        if until_closed {
+            watch_input(&poll)?;
+        }
         let mut backlogs = Vec::with_capacity(alloc, endpoints.len())?;
         for (i, endpoint) in endpoints.iter().enumerate() {
             endpoint.set_nonblocking()?;
@@ -57,27 +64,29 @@ impl<'a> Acceptor<'a> {
         }
         Ok(Acceptor {
             poll,
-            events: Events::with_capacity(alloc, endpoints.len())?,
+            events: Events::with_capacity(alloc, endpoints.len().saturating_add(1))?,
             backlogs,
             turn: 0,
             reserve: Reserve::new(rt),
+            is_input_closed: false,
         })
     }
 
-    /// The next connection, waited for, and the endpoint by which it comes.
+    /// The next connection, waited for, and the endpoint by which it comes; `None` once the input is closed.
     pub(crate) fn accept<W: Files<File = File> + Wait + Clock>(
         &mut self,
         rt: &W,
         notes: &Notes,
-    ) -> (Link, &'a Endpoint) {
+    ) -> Option<(Link, &'a Endpoint)> {
         for _ in rt.forever() {
+            self.look(rt);
+            if self.is_input_closed {
+                return None;
+            }
             for _ in 0..self.backlogs.len() {
                 if let Some(accepted) = self.accept_in_turn(rt, notes) {
-                    return accepted;
+                    return Some(accepted);
                 }
-            }
-            if !self.backlogs.iter().any(|backlog| backlog.has_clients) {
-                self.wait(rt);
             }
         }
         unreachable!()
@@ -101,16 +110,29 @@ impl<'a> Acceptor<'a> {
         Some((link, backlog.endpoint))
     }
 
-    /// Waits until clients come to an endpoint.
-    fn wait<W: Wait + Clock>(&mut self, rt: &W) {
-        if self.poll.poll(&mut self.events, None).is_err() {
+    /// Looks whether clients have come to an endpoint, and whether the input is closed. It waits for one of these only where no
+    /// clients are there, so that the input is looked at before each accept, however many come.
+    fn look<W: Wait + Clock>(&mut self, rt: &W) {
+        let patience = self.patience();
+        if self.poll.poll(&mut self.events, patience).is_err() {
             pause(rt);
             return;
         }
         for event in self.events.iter() {
-            if let Some(backlog) = self.backlogs.get_mut(event.token().0) {
+            if event.token() == INPUT {
+                self.is_input_closed = event.is_read_closed() || event.is_error();
+            } else if let Some(backlog) = self.backlogs.get_mut(event.token().0) {
                 backlog.has_clients = true;
             }
+        }
+    }
+
+    /// How long the poll may wait.
+    fn patience(&self) -> Option<Duration> {
+        if self.backlogs.iter().any(|backlog| backlog.has_clients) {
+            Some(Duration::from_millis(0))
+        } else {
+            None
         }
     }
 }

@@ -62,10 +62,10 @@ impl<J: Naming, R: Wait + Drop> Hub<J, R> {
         })
     }
 
-    /// Gives back the place of a connection that is closed for want of memory.
-    pub(crate) fn turn_away<W: Wait>(&self, rt: &W) {
+    /// Gives back the place of a connection that is closed before a worker serves it.
+    pub(crate) fn turn_away<W: Wait>(&self, rt: &W, cause: Cause) {
         self.newcomers.give_back(rt);
-        self.notes.leave(rt, Note::Ended(None, Cause::MEMORY));
+        self.notes.leave(rt, Note::Ended(None, cause));
     }
 
     /// Keeps the end of a session, for which there was no memory, for the next call of `retry_rests`.

@@ -8,6 +8,7 @@ mod acceptor;
 mod connection;
 mod endpoint;
 mod hub;
+mod input;
 mod limit;
 mod limits;
 mod mechanisms;
@@ -21,6 +22,7 @@ mod unfinished;
 mod worker;
 
 pub use endpoint::Endpoint;
+pub use input::can_watch_input;
 pub use limit::Limit;
 pub use limits::Limits;
 pub use mechanisms::Mechanisms;

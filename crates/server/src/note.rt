@@ -11,6 +11,8 @@ pub enum Cause {
     Session(SessionError),
     /// It was kept by no limit of this kind.
     Limit(Limit),
+    /// The bus ends, and with it all sessions.
+    BusEnds,
 }
 
 impl Cause {
@@ -22,6 +24,7 @@ impl fmt::Display for Cause {
         match self {
             Cause::Session(error) => write!(f, "{error}"),
             Cause::Limit(limit) => f.write_str(limit.name()),
+            Cause::BusEnds => f.write_str("the bus ends"),
         }
     }
 }
@@ -77,7 +80,9 @@ impl Verbosity {
     pub(crate) fn wants(self, note: Note) -> bool {
         match (self, note) {
             (Verbosity::None, _) => false,
-            (Verbosity::Faults, Note::Came(_) | Note::Went(_)) => false,
+            (Verbosity::Faults, Note::Came(_) | Note::Went(_) | Note::Ended(_, Cause::BusEnds)) => {
+                false
+            }
             _ => true,
         }
     }

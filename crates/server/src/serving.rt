@@ -31,12 +31,15 @@ pub struct Start {
     pub limits: Limits,
     /// After how many connections to end, if ever.
     pub count: Option<u64>,
+    /// Whether to end once standard input is closed at its other end, which `can_watch_input` says that a bus can be told.
+    pub until_closed: bool,
     /// What is written to the log.
     pub verbosity: Verbosity,
 }
 
 /// Serves as many connections as are asked for, or without end, on a bus of their own, whichever of the endpoints they
-/// come by. It answers once all of them have ended, or where memory or threads are refused at the start.
+/// come by. Where that is asked for, the end of standard input ends them all. It answers once all of them have ended, or where
+/// memory or threads are refused at the start.
 pub fn serve<R, L>(
     rt: &R,
     alloc: Global,
@@ -66,7 +69,7 @@ where
     requires { opened ≡ J.book }
 {
     let hub = Hub::<J, &R>::new(rt, alloc, opened, &start)?;
-    run(rt, alloc, &hub, endpoints, start.count, log)
+    run(rt, alloc, &hub, endpoints, &start, log)
 }
 
 /// Starts the workers and, where notes are wanted, the thread that writes them; accepts, and waits for all of them to end. Where
@@ -76,14 +79,14 @@ fn run<J: Naming + Send + Sync, R, L>(
     alloc: Global,
     hub: &Hub<J, &R>,
     endpoints: &[Endpoint],
-    count: Option<u64>,
+    start: &Start,
     log: &L,
 ) -> io::Result<()>
 where
     R: Files<File = File> + RandomSource + Threads + Wait + Clock + Net + Sync,
     L: Log + Sync,
 {
-    let mut acceptor = Acceptor::new(rt, alloc, endpoints)?;
+    let mut acceptor = Acceptor::new(rt, alloc, endpoints, start.until_closed)?;
     let mut posts = Vec::with_capacity(alloc, hub.limits.workers)?;
     thread::scope(thread::scope_env(), rt, |scope| {
         if hub.notes.are_wanted() {
@@ -91,7 +94,7 @@ where
             let _ = Builder::new().spawn_scoped(scope, writer);
         }
         for _ in 0..hub.limits.workers {
-            let Ok(desk) = Desk::new(rt, alloc) else {
+            let Ok(desk) = Desk::new(rt, alloc, start.until_closed) else {
                 continue;
             };
             let Ok(post) = desk.post() else {
@@ -105,7 +108,7 @@ where
                 refused.value.finish();
             }
         }
-        accept_all(rt, alloc, &mut acceptor, count, hub, posts.as_slice());
+        accept_all(rt, alloc, &mut acceptor, start.count, hub, posts.as_slice());
         for post in posts.iter() {
             post.finish();
         }

@@ -2,6 +2,7 @@
 
 use crate::connection::{Connection, Turn};
 use crate::hub::Hub;
+use crate::input::{INPUT, watch_input};
 use crate::limit::Limit;
 use crate::note::{Cause, Note};
 use crate::scratch::Scratch;
@@ -34,8 +35,11 @@ pub(crate) struct Desk {
 }
 
 impl Desk {
-    pub(crate) fn new<R: Net>(rt: &R, alloc: Global) -> io::Result<Desk> {
+    pub(crate) fn new<R: Net>(rt: &R, alloc: Global, until_closed: bool) -> io::Result<Desk> {
         let poll = Poll::new(rt)?;
+        if until_closed {
+            watch_input(&poll)?;
+        }
         let events = Events::with_capacity(alloc, EVENTS)?;
         let post = Arc::new(alloc, Post::new(alloc, &poll)?)?;
         let scratch = Scratch::new(alloc)?;
@@ -67,9 +71,11 @@ pub(crate) struct Worker<'a, J: Naming, R: Wait + Drop> {
     watched: u32,
     // When it last looked whether any of those is overdue.
     looked: Option<Instant>,
+    // The bus ends: whoever still comes is closed.
+    is_ending: bool,
 }
 
-/// Serves until no more connections come and all have ended.
+/// Serves until no more connections come and all have ended. The end of the input that is watched ends them.
 pub(crate) fn work<J: Naming, R: Wait + Drop, W: Wait + Clock>(
     rt: &W,
     alloc: Global,
@@ -114,16 +120,21 @@ impl<'a, J: Naming, R: Wait + Drop> Worker<'a, J, R> {
             again: Vec::new(alloc),
             watched: 0,
             looked: None,
+            is_ending: false,
         }
     }
 
     /// Does what the poll told of.
     fn answer<W: Wait + Clock>(&mut self, rt: &W, events: &Events) {
         for event in events.iter() {
+            let has_ended = event.is_read_closed() || event.is_error();
             if event.token() == BELL {
                 self.take_in(rt);
+            } else if event.token() == INPUT {
+                if has_ended {
+                    self.end_all(rt);
+                }
             } else {
-                let has_ended = event.is_read_closed() || event.is_error();
                 self.turn(rt, event.token().0, event.is_writable(), has_ended);
             }
         }
@@ -150,12 +161,14 @@ impl<'a, J: Naming, R: Wait + Drop> Worker<'a, J, R> {
         }
     }
 
-    /// Takes in the connections that were handed over. Where memory runs out, a connection is closed.
+    /// Takes in the connections that were handed over. Where memory runs out, or the bus ends, a connection is closed.
     fn take_in<W: Wait + Clock>(&mut self, rt: &W) {
         for arrival in self.post.take_arrivals(rt, self.alloc) {
             self.hub.retry_rests(rt, self.alloc);
-            if self.welcome(rt, arrival).is_err() {
-                self.hub.turn_away(rt);
+            if self.is_ending {
+                self.hub.turn_away(rt, Cause::BusEnds);
+            } else if self.welcome(rt, arrival).is_err() {
+                self.hub.turn_away(rt, Cause::MEMORY);
             }
         }
     }
@@ -256,6 +269,18 @@ impl<'a, J: Naming, R: Wait + Drop> Worker<'a, J, R> {
             }
         }
         None
+    }
+
+    /// Ends all connections, and those that come from now on, since the bus ends. Their sockets are shut first, so that no client
+    /// has to wait for the ends of those before it.
+    fn end_all<W: Wait>(&mut self, rt: &W) {
+        self.is_ending = true;
+        for (_, connection) in self.connections.iter() {
+            connection.link().shut();
+        }
+        for key in 0..self.connections.capacity() {
+            self.end(rt, key, Some(Cause::BusEnds));
+        }
     }
 
     /// Ends a connection, for a cause unless its client is gone.

@@ -43,7 +43,7 @@ where
 
 #[test]
 fn words_that_are_no_row(rt: HostRuntime) {
-    let rows: [(&[&str], &str); 23] = [
+    let rows: [(&[&str], &str); 24] = [
         (&["--verbose"], "  unknown option --verbose"),
         (&["--verbose=1"], "  unknown option --verbose"),
         (&["bus"], "  bus is no option"),
@@ -51,6 +51,7 @@ fn words_that_are_no_row(rt: HostRuntime) {
         (&["--guid", GUID, "--guid", GUID], "  --guid is given twice"),
         (&["--session=1"], "  --session takes no value"),
         (&["--quiet=yes"], "  --quiet takes no value"),
+        (&["--until-closed=1"], "  --until-closed takes no value"),
         (
             &["--log", "--nofork", "--quiet"],
             "  --log and --quiet exclude one another",

@@ -109,6 +109,12 @@ pub(crate) static COMMANDS: [CommandHelp; 7] = [
                 text: "End after N connections have come and gone",
             },
             ArgumentHelp {
+                name: "until-closed",
+                form: Form::Flag,
+                is_required: false,
+                text: "End once standard input, a pipe or a socket, is closed at its other end",
+            },
+            ArgumentHelp {
                 name: "limit",
                 form: Form::Value("NAME=N"),
                 is_required: false,
