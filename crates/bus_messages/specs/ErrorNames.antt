@@ -5,11 +5,12 @@ use Rattle.match_key.specs.Errors.{name_of}
 use Rattle.bpf_code.specs.Numbers.{text_at}
 use Rattle.bpf_verify.specs.Numbers.{verify_error_name, verify_error_place}
 use Rattle.bus_messages.specs.declared.error_name.ErrorName.{ErrorName}
-use Rattle.bus_messages.specs.declared.error_name.ErrorName.TheVariants.{Failed, InvalidArgs, LimitsExceeded, MatchRuleInvalid, MatchRuleNotFound, NameHasNoOwner, NoMemory, NoReply, ServiceUnknown, PropertyReadOnly, UnixProcessIdUnknown, UnknownInterface, UnknownMethod, UnknownProperty, BadProgram, BadEdition, NoAttachment}
+use Rattle.bus_messages.specs.declared.error_name.ErrorName.TheVariants.{AdtAuditDataUnknown, Failed, InvalidArgs, LimitsExceeded, MatchRuleInvalid, MatchRuleNotFound, NameHasNoOwner, NoMemory, NoReply, ServiceUnknown, PropertyReadOnly, SelinuxSecurityContextUnknown, UnixProcessIdUnknown, UnknownInterface, UnknownMethod, UnknownProperty, BadProgram, BadEdition, NoAttachment}
 use Rattle.bus_messages.specs.declared.exceeded.Exceeded.{Exceeded}
 use Rattle.bus_messages.specs.declared.exceeded.Exceeded.TheVariants as limits
 
 abbrev pub word_of : ErrorName → List ℕ
+word_of AdtAuditDataUnknown = codes "AdtAuditDataUnknown"
 word_of Failed = codes "Failed"
 word_of InvalidArgs = codes "InvalidArgs"
 word_of (LimitsExceeded _) = codes "LimitsExceeded"
@@ -19,6 +20,7 @@ word_of NameHasNoOwner = codes "NameHasNoOwner"
 word_of NoMemory = codes "NoMemory"
 word_of NoReply = codes "NoReply"
 word_of ServiceUnknown = codes "ServiceUnknown"
+word_of SelinuxSecurityContextUnknown = codes "SELinuxSecurityContextUnknown"
 word_of UnixProcessIdUnknown = codes "UnixProcessIdUnknown"
 word_of UnknownInterface = codes "UnknownInterface"
 word_of UnknownMethod = codes "UnknownMethod"
@@ -64,6 +66,7 @@ limit_of limits.MessageLen = codes "bytes of the message with its sender"
 
 -- what was wrong
 abbrev pub sentence_of : ErrorName → List ℕ
+sentence_of AdtAuditDataUnknown = codes "the bus knows no audit sessions"
 sentence_of Failed = codes "Hello came before, or the bus has no answer"
 sentence_of InvalidArgs = codes "these are not arguments of the method"
 sentence_of (LimitsExceeded limit) = limit_of limit
@@ -73,6 +76,7 @@ sentence_of NameHasNoOwner = codes "nobody owns the name"
 sentence_of NoMemory = codes "the bus has no memory for this"
 sentence_of NoReply = codes "the connection that was called has gone"
 sentence_of ServiceUnknown = codes "nobody owns the name, and nothing is started here"
+sentence_of SelinuxSecurityContextUnknown = codes "the bus knows no security contexts"
 sentence_of UnixProcessIdUnknown = codes "the bus knows no processes"
 sentence_of UnknownInterface = codes "the bus has no such interface"
 sentence_of UnknownMethod = codes "the bus has no such method"

@@ -3,7 +3,7 @@ use Rattle.std.specs.Prelude.{ℕ, Bool, true, List, [], ◌∷◌, codes, Optio
 use Rattle.std.specs.List.{find}
 use Rattle.std.specs.Str.{bytes_eq}
 use Rattle.bus_messages.specs.declared.method.Method.{Method}
-use Rattle.bus_messages.specs.declared.method.Method.TheVariants.{Hello, AddMatch, RemoveMatch, RequestName, ReleaseName, GetNameOwner, NameHasOwner, ListNames, Ping, Attach, AttachEdition, Detach, StartServiceByName, ListActivatableNames, ListQueuedOwners, GetId, GetConnectionUnixUser, GetConnectionUnixProcessId, GetConnectionCredentials, GetMachineId, Introspect, Get, GetAll, Set, UpdateActivationEnvironment}
+use Rattle.bus_messages.specs.declared.method.Method.TheVariants.{Hello, AddMatch, RemoveMatch, RequestName, ReleaseName, GetNameOwner, NameHasOwner, ListNames, Ping, Attach, AttachEdition, Detach, StartServiceByName, ListActivatableNames, ListQueuedOwners, GetId, GetConnectionUnixUser, GetConnectionUnixProcessId, GetConnectionCredentials, GetAdtAuditSessionData, GetConnectionSelinuxSecurityContext, GetMachineId, Introspect, Get, GetAll, Set, UpdateActivationEnvironment}
 
 -- a method, what it is called, and the signatures of its arguments and of its answer
 pub record MethodRow : Type 0 where
@@ -53,6 +53,8 @@ methods =
     ∷ row_of GetConnectionUnixUser bus (codes "GetConnectionUnixUser") (codes "s") (codes "u")
     ∷ row_of GetConnectionUnixProcessId bus (codes "GetConnectionUnixProcessID") (codes "s") (codes "u")
     ∷ row_of GetConnectionCredentials bus (codes "GetConnectionCredentials") (codes "s") (codes "a{sv}")
+    ∷ row_of GetAdtAuditSessionData bus (codes "GetAdtAuditSessionData") (codes "s") (codes "ay")
+    ∷ row_of GetConnectionSelinuxSecurityContext bus (codes "GetConnectionSELinuxSecurityContext") (codes "s") (codes "ay")
     ∷ row_of GetMachineId peer (codes "GetMachineId") [] (codes "s")
     ∷ row_of Introspect introspectable (codes "Introspect") [] (codes "s")
     ∷ row_of Get properties (codes "Get") (codes "ss") (codes "v")

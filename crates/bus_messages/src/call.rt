@@ -43,6 +43,8 @@ pub enum Call<'a> {
     GetConnectionUnixUser(&'a str),
     GetConnectionUnixProcessId(&'a str),
     GetConnectionCredentials(&'a str),
+    GetAdtAuditSessionData(&'a str),
+    GetConnectionSelinuxSecurityContext(&'a str),
     GetMachineId,
     Introspect,
     /// Of one of the bus's properties, each of which is an empty list.
@@ -203,6 +205,10 @@ impl<'a> Call<'a> {
             }
             Method::GetConnectionCredentials => {
                 Ok(Call::GetConnectionCredentials(arguments.text()?))
+            }
+            Method::GetAdtAuditSessionData => Ok(Call::GetAdtAuditSessionData(arguments.text()?)),
+            Method::GetConnectionSelinuxSecurityContext => {
+                Ok(Call::GetConnectionSelinuxSecurityContext(arguments.text()?))
             }
             Method::GetMachineId => Ok(Call::GetMachineId),
             Method::Introspect => Ok(Call::Introspect),

@@ -11,6 +11,7 @@ use std::fmt;
 /// The error that the bus answers a call with, and what it says of it.
 #[derive(Clone, Copy, Debug, PartialEq, Eq)]
 pub enum ErrorName {
+    AdtAuditDataUnknown,
     Failed,
     InvalidArgs,
     LimitsExceeded(Exceeded),
@@ -21,6 +22,7 @@ pub enum ErrorName {
     NoReply,
     ServiceUnknown,
     PropertyReadOnly,
+    SelinuxSecurityContextUnknown,
     UnixProcessIdUnknown,
     UnknownInterface,
     UnknownMethod,
@@ -48,6 +50,7 @@ impl ErrorName {
         ensures { result.now ≡ full_name self }
     {
         match self {
+            ErrorName::AdtAuditDataUnknown => "org.freedesktop.DBus.Error.AdtAuditDataUnknown",
             ErrorName::Failed => "org.freedesktop.DBus.Error.Failed",
             ErrorName::InvalidArgs => "org.freedesktop.DBus.Error.InvalidArgs",
             ErrorName::LimitsExceeded(_) => "org.freedesktop.DBus.Error.LimitsExceeded",
@@ -57,6 +60,9 @@ impl ErrorName {
             ErrorName::NoMemory => "org.freedesktop.DBus.Error.NoMemory",
             ErrorName::NoReply => "org.freedesktop.DBus.Error.NoReply",
             ErrorName::ServiceUnknown => "org.freedesktop.DBus.Error.ServiceUnknown",
+            ErrorName::SelinuxSecurityContextUnknown => {
+                "org.freedesktop.DBus.Error.SELinuxSecurityContextUnknown"
+            }
             ErrorName::UnixProcessIdUnknown => "org.freedesktop.DBus.Error.UnixProcessIdUnknown",
             ErrorName::UnknownInterface => "org.freedesktop.DBus.Error.UnknownInterface",
             ErrorName::UnknownMethod => "org.freedesktop.DBus.Error.UnknownMethod",
@@ -81,6 +87,10 @@ impl ErrorName {
         ensures sentence { result.sentence.now ≡ sentence_of self }
     {
         match self {
+            ErrorName::AdtAuditDataUnknown => Terms {
+                word: "AdtAuditDataUnknown",
+                sentence: "the bus knows no audit sessions",
+            },
             ErrorName::Failed => Terms {
                 word: "Failed",
                 sentence: "Hello came before, or the bus has no answer",
@@ -116,6 +126,10 @@ impl ErrorName {
             ErrorName::ServiceUnknown => Terms {
                 word: "ServiceUnknown",
                 sentence: "nobody owns the name, and nothing is started here",
+            },
+            ErrorName::SelinuxSecurityContextUnknown => Terms {
+                word: "SELinuxSecurityContextUnknown",
+                sentence: "the bus knows no security contexts",
             },
             ErrorName::UnixProcessIdUnknown => Terms {
                 word: "UnixProcessIdUnknown",

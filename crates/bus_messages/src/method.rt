@@ -28,6 +28,8 @@ pub(crate) enum Method {
     GetConnectionUnixUser,
     GetConnectionUnixProcessId,
     GetConnectionCredentials,
+    GetAdtAuditSessionData,
+    GetConnectionSelinuxSecurityContext,
     GetMachineId,
     Introspect,
     Get,
@@ -79,7 +81,7 @@ macro_rules! rows {
 }
 
 /// Each method. A call that names no interface is of the first row with its member.
-static ROWS: [MethodEntry; 25] = rows! {
+static ROWS: [MethodEntry; 27] = rows! {
     Hello BUS "Hello" ("") -> "s";
     AddMatch BUS "AddMatch" ("s") -> "";
     RemoveMatch BUS "RemoveMatch" ("s") -> "";
@@ -99,6 +101,8 @@ static ROWS: [MethodEntry; 25] = rows! {
     GetConnectionUnixUser BUS "GetConnectionUnixUser" ("s") -> "u";
     GetConnectionUnixProcessId BUS "GetConnectionUnixProcessID" ("s") -> "u";
     GetConnectionCredentials BUS "GetConnectionCredentials" ("s") -> "a{sv}";
+    GetAdtAuditSessionData BUS "GetAdtAuditSessionData" ("s") -> "ay";
+    GetConnectionSelinuxSecurityContext BUS "GetConnectionSELinuxSecurityContext" ("s") -> "ay";
     GetMachineId PEER "GetMachineId" ("") -> "s";
     Introspect INTROSPECTABLE "Introspect" ("") -> "s";
     Get PROPERTIES "Get" ("ss") -> "v";

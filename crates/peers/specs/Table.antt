@@ -45,6 +45,8 @@ module _ {M : Type 0} where
   Performs outbox_of shares request (calls.GetConnectionUnixUser name) v result w = AnswersOwner name.now (TellsOfOwned request (user_found v.identity.user) names.NameHasNoOwner) v result w
   Performs outbox_of shares request (calls.GetConnectionUnixProcessId name) v result w = AnswersOwner name.now (TellsOfOwned request (Err names.UnixProcessIdUnknown) names.NameHasNoOwner) v result w
   Performs outbox_of shares request (calls.GetConnectionCredentials name) v result w = AnswersOwner name.now (TellsOfOwned request (Ok (credentials_of v.identity.user)) names.NameHasNoOwner) v result w
+  Performs outbox_of shares request (calls.GetAdtAuditSessionData name) v result w = AnswersOwner name.now (TellsOfOwned request (Err names.AdtAuditDataUnknown) names.NameHasNoOwner) v result w
+  Performs outbox_of shares request (calls.GetConnectionSelinuxSecurityContext name) v result w = AnswersOwner name.now (TellsOfOwned request (Err names.SelinuxSecurityContextUnknown) names.NameHasNoOwner) v result w
   Performs outbox_of shares request calls.ListActivatableNames v result w = RepliesTexts request (bus_name ∷ []) v result w
   Performs outbox_of shares request calls.Ping v result w = Replies request bodies.Nothing v result w
   Performs outbox_of shares request calls.Get v result w = Replies request bodies.EmptyList v result w

@@ -67,6 +67,16 @@ impl<B: Naming, M: Mailbox> Peer<B, M> {
                 let found = Ok(credentials_of(self.identity.user));
                 self.answer_of_owned(context, request, name, found, missing)
             }
+            Call::GetAdtAuditSessionData(name) => {
+                let missing = ErrorName::NameHasNoOwner;
+                let unknown = Err(ErrorName::AdtAuditDataUnknown);
+                self.answer_of_owned(context, request, name, unknown, missing)
+            }
+            Call::GetConnectionSelinuxSecurityContext(name) => {
+                let missing = ErrorName::NameHasNoOwner;
+                let unknown = Err(ErrorName::SelinuxSecurityContextUnknown);
+                self.answer_of_owned(context, request, name, unknown, missing)
+            }
             Call::Ping => self.answer(context, request, Body::Nothing),
             Call::GetId => self.get_id(context, request),
             Call::GetMachineId => self.get_machine_id(context, request),

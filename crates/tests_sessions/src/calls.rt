@@ -68,6 +68,10 @@ fn rest_of<'a>(call: &Call<'a>) -> (&'static str, &'a str, u32) {
         Call::GetConnectionUnixUser(name) => ("GetConnectionUnixUser", *name, 0),
         Call::GetConnectionUnixProcessId(name) => ("GetConnectionUnixProcessID", *name, 0),
         Call::GetConnectionCredentials(name) => ("GetConnectionCredentials", *name, 0),
+        Call::GetAdtAuditSessionData(name) => ("GetAdtAuditSessionData", *name, 0),
+        Call::GetConnectionSelinuxSecurityContext(name) => {
+            ("GetConnectionSELinuxSecurityContext", *name, 0)
+        }
         Call::GetMachineId => ("GetMachineId", "", 0),
         Call::Introspect => ("Introspect", "", 0),
         Call::Get => ("Get", "", 0),
@@ -79,7 +83,7 @@ fn rest_of<'a>(call: &Call<'a>) -> (&'static str, &'a str, u32) {
 }
 
 // Interface, member, signature and body of a call, and its text and its number.
-const CALLS: [(&str, &str, &[u8], &[u8], &str, u32); 20] = [
+const CALLS: [(&str, &str, &[u8], &[u8], &str, u32); 22] = [
     (BUS, "Hello", b"", b"", "", 0),
     (BUS, "AddMatch", b"s", TEXT, "x", 0),
     (BUS, "RemoveMatch", b"s", TEXT, "x", 0),
@@ -97,6 +101,15 @@ const CALLS: [(&str, &str, &[u8], &[u8], &str, u32); 20] = [
     (BUS, "GetConnectionUnixUser", b"s", TEXT, "x", 0),
     (BUS, "GetConnectionUnixProcessID", b"s", TEXT, "x", 0),
     (BUS, "GetConnectionCredentials", b"s", TEXT, "x", 0),
+    (BUS, "GetAdtAuditSessionData", b"s", TEXT, "x", 0),
+    (
+        BUS,
+        "GetConnectionSELinuxSecurityContext",
+        b"s",
+        TEXT,
+        "x",
+        0,
+    ),
     (PEER, "GetMachineId", b"", b"", "", 0),
     (
         BUS,

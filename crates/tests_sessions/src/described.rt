@@ -23,7 +23,7 @@ fn described(rt: HostRuntime) {
     for line in &LINES {
         expect_count(&rt, text.as_str(), *line, 1);
     }
-    expect_count(&rt, text.as_str(), "<method ", 25);
-    expect_count(&rt, text.as_str(), "</method>", 25);
+    expect_count(&rt, text.as_str(), "<method ", 27);
+    expect_count(&rt, text.as_str(), "</method>", 27);
     assert!(rt; text.as_str().ends_with("</interface>\n</node>\n"));
 }
