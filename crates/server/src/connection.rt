@@ -91,6 +91,11 @@ impl<J: Naming> Connection<J> {
         })
     }
 
+    /// Shuts its socket, before its end.
+    pub(crate) fn shut(&self) {
+        self.link.shut();
+    }
+
     /// Whether it may become overdue: it is without Hello, or in the middle of a message.
     pub(crate) fn is_watched(&self) -> bool {
         !self.is_in || self.beginning.is_some()

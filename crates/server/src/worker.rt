@@ -276,7 +276,7 @@ impl<'a, J: Naming, R: Wait + Drop> Worker<'a, J, R> {
     fn end_all<W: Wait>(&mut self, rt: &W) {
         self.is_ending = true;
         for (_, connection) in self.connections.iter() {
-            connection.link().shut();
+            connection.shut();
         }
         for key in 0..self.connections.capacity() {
             self.end(rt, key, Some(Cause::BusEnds));
