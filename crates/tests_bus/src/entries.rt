@@ -4,7 +4,7 @@ use crate::fixture::{KEY, S1};
 use crate::state::{compile, read_message};
 use bpf_code::Ins;
 use bpf_verify::{Verified, verify};
-use entry_table::{Attachment, EntryTable, Filter};
+use entry_table::{Attachment, Entry, EntryTable, Filter};
 use match_rule::Rule;
 use std::alloc::Global;
 use std::mem::forget;
@@ -62,9 +62,15 @@ fn expect_found<R: Abort>(rt: &R, alloc: Global, table: &EntryTable) {
     assert!(rt; table.has_attachment(1, 4) && !table.has_attachment(1, 1));
 }
 
+fn expect_entry<R: Abort>(rt: &R, entry: Option<Entry>, id: u32) {
+    let entry = entry.expect(rt, "an entry");
+    assert_eq!(rt; entry.id, id);
+    forget(entry);
+}
+
 fn remove<R: Abort>(rt: &R, table: &mut EntryTable) {
-    assert_eq!(rt; table.remove(1, 1).map(|entry| entry.id), Some(1));
-    assert_eq!(rt; table.remove_oldest(2).map(|entry| entry.id), Some(2));
+    expect_entry(rt, table.remove(1, 1), 1);
+    expect_entry(rt, table.remove_oldest(2), 2);
     table.remove_all(2);
 }
 
