@@ -177,6 +177,16 @@ def methods_that_programs_call_first(bus):
     ]
 
 
+@row("wire", ["AdtAuditDataUnknown", "SELinuxSecurityContextUnknown or a context", "NameHasNoOwner", "NameHasNoOwner"])
+def audit_session_and_security_context(bus):
+    one = bus.connect()
+    members = ("GetAdtAuditSessionData", "GetConnectionSELinuxSecurityContext")
+    told = [error_of(one.call, member, "s", (name,)) for name in (one.name, "com.example.Nobody") for member in members]
+    if not isinstance(told[1], str) or told[1] == "SELinuxSecurityContextUnknown":
+        told[1] = "SELinuxSecurityContextUnknown or a context"
+    return told
+
+
 @row("wire", [("ping", 7), "com.example.Error.No", True])
 def calls_and_answers_between_two(bus):
     one, two = bus.connect(), bus.connect()
