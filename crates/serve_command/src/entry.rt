@@ -208,8 +208,9 @@ where
         + Alloc,
 {
     let key = index_key(rt)?;
+    let digits = guid.digits;
     let identity = Identity {
-        guid: guid.digits,
+        guid: digits,
         machine_id: machine_id(rt),
         user: only_user(rt, endpoints),
     };
