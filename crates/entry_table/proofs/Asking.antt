@@ -22,11 +22,12 @@ none_asked asked found e =
     let m : bit_of asked.texts.member ≡ 0 = omega (arith, e) in
     let i : bit_of asked.texts.interface ≡ 0 = omega (arith, e) in
     let p : bit_of asked.texts.path ≡ 0 = omega (arith, e) in
+    let s : bit_of asked.texts.sender ≡ 0 = omega (arith, e) in
     let a : bit_of asked.texts.arg0 ≡ 0 = omega (arith, e) in
     let pn : bit_of asked.path_namespace ≡ 0 = omega (arith, e) in
     let an : bit_of asked.arg0_namespace ≡ 0 = omega (arith, e) in
     found_all asked found
-    (and_from _ _ (and_from _ _ (and_from _ _ (not_asked asked.texts.member found.texts.member m) (not_asked asked.texts.interface found.texts.interface i)) (not_asked asked.texts.path found.texts.path p)) (not_asked asked.texts.arg0 found.texts.arg0 a))
+    (and_from _ _ (and_from _ _ (and_from _ _ (and_from _ _ (not_asked asked.texts.member found.texts.member m) (not_asked asked.texts.interface found.texts.interface i)) (not_asked asked.texts.path found.texts.path p)) (not_asked asked.texts.sender found.texts.sender s)) (not_asked asked.texts.arg0 found.texts.arg0 a))
     (not_asked asked.path_namespace found.path_namespace pn) (not_asked asked.arg0_namespace found.arg0_namespace an)
 
 -- a rule of a shape without a namespace asks for none
@@ -34,9 +35,9 @@ pub no_path_namespace : (shape : ℕ) (asked found : LookupTexts) → shape ≡ 
 no_path_namespace shape asked found same none =
     not_asked asked.path_namespace found.path_namespace (sym (shape-path_namespace asked) ∙ ap (λ (n : ℕ). n / 8 % 2) (sym same) ∙ none)
 
-pub no_arg0_namespace : (shape : ℕ) (asked found : LookupTexts) → shape ≡ shape_of asked → shape / 32 % 2 ≡ 0 → is_text_found asked.arg0_namespace found.arg0_namespace ≡ true
+pub no_arg0_namespace : (shape : ℕ) (asked found : LookupTexts) → shape ≡ shape_of asked → shape / 64 % 2 ≡ 0 → is_text_found asked.arg0_namespace found.arg0_namespace ≡ true
 no_arg0_namespace shape asked found same none =
-    not_asked asked.arg0_namespace found.arg0_namespace (sym (shape-arg0_namespace asked) ∙ ap (λ (n : ℕ). n / 32 % 2) (sym same) ∙ none)
+    not_asked asked.arg0_namespace found.arg0_namespace (sym (shape-arg0_namespace asked) ∙ ap (λ (n : ℕ). n / 64 % 2) (sym same) ∙ none)
 
 pub other_shape : (shape : ℕ) (found : LookupTexts) (e : Entry) → (shape_of (lookup_texts e.filter) ≡ shape → ⊥) → is_offered shape found e ≡ false
 other_shape shape found e other = ap (λ (b : Bool). b && are_found (lookup_texts e.filter) found) (ne_eqb (shape_of (lookup_texts e.filter)) shape other)

@@ -4,7 +4,7 @@ use Rattle.std.proofs.lemmas.Bool.{eqb-true, eq-eqb, and_parts, and_from, or_cas
 use Rattle.std.proofs.lemmas.Slice.Eq.{bytes_eq-Decides}
 use Rattle.std.specs.Prelude.{Option, Some, None, IfSome, IsSomeAnd, option_map}
 use Rattle.message_view.specs.Message.{Message, path_of}
-use Rattle.match_rule.specs.FixedTexts.{FixedTexts, texts_of, AreFound}
+use Rattle.match_rule.specs.FixedTexts.{FixedTexts, texts_from, AreFound}
 use Rattle.match_rule.specs.Holds.{InNamespace}
 use Rattle.match_rule.specs.PathNamespaces.{HasPathIn}
 use Rattle.place_lists.specs.PlaceLists.{has_place, AreOnce}
@@ -119,14 +119,14 @@ module _ (shape : ℕ) (texts : FixedTexts) (e : Entry) where
   shape_wants_path : shape_key e ≡ shape → eqb (shape / 8 % 2) 1 ≡ eqb (bit_of (lookup_texts e.filter).path_namespace) 1
   shape_wants_path same = ap (λ (n : ℕ). eqb (n / 8 % 2) 1) (sym same) ∙ ap (λ (n : ℕ). eqb n 1) (shape-path_namespace (lookup_texts e.filter))
 
-  shape_wants_arg0 : shape_key e ≡ shape → eqb (shape / 32 % 2) 1 ≡ eqb (bit_of (lookup_texts e.filter).arg0_namespace) 1
-  shape_wants_arg0 same = ap (λ (n : ℕ). eqb (n / 32 % 2) 1) (sym same) ∙ ap (λ (n : ℕ). eqb n 1) (shape-arg0_namespace (lookup_texts e.filter))
+  shape_wants_arg0 : shape_key e ≡ shape → eqb (shape / 64 % 2) 1 ≡ eqb (bit_of (lookup_texts e.filter).arg0_namespace) 1
+  shape_wants_arg0 same = ap (λ (n : ℕ). eqb (n / 64 % 2) 1) (sym same) ∙ ap (λ (n : ℕ). eqb n 1) (shape-arg0_namespace (lookup_texts e.filter))
 
   shape_once : shape_key e ≡ shape → OffersOnce (of_shape shape texts) e
   shape_once same =
       path_once (texts.path ∷ paths_after shape texts.path)
       (only_one (lookup_texts e.filter).path_namespace texts.path 47 (eqb (shape / 8 % 2) 1) (shape_wants_path same))
-      (only_one (lookup_texts e.filter).arg0_namespace texts.arg0 46 (eqb (shape / 32 % 2) 1) (shape_wants_arg0 same))
+      (only_one (lookup_texts e.filter).arg0_namespace texts.arg0 46 (eqb (shape / 64 % 2) 1) (shape_wants_arg0 same))
 
   offers_shape : Offers (of_shape shape texts) e → shape_key e ≡ shape
   offers_shape h = let found = offers_path (texts.path ∷ paths_after shape texts.path) h in (one_parts found.0 found.1 found.4).0
@@ -175,7 +175,7 @@ shape_fits shape texts e h =
       AreFound-test (texts_fixed e.filter) texts all.0,
       record {
         path = path_fits (namespaces_fixed e.filter).path found.0 (eqb (shape / 8 % 2) 1) texts.path found.2 all.1;
-        arg0 = arg0_fits (namespaces_fixed e.filter).arg0 found.1 (eqb (shape / 32 % 2) 1) texts.arg0 found.3 all.2;
+        arg0 = arg0_fits (namespaces_fixed e.filter).arg0 found.1 (eqb (shape / 64 % 2) 1) texts.arg0 found.3 all.2;
       },
     )
 
@@ -183,7 +183,7 @@ fits_shape : (shape : ℕ) (texts : FixedTexts) (e : Entry) → IsRooted texts.p
 fits_shape shape texts e rooted same fit =
     let asked : LookupTexts = lookup_texts e.filter in
     let p = fit_path (namespaces_fixed e.filter).path (eqb (shape / 8 % 2) 1) texts.path (shape_wants_path shape texts e same) rooted fit.1.path in
-    let a = fit_arg0 (namespaces_fixed e.filter).arg0 (eqb (shape / 32 % 2) 1) texts.arg0 (shape_wants_arg0 shape texts e same) fit.1.arg0 in
+    let a = fit_arg0 (namespaces_fixed e.filter).arg0 (eqb (shape / 64 % 2) 1) texts.arg0 (shape_wants_arg0 shape texts e same) fit.1.arg0 in
     let t : LookupTexts = record { texts = texts; path_namespace = p.0; arg0_namespace = a.0 } in
     path_offers shape texts e p.0 a.0 (texts.path ∷ paths_after shape texts.path) p.1 a.1
     (and_from (eqb (shape_key e) shape) (are_found asked t) (eq-eqb (shape_key e) shape same) (found_all asked t (test-AreFound (texts_fixed e.filter) texts fit.0) p.2 a.2))
@@ -225,7 +225,7 @@ offers_once texts (shape ∷ shapes) e once =
 
 -- ---- argument 0 need not be read where no shape has it
 
-no_arg0 : (e : Entry) → shape_key e < 16 → (bit_of (texts_fixed e.filter).arg0 ≡ 0) × (bit_of (namespaces_fixed e.filter).arg0 ≡ 0)
+no_arg0 : (e : Entry) → shape_key e < 32 → (bit_of (texts_fixed e.filter).arg0 ≡ 0) × (bit_of (namespaces_fixed e.filter).arg0 ≡ 0)
 no_arg0 e low =
     let t : LookupTexts = lookup_texts e.filter in
     (omega (arith, low, bit-small t.texts.arg0, bit-small t.arg0_namespace), omega (arith, low, bit-small t.texts.arg0, bit-small t.arg0_namespace))
@@ -234,13 +234,14 @@ none_if : (asked : Option (List ℕ)) (P : List ℕ → Type 0) → bit_of asked
 none_if None P e = tt
 none_if (Some text) P e = absurd (omega (arith, e))
 
-other_arg0 : (e : Entry) (a b : FixedTexts) → shape_key e < 16 → b.member ≡ a.member → b.interface ≡ a.interface → b.path ≡ a.path → Fits a e → Fits b e
-other_arg0 e a b low member interface path fit =
+other_arg0 : (e : Entry) (a b : FixedTexts) → shape_key e < 32 → b.member ≡ a.member → b.interface ≡ a.interface → b.path ≡ a.path → b.sender ≡ a.sender → Fits a e → Fits b e
+other_arg0 e a b low member interface path sender fit =
     let none = no_arg0 e low in (
       record {
         member = subst (λ (o : Option (List ℕ)). IfSome (texts_fixed e.filter).member (λ text. o ≡ Some text)) (sym member) fit.0.member;
         interface = subst (λ (o : Option (List ℕ)). IfSome (texts_fixed e.filter).interface (λ text. o ≡ Some text)) (sym interface) fit.0.interface;
         path = subst (λ (o : Option (List ℕ)). IfSome (texts_fixed e.filter).path (λ text. o ≡ Some text)) (sym path) fit.0.path;
+        sender = subst (λ (o : Option (List ℕ)). IfSome (texts_fixed e.filter).sender (λ text. o ≡ Some text)) (sym sender) fit.0.sender;
         arg0 = none_if (texts_fixed e.filter).arg0 (λ text. b.arg0 ≡ Some text) none.0;
       },
       record {
@@ -249,14 +250,14 @@ other_arg0 e a b low member interface path fit =
       },
     )
 
-pub read_fits : (has_arg0 : Bool) (m : Message) (e : Entry) → (has_arg0 ≡ false → shape_key e < 16) → Fits (texts_read has_arg0 m) e → Fits (texts_of m) e
-read_fits true m e low fit = fit
-read_fits false m e low fit = other_arg0 e (texts_read false m) (texts_of m) (low refl) refl refl refl fit
+pub read_fits : (has_arg0 : Bool) (sender : Option (List ℕ)) (m : Message) (e : Entry) → (has_arg0 ≡ false → shape_key e < 32) → Fits (texts_read has_arg0 sender m) e → Fits (texts_from sender m) e
+read_fits true sender m e low fit = fit
+read_fits false sender m e low fit = other_arg0 e (texts_read false sender m) (texts_from sender m) (low refl) refl refl refl refl fit
 
-pub fits_read : (has_arg0 : Bool) (m : Message) (e : Entry) → (has_arg0 ≡ false → shape_key e < 16) → Fits (texts_of m) e → Fits (texts_read has_arg0 m) e
-fits_read true m e low fit = fit
-fits_read false m e low fit = other_arg0 e (texts_of m) (texts_read false m) (low refl) refl refl refl fit
+pub fits_read : (has_arg0 : Bool) (sender : Option (List ℕ)) (m : Message) (e : Entry) → (has_arg0 ≡ false → shape_key e < 32) → Fits (texts_from sender m) e → Fits (texts_read has_arg0 sender m) e
+fits_read true sender m e low fit = fit
+fits_read false sender m e low fit = other_arg0 e (texts_from sender m) (texts_read false sender m) (low refl) refl refl refl refl fit
 
-pub rooted_read : (has_arg0 : Bool) (m : Message) → IsRooted (path_of m) → IsRooted (texts_read has_arg0 m).path
-rooted_read true m rooted = rooted
-rooted_read false m rooted = rooted
+pub rooted_read : (has_arg0 : Bool) (sender : Option (List ℕ)) (m : Message) → IsRooted (path_of m) → IsRooted (texts_read has_arg0 sender m).path
+rooted_read true sender m rooted = rooted
+rooted_read false sender m rooted = rooted

@@ -4,10 +4,10 @@ use Rattle.std.proofs.Math.Nat.{mod-lt}
 use Rattle.std.proofs.lemmas.Bool.{eqb-true, eq-eqb, and_parts, and_from, or_cases, or_left, or_right, cases_Bool, cases_eq, lt-ltb, cond-true, cond-false, false≢true}
 use Rattle.std.proofs.lemmas.List.Elements.{Contains-append_cases, Contains-append_left, Contains-append_right, All-nil, All-cons}
 use Rattle.std.proofs.lemmas.List.Kept.{AllPairs-cons}
-use Rattle.std.specs.Prelude.{filter, Contains, All, AllPairs, if◌then◌else◌}
+use Rattle.std.specs.Prelude.{Option, filter, Contains, All, AllPairs, if◌then◌else◌}
 use Rattle.std.specs.List.{filter_map}
 use Rattle.message_view.specs.Message.{Message, path_of}
-use Rattle.match_rule.specs.FixedTexts.{FixedTexts}
+use Rattle.match_rule.specs.FixedTexts.{FixedTexts, texts_from}
 use Rattle.place_lists.specs.PlaceLists.{PlaceLists, has_place, AreOnce}
 use Rattle.entry_table.specs.declared.entry.Entry.{Entry}
 use Rattle.entry_table.specs.declared.index.Index.{Index}
@@ -184,23 +184,23 @@ AllPairs-apart (e ∷ es) h = AllPairs-cons (λ (x y : Entry). x.id ≢ y.id) e 
 -- shape 0 and those in use are all shapes that entries have
 in_use : (index : Index) (held : List Placed) (used : List ℕ) → IsIndexed index held → ((shape : ℕ) → has_place shape used ≡ is_in_use shape index.shapes) → (e : Entry) → Contains (seen_in held) e → has_place (shape_key e) (0 ∷ used) ≡ true
 in_use index held used h same e stands =
-    let low : shape_key e < 64 = shape-below (lookup_texts e.filter) in
+    let low : shape_key e < 128 = shape-below (lookup_texts e.filter) in
     elim (cases_eq (shape_key e) 0) [
       | inl none ↦ or_left (eqb (shape_key e) 0) (has_place (shape_key e) used) (eq-eqb (shape_key e) 0 none)
       | inr some ↦ or_right (eqb (shape_key e) 0) (has_place (shape_key e) used)
           (same (shape_key e) ∙ and_from (ltb 0 (shape_key e)) (ltb 0 (get_or index.shapes (shape_key e) 0)) (lt-ltb 0 (shape_key e) (omega (arith, some))) (lt-ltb 0 (get_or index.shapes (shape_key e) 0) (omega (arith, h.shapes.each (shape_key e) low, counted held e stands))))
     ]
 
-low_in_use : {index : Index} {held : List Placed} {m : Message} {offers : List Entry} (up : IsLookedUp index held m offers) → up.has_arg0 ≡ false → (shape : ℕ) → has_place shape (0 ∷ up.used) ≡ true → shape < 16
+low_in_use : {index : Index} {held : List Placed} {sender : Option (List ℕ)} {m : Message} {offers : List Entry} (up : IsLookedUp index held sender m offers) → up.has_arg0 ≡ false → (shape : ℕ) → has_place shape (0 ∷ up.used) ≡ true → shape < 32
 low_in_use up none shape has = elim (or_cases (eqb shape 0) (has_place shape up.used) has) [
   | inl zero ↦ omega (arith, eqb-true shape 0 zero)
   | inr later ↦ up.without none shape (sym (up.same shape) ∙ later)
 ]
 
 -- exactly the entries that a message is offered to, each once
-pub AreOffered-index : (index : Index) (held : List Placed) (m : Message) (offers : List Entry) → IsRooted (path_of m) → IsIndexed index held → IdsFall held → IsLookedUp index held m offers → AreOffered (entries_of held) m offers
-AreOffered-index index held m offers rooted h falls up =
-    let texts : FixedTexts = texts_read up.has_arg0 m in
+pub AreOffered-index : (index : Index) (held : List Placed) (sender : Option (List ℕ)) (m : Message) (offers : List Entry) → IsRooted (path_of m) → IsIndexed index held → IdsFall held → IsLookedUp index held sender m offers → AreOffered (entries_of held) (texts_from sender m) offers
+AreOffered-index index held sender m offers rooted h falls up =
+    let texts : FixedTexts = texts_read up.has_arg0 sender m in
     let shapes : List ℕ = 0 ∷ up.used in
     let ls : List Lookup = of_shapes texts shapes in
     let is : offers ≡ by_lookups held ls = up.is ∙ offered_by-lookups held index.by_texts index.points h.once h.texts ls in
@@ -210,12 +210,12 @@ AreOffered-index index held m offers rooted h falls up =
         λ in_offered. (
             let parts = from_lookups held ls e (subst (λ (es : List Entry). Contains es e) is in_offered) in
             let fit = offers_fit texts shapes e parts.1 in
-            (reversed held e parts.0, read_fits up.has_arg0 m e (λ none. low_in_use up none (shape_key e) fit.0) fit.1)),
+            (reversed held e parts.0, read_fits up.has_arg0 sender m e (λ none. low_in_use up none (shape_key e) fit.0) fit.1)),
         λ both. (
             let stands = turned_back held e both.0 in
             let there = in_use index held up.used h up.same e stands in
-            let fit = fits_read up.has_arg0 m e (λ none. low_in_use up none (shape_key e) there) both.1 in
-            subst (λ (es : List Entry). Contains es e) (sym is) (to_lookups held ls e stands (fit_offers texts shapes e (rooted_read up.has_arg0 m rooted) there fit))),
+            let fit = fits_read up.has_arg0 sender m e (λ none. low_in_use up none (shape_key e) there) both.1 in
+            subst (λ (es : List Entry). Contains es e) (sym is) (to_lookups held ls e stands (fit_offers texts shapes e (rooted_read up.has_arg0 sender m rooted) there fit))),
       );
       once = subst (λ (es : List Entry). AllPairs (λ (e f : Entry). e.id ≢ f.id) es) (sym is) (AllPairs-apart (by_lookups held ls) (IdsApart-lookups held falls ls (λ e. offers_once texts shapes e (zero_out, up.once))));
     }

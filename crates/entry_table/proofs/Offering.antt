@@ -94,32 +94,36 @@ bit-small (Some text) = omega arith
 
 module _ (t : LookupTexts) where
   shape-member : shape_of t % 2 ≡ bit_of t.texts.member
-  shape-member = omega (arith, bit-small t.texts.member, bit-small t.texts.interface, bit-small t.texts.path, bit-small t.path_namespace, bit-small t.texts.arg0, bit-small t.arg0_namespace)
+  shape-member = omega (arith, bit-small t.texts.member, bit-small t.texts.interface, bit-small t.texts.path, bit-small t.path_namespace, bit-small t.texts.sender, bit-small t.texts.arg0, bit-small t.arg0_namespace)
 
   shape-interface : shape_of t / 2 % 2 ≡ bit_of t.texts.interface
-  shape-interface = omega (arith, bit-small t.texts.member, bit-small t.texts.interface, bit-small t.texts.path, bit-small t.path_namespace, bit-small t.texts.arg0, bit-small t.arg0_namespace)
+  shape-interface = omega (arith, bit-small t.texts.member, bit-small t.texts.interface, bit-small t.texts.path, bit-small t.path_namespace, bit-small t.texts.sender, bit-small t.texts.arg0, bit-small t.arg0_namespace)
 
   shape-path : shape_of t / 4 % 2 ≡ bit_of t.texts.path
-  shape-path = omega (arith, bit-small t.texts.member, bit-small t.texts.interface, bit-small t.texts.path, bit-small t.path_namespace, bit-small t.texts.arg0, bit-small t.arg0_namespace)
+  shape-path = omega (arith, bit-small t.texts.member, bit-small t.texts.interface, bit-small t.texts.path, bit-small t.path_namespace, bit-small t.texts.sender, bit-small t.texts.arg0, bit-small t.arg0_namespace)
 
   pub shape-path_namespace : shape_of t / 8 % 2 ≡ bit_of t.path_namespace
-  shape-path_namespace = omega (arith, bit-small t.texts.member, bit-small t.texts.interface, bit-small t.texts.path, bit-small t.path_namespace, bit-small t.texts.arg0, bit-small t.arg0_namespace)
+  shape-path_namespace = omega (arith, bit-small t.texts.member, bit-small t.texts.interface, bit-small t.texts.path, bit-small t.path_namespace, bit-small t.texts.sender, bit-small t.texts.arg0, bit-small t.arg0_namespace)
 
-  shape-arg0 : shape_of t / 16 % 2 ≡ bit_of t.texts.arg0
-  shape-arg0 = omega (arith, bit-small t.texts.member, bit-small t.texts.interface, bit-small t.texts.path, bit-small t.path_namespace, bit-small t.texts.arg0, bit-small t.arg0_namespace)
+  shape-sender : shape_of t / 16 % 2 ≡ bit_of t.texts.sender
+  shape-sender = omega (arith, bit-small t.texts.member, bit-small t.texts.interface, bit-small t.texts.path, bit-small t.path_namespace, bit-small t.texts.sender, bit-small t.texts.arg0, bit-small t.arg0_namespace)
 
-  pub shape-arg0_namespace : shape_of t / 32 % 2 ≡ bit_of t.arg0_namespace
-  shape-arg0_namespace = omega (arith, bit-small t.texts.member, bit-small t.texts.interface, bit-small t.texts.path, bit-small t.path_namespace, bit-small t.texts.arg0, bit-small t.arg0_namespace)
+  shape-arg0 : shape_of t / 32 % 2 ≡ bit_of t.texts.arg0
+  shape-arg0 = omega (arith, bit-small t.texts.member, bit-small t.texts.interface, bit-small t.texts.path, bit-small t.path_namespace, bit-small t.texts.sender, bit-small t.texts.arg0, bit-small t.arg0_namespace)
 
-  pub shape-below : shape_of t < 64
-  shape-below = omega (arith, bit-small t.texts.member, bit-small t.texts.interface, bit-small t.texts.path, bit-small t.path_namespace, bit-small t.texts.arg0, bit-small t.arg0_namespace)
+  pub shape-arg0_namespace : shape_of t / 64 % 2 ≡ bit_of t.arg0_namespace
+  shape-arg0_namespace = omega (arith, bit-small t.texts.member, bit-small t.texts.interface, bit-small t.texts.path, bit-small t.path_namespace, bit-small t.texts.sender, bit-small t.texts.arg0, bit-small t.arg0_namespace)
 
-same_texts : (s t : FixedTexts) → s.member ≡ t.member → s.interface ≡ t.interface → s.path ≡ t.path → s.arg0 ≡ t.arg0 → s ≡ t
-same_texts s t member interface path arg0 =
+  pub shape-below : shape_of t < 128
+  shape-below = omega (arith, bit-small t.texts.member, bit-small t.texts.interface, bit-small t.texts.path, bit-small t.path_namespace, bit-small t.texts.sender, bit-small t.texts.arg0, bit-small t.arg0_namespace)
+
+same_texts : (s t : FixedTexts) → s.member ≡ t.member → s.interface ≡ t.interface → s.path ≡ t.path → s.sender ≡ t.sender → s.arg0 ≡ t.arg0 → s ≡ t
+same_texts s t member interface path sender arg0 =
     ap (λ (x : Option (List ℕ)). record s { member = x }) member
     ∙ ap (λ (x : Option (List ℕ)). record s { member = t.member; interface = x }) interface
     ∙ ap (λ (x : Option (List ℕ)). record s { member = t.member; interface = t.interface; path = x }) path
-    ∙ ap (λ (x : Option (List ℕ)). record s { member = t.member; interface = t.interface; path = t.path; arg0 = x }) arg0
+    ∙ ap (λ (x : Option (List ℕ)). record s { member = t.member; interface = t.interface; path = t.path; sender = x }) sender
+    ∙ ap (λ (x : Option (List ℕ)). record s { member = t.member; interface = t.interface; path = t.path; sender = t.sender; arg0 = x }) arg0
 
 same_lookup : (s t : LookupTexts) → s.texts ≡ t.texts → s.path_namespace ≡ t.path_namespace → s.arg0_namespace ≡ t.arg0_namespace → s ≡ t
 same_lookup s t texts path arg0 =
@@ -143,30 +147,34 @@ where_found (Some text) None h = absurd (false≢true h)
 where_found (Some text) (Some other) h = ap (λ (t : List ℕ). Some t) ((bytes_eq-Decides other text).0 h)
 
 module _ (asked found : FixedTexts) where
-  -- the four tests
-  four_found : are_texts_found asked found ≡ true → (is_text_found asked.member found.member ≡ true) × (is_text_found asked.interface found.interface ≡ true) × (is_text_found asked.path found.path ≡ true) × (is_text_found asked.arg0 found.arg0 ≡ true)
-  four_found h =
-      let last = and_parts (is_text_found asked.member found.member && is_text_found asked.interface found.interface && is_text_found asked.path found.path) (is_text_found asked.arg0 found.arg0) h in
-      let third = and_parts (is_text_found asked.member found.member && is_text_found asked.interface found.interface) (is_text_found asked.path found.path) last.0 in
+  -- the five tests
+  each_found : are_texts_found asked found ≡ true → (is_text_found asked.member found.member ≡ true) × (is_text_found asked.interface found.interface ≡ true) × (is_text_found asked.path found.path ≡ true) × (is_text_found asked.sender found.sender ≡ true) × (is_text_found asked.arg0 found.arg0 ≡ true)
+  each_found h =
+      let last = and_parts (is_text_found asked.member found.member && is_text_found asked.interface found.interface && is_text_found asked.path found.path && is_text_found asked.sender found.sender) (is_text_found asked.arg0 found.arg0) h in
+      let fourth = and_parts (is_text_found asked.member found.member && is_text_found asked.interface found.interface && is_text_found asked.path found.path) (is_text_found asked.sender found.sender) last.0 in
+      let third = and_parts (is_text_found asked.member found.member && is_text_found asked.interface found.interface) (is_text_found asked.path found.path) fourth.0 in
       let second = and_parts (is_text_found asked.member found.member) (is_text_found asked.interface found.interface) third.0 in
-      (second.0, second.1, third.1, last.1)
+      (second.0, second.1, third.1, fourth.1, last.1)
 
   pub AreFound-test : are_texts_found asked found ≡ true → AreFound asked found
   AreFound-test h =
-      let four = four_found h in
+      let each = each_found h in
       record {
-        member = text_found asked.member found.member four.0;
-        interface = text_found asked.interface found.interface four.1;
-        path = text_found asked.path found.path four.2;
-        arg0 = text_found asked.arg0 found.arg0 four.3;
+        member = text_found asked.member found.member each.0;
+        interface = text_found asked.interface found.interface each.1;
+        path = text_found asked.path found.path each.2;
+        sender = text_found asked.sender found.sender each.3;
+        arg0 = text_found asked.arg0 found.arg0 each.4;
       }
 
   pub test-AreFound : AreFound asked found → are_texts_found asked found ≡ true
   test-AreFound h =
-      and_from (is_text_found asked.member found.member && is_text_found asked.interface found.interface && is_text_found asked.path found.path) (is_text_found asked.arg0 found.arg0)
+      and_from (is_text_found asked.member found.member && is_text_found asked.interface found.interface && is_text_found asked.path found.path && is_text_found asked.sender found.sender) (is_text_found asked.arg0 found.arg0)
+      (and_from (is_text_found asked.member found.member && is_text_found asked.interface found.interface && is_text_found asked.path found.path) (is_text_found asked.sender found.sender)
       (and_from (is_text_found asked.member found.member && is_text_found asked.interface found.interface) (is_text_found asked.path found.path)
       (and_from (is_text_found asked.member found.member) (is_text_found asked.interface found.interface) (found_text asked.member found.member h.member) (found_text asked.interface found.interface h.interface))
       (found_text asked.path found.path h.path))
+      (found_text asked.sender found.sender h.sender))
       (found_text asked.arg0 found.arg0 h.arg0)
 
 module _ (asked found : LookupTexts) where
@@ -186,11 +194,12 @@ module _ (asked found : LookupTexts) where
   pub in_own_shape : are_found asked found ≡ true → in_shape (shape_of asked) found ≡ asked
   in_own_shape h =
       let all = all_found h in
-      let four = four_found asked.texts found.texts all.0 in
-      let member = ap (λ (n : ℕ). where_bit n found.texts.member) (shape-member asked) ∙ where_found asked.texts.member found.texts.member four.0 in
-      let interface = ap (λ (n : ℕ). where_bit n found.texts.interface) (shape-interface asked) ∙ where_found asked.texts.interface found.texts.interface four.1 in
-      let path = ap (λ (n : ℕ). where_bit n found.texts.path) (shape-path asked) ∙ where_found asked.texts.path found.texts.path four.2 in
-      let arg0 = ap (λ (n : ℕ). where_bit n found.texts.arg0) (shape-arg0 asked) ∙ where_found asked.texts.arg0 found.texts.arg0 four.3 in
+      let each = each_found asked.texts found.texts all.0 in
+      let member = ap (λ (n : ℕ). where_bit n found.texts.member) (shape-member asked) ∙ where_found asked.texts.member found.texts.member each.0 in
+      let interface = ap (λ (n : ℕ). where_bit n found.texts.interface) (shape-interface asked) ∙ where_found asked.texts.interface found.texts.interface each.1 in
+      let path = ap (λ (n : ℕ). where_bit n found.texts.path) (shape-path asked) ∙ where_found asked.texts.path found.texts.path each.2 in
+      let sender = ap (λ (n : ℕ). where_bit n found.texts.sender) (shape-sender asked) ∙ where_found asked.texts.sender found.texts.sender each.3 in
+      let arg0 = ap (λ (n : ℕ). where_bit n found.texts.arg0) (shape-arg0 asked) ∙ where_found asked.texts.arg0 found.texts.arg0 each.4 in
       let path_namespace = ap (λ (n : ℕ). where_bit n found.path_namespace) (shape-path_namespace asked) ∙ where_found asked.path_namespace found.path_namespace all.1 in
       let arg0_namespace = ap (λ (n : ℕ). where_bit n found.arg0_namespace) (shape-arg0_namespace asked) ∙ where_found asked.arg0_namespace found.arg0_namespace all.2 in
-      same_lookup (in_shape (shape_of asked) found) asked (same_texts (in_shape (shape_of asked) found).texts asked.texts member interface path arg0) path_namespace arg0_namespace
+      same_lookup (in_shape (shape_of asked) found) asked (same_texts (in_shape (shape_of asked) found).texts asked.texts member interface path sender arg0) path_namespace arg0_namespace

@@ -2,8 +2,8 @@
 use Rattle.std.specs.Prelude.{◌≡◌, ℕ, ◌<◌, Bool, true, false, ◌&&◌, List, [], ◌∷◌, ◌++◌, filter, Option, Some, None, ◌==◌}
 use Rattle.std.specs.Str.{bytes_eq}
 use Rattle.std.specs.List.{filter_map}
-use Rattle.message_view.specs.Message.{Message, member_of, interface_of, path_of}
-use Rattle.match_rule.specs.FixedTexts.{FixedTexts, texts_of}
+use Rattle.message_view.specs.Message.{Message}
+use Rattle.match_rule.specs.FixedTexts.{FixedTexts, texts_from}
 use Rattle.place_lists.specs.PlaceLists.{PlaceLists, places_in, has_place, AreOnce}
 use Rattle.entry_table.specs.declared.entry.Entry.{Entry}
 use Rattle.entry_table.specs.declared.index.Index.{Index}
@@ -24,7 +24,7 @@ is_text_found (Some text) (Some other) = bytes_eq other text
 -- each text that an entry is looked up by is the one that is found
 abbrev pub are_texts_found : FixedTexts → FixedTexts → Bool
 are_texts_found asked found =
-    is_text_found asked.member found.member && is_text_found asked.interface found.interface && is_text_found asked.path found.path && is_text_found asked.arg0 found.arg0
+    is_text_found asked.member found.member && is_text_found asked.interface found.interface && is_text_found asked.path found.path && is_text_found asked.sender found.sender && is_text_found asked.arg0 found.arg0
 
 abbrev pub are_namespaces_found : LookupTexts → LookupTexts → Bool
 are_namespaces_found asked found =
@@ -62,17 +62,17 @@ pub record IsLastLookup (old : KeyedTexts) (from : Cursor) (new : KeyedTexts) (t
   pub same_texts : new ≡ old
   pub same_cursor : to ≡ from
 
--- the texts that are read of a message, argument 0 among them or not
-abbrev pub texts_read : Bool → Message → FixedTexts
-texts_read true m = texts_of m
-texts_read false m = record { member = member_of m; interface = interface_of m; path = path_of m; arg0 = None }
+-- the texts of a message from this sender that are read, argument 0 among them or not
+abbrev pub texts_read : Bool → Option (List ℕ) → Message → FixedTexts
+texts_read true sender m = texts_from sender m
+texts_read false sender m = record (texts_from sender m) { arg0 = None }
 
 -- what is still to come at the start: those of shape 0, and those of each shape in use
-pub record IsLookedUp (index : Index) (held : List Placed) (m : Message) (offers : List Entry) : Type 0 where
+pub record IsLookedUp (index : Index) (held : List Placed) (sender : Option (List ℕ)) (m : Message) (offers : List Entry) : Type 0 where
   pub used : List ℕ
   pub once : AreOnce used
   pub same : (shape : ℕ) → has_place shape used ≡ is_in_use shape index.shapes
   -- argument 0 is read, or no shape in use has it
   pub has_arg0 : Bool
-  pub without : has_arg0 ≡ false → (shape : ℕ) → is_in_use shape index.shapes ≡ true → shape < 16
-  pub is : offers ≡ coming held index.by_texts (record { points = index.points; texts = first_texts (texts_read has_arg0 m) }) (record { shape = 0; places = places_in index.by_texts hash_lists; shapes = used })
+  pub without : has_arg0 ≡ false → (shape : ℕ) → is_in_use shape index.shapes ≡ true → shape < 32
+  pub is : offers ≡ coming held index.by_texts (record { points = index.points; texts = first_texts (texts_read has_arg0 sender m) }) (record { shape = 0; places = places_in index.by_texts hash_lists; shapes = used })

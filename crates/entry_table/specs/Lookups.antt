@@ -24,7 +24,7 @@ abbrev pub paths_after : ℕ → Option (List ℕ) → List (Option (List ℕ))
 paths_after shape path = fronts_after (shape / 8 % 2 == 1) 47 path
 
 abbrev pub arg0s_after : ℕ → Option (List ℕ) → List (Option (List ℕ))
-arg0s_after shape arg0 = fronts_after (shape / 32 % 2 == 1) 46 arg0
+arg0s_after shape arg0 = fronts_after (shape / 64 % 2 == 1) 46 arg0
 
 -- the lookups of a shape with each of these namespaces of the path
 abbrev pub with_paths : ℕ → FixedTexts → List (Option (List ℕ)) → List Lookup

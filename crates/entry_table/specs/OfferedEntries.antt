@@ -20,9 +20,9 @@ namespaces_fixed (Rule compiled) = namespaces_asked compiled.rule
 namespaces_fixed (Attached program) = no_namespaces
 
 -- A message is offered to an entry where it has each text that the entry's rule fixes, and lies in each namespace that
--- the rule asks for; to an attached program it always is.
-abbrev pub IsOffered : Message → Entry → Type 0
-IsOffered m e = AreFound (texts_fixed e.filter) (texts_of m) × AreInside (namespaces_fixed e.filter) (texts_of m)
+-- the rule asks for; to an attached program it always is. Of the message that takes no more than its texts.
+abbrev pub IsOffered : FixedTexts → Entry → Type 0
+IsOffered texts e = AreFound (texts_fixed e.filter) texts × AreInside (namespaces_fixed e.filter) texts
 
 -- a message of which a rule holds has the texts that the rule fixes, and lies in the namespaces that it asks for
 abbrev pub OfferedWhereItHolds : Type 0
@@ -31,7 +31,7 @@ OfferedWhereItHolds =
     → Holds rule m owned
     → AreFound (fixed_texts rule) (texts_of m) × AreInside (namespaces_asked rule) (texts_of m)
 
--- exactly those of the entries that a message is offered to, each once
-pub record AreOffered (entries : List Entry) (m : Message) (offers : List Entry) : Type 0 where
-  pub exact : (e : Entry) → Contains offers e ↔ (Contains entries e × IsOffered m e)
+-- exactly those of the entries that a message with these texts is offered to, each once
+pub record AreOffered (entries : List Entry) (texts : FixedTexts) (offers : List Entry) : Type 0 where
+  pub exact : (e : Entry) → Contains offers e ↔ (Contains entries e × IsOffered texts e)
   pub once : AllPairs (λ (e f : Entry). e.id ≢ f.id) offers

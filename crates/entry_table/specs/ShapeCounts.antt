@@ -4,7 +4,7 @@ use Rattle.place_lists.specs.PlaceLists.{PlaceLists, places_in, has_place}
 
 -- how many shapes there are
 abbrev pub shape_count : ℕ
-shape_count = 64
+shape_count = 128
 
 -- a shape is in use where it has entries; entries of shape 0 are looked at anyhow
 abbrev pub is_in_use : ℕ → List ℕ → Bool

@@ -33,7 +33,7 @@ pub(crate) struct Index {
 }
 
 impl Index {
-    ghost use Rattle.std.specs.Prelude.{◌≡◌, ◌+◌, ◌%◌, IfOk, length};
+    ghost use Rattle.std.specs.Prelude.{◌≡◌, ◌+◌, ◌%◌, IfOk, length, option_map};
     ghost use Rattle.message_view.specs.Message.{Message};
     ghost use Rattle.message_view.specs.Valid.{Valid};
     ghost use Rattle.place_lists.specs.PlaceLists.{places_in};
@@ -95,15 +95,20 @@ impl Index {
             .walk((connection % CONNECTION_LISTS as u64) as usize)
     }
 
-    /// The entries of a shelf that a message is offered to: each shape in use is looked up, one
+    /// The entries of a shelf that a message from this sender is offered to: each shape in use is looked up, one
     /// that has a namespace once for each that the message's text is in.
     #[inline(always)]
-    pub(crate) fn entries_for<'a>(&'a self, shelf: &'a Shelf, view: &View<'a>) -> Offers<'a>
+    pub(crate) fn entries_for<'a>(
+        &'a self,
+        shelf: &'a Shelf,
+        view: &View<'a>,
+        sender: Option<&'a str>,
+    ) -> Offers<'a>
         requires { length self.now.by_texts.lists ≡ hash_lists + 1 }
-        ensures { (m : Message) → Valid view.now m → IsLookedUp self.entry.now shelf.entry.now m result }
+        ensures { (m : Message) → Valid view.now m → IsLookedUp self.entry.now shelf.entry.now (option_map (λ name. name.now) sender.entry) m result }
     {
         let has_arg0 = self.shapes.has_arg0();
-        let found = MessageTexts::new(&self.points, view, has_arg0);
+        let found = MessageTexts::new(&self.points, view, sender, has_arg0);
         Offers::new(shelf, &self.by_texts, found, self.shapes.in_use())
     }
 }

@@ -16,7 +16,7 @@ pub struct IndexKey {
 }
 
 impl IndexKey {
-    /// A point for the texts of one of the six keys, by its number: SipHash-1-3 of the number, so that nobody who
+    /// A point for the texts of one of the seven keys, by its number: SipHash-1-3 of the number, so that nobody who
     /// doesn't know this key can tell the point from one that is drawn.
     #[tactic(auto, unfolding(crate::specs::TextKeys::point_of))]
     fn point(self, number: u8) -> Point
@@ -27,7 +27,7 @@ impl IndexKey {
         Point::new(hasher.finish())
     }
 
-    /// The points for the texts of the six keys.
+    /// The points for the texts of the seven keys.
     pub(crate) fn points(self) -> TextPoints
         ensures { result ≡ points_of self }
     {
@@ -38,6 +38,7 @@ impl IndexKey {
             arg0: self.point(4),
             path_namespace: self.point(5),
             arg0_namespace: self.point(6),
+            sender: self.point(7),
         }
     }
 }

@@ -33,6 +33,7 @@ impl IndexedShelf {
     ghost use Rattle.std.specs.Prelude.{◌≡◌, ◌<◌, ◌%◌, ◌∷◌, [], true, length, IfOk, option_map};
     ghost use Rattle.message_view.specs.Message.{Message};
     ghost use Rattle.message_view.specs.Valid.{Valid};
+    ghost use Rattle.match_rule.specs.FixedTexts.{texts_from};
     ghost use Rattle.place_lists.specs.PlaceLists.{has_place, AreOnce};
     ghost use Rattle.entry_table.specs.declared.entry.Entry.{Entry};
     ghost use Rattle.entry_table.specs.OfferedEntries.{AreOffered};
@@ -100,11 +101,11 @@ impl IndexedShelf {
         entry
     }
 
-    /// The entries that a message is offered to.
+    /// The entries that a message from this sender is offered to.
     #[inline(always)]
-    pub(crate) fn entries_for<'a>(&'a self, view: &View<'a>) -> Offers<'a>
-        ensures { (m : Message) → Valid view.now m → IdsFall self.entry.now → AreOffered (entries_of self.entry.now) m result }
+    pub(crate) fn entries_for<'a>(&'a self, view: &View<'a>, sender: Option<&'a str>) -> Offers<'a>
+        ensures { (m : Message) → Valid view.now m → IdsFall self.entry.now → AreOffered (entries_of self.entry.now) (texts_from (option_map (λ name. name.now) sender.entry) m) result }
     {
-        self.index.entries_for(&self.shelf, view)
+        self.index.entries_for(&self.shelf, view, sender)
     }
 }

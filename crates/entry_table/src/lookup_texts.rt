@@ -21,21 +21,23 @@ fn bit_of(text: Option<&str>) -> u16
     }
 }
 
-/// The sum of the hashes of six texts, as one hash. If texts differ under one key, the sums differ by as much as the
+/// The sum of the hashes of seven texts, as one hash. If texts differ under one key, the sums differ by as much as the
 /// hashes of that key do, whatever the other texts are.
 pub(crate) fn join_hashes(
     member: u64,
     interface: u64,
     path: u64,
+    sender: u64,
     arg0: u64,
     path_namespace: u64,
     arg0_namespace: u64,
 ) -> u64
-    ensures { result ≡ hash_of_texts member interface path arg0 path_namespace arg0_namespace }
+    ensures { result ≡ hash_of_texts member interface path sender arg0 path_namespace arg0_namespace }
 {
     member
         .wrapping_add(interface)
         .wrapping_add(path)
+        .wrapping_add(sender)
         .wrapping_add(arg0)
         .wrapping_add(path_namespace)
         .wrapping_add(arg0_namespace)
@@ -99,18 +101,19 @@ impl<'a> LookupTexts<'a> {
         }
     }
 
-    /// Which of them there are: 1 for the member, 2 for the interface, 4 for the path, 8 for its namespace, 16 for arg0,
-    /// 32 for its namespace, added up.
+    /// Which of them there are: 1 for the member, 2 for the interface, 4 for the path, 8 for its namespace, 16 for the
+    /// sender, 32 for arg0, 64 for its namespace, added up.
     pub(crate) fn shape(&self) -> u16
         ensures value { result ≡ shape_of self.now }
-        ensures below { result < 64 }
+        ensures below { result < 128 }
     {
         bit_of(self.texts.member)
             + 2 * bit_of(self.texts.interface)
             + 4 * bit_of(self.texts.path)
             + 8 * bit_of(self.path_namespace)
-            + 16 * bit_of(self.texts.arg0)
-            + 32 * bit_of(self.arg0_namespace)
+            + 16 * bit_of(self.texts.sender)
+            + 32 * bit_of(self.texts.arg0)
+            + 64 * bit_of(self.arg0_namespace)
     }
 
     /// Their hash at these points.
@@ -121,6 +124,7 @@ impl<'a> LookupTexts<'a> {
             hash_of(&points.member, self.texts.member),
             hash_of(&points.interface, self.texts.interface),
             hash_of(&points.path, self.texts.path),
+            hash_of(&points.sender, self.texts.sender),
             hash_of(&points.arg0, self.texts.arg0),
             hash_of(&points.path_namespace, self.path_namespace),
             hash_of(&points.arg0_namespace, self.arg0_namespace),

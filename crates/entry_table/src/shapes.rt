@@ -7,10 +7,10 @@ use std::alloc::{AllocError, Global};
 use std::marker::Model;
 
 /// How many shapes there are.
-pub(crate) const SHAPES: u16 = 64;
+pub(crate) const SHAPES: u16 = 128;
 
 /// The least shape that has argument 0 or its namespace.
-const ARG0_SHAPE: usize = 16;
+const ARG0_SHAPE: usize = 32;
 
 /// The greatest of the counts from a place on.
 fn most_from(counts: &[u16], from: usize) -> u16
@@ -86,7 +86,7 @@ impl Shapes {
 
     /// Whether a shape in use has argument 0 or its namespace.
     pub(crate) fn has_arg0(&self) -> bool
-        ensures { result ≡ false → (shape : ℕ) → is_in_use shape self.now ≡ true → shape < 16 }
+        ensures { result ≡ false → (shape : ℕ) → is_in_use shape self.now ≡ true → shape < 32 }
     {
         most_from(self.counts.as_slice(), ARG0_SHAPE) != 0
     }

@@ -37,6 +37,7 @@ impl EntryTable {
     ghost use Rattle.std.specs.List.{list_any};
     ghost use Rattle.message_view.specs.Message.{Message};
     ghost use Rattle.message_view.specs.Valid.{Valid};
+    ghost use Rattle.match_rule.specs.FixedTexts.{texts_from};
     ghost use Rattle.entry_table.specs.declared.entry.Entry.{Entry};
     ghost use Rattle.entry_table.specs.Entries.{Entries, no_entries, is_full, AreEntries, is_of, is_entry, has_rule, is_attachment, entries_but};
     ghost use Rattle.entry_table.specs.OfferedEntries.{AreOffered};
@@ -193,12 +194,13 @@ impl EntryTable {
         'theirs: while let Some(_) = self.remove_any(connection) {}
     }
 
-    /// The entries that a message is offered to: attached programs, and the rules whose member, interface, path and
-    /// `arg0` conditions, where there are such, hold of the message.
+    /// The entries that a message is offered to, were this its sender: attached programs, and the rules whose conditions on
+    /// the member, the interface, the path, the argument 0 and their namespaces, and on a sender by its own name, where there
+    /// are such, hold of it.
     #[inline(always)]
-    pub fn entries_for<'a>(&'a self, view: &View<'a>) -> Offers<'a>
-        ensures { (m : Message) → Valid view.now m → AreOffered self.now.entries m result }
+    pub fn entries_for<'a>(&'a self, view: &View<'a>, sender: Option<&'a str>) -> Offers<'a>
+        ensures { (m : Message) → Valid view.now m → AreOffered self.now.entries (texts_from (option_map (λ name. name.now) sender.entry) m) result }
     {
-        self.shelf.entries_for(view)
+        self.shelf.entries_for(view, sender)
     }
 }

@@ -2,7 +2,7 @@
 
 use text_hash::Point;
 
-/// The point at which the texts of each of the four keys are hashed. They differ, so that one text has two hashes under
+/// The point at which the texts of each key are hashed. They differ, so that one text has two hashes under
 /// two keys.
 #[derive(Drop)]
 pub(crate) struct TextPoints {
@@ -12,4 +12,5 @@ pub(crate) struct TextPoints {
     pub(crate) arg0: Point,
     pub(crate) path_namespace: Point,
     pub(crate) arg0_namespace: Point,
+    pub(crate) sender: Point,
 }

@@ -139,6 +139,7 @@ pub(crate) struct MessageTexts<'a> {
     member: Text<'a>,
     interface: Text<'a>,
     path: Text<'a>,
+    sender: Text<'a>,
     arg0: Text<'a>,
     path_namespace: Text<'a>,
     arg0_namespace: Text<'a>,
@@ -154,16 +155,22 @@ impl<'a> Model for MessageTexts<'a> {
 
     ghost Value = { KeyedTexts };
 
-    ghost view = { λ m. record { points = m.points.now; texts = texts_in m.member m.interface m.path m.arg0 m.path_namespace m.arg0_namespace } };
+    ghost view = { λ m. record { points = m.points.now; texts = texts_in m.member m.interface m.path m.sender m.arg0 m.path_namespace m.arg0_namespace } };
 
-    ghost invariant = { λ m. AreHashes (record { points = m.points.now; texts = texts_in m.member m.interface m.path m.arg0 m.path_namespace m.arg0_namespace }) (record { member = m.member_hash; interface = m.interface_hash; path = m.path_hash; arg0 = m.arg0_hash }) };
+    ghost invariant = { λ m. AreHashes (record { points = m.points.now; texts = texts_in m.member m.interface m.path m.sender m.arg0 m.path_namespace m.arg0_namespace }) (record { member = m.member_hash; interface = m.interface_hash; path = m.path_hash; arg0 = m.arg0_hash }) };
 }
 
 impl<'a> MessageTexts<'a> {
-    /// The texts that a message has, argument 0 only where it is wanted, for the first lookup of a shape; no hash is known.
+    /// The texts of a message from this sender, argument 0 only where it is wanted, for the first lookup of a shape; no hash is
+    /// known.
     #[inline(always)]
-    pub(crate) fn new(points: &'a TextPoints, view: &View<'a>, has_arg0: bool) -> MessageTexts<'a>
-        ensures { (m : Message) → Valid view.now m → result ≡ record { points = points.entry.now; texts = first_texts (texts_read has_arg0 m) } }
+    pub(crate) fn new(
+        points: &'a TextPoints,
+        view: &View<'a>,
+        sender: Option<&'a str>,
+        has_arg0: bool,
+    ) -> MessageTexts<'a>
+        ensures { (m : Message) → Valid view.now m → result ≡ record { points = points.entry.now; texts = first_texts (texts_read has_arg0 (option_map (λ name. name.now) sender.entry) m) } }
     {
         let path = Text::of(view.path());
         let arg0 = Text::of(if has_arg0 { arg0_of(view) } else { None });
@@ -172,6 +179,7 @@ impl<'a> MessageTexts<'a> {
             member: Text::of(view.member()),
             interface: Text::of(view.interface()),
             path,
+            sender: Text::of(sender),
             arg0,
             path_namespace: path,
             arg0_namespace: arg0,
@@ -208,18 +216,19 @@ impl<'a> MessageTexts<'a> {
             self.path.get(),
         );
         let arg0 = hash_once(
-            shape / 16 % 2 == 1,
+            shape / 32 % 2 == 1,
             &mut self.arg0_hash,
             &at.arg0,
             self.arg0.get(),
         );
+        let sender = hash_where(shape / 16 % 2 == 1, &at.sender, self.sender.get());
         let path_namespace = hash_where(
             shape / 8 % 2 == 1,
             &at.path_namespace,
             self.path_namespace.get(),
         );
         let arg0_namespace = hash_where(
-            shape / 32 % 2 == 1,
+            shape / 64 % 2 == 1,
             &at.arg0_namespace,
             self.arg0_namespace.get(),
         );
@@ -229,6 +238,7 @@ impl<'a> MessageTexts<'a> {
                 member,
                 interface,
                 path,
+                sender,
                 arg0,
                 path_namespace,
                 arg0_namespace,
@@ -244,7 +254,7 @@ impl<'a> MessageTexts<'a> {
         ensures points { self.new.points ≡ self.old.points }
         ensures texts { self.new.texts.texts ≡ self.old.texts.texts }
     {
-        if let Some(front) = front_after(shape / 32 % 2 == 1, b'.', self.arg0_namespace.get()) {
+        if let Some(front) = front_after(shape / 64 % 2 == 1, b'.', self.arg0_namespace.get()) {
             self.arg0_namespace = Text::of(Some(front));
             return true;
         }
@@ -273,6 +283,7 @@ impl<'a> MessageTexts<'a> {
         is_text_found(asked.member, self.member.get())
             && is_text_found(asked.interface, self.interface.get())
             && is_text_found(asked.path, self.path.get())
+            && is_text_found(asked.sender, self.sender.get())
             && is_text_found(asked.arg0, self.arg0.get())
     }
 
@@ -283,7 +294,7 @@ impl<'a> MessageTexts<'a> {
         ensures { result ≡ are_namespaces_found (rule_texts rule.now) self.now.texts }
     {
         (shape / 8 % 2 == 0 || is_text_found(path_namespace(rule), self.path_namespace.get()))
-            && (shape / 32 % 2 == 0
+            && (shape / 64 % 2 == 0
                 || is_text_found(arg0_namespace(rule), self.arg0_namespace.get()))
     }
 }

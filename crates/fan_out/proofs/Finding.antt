@@ -8,6 +8,7 @@ use Rattle.message_view.specs.Message.{Message}
 use Rattle.message_view.specs.Valid.{Valid}
 use Rattle.entry_table.specs.declared.entry.Entry.{Entry}
 use Rattle.entry_table.specs.OfferedEntries.{OfferedWhereItHolds, AreOffered}
+use Rattle.match_rule.specs.FixedTexts.{texts_of}
 use Rattle.program_table.specs.Connections.{numbers_of, is_connected}
 use Rattle.program_table.specs.State.{State}
 use Rattle.program_table.specs.IsState.{has_own_slot, IsState}
@@ -32,13 +33,13 @@ in_whole n = omega arith
 
 module _ {M : Type 0} where
   -- the programs of the entries that a message is offered to tell which of them match
-  offered_decided : (s : State M) (sender : Option ℕ) (m : Message) (bytes words : List ℕ) (offers : List Entry) → IsState s → AreOwnedSlots s.registrations sender words → Valid bytes m → EndInOneWay → AreOffered s.registrations.entries m offers → AreDecided s sender m bytes words offers
+  offered_decided : (s : State M) (sender : Option ℕ) (m : Message) (bytes words : List ℕ) (offers : List Entry) → IsState s → AreOwnedSlots s.registrations sender words → Valid bytes m → EndInOneWay → AreOffered s.registrations.entries (texts_of m) offers → AreDecided s sender m bytes words offers
   offered_decided s sender m bytes words offers is owned valid one_way are = record {
     connected = λ e there. all_at (λ (x : Entry). is_connected x.connection s.connections) e s.registrations.entries is.of_connections ((are.exact e).0 there).0;
     decided = λ e there fits answer answered. filter_decided s.registrations sender words owned bytes m valid one_way e.filter answer (all_at (has_own_slot s.registrations.slots) e s.registrations.entries is.registrations.own_slots ((are.exact e).0 there).0) ((are.exact e).0 there).1.0 (fits m valid) answered;
   }
 
-  pub recipients_marked : (s : State M) (sender : Option ℕ) (m : Message) (bytes words : List ℕ) (part of : ℕ) (offers : List Entry) (marks : List Bool) → IsState s → AreOwnedSlots s.registrations sender words → Valid bytes m → EndInOneWay → OfferedWhereItHolds → AreOffered s.registrations.entries m offers → (AreDecided s sender m bytes words offers → AreMarked s sender m part of offers marks) → AreMarkedRecipients s sender m part of marks
+  pub recipients_marked : (s : State M) (sender : Option ℕ) (m : Message) (bytes words : List ℕ) (part of : ℕ) (offers : List Entry) (marks : List Bool) → IsState s → AreOwnedSlots s.registrations sender words → Valid bytes m → EndInOneWay → OfferedWhereItHolds → AreOffered s.registrations.entries (texts_of m) offers → (AreDecided s sender m bytes words offers → AreMarked s sender m part of offers marks) → AreMarkedRecipients s sender m part of marks
   recipients_marked s sender m bytes words part of offers marks is owned valid one_way found are marked =
       let exact = (marked (offered_decided s sender m bytes words offers is owned valid one_way are)).exact in
       record {
@@ -49,11 +50,11 @@ module _ {M : Type 0} where
       }
 
   -- each entry that a message is offered to is of a connection
-  pub offered_connected : (s : State M) (m : Message) (offers : List Entry) → IsState s → AreOffered s.registrations.entries m offers → (e : Entry) → Contains offers e → is_connected e.connection s.connections ≡ true
+  pub offered_connected : (s : State M) (m : Message) (offers : List Entry) → IsState s → AreOffered s.registrations.entries (texts_of m) offers → (e : Entry) → Contains offers e → is_connected e.connection s.connections ≡ true
   offered_connected s m offers is are e there = all_at (λ (x : Entry). is_connected x.connection s.connections) e s.registrations.entries is.of_connections ((are.exact e).0 there).0
 
   -- a message that is offered to no entry has no recipient
-  pub nobody_marked : (s : State M) (sender : Option ℕ) (m : Message) (part of size : ℕ) (offers : List Entry) (marks : List Bool) → OfferedWhereItHolds → AreOffered s.registrations.entries m offers → offers ≡ [] → marks ≡ replicate size false → AreMarkedRecipients s sender m part of marks
+  pub nobody_marked : (s : State M) (sender : Option ℕ) (m : Message) (part of size : ℕ) (offers : List Entry) (marks : List Bool) → OfferedWhereItHolds → AreOffered s.registrations.entries (texts_of m) offers → offers ≡ [] → marks ≡ replicate size false → AreMarkedRecipients s sender m part of marks
   nobody_marked s sender m part of size offers marks found are none e = record {
     exact = λ n. (
       (λ marked. absurd (none_marked size marked.0 (sym (ap (λ (ms : List Bool). slice_get ms marked.0) e) ∙ marked.2))),
@@ -61,7 +62,7 @@ module _ {M : Type 0} where
     );
   }
 
-  pub offered_fit : (s : State M) (m : Message) (offers : List Entry) → IsState s → AreOffered s.registrations.entries m offers → length offers ≤ 16384
+  pub offered_fit : (s : State M) (m : Message) (offers : List Entry) → IsState s → AreOffered s.registrations.entries (texts_of m) offers → length offers ≤ 16384
   offered_fit s m offers is are =
       let few = offered_few s m offers are in
       let kept = length-filter (λ (e : Entry). is_candidate m e.filter) s.registrations.entries in

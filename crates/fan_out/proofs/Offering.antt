@@ -25,10 +25,10 @@ use Rattle.fan_out.proofs.Places.{contains_here, contains_later, contains_cases,
 
 matches_offered : (r : Registrations) (sender : Option ℕ) (m : Message) (filter : Filter) → OfferedWhereItHolds → FilterMatches r sender m filter → AreFound (texts_fixed filter) (texts_of m) × AreInside (namespaces_fixed filter) (texts_of m)
 matches_offered r sender m (Rule compiled) law matches = law compiled.rule m _ matches
-matches_offered r sender m (Attached attached) law matches = (record { member = tt; interface = tt; path = tt; arg0 = tt }, record { path = tt; arg0 = tt })
+matches_offered r sender m (Attached attached) law matches = (record { member = tt; interface = tt; path = tt; sender = tt; arg0 = tt }, record { path = tt; arg0 = tt })
 
 module _ {M : Type 0} where
-  pub among_offered : (s : State M) (sender : Option ℕ) (m : Message) (offers : List Entry) (n : ℕ) → OfferedWhereItHolds → AreOffered s.registrations.entries m offers → (MatchesAmong s sender m offers n ↔ IsRecipient s sender m n)
+  pub among_offered : (s : State M) (sender : Option ℕ) (m : Message) (offers : List Entry) (n : ℕ) → OfferedWhereItHolds → AreOffered s.registrations.entries (texts_of m) offers → (MatchesAmong s sender m offers n ↔ IsRecipient s sender m n)
   among_offered s sender m offers n found are = (
     (λ (e, there, of, matches). (e, ((are.exact e).0 there).0, of, matches)),
     (λ (e, there, of, matches). (let fits = matches_offered s.registrations sender m e.filter found matches in (e, (are.exact e).1 (there, fits), of, matches))),
@@ -96,7 +96,7 @@ few_among some others once among =
     omega (arith, few, length-map some (λ (x : Entry). x.id), length-map others (λ (x : Entry). x.id))
 
 module _ {M : Type 0} where
-  pub offered_few : (s : State M) (m : Message) (offers : List Entry) → AreOffered s.registrations.entries m offers → length offers ≤ length (candidates s m)
+  pub offered_few : (s : State M) (m : Message) (offers : List Entry) → AreOffered s.registrations.entries (texts_of m) offers → length offers ≤ length (candidates s m)
   offered_few s m offers are =
       few_among offers (candidates s m) are.once (λ e there.
       let of = (are.exact e).0 there in

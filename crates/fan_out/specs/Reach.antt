@@ -8,11 +8,11 @@ use Rattle.program_table.specs.State.{State}
 use Rattle.program_table.specs.Recipients.{AreRecipients}
 
 module _ {M : Type 0} where
-  -- no message with these texts has a recipient, whoever sends it
+  -- no message with these texts has a recipient, whichever connection sends it
   abbrev pub ReachesNobody : State M → FixedTexts → Type 0
   ReachesNobody s texts = (sender : Option ℕ) (m : Message) → texts_of m ≡ texts → AreRecipients s sender m []
 
-  -- the message is offered to some entry, or no message with its texts has a recipient
-  abbrev pub TellsReach : State M → Message → Bool → Type 0
-  TellsReach s m true = (e : Entry) × Contains s.registrations.entries e × IsOffered m e
-  TellsReach s m false = ReachesNobody s (texts_of m)
+  -- a message with these texts is offered to some entry, or none has a recipient
+  abbrev pub TellsReach : State M → FixedTexts → Bool → Type 0
+  TellsReach s texts true = (e : Entry) × Contains s.registrations.entries e × IsOffered texts e
+  TellsReach s texts false = ReachesNobody s texts

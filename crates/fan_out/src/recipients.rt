@@ -5,6 +5,7 @@ ghost use Rattle.message_view.specs.Message.{Message};
 ghost use Rattle.message_view.specs.Valid.{Valid};
 ghost use Rattle.summary.specs.declared.edition.Edition.TheVariants.{One, Two};
 ghost use Rattle.entry_table.specs.declared.entry.Entry.{Entry};
+ghost use Rattle.match_rule.specs.FixedTexts.{texts_of};
 ghost use Rattle.entry_table.specs.OfferedEntries.{AreOffered};
 ghost use Rattle.program_table.specs.Answers.{max_entries};
 ghost use Rattle.program_table.specs.Connections.{numbers_of, is_connected};
@@ -322,7 +323,7 @@ fn consider_offered<'a, M: Handle>(
     marks: &mut Marks,
 ) -> u32
     requires state { IsState state.now }
-    requires offers { (m : Message) → Valid view.now m → AreOffered state.now.registrations.entries m (first.now ∷ others.old) }
+    requires offers { (m : Message) → Valid view.now m → AreOffered state.now.registrations.entries (texts_of m) (first.now ∷ others.old) }
     requires none_marked { marks.old.places ≡ replicate MAX_RECIPIENTS false }
     ensures exact { (m : Message) → Valid view.now m → AreMarkedRecipients state.now sender m piece.part piece.of marks.new.places }
     ensures most { result ≤ length others.old + 1 }
@@ -352,7 +353,7 @@ pub(crate) fn mark_recipients<'a, M: Handle>(
     ensures state { IsState state.entry.now }
 {
     offered_where_it_holds();
-    let mut offers = state.entries_for(view);
+    let mut offers = state.entries_for(view, view.sender());
     match offers.next() {
         None => 0,
         Some(first) => { consider_offered(state, sender, view, piece, first, &mut offers, marks) }

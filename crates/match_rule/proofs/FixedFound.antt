@@ -1,8 +1,8 @@
 -- A message of which a rule holds has the texts that the rule asks for.
 use Rattle.std.proofs.Common.{◌≡◌, ℕ, Bool, true, false, List, [], ◌∷◌, refl, ap, ◌∙◌, subst}
 use Rattle.std.proofs.lemmas.List.Elements.{All-head, All-tail}
-use Rattle.std.specs.Prelude.{Option, Some, None, All, IfSome, IsSomeAnd, slice_get, if◌then◌else◌}
-use Rattle.message_view.specs.Message.{Message, member_of, interface_of, path_of}
+use Rattle.std.specs.Prelude.{Option, Some, None, All, IfSome, IsSomeAnd, MatchBool, slice_get, if◌then◌else◌}
+use Rattle.message_view.specs.Message.{Message, member_of, interface_of, path_of, sender_of}
 use Rattle.message_view.specs.Spelling.{arguments_of}
 use Rattle.match_key.specs.declared.source.Field.TheVariants.{Interface, Member, Path}
 use Rattle.match_key.specs.declared.source.Source.{Source}
@@ -12,14 +12,14 @@ use Rattle.match_key.specs.declared.relation.Relation.{Relation}
 use Rattle.match_key.specs.declared.relation.Relation.TheVariants.{Equal}
 use Rattle.match_key.specs.declared.key.Key.TheVariants as keys
 use Rattle.match_rule.specs.declared.condition.Condition.{Condition}
-use Rattle.match_rule.specs.declared.condition.Condition.TheVariants.{Compares}
+use Rattle.match_rule.specs.declared.condition.Condition.TheVariants.{Sender, Compares}
 use Rattle.match_rule.specs.Arguments.{text_in}
 use Rattle.match_key.specs.Key.{key_eq}
 use Rattle.match_rule.specs.Condition.{key_of, value_of}
 use Rattle.match_key.proofs.KeyEquality.{same_key}
-use Rattle.match_rule.specs.RuleTree.{RuleTree, or_else}
+use Rattle.match_rule.specs.RuleTree.{RuleTree, is_owned_name, or_else}
 use Rattle.match_rule.specs.Holds.{Holds, ConditionHolds, Relates, compared_text, text_at}
-use Rattle.match_rule.specs.FixedTexts.{fixed_texts, texts_of, AreFound, value_in, value_asked, arg0_of, string_in, first_text}
+use Rattle.match_rule.specs.FixedTexts.{fixed_texts, texts_of, AreFound, value_in, value_asked, own_sender_in, arg0_of, string_in, first_text}
 
 in_either : (Q : List ℕ → Type 0) (a b : Option (List ℕ)) → IfSome a Q → IfSome b Q → IfSome (or_else a b) Q
 in_either Q (Some text) b first second = first
@@ -67,10 +67,20 @@ pub same_string : (found : Option (ℕ × List ℕ)) → string_in found ≡ com
 same_string None = refl
 same_string (Some found) = refl
 
+-- a sender that is asked for by a name that SENDER may be
+sender_found : (m : Message) (owned : List ℕ → Bool) (c : Condition) → ConditionHolds c m owned → IfSome (own_sender_in c) (λ name. sender_of m ≡ Some name)
+sender_found m owned (Sender name) h = go (is_owned_name name) h
+  where
+    go : (b : Bool) → MatchBool b (owned name ≡ true) (sender_of m ≡ Some name) → IfSome (if b then None else Some name) (λ name. sender_of m ≡ Some name)
+    go true h = tt
+    go false h = h
+sender_found m owned _ h = tt
+
 pub AreFound-Holds : (rule : RuleTree) (m : Message) (owned : List ℕ → Bool) → Holds rule m owned → AreFound (fixed_texts rule) (texts_of m)
 AreFound-Holds rule m owned h = record {
   member = if_each _ _ (λ value. member_of m ≡ Some value) (is_some (member_of m)) (asked_found (Header Member) Equal rule m owned h);
   interface = if_each _ _ (λ value. interface_of m ≡ Some value) (is_some (interface_of m)) (asked_found (Header Interface) Equal rule m owned h);
   path = if_each _ _ (λ value. path_of m ≡ Some value) (is_some (path_of m)) (asked_found (Header Path) Equal rule m owned h);
+  sender = in_first own_sender_in (λ c. ConditionHolds c m owned) (λ name. sender_of m ≡ Some name) (sender_found m owned) rule.conditions h.each;
   arg0 = if_each _ _ (λ value. arg0_of m ≡ Some value) (λ value found. same_string (text_in (slice_get (arguments_of m) 0)) ∙ is_some (text_at (Arg first_arg) Equal m) value found) (asked_found (Arg first_arg) Equal rule m owned h);
 }

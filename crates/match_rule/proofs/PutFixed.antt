@@ -16,14 +16,14 @@ use Rattle.match_rule.specs.PutTexts.{with_text, with_fixed}
 
 -- the texts, where argument 0 has to equal this one
 abbrev with_arg0 : Bool → List ℕ → FixedTexts → FixedTexts
-with_arg0 is_first value texts = record { member = texts.member; interface = texts.interface; path = texts.path; arg0 = or_else (if is_first && true then Some value else None) texts.arg0 }
+with_arg0 is_first value texts = record { member = texts.member; interface = texts.interface; path = texts.path; sender = texts.sender; arg0 = or_else (if is_first && true then Some value else None) texts.arg0 }
 
 put_arg : (n : ArgNumber) (value : List ℕ) (texts : FixedTexts) (b : Bool) → eqb (number_of_arg n) 0 ≡ b → with_text (Arg n) value texts ≡ with_arg0 (eqb (number_of_arg n) 0) value texts
 put_arg n value texts true is = rw is refl
 put_arg n value texts false is = rw is refl
 
 -- a condition of another relation fixes nothing, whichever argument it asks for
-other : (is_first : Bool) (value : List ℕ) (texts : FixedTexts) → texts ≡ record { member = texts.member; interface = texts.interface; path = texts.path; arg0 = or_else (if is_first && false then Some value else None) texts.arg0 }
+other : (is_first : Bool) (value : List ℕ) (texts : FixedTexts) → texts ≡ record { member = texts.member; interface = texts.interface; path = texts.path; sender = texts.sender; arg0 = or_else (if is_first && false then Some value else None) texts.arg0 }
 other true value texts = refl
 other false value texts = refl
 

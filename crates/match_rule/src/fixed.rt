@@ -5,15 +5,18 @@ ghost use Rattle.match_rule.specs.FixedTexts.{value_in, first_text, member_asked
 
 use crate::condition::Condition;
 use crate::rule::Rule;
+use crate::sender::is_owned_name;
 use match_key::{ArgNumber, Field, Key, Relation, Source};
 use std::marker::Model;
 
-/// A text, or none, for each of the keys `member`, `interface`, `path` and `arg0`, by which an index looks rules up.
+/// A text, or none, for each of the keys `member`, `interface`, `path`, `sender` and `arg0`, by which an index looks rules
+/// up. A sender is one that messages have in their SENDER field: a unique name, or that of the bus.
 #[derive(Debug, Drop)]
 pub struct FixedTexts<'a> {
     pub member: Option<&'a str>,
     pub interface: Option<&'a str>,
     pub path: Option<&'a str>,
+    pub sender: Option<&'a str>,
     pub arg0: Option<&'a str>,
 }
 
@@ -23,7 +26,7 @@ impl<'a> Model for FixedTexts<'a> {
 
     ghost Value = { fixed.FixedTexts };
 
-    ghost view = { λ t. record { member = option_map (λ text. text.now) t.member; interface = option_map (λ text. text.now) t.interface; path = option_map (λ text. text.now) t.path; arg0 = option_map (λ text. text.now) t.arg0 } };
+    ghost view = { λ t. record { member = option_map (λ text. text.now) t.member; interface = option_map (λ text. text.now) t.interface; path = option_map (λ text. text.now) t.path; sender = option_map (λ text. text.now) t.sender; arg0 = option_map (λ text. text.now) t.arg0 } };
 }
 
 impl<'a> FixedTexts<'a> {
@@ -38,6 +41,7 @@ impl<'a> FixedTexts<'a> {
             member: None,
             interface: None,
             path: None,
+            sender: None,
             arg0: None,
         }
     }
@@ -72,7 +76,12 @@ impl<'a> FixedTexts<'a> {
                 Relation::PathNamespace | Relation::NameNamespace | Relation::NestedPath,
                 _,
             ) => {}
-            Condition::Kind(_) | Condition::Sender(_) => {}
+            Condition::Sender(name) => {
+                if !is_owned_name(name.as_str()) {
+                    self.sender = Some(name.as_str());
+                }
+            }
+            Condition::Kind(_) => {}
         }
     }
 }
@@ -90,7 +99,7 @@ pub(crate) fn first_value(conditions: &[Condition], key: Key) -> Option<&str>
 }
 
 impl Rule {
-    /// The texts that the rule fixes: of each key that of its first condition with that key. All four are found in one
+    /// The texts that the rule fixes: of each key that of its first condition with that key. All five are found in one
     /// walk over the conditions.
     #[tactic(auto, using(crate::proofs::PutFixed::put_first))]
     pub fn fixed_texts(&self) -> FixedTexts<'_>

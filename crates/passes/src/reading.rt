@@ -1,9 +1,10 @@
 // What a pass reads in the published state, without the lock of the bus.
 
-ghost use Rattle.std.specs.Prelude.{◌≡◌, MatchResult};
+ghost use Rattle.std.specs.Prelude.{◌≡◌, Some, MatchResult};
 ghost use mathlib.Core.List.{IsPrefix};
 ghost use Rattle.message_view.specs.Message.{Message};
 ghost use Rattle.message_view.specs.Valid.{Valid};
+ghost use Rattle.match_rule.specs.FixedTexts.{texts_from};
 ghost use Rattle.owners.specs.Queues.{owner_of};
 ghost use Rattle.program_table.specs.Connections.{is_connected};
 ghost use Rattle.program_table.specs.History.{after};
@@ -67,21 +68,21 @@ impl<J: Naming, M: Mailbox> Pass<J, M> {
         Ok(recipients)
     }
 
-    /// Whether a broadcast with the member, the interface, the path and the argument 0 of this message may reach anybody,
-    /// after a history that begins with what was seen, and is seen then. If not, nobody gets one, whoever sends it. It
-    /// costs less than to stamp a message, which changes none of the four.
+    /// Whether a broadcast with the member, the interface, the path and the argument 0 of this message, and with this SENDER,
+    /// may reach anybody, after a history that begins with what was seen, and is seen then. If not, nobody gets one. It costs
+    /// less than to stamp a message with its sender.
     ///
     /// # Errors
     ///
     /// `Closed` where the pass was never connected, or was closed, or the bus is gone.
-    pub fn may_reach(&mut self, view: &View<'_>) -> Result<bool, BusError>
+    pub fn may_reach(&mut self, view: &View<'_>, sender: &str) -> Result<bool, BusError>
         ensures found { MatchResult result
-            (λ found. IsPrefix self.old.seen self.new.seen × ((m : Message) → Valid view.now m → TellsReach (after self.new.seen) m found))
+            (λ found. IsPrefix self.old.seen self.new.seen × ((m : Message) → Valid view.now m → TellsReach (after self.new.seen) (texts_from (Some sender.now) m) found))
             (λ error. (error ≡ BusError.Closed) × (self.new.seen ≡ self.old.seen)) }
         ensures same { self.new ≡ record self.old { seen = self.new.seen } }
     {
         let visit = self.enter(Source::Own)?;
-        let found = may_reach(visit.state(), view);
+        let found = may_reach(visit.state(), view, sender);
         self.leave(visit);
         Ok(found)
     }

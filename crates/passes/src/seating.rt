@@ -120,7 +120,7 @@ pub(crate) fn seat_recipients<'a, M: Mailbox>(
         return Ok(());
     }
     // This call's contract says that entries are of connections.
-    let _ = state.entries_for(view);
+    let _ = state.entries_for(view, None);
     give_up_closed(state, sender);
     take_seats(state, sender, recipients.as_slice())
 }

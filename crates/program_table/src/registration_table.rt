@@ -43,6 +43,7 @@ impl RegistrationTable {
     ghost use Rattle.rule_compile.specs.Compiled.{IsSlotOf};
     ghost use Rattle.program_table.specs.SlotSearch.{rule_slot};
     ghost use Rattle.entry_table.specs.declared.entry.Filter.TheVariants as filters;
+    ghost use Rattle.match_rule.specs.FixedTexts.{texts_from};
     ghost use Rattle.entry_table.specs.OfferedEntries.{AreOffered};
     ghost use Rattle.program_table.specs.SlotNames.{slot_next};
     ghost use Rattle.program_table.specs.Recipients.{AreOwnedSlots};
@@ -248,13 +249,13 @@ impl RegistrationTable {
         }
     }
 
-    /// The entries that a message is offered to.
+    /// The entries that a message from this sender is offered to.
     #[inline(always)]
-    pub(crate) fn entries_for<'a>(&'a self, view: &View<'a>) -> Offers<'a>
-        ensures offers { (m : Message) → Valid view.now m → AreOffered self.now.entries m result }
+    pub(crate) fn entries_for<'a>(&'a self, view: &View<'a>, sender: Option<&'a str>) -> Offers<'a>
+        ensures offers { (m : Message) → Valid view.now m → AreOffered self.now.entries (texts_from (option_map (λ name. name.now) sender.entry) m) result }
         ensures sound { AreRegistrations self.now }
     {
-        self.entries.entries_for(view)
+        self.entries.entries_for(view, sender)
     }
 
     /// The primary owner of a name.

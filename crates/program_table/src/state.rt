@@ -41,6 +41,7 @@ impl<M: Handle> BusState<M> {
     ghost use Rattle.summary.specs.Sets.{has_slot, IsSet};
     ghost use Rattle.owners.specs.Queues.{owner_of, queue_of};
     ghost use Rattle.owners.specs.Registry.{max_names, next_name};
+    ghost use Rattle.match_rule.specs.FixedTexts.{texts_from};
     ghost use Rattle.entry_table.specs.OfferedEntries.{AreOffered};
     ghost use Rattle.program_table.specs.Connections.{max_connections, numbers_of, mailbox_of, commands_of, is_connected};
     ghost use Rattle.program_table.specs.SlotNames.{slot_next};
@@ -330,15 +331,16 @@ impl<M: Handle> BusState<M> {
         self.registrations.slots_of(sender)
     }
 
-    /// The entries that a message is offered to: attached programs, and the rules whose member, interface, path and
-    /// `arg0` conditions, where there are such, hold of the message.
+    /// The entries that a message is offered to, were this its sender: attached programs, and the rules whose conditions on
+    /// the member, the interface, the path, the argument 0 and their namespaces, and on a sender by its own name, where there
+    /// are such, hold of it.
     #[inline(always)]
-    pub fn entries_for<'a>(&'a self, view: &View<'a>) -> Offers<'a>
-        ensures offers { (m : Message) → Valid view.now m → AreOffered self.now.registrations.entries m result }
+    pub fn entries_for<'a>(&'a self, view: &View<'a>, sender: Option<&'a str>) -> Offers<'a>
+        ensures offers { (m : Message) → Valid view.now m → AreOffered self.now.registrations.entries (texts_from (option_map (λ name. name.now) sender.entry) m) result }
         // Rules have the slots of their senders, no name has two slots, and entries are of connections.
         ensures state { IsState self.now }
     {
         let _ = self.connections.last();
-        self.registrations.entries_for(view)
+        self.registrations.entries_for(view, sender)
     }
 }

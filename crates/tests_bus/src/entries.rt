@@ -48,7 +48,7 @@ fn attach<R: Abort>(rt: &R, alloc: Global, table: &mut EntryTable) {
 fn expect_offered<R: Abort>(rt: &R, alloc: Global, table: &EntryTable, wanted: &[u32]) {
     let view = read_message(rt, &S1);
     let mut ids = Vec::new(alloc);
-    for entry in table.entries_for(&view) {
+    for entry in table.entries_for(&view, view.sender()) {
         ids.push(entry.id).expect(rt, "memory");
     }
     ids.sort().expect(rt, "memory");

@@ -32,7 +32,7 @@ fn subscribe_member<R: Abort>(
 fn expect_runs<R: Abort>(rt: &R, state: &BusState<()>, recipients: &[u64], runs: u32) {
     let view = read_message(rt, &M7);
     expect_counted(rt, state, &view, recipients, runs);
-    assert_eq!(rt; may_reach(state, &view), runs != 0);
+    assert_eq!(rt; may_reach(state, &view, ":1.1"), runs != 0);
 }
 
 fn remove<R: Abort>(rt: &R, alloc: Global, state: &mut BusState<()>) {

@@ -1,4 +1,6 @@
 use Rattle.std.proofs.Common.{subst, List}
+use Rattle.std.specs.Prelude.{option_map}
+use Rattle.match_rule.specs.FixedTexts.{texts_from}
 use Rattle.entry_table.specs.OfferedEntries.{AreOffered}
 use Rattle.entry_table.specs.PlacedEntries.{Placed}
 use Rattle.entry_table.specs.Searching.{entries_of, IdsFall}
@@ -9,5 +11,6 @@ use Rattle.entry_table.proofs.indexed_shelf.IndexedShelf.entries_for.Goals as go
 pub returns : goal.returns
 returns c = λ m valid.
     let i = c.self.inside in
-    subst (λ (held : List Placed). IdsFall held → AreOffered (entries_of held) m c.entries_for.result) c.self.view_is
-    (λ falls. AreOffered-index i.index i.shelf m c.entries_for.result (rooted c.args.view.now m valid) c.self.invariant falls (c.entries_for.ensures m valid))
+    let sender = option_map (λ name. name.now) c.args.sender in
+    subst (λ (held : List Placed). IdsFall held → AreOffered (entries_of held) (texts_from sender m) c.entries_for.result) c.self.view_is
+    (λ falls. AreOffered-index i.index i.shelf sender m c.entries_for.result (rooted c.args.view.now m valid) c.self.invariant falls (c.entries_for.ensures m valid))

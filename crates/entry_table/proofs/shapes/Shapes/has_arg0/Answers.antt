@@ -4,9 +4,9 @@ use Rattle.std.proofs.lemmas.List.{get_or_past}
 use Rattle.entry_table.specs.ShapeCounts.{is_in_use}
 use Rattle.entry_table.proofs.shapes.Shapes.has_arg0.Goals as goal
 
--- where no shape from 16 on is counted, those in use are below 16
-low_in_use : (counts : List ℕ) (most : ℕ) → ((k : ℕ) → 16 ≤ k → k < length counts → get_or counts k 0 ≤ most) → most ≡ 0 → (shape : ℕ) → is_in_use shape counts ≡ true → shape < 16
-low_in_use counts most h none shape used = elim (cases_lt shape 16) [
+-- where no shape from 32 on is counted, those in use are below 32
+low_in_use : (counts : List ℕ) (most : ℕ) → ((k : ℕ) → 32 ≤ k → k < length counts → get_or counts k 0 ≤ most) → most ≡ 0 → (shape : ℕ) → is_in_use shape counts ≡ true → shape < 32
+low_in_use counts most h none shape used = elim (cases_lt shape 32) [
   | inl low ↦ low
   | inr high ↦ (
       let parts = and_parts (ltb 0 shape) (ltb 0 (get_or counts shape 0)) used in
