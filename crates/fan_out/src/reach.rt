@@ -13,11 +13,7 @@ use program_table::{BusState, Handle};
 /// Whether a message with the member, the interface, the path and the argument 0 of this one, and with this SENDER, is
 /// offered to an entry. If it isn't, nobody gets it. So a bus can ask before it stamps a broadcast with its sender: most are
 /// for nobody. No memory is taken, and no program is run.
-pub fn may_reach<'a, M: Handle>(
-    state: &'a BusState<M>,
-    view: &View<'a>,
-    sender: &'a str,
-) -> bool
+pub fn may_reach<'a, M: Handle>(state: &'a BusState<M>, view: &View<'a>, sender: &'a str) -> bool
     ensures { (m : Message) → Valid view.now m → TellsReach state.entry.now (texts_from (Some sender.entry.now) m) result }
 {
     offered_where_it_holds();

@@ -43,7 +43,10 @@ fn route_to_itself<J: Naming, R: Wait + Abort>(rt: &R, alloc: Global, opened: Op
 fn expect_reach<J: Naming, R: Abort>(rt: &R, pass: &mut Pass<J, Letterbox>, wanted: bool) {
     let bytes = s1_bytes();
     let view = read_message(rt, bytes.as_slice());
-    assert_eq!(rt; pass.may_reach(&view, ":1.1").expect(rt, "an answer"), wanted);
+    assert_eq!(rt;
+        pass.may_reach(&view, ":1.1").expect(rt, "an answer"),
+        wanted
+    );
 }
 
 #[test]
