@@ -1,9 +1,11 @@
-"""Lists full of near misses for namespaces: paths and names of few letters, their prefixes, and texts as long as they."""
+"""Lists full of near misses: paths and names of few letters, their prefixes, and texts as long as they, from few senders."""
 
 from . import build, messages, names, rules
 
 ELEMENTS = ["a", "b", "ab", "aa", "aab"]
 KEYS = ["path_namespace", "arg0namespace"]
+SENDERS = [":1.1", ":1.10", ":1.2", ":1.", ":1.1a", names.THE_BUS, "a.b"]
+MORE_KEYS = ["sender", "member", "interface", "path", "arg0", "type"]
 MOST_RULES = 40
 
 
@@ -48,12 +50,12 @@ def near_value(rng, key, made):
 
 
 def near_rule(rng, made):
-    """A rule's text with one or both namespaces, and now and then more."""
+    """A rule's text with a sender or one or both namespaces, and now and then more."""
     while True:
-        wanted = rng.sample(KEYS, rng.choice([1, 1, 2])) + rng.choices(["member", "interface", "path", "arg0", "type"], k=rng.choice([0, 0, 1, 2]))
+        wanted = rng.sample(KEYS, rng.choice([0, 1, 1, 2])) + rng.choices(["sender"] + MORE_KEYS, k=rng.choice([0, 0, 1, 2]))
         given = {}
         for key in wanted:
-            value = {"member": "c", "interface": rng.choice(["a.b", "a.c"]), "type": "signal"}.get(key)
+            value = {"member": "c", "interface": rng.choice(["a.b", "a.c"]), "type": "signal", "sender": rng.choice(SENDERS)}.get(key)
             given[key] = near_value(rng, key, made) if value is None else value
         text = ",".join("%s='%s'" % pair for pair in given.items())
         try:
@@ -72,6 +74,8 @@ def near_message(rng, made):
         (messages.INTERFACE, "s", rng.choice(["a.b", "a.c"])),
         (messages.MEMBER, "s", rng.choice(["c", "d"])),
     ]
+    if rng.random() < 0.7:
+        draft.fields.append((messages.SENDER, "s", rng.choice([it for it in SENDERS if names.is_bus_name(it.encode())])))
     one = rng.choices(["s", "o", ""], [8, 1, 1])[0]
     if one == "s":
         draft.args = [("s", rng.choice(made.near_names))]
