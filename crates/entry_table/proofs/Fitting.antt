@@ -1,5 +1,5 @@
 -- The lookups of a message offer exactly the entries whose texts and namespaces it has, each once.
-use Rattle.std.proofs.Common.{◌≡◌, ℕ, ◌<◌, ◌+◌, ◌*◌, ◌/◌, ◌%◌, Bool, true, false, ◌&&◌, List, [], ◌∷◌, ◌++◌, refl, sym, ap, ◌∙◌, subst, ◌⊎◌, inl, inr, eqb, arith}
+use Rattle.std.proofs.Common.{◌≡◌, ℕ, ◌<◌, ◌/◌, ◌%◌, Bool, true, false, List, [], ◌∷◌, ◌++◌, refl, sym, ap, ◌∙◌, subst, ◌⊎◌, inl, inr, eqb, arith}
 use Rattle.std.proofs.lemmas.Bool.{eqb-true, eq-eqb, and_parts, and_from, or_cases, or_left, or_right, cases_eq, false≢true}
 use Rattle.std.proofs.lemmas.Slice.Eq.{bytes_eq-Decides}
 use Rattle.std.specs.Prelude.{Option, Some, None, IfSome, IsSomeAnd, option_map}
@@ -9,17 +9,16 @@ use Rattle.match_rule.specs.Holds.{InNamespace}
 use Rattle.match_rule.specs.PathNamespaces.{HasPathIn}
 use Rattle.place_lists.specs.PlaceLists.{has_place, AreOnce}
 use Rattle.entry_table.specs.declared.entry.Entry.{Entry}
-use Rattle.entry_table.specs.Namespaces.{Namespaces, AreInside}
+use Rattle.entry_table.specs.Namespaces.{AreInside}
 use Rattle.entry_table.specs.OfferedEntries.{texts_fixed, namespaces_fixed}
 use Rattle.entry_table.specs.Fronts.{fronts_after, namespace_front}
 use Rattle.entry_table.specs.FoundTexts.{is_text_found, are_found, is_offered, texts_read}
 use Rattle.entry_table.specs.IndexLists.{shape_key}
 use Rattle.entry_table.specs.Lookups.{Lookup, with_path, with_paths, paths_after, arg0s_after, of_shape, of_shapes}
-use Rattle.entry_table.specs.TextKeys.{LookupTexts, bit_of, shape_of}
+use Rattle.entry_table.specs.TextKeys.{LookupTexts, bit_of}
 use Rattle.entry_table.specs.EntryTexts.{lookup_texts}
-use Rattle.entry_table.proofs.Asking.{not_asked}
 use Rattle.entry_table.proofs.Members.{Among}
-use Rattle.entry_table.proofs.Fronts.{HasFront, IsRooted, OnlyOne, among_has, has_among, only_one, path_inside, path_front}
+use Rattle.entry_table.proofs.Fronts.{IsRooted, OnlyOne, among_has, has_among, only_one, path_inside, path_front}
 use Rattle.entry_table.proofs.Offering.{bit-small, shape-path_namespace, shape-arg0_namespace, AreFound-test, test-AreFound, all_found, found_all}
 
 -- one of the lookups offers the entry

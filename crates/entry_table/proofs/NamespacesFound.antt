@@ -1,17 +1,16 @@
 -- A message of which a rule holds lies in the namespaces that the rule asks for.
 use Rattle.std.proofs.Common.{◌≡◌, ℕ, List, refl, subst}
 use Rattle.std.specs.Prelude.{Option, Some, None, IfSome, IsSomeAnd, slice_get}
-use Rattle.message_view.specs.Message.{Message}
 use Rattle.message_view.specs.Spelling.{arguments_of}
 use Rattle.match_key.specs.ArgNumber.{first_arg}
 use Rattle.match_key.specs.declared.relation.Relation.TheVariants.{PathNamespace, NameNamespace}
 use Rattle.match_key.specs.declared.source.Field.TheVariants.{Path}
 use Rattle.match_key.specs.declared.source.Source.TheVariants.{Header, Arg}
 use Rattle.match_rule.specs.Arguments.{text_in}
-use Rattle.match_rule.specs.FixedTexts.{string_in, texts_of}
+use Rattle.match_rule.specs.FixedTexts.{string_in}
 use Rattle.match_rule.specs.Holds.{InNamespace, compared_text}
 use Rattle.match_rule.proofs.FixedFound.{AreFound-Holds, asked_found}
-use Rattle.entry_table.specs.Namespaces.{namespaces_asked, AreInside, arg0_namespace_asked}
+use Rattle.entry_table.specs.Namespaces.{arg0_namespace_asked}
 use Rattle.entry_table.specs.OfferedEntries.{OfferedWhereItHolds}
 
 same_string : (found : Option (ℕ × List ℕ)) → compared_text NameNamespace found ≡ string_in found

@@ -1,12 +1,12 @@
 -- The path of a message begins with a `/`.
-use Rattle.std.proofs.Common.{◌≡◌, ℕ, Bool, true, false, ◌&&◌, List, [], ◌∷◌, eqb, Option, Some, None, refl, ap}
+use Rattle.std.proofs.Common.{◌≡◌, ℕ, true, List, [], ◌∷◌, eqb, Option, Some, refl, ap}
 use Rattle.std.proofs.lemmas.Bool.{eqb-true, and_parts, false≢true}
 use Rattle.signature.specs.DataType.{basic}
 use Rattle.signature.specs.Name.{is_path, are_elements, path_form}
 use Rattle.message_value.specs.declared.order.Order.{Order}
 use Rattle.message_value.specs.Value.{Value, text}
 use Rattle.message_value.specs.Fits.{ValueFits}
-use Rattle.message_view.specs.Message.{Message, field_with, text_in, path_of}
+use Rattle.message_view.specs.Message.{Message, text_in, path_of}
 use Rattle.message_view.specs.Spelling.{fixed_len}
 use Rattle.message_view.specs.Valid.{Valid, levels_in_field}
 use Rattle.message_view.proofs.FieldsHeld.{fields_held}
