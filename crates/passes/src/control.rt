@@ -1,6 +1,6 @@
 // What lies under the bus's lock.
 
-ghost use Rattle.std.specs.Prelude.{◌≡◌, ◌<◌, false, true, length, MatchResult, IfOk};
+ghost use Rattle.std.specs.Prelude.{◌≡◌, ◌<◌, ◌^◌, false, true, length, MatchResult, IfOk};
 ghost use mathlib.Core.List.{IsPrefix};
 ghost use Rattle.program_table.specs.State.{State};
 ghost use Rattle.program_table.specs.History.{after, is_command_of, IsHistory};
@@ -22,9 +22,6 @@ use std::alloc::{AllocError, Global};
 use std::collections::LinkedList;
 use std::marker::Model;
 use std::sync::Wait;
-
-/// How many readers there are places for.
-const READERS: usize = 512;
 
 /// A value that is dropped through its own type. A generic function can't drop a publisher by its name.
 #[derive(Drop)]
@@ -57,19 +54,22 @@ where
 }
 
 impl<J: Naming, M: Mailbox, R: Wait + Drop> Control<J, M, R> {
-    /// A bus to which nobody is connected. The key is that of its index of entries.
+    /// A bus to which nobody is connected, with places for this many readers, of which each pass takes one. The key is that
+    /// of its index of entries.
     pub fn new(
         rt: R,
         alloc: Global,
         key: IndexKey,
         opened: Opened<M>,
+        readers: usize,
     ) -> Result<Control<J, M, R>, AllocError>
-        requires { opened ≡ J.book }
+        requires name { opened ≡ J.book }
+        requires readers { (0 < readers) × (readers < 2 ^ 32) }
         ensures { IfOk result (λ control. control ≡ nothing_published) }
     {
         Ok(Control {
             publisher: Held {
-                value: Publisher::new(rt, alloc, key, opened, READERS)?,
+                value: Publisher::new(rt, alloc, key, opened, readers)?,
             },
         })
     }

@@ -1,6 +1,6 @@
 // The bus as threads share it.
 
-ghost use Rattle.std.specs.Prelude.{◌≡◌, ◌⊎◌, ◌<◌, MatchResult, IfErr, IfSome, false, true, length};
+ghost use Rattle.std.specs.Prelude.{◌≡◌, ◌⊎◌, ◌<◌, ◌^◌, MatchResult, IfErr, IfSome, false, true, length};
 ghost use mathlib.Core.List.{IsPrefix};
 ghost use Rattle.passes.specs.Command.TheVariants.{Detach, Request, Release, DropOne, Close};
 ghost use Rattle.passes.specs.Publication.{Publication};
@@ -17,6 +17,9 @@ use passes::{
 use std::alloc::Global;
 use std::sync::{Mutex, MutexGuard, Wait};
 use summary::Edition;
+
+/// How many readers there are places for, unless told otherwise.
+const READERS: usize = 512;
 
 /// A bus, which threads share.
 #[derive(Drop)]
@@ -40,10 +43,26 @@ impl<B: Naming, M: Mailbox, R: Wait + Drop> Bus<B, M, R> {
         requires { opened ≡ B.book }
         ensures { IfErr result (λ error. error ≡ BusError.NoMemory) }
     {
+        Bus::with_readers(rt, alloc, key, opened, READERS)
+    }
+
+    /// The same with places for this many readers. A pass takes one while it is there, and each command costs a look at all of
+    /// them, so a bus that knows how many passes it has at most is quicker with no more.
+    pub fn with_readers(
+        rt: R,
+        alloc: Global,
+        key: IndexKey,
+        opened: Opened<M>,
+        readers: usize,
+    ) -> Result<Bus<B, M, R>, BusError>
+        requires name { opened ≡ B.book }
+        requires readers { (0 < readers) × (readers < 2 ^ 32) }
+        ensures { IfErr result (λ error. error ≡ BusError.NoMemory) }
+    {
         let Ok(kept) = KeptPasses::new(alloc) else {
             return Err(BusError::NoMemory);
         };
-        match Control::new(rt, alloc, key, opened) {
+        match Control::new(rt, alloc, key, opened, readers) {
             Ok(control) => Ok(Bus {
                 control: Mutex::new(control),
                 kept: Mutex::new(kept),

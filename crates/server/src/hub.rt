@@ -18,6 +18,10 @@ use std::sync::{Arc, Mutex, Wait};
 /// How many sessions' ends may wait for memory.
 const RESTS: usize = 256;
 
+/// How many readers of the bus's state there are at most: one for each of 256 connections, and one for the client that each of
+/// 16 workers may just be letting in.
+const READERS: usize = 256 + 16;
+
 /// The bus, and what the workers share beside it.
 #[derive(Drop)]
 pub(crate) struct Hub<J: Naming, R: Wait + Drop> {
@@ -47,7 +51,7 @@ impl<J: Naming, R: Wait + Drop> Hub<J, R> {
         let limits = start.limits;
         let instructions = Arc::new(alloc, AllInstructions::new(limits.all_instructions))?;
         let rests = Vec::with_capacity(alloc, RESTS)?;
-        let Ok(bus) = Bus::new(rt, alloc, start.key, opened) else {
+        let Ok(bus) = Bus::with_readers(rt, alloc, start.key, opened, READERS) else {
             return Err(ErrorKind::OutOfMemory.into());
         };
         Ok(Hub {
