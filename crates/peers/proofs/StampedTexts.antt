@@ -1,5 +1,5 @@
 -- A stamped message has the member, the interface, the path and the argument 0 of the message, and the sender of the stamp.
-use Rattle.std.proofs.Common.{◌≡◌, ℕ, Bool, true, false, not, cond, eqb, List, [], ◌∷◌, ◌++◌, filter, length, Option, Some, refl, ap, ◌∙◌}
+use Rattle.std.proofs.Common.{◌≡◌, ℕ, Bool, true, false, not, cond, eqb, List, [], ◌∷◌, ◌++◌, filter, length, Option, Some, refl, sym, ap, ◌∙◌}
 use Rattle.std.proofs.lemmas.Bool.{and_parts, not-true}
 use Rattle.std.specs.Prelude.{slice_get, is_some}
 use Rattle.signature.specs.DataType.{DataType, DataTypes, basic, variant, array, dict, struct, no_types, one_more}
@@ -65,6 +65,6 @@ stamped_texts m sender =
 
 module _ {M : Type 0} where
   -- what may reach nobody reaches nobody once it is stamped
-  pub stamped_for_nobody : (s : State M) (m : Message) (may_reach : Bool) (from : Option ℕ) (sender : List ℕ) → not may_reach ≡ true → TellsReach s (texts_from (Some sender) m) may_reach → AreRecipients s from (with_sender m sender) []
-  stamped_for_nobody s m true from sender never tells = cc
-  stamped_for_nobody s m false from sender never tells = tells from (with_sender m sender) (stamped_texts m sender)
+  pub stamped_for_nobody : (s : State M) (m : Message) (may_reach : Bool) (from : Option ℕ) (name sender : List ℕ) → name ≡ sender → not may_reach ≡ true → TellsReach s (texts_from (Some name) m) may_reach → AreRecipients s from (with_sender m sender) []
+  stamped_for_nobody s m true from name sender same never tells = cc
+  stamped_for_nobody s m false from name sender same never tells = tells from (with_sender m sender) (stamped_texts m sender ∙ ap (λ (n : List ℕ). texts_from (Some n) m) (sym same))
