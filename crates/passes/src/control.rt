@@ -1,6 +1,6 @@
 // What lies under the bus's lock.
 
-ghost use Rattle.std.specs.Prelude.{◌≡◌, ◌<◌, ◌^◌, false, true, length, MatchResult, IfOk};
+ghost use Rattle.std.specs.Prelude.{◌≡◌, ◌<◌, ◌^◌, false, true, length, MatchResult, IfOk, IfErr};
 ghost use mathlib.Core.List.{IsPrefix};
 ghost use Rattle.program_table.specs.State.{State};
 ghost use Rattle.program_table.specs.History.{after, is_command_of, IsHistory};
@@ -16,7 +16,9 @@ use entry_table::IndexKey;
 use left_right::Absorb;
 use logbook::Rule;
 use program_table::{BusState, Command, Reply};
-use published::{Entry, Front, Law, Naming, Opened, PublishError, Published, Publisher, Shown};
+use published::{
+    Entry, Front, Law, Naming, Opened, PublishError, Published, Publisher, Shown, StateReader,
+};
 use routing::Mailbox;
 use std::alloc::{AllocError, Global};
 use std::collections::LinkedList;
@@ -54,8 +56,7 @@ where
 }
 
 impl<J: Naming, M: Mailbox, R: Wait + Drop> Control<J, M, R> {
-    /// A bus to which nobody is connected, with places for this many readers, of which each pass takes one. The key is that
-    /// of its index of entries.
+    /// A bus to which nobody is connected, with places for this many readers. The key is that of its index of entries.
     pub fn new(
         rt: R,
         alloc: Global,
@@ -74,7 +75,7 @@ impl<J: Naming, M: Mailbox, R: Wait + Drop> Control<J, M, R> {
         })
     }
 
-    /// A new pass, which has seen what is published.
+    /// A new pass with a reader of its own, which has seen what is published.
     pub fn pass(&mut self) -> Result<Pass<J, M>, BusError>
         ensures same { self.new ≡ self.old }
         ensures pass { MatchResult result (λ pass. pass ≡ new_pass self.old.history) (λ error. error ≡ BusError.Busy) }
@@ -83,6 +84,21 @@ impl<J: Naming, M: Mailbox, R: Wait + Drop> Control<J, M, R> {
             Some(sight) => Ok(Pass::new(sight)),
             None => Err(BusError::Busy),
         }
+    }
+
+    /// A new pass without a reader, which has seen what is published. It reads by what is lent to it.
+    pub fn pass_without_reader(&self) -> Pass<J, M>
+        ensures { result ≡ new_pass self.now.history }
+    {
+        Pass::new(self.publisher.value.sight_without_reader())
+    }
+
+    /// A new reader, for the passes to which it will be lent.
+    pub fn reader(&mut self) -> Result<StateReader<J, M>, BusError>
+        ensures same { self.new ≡ self.old }
+        ensures error { IfErr result (λ error. error ≡ BusError.Busy) }
+    {
+        self.publisher.value.reader().ok_or(BusError::Busy)
     }
 
     /// Tells the published history, which the pass has then seen.

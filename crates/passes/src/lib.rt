@@ -32,5 +32,5 @@ pub use unicasts::Sent;
 pub use entry_table::IndexKey;
 pub use fan_out::MAX_RECIPIENTS;
 pub use program_table::{Command, Refusal, Reply};
-pub use published::{Front, Naming, Opened, Published, Shown};
+pub use published::{Front, Naming, Opened, Published, Shown, StateReader};
 pub use routing::Mailbox;

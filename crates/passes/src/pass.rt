@@ -10,7 +10,7 @@ use crate::error::BusError;
 use crate::reading::Source;
 use crossbeam_utils::rule::Protocol;
 use program_table::Command;
-use published::{Front, Naming, Published, Shown, Sight, Visit};
+use published::{Front, Naming, Published, Shown, Sight, StateReader, Visit};
 use routing::{Mailbox, Sender};
 use std::alloc::Global;
 use std::collections::LinkedList;
@@ -57,6 +57,25 @@ impl<J: Naming, M: Mailbox> Pass<J, M> {
             took: 0,
             sender: None,
         }
+    }
+
+    /// Reads the published state by this reader from now on, in place of the one that it had.
+    pub fn lend(&mut self, reader: StateReader<J, M>)
+        ensures { self.new ≡ self.old }
+    {
+        self.sight.lend(reader);
+    }
+
+    /// Gives up the reader. Until another is lent, whatever reads the published state is Closed.
+    pub fn reclaim(&mut self) -> Option<StateReader<J, M>>
+        ensures { self.new ≡ self.old }
+    {
+        self.sight.reclaim()
+    }
+
+    /// Whether it has a reader.
+    pub fn has_reader(&self) -> bool {
+        self.sight.has_reader()
     }
 
     /// The history that was seen.
@@ -168,7 +187,8 @@ impl<J: Naming, M: Mailbox> Pass<J, M> {
     ///
     /// # Errors
     ///
-    /// `Closed` where the pass was never connected, or was closed and the message isn't the bus's, or the bus is gone.
+    /// `Closed` where the pass was never connected, or was closed and the message isn't the bus's, where it has no reader,
+    /// or the bus is gone.
     pub(crate) fn enter(&mut self, source: Source) -> Result<Visit<J, M>, BusError>
         ensures visit { MatchResult result (λ visit. IsPrefix self.old.seen visit × (self.new.connection ≢ 0)) (λ error. error ≡ BusError.Closed) }
         ensures same { self.new ≡ self.old }

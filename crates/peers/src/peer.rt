@@ -11,7 +11,7 @@ use crate::own_outbox::OwnOutbox;
 use crate::serial::Serials;
 use bus_messages::UniqueName;
 use crossbeam_utils::rule::Protocol;
-use router::{Command, Mailbox, Naming, Pass, Published, Shown};
+use router::{Command, Mailbox, Naming, Pass, Published, Shown, StateReader};
 use std::alloc::Global;
 use std::collections::LinkedList;
 use std::marker::Model;
@@ -77,6 +77,20 @@ impl<B: Naming, M: Mailbox> Peer<B, M> {
         ensures { self.new ≡ self.old }
     {
         self.holdings.share_instructions(all);
+    }
+
+    /// Has the client's pass read the published state by this reader, until it is reclaimed.
+    pub fn lend(&mut self, reader: StateReader<B, M>)
+        ensures { self.new ≡ self.old }
+    {
+        self.pass.lend(reader);
+    }
+
+    /// Gives up the reader of the client's pass.
+    pub fn reclaim(&mut self) -> Option<StateReader<B, M>>
+        ensures { self.new ≡ self.old }
+    {
+        self.pass.reclaim()
     }
 
     /// Whether the client's outbox was shut, since a message found no room.

@@ -12,4 +12,4 @@ mod sight;
 pub use history::{Front, Law, Naming, Opened};
 pub use publisher::{PublishError, Publisher};
 pub use shown::{Entry, Published, Shown};
-pub use sight::{Sight, Visit};
+pub use sight::{Sight, StateReader, Visit};

@@ -12,7 +12,7 @@ ghost use Rattle.published.specs.Steps.{Continues};
 
 use crate::history::{Book, Front, Law, Naming, Opened};
 use crate::shown::{Entry, Notes, Published, Sees, Shown};
-use crate::sight::Sight;
+use crate::sight::{Sight, StateReader};
 use core::mem::replace_with;
 use crossbeam_utils::rule::Protocol;
 use entry_table::IndexKey;
@@ -288,16 +288,32 @@ impl<J: Naming, M: Handle, R: Wait + Drop> Publisher<J, M, R> {
     }
 
     /// A new reader, which is told the published history. `None` where all places of readers are in use.
-    pub fn sight(&mut self) -> Option<Sight<J, M>>
+    pub fn reader(&mut self) -> Option<StateReader<J, M>>
         ensures same { self.new ≡ self.old }
-        ensures seen { IfSome result (λ sight. sight ≡ self.old.history) }
+        ensures told { IfSome result (λ reader. view reader.reader.place ≡ self.old.history) }
     {
         let Ok(mut reader) = self.writer.factory().reader() else {
             return None;
         };
         let note = self.writer.tell::<Notes>();
         reader.learn::<Notes>(note);
+        Some(StateReader { reader })
+    }
+
+    /// The published history as it is seen by a new reader. `None` where all places of readers are in use.
+    pub fn sight(&mut self) -> Option<Sight<J, M>>
+        ensures same { self.new ≡ self.old }
+        ensures seen { IfSome result (λ sight. sight ≡ self.old.history) }
+    {
+        let reader = self.reader()?;
         Some(Sight::new(reader, self.writer.published().front()))
+    }
+
+    /// The published history as it is seen without a reader, until one is lent.
+    pub fn sight_without_reader(&self) -> Sight<J, M>
+        ensures { result ≡ self.now.history }
+    {
+        Sight::without_reader(self.front())
     }
 }
 

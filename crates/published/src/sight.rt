@@ -14,20 +14,29 @@ use std::alloc::Global;
 use std::collections::LinkedList;
 use std::marker::Model;
 
-pub(crate) type ShownReader<J, M> = Reader<Shown<J, M>, LinkedList<Command<M>>, Published, Global>;
+type ShownReader<J, M> = Reader<Shown<J, M>, LinkedList<Command<M>>, Published, Global>;
 
 type ShownReading<J, M> = Reading<Shown<J, M>, LinkedList<Command<M>>, Published, Global>;
 
-/// A reader of the published state, with what was seen through it. Contracts see it as the history that was seen.
+/// A reader of the published state that is lent to whoever enters next, as one thread lends its own to all that it serves.
+#[derive(Drop)]
+pub struct StateReader<J: Naming, M: Handle>
+where
+    Published: Protocol<Shown<J, M>, LinkedList<Command<M>>>,
+{
+    pub(crate) reader: ShownReader<J, M>,
+}
+
+/// What was seen of the published state, with the reader that enters it. Contracts see it as the history that was seen.
 #[derive(Drop)]
 pub struct Sight<J: Naming, M: Handle>
 where
     Published: Protocol<Shown<J, M>, LinkedList<Command<M>>>,
 {
-    // None while a visit has it.
+    // None while a visit has it, and where none is lent.
     reader: Option<ShownReader<J, M>>,
     front: Front<J, M>,
-    // The history that was told is longer than what the reader has entered.
+    // The reader may have entered another history than the one that was seen.
     is_ahead: bool,
 }
 
@@ -48,15 +57,47 @@ where
 
 impl<J: Naming, M: Handle> Sight<J, M> {
     /// A reader that was told this history.
-    pub(crate) fn new(reader: ShownReader<J, M>, front: Front<J, M>) -> Sight<J, M>
-        requires { view reader.place ≡ front }
+    pub(crate) fn new(reader: StateReader<J, M>, front: Front<J, M>) -> Sight<J, M>
+        requires { view reader.reader.place ≡ front }
         ensures { result ≡ front }
     {
         Sight {
-            reader: Some(reader),
+            reader: Some(reader.reader),
             front,
             is_ahead: false,
         }
+    }
+
+    /// What was told this history, without a reader.
+    pub(crate) fn without_reader(front: Front<J, M>) -> Sight<J, M>
+        ensures { result ≡ front }
+    {
+        Sight {
+            reader: None,
+            front,
+            is_ahead: true,
+        }
+    }
+
+    /// Enters by this reader from now on, in place of the one that it had.
+    pub fn lend(&mut self, reader: StateReader<J, M>)
+        ensures { self.new ≡ self.old }
+    {
+        self.reader = Some(reader.reader);
+        self.is_ahead = true;
+    }
+
+    /// Gives up the reader, so that nothing is entered until another is lent. None where there is none, or a visit has it.
+    pub fn reclaim(&mut self) -> Option<StateReader<J, M>>
+        ensures { self.new ≡ self.old }
+    {
+        let reader = self.reader.take()?;
+        Some(StateReader { reader })
+    }
+
+    /// Whether it has a reader.
+    pub fn has_reader(&self) -> bool {
+        self.reader.is_some()
     }
 
     /// What was seen.
@@ -91,7 +132,7 @@ impl<J: Naming, M: Handle> Sight<J, M> {
     }
 
     /// Enters the published state: the history that it comes of begins with what was seen. None where the bus is gone,
-    /// or where a visit hasn't left yet.
+    /// where a visit hasn't left yet, or where there is no reader.
     pub fn enter(&mut self) -> Option<Visit<J, M>>
         ensures visit { IfSome result (λ visit. IsPrefix self.old visit) }
         ensures same { self.new ≡ self.old }

@@ -13,6 +13,7 @@ use open_calls::{OpenCall, OpenCalls, Shards};
 use owners::WellKnown;
 use passes::{
     BusError, Control, Front, IndexKey, KeptPasses, Mailbox, Naming, Opened, Pass, Reply,
+    StateReader,
 };
 use std::alloc::Global;
 use std::sync::{Mutex, MutexGuard, Wait};
@@ -46,8 +47,9 @@ impl<B: Naming, M: Mailbox, R: Wait + Drop> Bus<B, M, R> {
         Bus::with_readers(rt, alloc, key, opened, READERS)
     }
 
-    /// The same with places for this many readers. A pass takes one while it is there, and each command costs a look at all of
-    /// them, so a bus that knows how many passes it has at most is quicker with no more.
+    /// The same with places for this many readers: one for each pass that has its own, and for each that is lent. Each command
+    /// costs a look at all of them, so a bus of many passes is quicker where each thread lends its one reader to the passes
+    /// that it serves.
     pub fn with_readers(
         rt: R,
         alloc: Global,
@@ -99,7 +101,8 @@ impl<B: Naming, M: Mailbox, R: Wait + Drop> Bus<B, M, R> {
         self.calls.take_call_to(rt, callee)
     }
 
-    /// A new pass, which has no connection, and has sent nothing. A reader that was given back has seen what it had.
+    /// A new pass with a reader of its own, which has no connection, and has sent nothing. A reader that was given back has seen
+    /// what it had.
     ///
     /// # Errors
     ///
@@ -114,12 +117,38 @@ impl<B: Naming, M: Mailbox, R: Wait + Drop> Bus<B, M, R> {
         }
     }
 
-    /// Keeps the reader of a pass that is closed or was never connected for a later pass, or drops it where 256 are
-    /// kept.
+    /// A new pass without a reader, which has no connection, and has sent nothing. It reads by what is lent to it.
+    pub fn pass_without_reader(&self, rt: &impl Wait) -> Pass<B, M>
+        ensures { result ≡ new_pass result.seen }
+    {
+        self.control(rt).pass_without_reader()
+    }
+
+    /// A reader, for the passes to which it will be lent: one that was given back, or a new one.
+    ///
+    /// # Errors
+    ///
+    /// `Busy` where each place of a reader is in use.
+    pub fn reader(&self, rt: &impl Wait) -> Result<StateReader<B, M>, BusError>
+        ensures { IfErr result (λ error. error ≡ BusError.Busy) }
+    {
+        let kept = self.kept.lock(rt).take();
+        if let Some(mut pass) = kept
+            && let Some(reader) = pass.reclaim()
+        {
+            return Ok(reader);
+        }
+        self.control(rt).reader()
+    }
+
+    /// Keeps the reader of a pass that is closed or was never connected, if it has one, for a later pass, or drops it where 256
+    /// are kept.
     pub fn take_back(&self, rt: &impl Wait, pass: Pass<B, M>)
         requires { (pass.is_closed ≡ true) ⊎ (pass.connection ≡ 0) }
     {
-        self.kept.lock(rt).put(pass);
+        if pass.has_reader() {
+            self.kept.lock(rt).put(pass);
+        }
     }
 
     /// Tells the published history, which begins with what the pass had seen, and is seen then.

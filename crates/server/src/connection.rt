@@ -9,7 +9,7 @@ use crate::unfinished::Beginning;
 use endpoints::Link;
 use members::{Arrival, Mail, Member, Post};
 use mio::Token;
-use sessions::{Naming, RouteLists, Session, SessionError, Step};
+use sessions::{Naming, RouteLists, Session, SessionError, StateReader, Step};
 use std::alloc::Global;
 use std::io;
 use std::io::ErrorKind;
@@ -89,6 +89,18 @@ impl<J: Naming> Connection<J> {
             is_in: false,
             ticket,
         })
+    }
+
+    /// Reads the bus's state by its worker's reader, until that is reclaimed.
+    pub(crate) fn lend(&mut self, reader: Option<StateReader<J, Mail>>) {
+        if let Some(reader) = reader {
+            self.session.lend(reader);
+        }
+    }
+
+    /// Gives up the reader.
+    pub(crate) fn reclaim(&mut self) -> Option<StateReader<J, Mail>> {
+        self.session.reclaim()
     }
 
     /// Shuts its socket, before its end.

@@ -18,9 +18,9 @@ use std::sync::{Arc, Mutex, Wait};
 /// How many sessions' ends may wait for memory.
 const RESTS: usize = 256;
 
-/// How many readers of the bus's state there are at most: one for each of 256 connections, and one for the client that each of
-/// 16 workers may just be letting in.
-const READERS: usize = 256 + 16;
+/// How many readers of the bus's state there are at most: one that each of 16 workers lends to its connections, and one for the
+/// end of a session that it goes on with.
+const READERS: usize = 16 + 16;
 
 /// The bus, and what the workers share beside it.
 #[derive(Drop)]
@@ -72,17 +72,22 @@ impl<J: Naming, R: Wait + Drop> Hub<J, R> {
         self.notes.leave(rt, Note::Ended(None, cause));
     }
 
-    /// Keeps the end of a session, for which there was no memory, for the next call of `retry_rests`.
-    pub(crate) fn keep_rest<W: Wait>(&self, rt: &W, rest: Rest<J, Mail>) {
+    /// Keeps the end of a session, for which there was no memory, for the next call of `retry_rests`. What was lent to it isn't
+    /// kept with it.
+    pub(crate) fn keep_rest<W: Wait>(&self, rt: &W, mut rest: Rest<J, Mail>) {
+        let _ = rest.reclaim();
         let _ = self.rests.lock(rt).push(rest);
     }
 
     /// Goes on with the ends of sessions for which there was no memory.
     pub(crate) fn retry_rests<W: Wait>(&self, rt: &W, alloc: Global) {
         for _ in 0..RESTS {
-            let Some(rest) = self.rests.lock(rt).pop() else {
+            let Some(mut rest) = self.rests.lock(rt).pop() else {
                 return;
             };
+            if let Ok(reader) = self.bus.reader(rt) {
+                rest.lend(reader);
+            }
             if let Some(rest) = rest.retry(rt, alloc, &self.bus) {
                 self.keep_rest(rt, rest);
                 return;

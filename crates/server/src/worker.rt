@@ -6,9 +6,9 @@ use crate::input::{INPUT, watch_input};
 use crate::limit::Limit;
 use crate::note::{Cause, Note};
 use crate::scratch::Scratch;
-use members::{Arrival, BELL, Post};
+use members::{Arrival, BELL, Mail, Post};
 use mio::{Events, Poll, Token};
-use sessions::Naming;
+use sessions::{Naming, StateReader};
 use slab::Slab;
 use std::alloc::{AllocError, Global};
 use std::net::Net;
@@ -65,6 +65,8 @@ pub(crate) struct Worker<'a, J: Naming, R: Wait + Drop> {
     post: Arc<Post>,
     connections: Slab<Connection<J>>,
     scratch: Scratch,
+    // What it lends to the connection whose turn it is. One that ends gives it back to the bus, where the next is had.
+    reader: Option<StateReader<J, Mail>>,
     // The keys of those that had more to read when their turn was over.
     again: Vec<usize>,
     // How many of them may become overdue.
@@ -117,6 +119,7 @@ impl<'a, J: Naming, R: Wait + Drop> Worker<'a, J, R> {
             post,
             connections: Slab::new(alloc),
             scratch,
+            reader: None,
             again: Vec::new(alloc),
             watched: 0,
             looked: None,
@@ -186,6 +189,7 @@ impl<'a, J: Naming, R: Wait + Drop> Worker<'a, J, R> {
     /// Gives a connection its turn: it writes and reads as far as it goes, to the end where its client's bytes may have
     /// ended.
     fn turn<W: Wait + Clock>(&mut self, rt: &W, key: usize, has_room: bool, has_ended: bool) {
+        self.find_reader(rt);
         let Some(connection) = self.connections.get_mut(key) else {
             return;
         };
@@ -193,7 +197,9 @@ impl<'a, J: Naming, R: Wait + Drop> Worker<'a, J, R> {
             connection.has_room(rt);
         }
         let was_watched = connection.is_watched();
+        connection.lend(self.reader.take());
         let turn = connection.read(rt, self.alloc, self.hub, &mut self.scratch, has_ended);
+        self.reader = connection.reclaim();
         if !connection.is_in
             && let Some(number) = connection.number()
         {
@@ -208,6 +214,13 @@ impl<'a, J: Naming, R: Wait + Drop> Worker<'a, J, R> {
             Turn::Again => self.call_again(rt, key),
             Turn::Gone => self.end(rt, key, None),
             Turn::Ends(cause) => self.end(rt, key, Some(cause)),
+        }
+    }
+
+    /// Has a reader to lend, if the last one went with a connection that ended.
+    fn find_reader<W: Wait>(&mut self, rt: &W) {
+        if self.reader.is_none() {
+            self.reader = self.hub.bus.reader(rt).ok();
         }
     }
 
@@ -285,7 +298,7 @@ impl<'a, J: Naming, R: Wait + Drop> Worker<'a, J, R> {
 
     /// Ends a connection, for a cause unless its client is gone.
     fn end<W: Wait>(&mut self, rt: &W, key: usize, mut cause: Option<Cause>) {
-        let Some(connection) = self.connections.try_remove(key) else {
+        let Some(mut connection) = self.connections.try_remove(key) else {
             return;
         };
         self.recount(connection.is_watched(), false);
@@ -293,6 +306,8 @@ impl<'a, J: Naming, R: Wait + Drop> Worker<'a, J, R> {
             cause = Some(Cause::Limit(Limit::Newcomers));
         }
         let number = connection.number();
+        self.find_reader(rt);
+        connection.lend(self.reader.take());
         connection.end(rt, self.alloc, self.hub);
         if let Some(note) = Note::of_end(number, cause) {
             self.hub.notes.leave(rt, note);

@@ -10,7 +10,7 @@ use crossbeam_utils::rule::Protocol;
 use message_view::View;
 use peers::{
     AllInstructions, AnswerError, Command, Context, Identity, Mailbox, Naming, OwnOutbox, Peer,
-    Published, Request, RouteLists, Shown,
+    Published, Request, RouteLists, Shown, StateReader,
 };
 use std::collections::LinkedList;
 use std::marker::Model;
@@ -27,6 +27,8 @@ where
     identity: Identity,
     /// Among which the instructions of its programs are counted.
     all: Option<Arc<AllInstructions>>,
+    /// What is lent to it before Hello; its peer has it after.
+    reader: Option<StateReader<B, M>>,
 }
 
 impl<B: Naming, M: Mailbox> Model for Client<B, M>
@@ -51,6 +53,7 @@ impl<B: Naming, M: Mailbox> Client<B, M> {
             peer: None,
             identity,
             all: None,
+            reader: None,
         }
     }
 
@@ -59,6 +62,26 @@ impl<B: Naming, M: Mailbox> Client<B, M> {
         ensures { self.new ≡ self.old }
     {
         self.all = Some(all);
+    }
+
+    /// Reads the bus's state by this reader until it is reclaimed.
+    pub(crate) fn lend(&mut self, reader: StateReader<B, M>)
+        ensures { self.new ≡ self.old }
+    {
+        match &mut self.peer {
+            Some(peer) => peer.lend(reader),
+            None => self.reader = Some(reader),
+        }
+    }
+
+    /// Gives up the reader.
+    pub(crate) fn reclaim(&mut self) -> Option<StateReader<B, M>>
+        ensures { self.new ≡ self.old }
+    {
+        match &mut self.peer {
+            Some(peer) => peer.reclaim(),
+            None => self.reader.take(),
+        }
     }
 
     /// Whether Hello was accepted.
@@ -125,7 +148,7 @@ impl<B: Naming, M: Mailbox> Client<B, M> {
         let Some(own) = self.own.take() else {
             return Err(SessionError::NoHello);
         };
-        match greet(context, own, self.identity, view) {
+        match greet(context, &mut self.reader, own, self.identity, view) {
             Ok(mut peer) => {
                 if let Some(all) = self.all.take() {
                     peer.share_instructions(all);

@@ -3,7 +3,7 @@
 ghost use Rattle.sessions.specs.Ends.{Ends};
 
 use crossbeam_utils::rule::Protocol;
-use peers::{Bus, Command, Context, Leaving, Mailbox, Naming, Peer, Published, Shown};
+use peers::{Bus, Command, Context, Leaving, Mailbox, Naming, Peer, Published, Shown, StateReader};
 use std::alloc::Global;
 use std::collections::LinkedList;
 use std::marker::Model;
@@ -30,6 +30,20 @@ where
 }
 
 impl<B: Naming, M: Mailbox> Rest<B, M> {
+    /// Announces by this reader what the end changes.
+    pub fn lend(&mut self, reader: StateReader<B, M>)
+        ensures { self.new ≡ self.old }
+    {
+        self.peer.lend(reader);
+    }
+
+    /// Gives up the reader.
+    pub fn reclaim(&mut self) -> Option<StateReader<B, M>>
+        ensures { self.new ≡ self.old }
+    {
+        self.peer.reclaim()
+    }
+
     /// Goes on with the session's end. Answers what is left of it if memory was refused again.
     pub fn retry<W: Wait, R: Wait + Drop>(
         self,

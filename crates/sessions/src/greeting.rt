@@ -4,6 +4,7 @@ ghost use Rattle.std.specs.Prelude.{◌≡◌, true, IfOk};
 ghost use Rattle.message_view.specs.Message.{Message, interface_of, member_of};
 ghost use Rattle.message_view.specs.Valid.{Valid};
 ghost use Rattle.peers.specs.Handling.{names_bus};
+ghost use Rattle.router.specs.Passes.{new_pass};
 ghost use Rattle.sessions.specs.Hello.{is_hello, is_hello_member};
 ghost use Rattle.sessions.specs.Newcomers.{HasJoined, IsNewcomer};
 
@@ -11,12 +12,13 @@ use crate::error::SessionError;
 use bus_messages::Call;
 use message_view::View;
 use peers::{
-    BUS_NAME, Context, Identity, Mailbox, Naming, OwnOutbox, Pass, Peer, Refused, Request,
-    is_for_bus, join, put_refusal,
+    BUS_NAME, BusError, Context, Identity, Mailbox, Naming, OwnOutbox, Pass, Peer, Refused,
+    Request, StateReader, is_for_bus, join, put_refusal,
 };
 use std::sync::Wait;
 
-/// The peer that the first message makes of an outbox, which comes back if it makes none.
+/// The peer that the first message makes of an outbox, which comes back if it makes none. It reads the bus's state by the
+/// reader that is lent, or else by its own.
 ///
 /// # Errors
 ///
@@ -24,6 +26,7 @@ use std::sync::Wait;
 /// `NoMemory`.
 pub(crate) fn greet<B: Naming, M: Mailbox, W: Wait, R: Wait + Drop>(
     context: &Context<'_, B, M, W, R>,
+    lent: &mut Option<StateReader<B, M>>,
     mut own: OwnOutbox<M>,
     identity: Identity,
     view: &View<'_>,
@@ -34,7 +37,7 @@ pub(crate) fn greet<B: Naming, M: Mailbox, W: Wait, R: Wait + Drop>(
     if !is_hello(view) {
         return Err((SessionError::NoHello, own));
     }
-    match connect_pass(context, &own, view) {
+    match connect_pass(context, lent, &own, view) {
         Ok(pass) => Ok(Peer::new(context.alloc, pass, own, identity)),
         Err(Refused::Ended) => Err((SessionError::NoMemory, own)),
         Err(Refused::Error(name)) => {
@@ -74,13 +77,14 @@ fn names_hello(view: &View<'_>) -> bool
 // A pass with a connection whose messages go to the outbox.
 fn connect_pass<B: Naming, M: Mailbox, W: Wait, R: Wait + Drop>(
     context: &Context<'_, B, M, W, R>,
+    lent: &mut Option<StateReader<B, M>>,
     own: &OwnOutbox<M>,
     view: &View<'_>,
 ) -> Result<Pass<B, M>, Refused>
     ensures { IfOk result (λ pass. HasJoined pass) }
 {
     let _ = Call::read(context.alloc, view)?;
-    let mut pass = context.bus.pass(context.rt)?;
+    let mut pass = new_pass(context, lent)?;
     let joined = join(&mut context.bus.control(context.rt), &mut pass, own);
     match joined {
         Ok(()) => Ok(pass),
@@ -89,4 +93,19 @@ fn connect_pass<B: Naming, M: Mailbox, W: Wait, R: Wait + Drop>(
             Err(refused)
         }
     }
+}
+
+// A pass that did nothing, with the reader that is lent, or else with its own.
+fn new_pass<B: Naming, M: Mailbox, W: Wait, R: Wait + Drop>(
+    context: &Context<'_, B, M, W, R>,
+    lent: &mut Option<StateReader<B, M>>,
+) -> Result<Pass<B, M>, BusError>
+    ensures { IfOk result (λ pass. pass ≡ new_pass pass.seen) }
+{
+    let Some(reader) = lent.take() else {
+        return context.bus.pass(context.rt);
+    };
+    let mut pass = context.bus.pass_without_reader(context.rt);
+    pass.lend(reader);
+    Ok(pass)
 }

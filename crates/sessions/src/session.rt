@@ -17,7 +17,7 @@ use frames::Frames;
 use message_view::MsgError;
 use peers::{
     AllInstructions, Bus, Command, Context, Identity, Mailbox, Naming, Published, RouteLists,
-    Shares, Shown,
+    Shares, Shown, StateReader,
 };
 use std::alloc::Global;
 use std::collections::LinkedList;
@@ -91,6 +91,22 @@ impl<B: Naming, M: Mailbox> Session<B, M> {
         ensures { self.new ≡ self.old }
     {
         self.client.share_instructions(all);
+    }
+
+    /// Reads the bus's state by this reader until it is reclaimed, so that a thread may lend its one reader to each session
+    /// that it serves. It has to be lent for each step and for the end. A session to which none was lent at its Hello takes one
+    /// of the bus's places for a reader of its own.
+    pub fn lend(&mut self, reader: StateReader<B, M>)
+        ensures { self.new ≡ self.old }
+    {
+        self.client.lend(reader);
+    }
+
+    /// Gives up the reader.
+    pub fn reclaim(&mut self) -> Option<StateReader<B, M>>
+        ensures { self.new ≡ self.old }
+    {
+        self.client.reclaim()
     }
 
     /// Whether the talk is over and messages are read.
@@ -270,7 +286,7 @@ impl<B: Naming, M: Mailbox> Session<B, M> {
     }
 
     /// Ends the session: its names are given up and its connection is closed, each change announced and written out.
-    /// Answers what is left of it where memory was refused for that.
+    /// Answers what is left of it where memory was refused for that. Its reader, lent or its own, is given back to the bus.
     pub fn end<W: Wait, R: Wait + Drop>(
         self,
         rt: &W,

@@ -1,5 +1,5 @@
 use Rattle.published.proofs.Views.{admits, forks, merges}
-use Rattle.published.proofs.publisher.Publisher.sight.Goals as goal
+use Rattle.published.proofs.publisher.Publisher.reader.Goals as goal
 
 pub reader-requires : goal.reader-requires
 reader-requires g c = admits
