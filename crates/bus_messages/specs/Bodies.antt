@@ -3,19 +3,12 @@ use Rattle.std.specs.Prelude.{ℕ, List, [], ◌∷◌, codes, if◌then◌else�
 use Rattle.signature.specs.DataType.{DataType, basic, variant, array, dict, spelling}
 use Rattle.message_value.specs.declared.order.Order.TheVariants.{Little}
 use Rattle.message_value.specs.Spelling.{value_bytes}
-use Rattle.message_value.specs.Value.{Value, text, number, elements, entries, of_type, no_values, no_entries, one_entry}
+use Rattle.message_value.specs.Value.{Value, text, number, elements, entries, of_type, no_entries, one_entry}
 use Rattle.message_build.specs.Asked.{Asked}
 use Rattle.message_build.specs.Adding.{with_argument, with_raw, string_values}
 use Rattle.bus_messages.specs.declared.body.Body.{Body}
-use Rattle.bus_messages.specs.declared.body.Body.TheVariants.{Nothing, Text, Number, Truth, Texts, EmptyDict, EmptyList, Properties, User}
-
--- a variant of an empty array of strings
-abbrev pub empty_list : Value
-empty_list = of_type (array (basic 115)) (elements no_values)
-
--- the bus's properties, none of which has an element
-abbrev pub bus_properties : Value
-bus_properties = entries (one_entry (text (codes "Features")) empty_list (one_entry (text (codes "Interfaces")) empty_list no_entries))
+use Rattle.bus_messages.specs.declared.body.Body.TheVariants.{Nothing, Text, Number, Truth, Texts, EmptyDict, Property, Properties, User}
+use Rattle.bus_messages.specs.Properties.{value_of, all_properties}
 
 -- what is known of a client: the number of the user that it runs as
 abbrev pub user_properties : ℕ → Value
@@ -42,6 +35,6 @@ with_body asked (Number n) = with_argument asked (basic 117) (number n)
 with_body asked (Truth b) = with_argument asked (basic 98) (number (if b then 1 else 0))
 with_body asked (Texts strings) = with_argument asked (array (basic 115)) (elements (string_values strings.now))
 with_body asked EmptyDict = with_value asked (dict 115 variant) (entries no_entries)
-with_body asked EmptyList = with_value asked variant empty_list
-with_body asked Properties = with_value asked (dict 115 variant) bus_properties
+with_body asked (Property property) = with_value asked variant (value_of property)
+with_body asked Properties = with_value asked (dict 115 variant) all_properties
 with_body asked (User n) = with_value asked (dict 115 variant) (user_properties n)

@@ -4,14 +4,9 @@ use Rattle.std.specs.Str.{bytes_eq}
 use Rattle.bus_messages.specs.declared.call.Call.{Call}
 use Rattle.bus_messages.specs.declared.call.Call.TheVariants.{GetAll, GetAllOfNone}
 use Rattle.bus_messages.specs.declared.call.CallError.{CallError}
-use Rattle.bus_messages.specs.declared.call.CallError.TheVariants.{UnknownInterface, UnknownProperty}
-use Rattle.bus_messages.specs.Calls.{is_property}
+use Rattle.bus_messages.specs.declared.call.CallError.TheVariants.{UnknownInterface}
 use Rattle.bus_messages.specs.Introspection.{is_interface}
 use Rattle.bus_messages.specs.Methods.{bus}
-
--- what is found of a property of an interface that is there
-abbrev pub of_property : List ℕ → List ℕ → Result Call CallError → Result Call CallError
-of_property interface name found = if is_property interface name then found else Err UnknownProperty
 
 -- the properties of an interface
 abbrev pub properties_of : List ℕ → Result Call CallError

@@ -1,5 +1,5 @@
 -- What the bus understands of a call (D-Bus Specification, "Message Bus Messages").
-use Rattle.std.specs.Prelude.{◌≡◌, ◌≢◌, ◌⊎◌, ℕ, Bool, true, false, ◌&&◌, ◌||◌, List, codes, Option, Some, None, Result, Ok, Err, if◌then◌else◌}
+use Rattle.std.specs.Prelude.{◌≡◌, ◌≢◌, ◌⊎◌, ℕ, Bool, true, false, List, Option, Some, None, Result, Ok, Err, if◌then◌else◌}
 use Rattle.std.specs.Str.{bytes_eq}
 use Rattle.bpf_code.specs.declared.instruction.Ins.{Ins}
 use Rattle.signature.specs.DataType.{spellings}
@@ -16,6 +16,8 @@ use Rattle.bus_messages.specs.declared.method.Method.TheVariants as names
 use Rattle.bus_messages.specs.Arguments.{Given, later, first_text, first_number, first_program, edition_of}
 use Rattle.bus_messages.specs.Introspection.{is_interface}
 use Rattle.bus_messages.specs.Methods.{MethodRow, bus, method_called}
+use Rattle.bus_messages.specs.Properties.{property_of}
+use Rattle.bus_messages.specs.declared.property.Property.{Property}
 
 -- a call of a method whose first argument is a text
 abbrev pub IsTextCall : Method → Method → Given → List ℕ → Type 0
@@ -27,18 +29,14 @@ IsAttach method args_left edition program =
     ((method ≡ names.Attach) × (edition ≡ One) × (first_program args_left ≡ Some program))
     ⊎ ((method ≡ names.AttachEdition) × (edition_of (first_number args_left) ≡ Ok edition) × (first_program (later args_left) ≡ Some program))
 
--- the properties that the bus has, by interface and name
-abbrev pub is_property : List ℕ → List ℕ → Bool
-is_property interface name = bytes_eq interface bus && (bytes_eq name (codes "Features") || bytes_eq name (codes "Interfaces"))
-
 -- the first argument is a text that names an interface that the bus doesn't have
 abbrev pub NamesNoInterface : Given → Type 0
 NamesNoInterface args_left = (interface : List ℕ) × (first_text args_left ≡ Some interface) × (is_interface interface ≡ false)
 
--- the first two arguments are texts that name an interface of the bus, and a property of it or another one
-abbrev pub NamesProperty : Bool → Given → Type 0
-NamesProperty is_there args_left =
-    (interface : List ℕ) × (name : List ℕ) × (first_text args_left ≡ Some interface) × (first_text (later args_left) ≡ Some name) × (is_interface interface ≡ true) × (is_property interface name ≡ is_there)
+-- the first two arguments are texts that name an interface of the bus, and this property of it, or none that it has
+abbrev pub NamesProperty : Option Property → Given → Type 0
+NamesProperty property args_left =
+    (interface : List ℕ) × (name : List ℕ) × (first_text args_left ≡ Some interface) × (first_text (later args_left) ≡ Some name) × (is_interface interface ≡ true) × (property_of interface name ≡ property)
 
 -- the first argument is a text that names an interface of the bus, which is the one that has properties or another one
 abbrev pub NamesInterface : Bool → Given → Type 0
@@ -69,7 +67,7 @@ IsCallOf (calls.GetAdtAuditSessionData name) method args_left = IsTextCall names
 IsCallOf (calls.GetConnectionSelinuxSecurityContext name) method args_left = IsTextCall names.GetConnectionSelinuxSecurityContext method args_left name.now
 IsCallOf calls.GetMachineId method args_left = method ≡ names.GetMachineId
 IsCallOf calls.Introspect method args_left = method ≡ names.Introspect
-IsCallOf calls.Get method args_left = (method ≡ names.Get) × NamesProperty true args_left
+IsCallOf (calls.Get property) method args_left = (method ≡ names.Get) × NamesProperty (Some property) args_left
 IsCallOf calls.GetAll method args_left = (method ≡ names.GetAll) × NamesInterface true args_left
 IsCallOf calls.GetAllOfNone method args_left = (method ≡ names.GetAll) × NamesInterface false args_left
 IsCallOf calls.UpdateActivationEnvironment method args_left = method ≡ names.UpdateActivationEnvironment
@@ -111,8 +109,8 @@ names_interface method = names_property method
 abbrev pub Refuses : CallError → Method → Given → Type 0
 Refuses UnknownMethod method args_left = ⊥
 Refuses UnknownInterface method args_left = (names_interface method ≡ true) × NamesNoInterface args_left
-Refuses UnknownProperty method args_left = (names_property method ≡ true) × NamesProperty false args_left
-Refuses PropertyReadOnly method args_left = (method ≡ names.Set) × NamesProperty true args_left
+Refuses UnknownProperty method args_left = (names_property method ≡ true) × NamesProperty None args_left
+Refuses PropertyReadOnly method args_left = (method ≡ names.Set) × (property : Property) × NamesProperty (Some property) args_left
 Refuses BadEdition method args_left = (method ≡ names.AttachEdition) × (edition_of (first_number args_left) ≡ Err BadEdition)
 Refuses NoMemory method args_left = takes_program method ≡ true
 Refuses InvalidArgs method args_left = Lacks method args_left

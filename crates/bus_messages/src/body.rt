@@ -7,6 +7,7 @@ ghost use Rattle.message_value.specs.Spelling.{value_bytes};
 ghost use Rattle.message_build.specs.Adding.{Adds};
 ghost use Rattle.bus_messages.specs.Bodies.{user_properties, with_body};
 
+use crate::property::Property;
 use message_build::{BuildError, Builder};
 
 /// The signature of a dictionary of properties.
@@ -15,12 +16,15 @@ const PROPERTIES: &[u8] = b"a{sv}";
 /// No properties: a length of 0, and the padding before the entry that isn't there.
 const NO_PROPERTIES: &[u8] = &[0; 8];
 
-/// An empty array of strings as a variant.
-const EMPTY_LIST: &[u8] = b"\x02as\0\0\0\0\0";
+/// The bus's features, an array of one string, as a variant.
+const FEATURES: &[u8] = b"\x02as\0\x14\0\0\0\x0f\0\0\0HeaderFiltering\0";
 
-/// The bus's properties Features and Interfaces, both empty arrays of strings: 48 bytes of entries.
+/// The bus's interfaces, an array of one string, as a variant.
+const INTERFACES: &[u8] = b"\x02as\0\x1c\0\0\0\x17\0\0\0org.example.ProgramBus1\0";
+
+/// Both properties of the bus: 100 bytes of entries.
 const BUS_PROPERTIES: &[u8] =
-    b"\x30\0\0\0\0\0\0\0\x08\0\0\0Features\0\x02as\0\0\0\0\0\0\0\0\x0a\0\0\0Interfaces\0\x02as\0\0\0\0\0\0";
+    b"\x64\0\0\0\0\0\0\0\x08\0\0\0Features\0\x02as\0\0\0\0\x14\0\0\0\x0f\0\0\0HeaderFiltering\0\0\0\0\0\x0a\0\0\0Interfaces\0\x02as\0\0\x1c\0\0\0\x17\0\0\0org.example.ProgramBus1\0";
 
 /// The user of this number as an `a{sv}`, whose one entry is UnixUserID: 24 bytes.
 fn user_bytes(number: u32) -> [u8; 32]
@@ -43,8 +47,8 @@ pub enum Body<'a> {
     Texts(&'a [&'a str]),
     /// No entries of an `a{sv}`.
     EmptyDict,
-    /// A variant that holds no strings: each property of the bus.
-    EmptyList,
+    /// A property of the bus, as a variant.
+    Property(Property),
     /// All properties of the bus, as an `a{sv}`.
     Properties,
     /// What is known of a client, as an `a{sv}`: the number of the user that it runs as.
@@ -67,7 +71,8 @@ impl Body<'_> {
             Body::Truth(truth) => builder.arg_bool(truth),
             Body::Texts(texts) => builder.arg_strs(texts),
             Body::EmptyDict => builder.raw_body(PROPERTIES, NO_PROPERTIES),
-            Body::EmptyList => builder.raw_body(b"v", EMPTY_LIST),
+            Body::Property(Property::Features) => builder.raw_body(b"v", FEATURES),
+            Body::Property(Property::Interfaces) => builder.raw_body(b"v", INTERFACES),
             Body::Properties => builder.raw_body(PROPERTIES, BUS_PROPERTIES),
             Body::User(number) => builder.raw_body(PROPERTIES, &user_bytes(number)),
         }

@@ -5,7 +5,7 @@ ghost use Rattle.message_view.specs.Message.{Message};
 ghost use Rattle.message_view.specs.Valid.{Valid};
 ghost use Rattle.bus_messages.specs.declared.call.CallError.TheVariants.{UnknownInterface};
 ghost use Rattle.bus_messages.specs.Calls.{IsReadAs, Understands, row_called, unknown_call};
-ghost use Rattle.bus_messages.specs.CallAnswers.{of_property, properties_of};
+ghost use Rattle.bus_messages.specs.CallAnswers.{properties_of};
 ghost use Rattle.bus_messages.specs.Introspection.{is_interface};
 ghost use Rattle.bus_messages.specs.CallErrors.{error_name_of};
 ghost use Rattle.bus_messages.specs.Rows.{method_row_of};
@@ -13,6 +13,7 @@ ghost use Rattle.bus_messages.specs.Rows.{method_row_of};
 use crate::arguments::Arguments;
 use crate::error_name::ErrorName;
 use crate::method::{BUS, Method, MethodEntry, is_interface};
+use crate::property::{Property, property_of};
 use bpf_code::Ins;
 use message_view::View;
 use std::alloc::{AllocError, Global};
@@ -47,8 +48,8 @@ pub enum Call<'a> {
     GetConnectionSelinuxSecurityContext(&'a str),
     GetMachineId,
     Introspect,
-    /// Of one of the bus's properties, each of which is an empty list.
-    Get,
+    /// Of one of the bus's properties.
+    Get(Property),
     /// Of the bus's properties.
     GetAll,
     /// Of the properties of an interface that has none.
@@ -122,21 +123,6 @@ fn known_interface<'a>(name: &'a str) -> Result<&'a str, CallError>
         Ok(name)
     } else {
         Err(CallError::UnknownInterface)
-    }
-}
-
-/// What a call about a property of an interface is read as: what is found, if the property is there.
-fn of_property<'a>(
-    interface: &str,
-    name: &str,
-    found: Result<Call<'a>, CallError>,
-) -> Result<Call<'a>, CallError>
-    ensures { result ≡ of_property interface.now name.now found.entry }
-{
-    if interface == BUS && (name == "Features" || name == "Interfaces") {
-        found
-    } else {
-        Err(CallError::UnknownProperty)
     }
 }
 
@@ -214,13 +200,13 @@ impl<'a> Call<'a> {
             Method::Introspect => Ok(Call::Introspect),
             Method::Get => {
                 let interface = known_interface(arguments.text()?)?;
-                of_property(interface, arguments.text()?, Ok(Call::Get))
+                Ok(Call::Get(property_of(interface, arguments.text()?)?))
             }
             Method::GetAll => properties(arguments.text()?),
             Method::Set => {
                 let interface = known_interface(arguments.text()?)?;
-                let read_only = Err(CallError::PropertyReadOnly);
-                of_property(interface, arguments.text()?, read_only)
+                let _property = property_of(interface, arguments.text()?)?;
+                Err(CallError::PropertyReadOnly)
             }
             Method::UpdateActivationEnvironment => Ok(Call::UpdateActivationEnvironment),
         }

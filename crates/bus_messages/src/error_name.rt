@@ -121,7 +121,7 @@ impl ErrorName {
             },
             ErrorName::NoReply => Terms {
                 word: "NoReply",
-                sentence: "the connection that was called has gone",
+                sentence: "message recipient disconnected from message bus without replying",
             },
             ErrorName::ServiceUnknown => Terms {
                 word: "ServiceUnknown",

@@ -11,6 +11,7 @@ mod exceeded;
 mod introspect;
 mod laws;
 mod method;
+mod property;
 mod sent;
 
 pub use body::Body;
@@ -21,5 +22,6 @@ pub use exceeded::Exceeded;
 pub use introspect::introspection;
 pub use laws::{number_is_read, text_is_read, text_is_there};
 pub use message_build::BuildError;
+pub use property::Property;
 pub use sent::{error, name_acquired, name_lost, name_owner_changed, reply};
 pub use unique_name::UniqueName;

@@ -49,7 +49,7 @@ module _ {M : Type 0} where
   Performs outbox_of shares request (calls.GetConnectionSelinuxSecurityContext name) v result w = AnswersOwner name.now (TellsOfOwned request (Err names.SelinuxSecurityContextUnknown) names.NameHasNoOwner) v result w
   Performs outbox_of shares request calls.ListActivatableNames v result w = RepliesTexts request (bus_name ∷ []) v result w
   Performs outbox_of shares request calls.Ping v result w = Replies request bodies.Nothing v result w
-  Performs outbox_of shares request calls.Get v result w = Replies request bodies.EmptyList v result w
+  Performs outbox_of shares request (calls.Get property) v result w = Replies request (bodies.Property property) v result w
   Performs outbox_of shares request calls.GetAll v result w = Replies request bodies.Properties v result w
   Performs outbox_of shares request calls.GetAllOfNone v result w = Replies request bodies.EmptyDict v result w
   Performs outbox_of shares request calls.UpdateActivationEnvironment v result w = Replies request bodies.Nothing v result w

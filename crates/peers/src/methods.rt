@@ -81,7 +81,7 @@ impl<B: Naming, M: Mailbox> Peer<B, M> {
             Call::GetId => self.get_id(context, request),
             Call::GetMachineId => self.get_machine_id(context, request),
             Call::Introspect => self.introspect(context, request),
-            Call::Get => self.answer(context, request, Body::EmptyList),
+            Call::Get(property) => self.answer(context, request, Body::Property(property)),
             Call::GetAll => self.answer(context, request, Body::Properties),
             Call::GetAllOfNone => self.answer(context, request, Body::EmptyDict),
             Call::UpdateActivationEnvironment => self.answer(context, request, Body::Nothing),

@@ -23,6 +23,8 @@ mod gates;
 #[cfg(test)]
 mod hashes;
 #[cfg(test)]
+mod lending;
+#[cfg(test)]
 mod letters;
 #[cfg(test)]
 mod list_answers;

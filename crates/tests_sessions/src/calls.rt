@@ -74,7 +74,7 @@ fn rest_of<'a>(call: &Call<'a>) -> (&'static str, &'a str, u32) {
         }
         Call::GetMachineId => ("GetMachineId", "", 0),
         Call::Introspect => ("Introspect", "", 0),
-        Call::Get => ("Get", "", 0),
+        Call::Get(_) => ("Get", "", 0),
         Call::GetAll => ("GetAll", "", 0),
         Call::GetAllOfNone => ("GetAll", "none", 0),
         Call::UpdateActivationEnvironment => ("UpdateActivationEnvironment", "", 0),

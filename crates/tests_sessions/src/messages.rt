@@ -2,7 +2,7 @@
 // cases_bus (`hello_reply`, `hello_and_match`).
 
 use bus_messages::{
-    Body, BuildError, Bytes, ErrorName, error, name_lost, name_owner_changed, reply,
+    Body, BuildError, Bytes, ErrorName, Property, error, name_lost, name_owner_changed, reply,
 };
 use message_view::View;
 use std::alloc::Global;
@@ -47,7 +47,7 @@ fn lost(rt: HostRuntime) {
 }
 
 // The bytes of each body, as the D-Bus Specification marshals the values.
-const BODIES: [(Body<'static>, &[u8], &[u8]); 5] = [
+const BODIES: [(Body<'static>, &[u8], &[u8]); 6] = [
     (Body::Number(2), b"u", b"\x02\0\0\0"),
     (Body::Truth(true), b"b", b"\x01\0\0\0"),
     (
@@ -56,7 +56,16 @@ const BODIES: [(Body<'static>, &[u8], &[u8]); 5] = [
         b"\x0f\0\0\0\x01\0\0\0a\0\0\0\x02\0\0\0bc\0",
     ),
     (Body::EmptyDict, b"a{sv}", b"\0\0\0\0\0\0\0\0"),
-    (Body::EmptyList, b"v", b"\x02as\0\0\0\0\0"),
+    (
+        Body::Property(Property::Features),
+        b"v",
+        b"\x02as\0\x14\0\0\0\x0f\0\0\0HeaderFiltering\0",
+    ),
+    (
+        Body::Property(Property::Interfaces),
+        b"v",
+        b"\x02as\0\x1c\0\0\0\x17\0\0\0org.example.ProgramBus1\0",
+    ),
 ];
 
 fn reply_with<R: Abort>(rt: &R, alloc: Global, body: Body<'_>) -> Bytes {
@@ -81,9 +90,9 @@ fn bodies(rt: HostRuntime) {
 fn expect_properties<R: Abort>(rt: &R, sent: Bytes) {
     let view = View::read(sent.as_slice()).expect(rt, "a message");
     assert_eq!(rt; view.signature(), b"a{sv}".as_slice());
-    assert_eq!(rt; view.body().len(), 56);
+    assert_eq!(rt; view.body().len(), 108);
     assert_eq!(rt; view.body().get(12..20), Some(b"Features".as_slice()));
-    assert_eq!(rt; view.body().get(36..46), Some(b"Interfaces".as_slice()));
+    assert_eq!(rt; view.body().get(60..70), Some(b"Interfaces".as_slice()));
     forget(sent);
 }
 

@@ -1,0 +1,74 @@
+// Passes that read by one reader, which is lent to each in turn.
+
+ghost use Rattle.std.specs.Prelude.{◌≡◌};
+
+use crate::fixture::{KEY, close};
+use crate::letters::new_letterbox;
+use published::{Naming, Opened};
+use router::{Bus, BusError, Letterbox, Pass};
+use std::alloc::Global;
+use std::marker::Brand;
+use std::mem::forget;
+use std::process::Abort;
+use std::sync::Wait;
+
+#[test]
+fn one_reader_for_two(rt: HostRuntime) {
+    lend_in_turn::<Brand, _>(&rt, rt.alloc(), Opened::<Letterbox>::new());
+}
+
+// A bus with one place for a reader.
+fn lend_in_turn<J: Naming, R: Wait + Abort>(rt: &R, alloc: Global, opened: Opened<Letterbox>)
+    requires { opened ≡ J.book }
+{
+    let bus = Bus::<J, Letterbox, &R>::with_readers(rt, alloc, KEY, opened, 1).expect(rt, "a bus");
+    let mut first = connect(rt, alloc, &bus);
+    let mut second = connect(rt, alloc, &bus);
+    expect_closed(rt, &mut first);
+    first.lend(bus.reader(rt).expect(rt, "the reader"));
+    expect_busy(rt, &bus);
+    expect_both(rt, &mut first);
+    second.lend(first.reclaim().expect(rt, "what was lent"));
+    expect_closed(rt, &mut first);
+    expect_both(rt, &mut second);
+    close(rt, &bus, &mut second);
+    // What it was lent goes back to the bus with it.
+    bus.take_back(rt, second);
+    first.lend(bus.reader(rt).expect(rt, "what was given back"));
+    assert_eq!(rt; first.is_connected(2), Ok(false));
+    forget(first);
+    forget(bus);
+}
+
+// A connected pass without a reader.
+fn connect<J: Naming, R: Wait + Abort>(
+    rt: &R,
+    alloc: Global,
+    bus: &Bus<J, Letterbox, &R>,
+) -> Pass<J, Letterbox> {
+    let mut pass = bus.pass_without_reader(rt);
+    let connected = bus.connect(rt, &mut pass, new_letterbox(rt, alloc));
+    assert!(rt; connected.is_ok());
+    pass
+}
+
+fn expect_both<J: Naming, R: Abort>(rt: &R, pass: &mut Pass<J, Letterbox>) {
+    assert_eq!(rt; pass.is_connected(1), Ok(true));
+    assert_eq!(rt; pass.is_connected(2), Ok(true));
+}
+
+fn expect_closed<J: Naming, R: Abort>(rt: &R, pass: &mut Pass<J, Letterbox>) {
+    assert!(rt; !pass.has_reader());
+    assert_eq!(rt; pass.is_connected(1), Err(BusError::Closed));
+}
+
+// There is no place for a further reader.
+fn expect_busy<J: Naming, R: Wait + Abort>(rt: &R, bus: &Bus<J, Letterbox, &R>) {
+    match bus.pass(rt) {
+        Ok(pass) => {
+            forget(pass);
+            panic!(rt; "a pass with a reader of its own");
+        }
+        Err(error) => assert_eq!(rt; error, BusError::Busy),
+    }
+}
