@@ -6,6 +6,7 @@ pub mod Calls
 pub mod ErrorNames
 pub mod Introspection
 pub mod Methods
+pub mod Properties
 pub mod Rows
 pub mod Sent
 pub use Rattle.unique_name.specs.UniqueNames
