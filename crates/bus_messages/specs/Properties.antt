@@ -1,5 +1,5 @@
 -- The properties of the bus (D-Bus Specification, "Message Bus Properties").
-use Rattle.std.specs.Prelude.{ℕ, List, [], ◌∷◌, codes, Option, Some, None, ◌&&◌, if◌then◌else◌}
+use Rattle.std.specs.Prelude.{ℕ, List, codes, Option, Some, None, ◌&&◌, if◌then◌else◌}
 use Rattle.std.specs.Str.{bytes_eq}
 use Rattle.signature.specs.DataType.{basic, array}
 use Rattle.message_value.specs.Value.{Value, text, elements, entries, of_type, one_value, no_values, no_entries, one_entry}
