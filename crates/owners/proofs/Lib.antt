@@ -5,6 +5,7 @@ pub mod Lists
 pub mod Distinct
 pub mod Placed
 pub mod HeldSlots
+pub mod FreeSlots
 pub mod OwnerChanges
 pub mod Requested
 pub mod Settled

@@ -9,7 +9,7 @@ use Rattle.owners.specs.declared.holding.Holding.{Holding}
 use Rattle.owners.specs.declared.claim.SlotClaim.{SlotClaim}
 use Rattle.owners.specs.Queues.{Claim, is_on}
 use Rattle.owners.specs.Registry.{Registry, IsRegistry, is_held_by, is_unused, kept_slot, settle_slots, slot_of, max_names, max_claims}
-use Rattle.owners.specs.Kept.{name_at, named_claim, registry, is_name, is_on_slot, kept_at, are_slots, IsPlaced, IsKept, AreLetGo}
+use Rattle.owners.specs.Kept.{name_at, named_claim, registry, is_name, is_on_slot, kept_at, are_slots, IsPlaced, AreUsed, IsKept, AreLetGo}
 use Rattle.owners.proofs.Lists.{Each, Each-weaker, Each-both, Each-any, Each-map, all-from_Each, any-map, map-same, finds, length-map, same_elements}
 use Rattle.owners.proofs.Placed.{tells_own, HeldAt, each_held, holds_name, name_same, slot_holds, on_agrees}
 
@@ -75,6 +75,18 @@ let_go_registry placed claims slots after p held g =
     let same_claims = map-same (named_claim after) (named_claim slots) claims (Each-weaker (λ (c : SlotClaim). slice_get after c.slot ≡ slice_get slots c.slot) (λ (c : SlotClaim). named_claim after c ≡ named_claim slots c) (λ (c : SlotClaim) (h : slice_get after c.slot ≡ slice_get slots c.slot). ap (λ (o : Option (Option Holding)). let x : Claim = record { name = name_at o; connection = c.connection; flags = c.flags } in x) h) claims (each_stays claims slots after held g)) in
     ap (λ (l : List Claim). let r : Registry = record { claims = l; slots = after } in r) same_claims
     ∙ ap (λ (l : List (Option Holding)). let r : Registry = record { claims = map (named_claim slots) claims; slots = l } in r) (sym (let_go_kept placed claims slots after p held g))
+
+used_at : (claims : List SlotClaim) (slots : List (Option Holding)) → AreUsed claims slots → (k : ℕ) (o : Option (Option Holding)) → slice_get slots k ≡ o → o ≡ kept_at (list_any (is_on_slot k) claims) o
+used_at claims slots u k None e = refl
+used_at claims slots u k (Some None) e = refl
+used_at claims slots u k (Some (Some h)) e = ap (λ (b : Bool). Some (if b then None else Some h)) (sym (u k h e))
+
+-- where each name is used, no slot is let go
+pub none_let_go : (claims : List SlotClaim) (slots : List (Option Holding)) → AreUsed claims slots → AreLetGo claims slots slots
+none_let_go claims slots u = record {
+  size = refl;
+  at = λ k. used_at claims slots u k (slice_get slots k) refl;
+}
 
 -- ---- what holds of kept claims holds of those on names
 

@@ -17,13 +17,13 @@ use Rattle.owners.specs.Registry.{Registry, settle_slots, slot_of, slot_next, wi
 use Rattle.owners.specs.Kept.{name_at, named_claim, registry, is_name, is_on_slot, is_by, is_slot_claim, slot_without, slot_with_flags, without_owner, step_done, is_over, reply_of, change_for, slot_owner, slot_release_answer, are_slots, AreUsed, IsKept, AreLetGo}
 use Rattle.owners.specs.Plan.{IsPlan, claim_at}
 use Rattle.owners.specs.declared.plan.Plan.{Plan}
-use Rattle.owners.proofs.Lists.{Each, Each-weaker, Each-always, Each-filter, Each-append, Each-map, all-from_Each, filter-map, find-map, any-map, length-map, length-filter-le, slice_get-set_same}
+use Rattle.owners.proofs.Lists.{Each, Each-weaker, Each-always, Each-filter, Each-append, Each-map, all-from_Each, filter-map, find-map, any-map, length-map, length-filter-le, without_none, slice_get-set_same}
 use Rattle.owners.proofs.Placed.{Tells, tells_own, known_tells, no_slot_number, next_tells, HeldAt, each_held, on_agrees, claim_agrees, held_slots, read_held}
 use Rattle.owners.proofs.HeldSlots.{placed_still, each_held_still, shown_still}
 use Rattle.owners.proofs.Requested.{step_for, step_shown, step_fits, without_shown}
 use Rattle.owners.proofs.OwnerChanges.{request_changes}
 use Rattle.owners.proofs.UsedSlots.{used_after}
-use Rattle.owners.proofs.Settled.{slots_fit, let_go_is_kept, let_go_registry}
+use Rattle.owners.proofs.Settled.{slots_fit, let_go_is_kept, let_go_registry, none_let_go}
 
 -- ---- a request
 
@@ -206,6 +206,11 @@ drop_all_done claims slots p connection left l after g =
       subst (λ x. IsKept x after) (sym l) done.0,
       ap (λ x. registry x after) l ∙ done.1 ∙ ap (λ (x : List Claim). settle_slots x slots) (sym same),
     )
+
+-- a connection without a claim gives up nothing
+pub nothing_dropped : (claims : List SlotClaim) (slots : List (Option Holding)) → IsKept claims slots → (connection : ℕ) → list_any (is_by connection) claims ≡ false → registry claims slots ≡ after_drop_all connection (registry claims slots)
+nothing_dropped claims slots p connection none =
+    (drop_all_done claims slots p connection claims (sym (without_none (is_by connection) claims none)) slots (none_let_go claims slots p.used)).1
 
 -- ---- rules
 

@@ -111,6 +111,11 @@ pub record AreLetGo (claims : List SlotClaim) (slots after : List (Option Holdin
   pub size : length after ≡ length slots
   pub at : (k : ℕ) → slice_get after k ≡ kept_at (list_any (is_on_slot k) claims) (slice_get slots k)
 
+-- no slot from the mark on is held
+pub record IsFreeFrom (mark : ℕ) (slots : List (Option Holding)) : Type 0 where
+  pub within : mark ≤ length slots
+  pub free : (k : ℕ) → mark ≤ k → is_name (slice_get slots k) ≡ false
+
 -- each claim's slot is that of a name
 abbrev pub are_held : List SlotClaim → List (Option Holding) → Bool
 are_held claims slots = list_all (λ (c : SlotClaim). is_name (slice_get slots c.slot)) claims

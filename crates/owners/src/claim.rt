@@ -1,9 +1,10 @@
 // Claims as they are kept: each with the slot of its name.
 
 ghost use Rattle.std.specs.Prelude.{◌≡◌, ◌++◌, find, option_map, if◌then◌else◌};
+ghost use Rattle.std.specs.List.{list_any};
 ghost use Rattle.std.specs.Cmp.{partial_equiv_from_equiv};
 ghost use Rattle.std.specs.Hash as fed;
-ghost use Rattle.owners.specs.Kept.{is_on_slot, is_slot_claim, slot_without, is_leaving};
+ghost use Rattle.owners.specs.Kept.{is_on_slot, is_by, is_slot_claim, slot_without, is_leaving};
 ghost use Rattle.owners.specs.SameClaim.{same_claim, same_claim_equiv, same_claim_alike};
 
 use std::hash::{Hash, Hasher};
@@ -70,6 +71,18 @@ pub(crate) fn connection_of(claim: Option<SlotClaim>) -> Option<u64>
         Some(claim) => Some(claim.connection),
         None => None,
     }
+}
+
+/// Whether the connection has a claim on any name.
+pub(crate) fn has_any(claims: &[SlotClaim], connection: u64) -> bool
+    ensures { result ≡ list_any (is_by connection) claims.now }
+{
+    for claim in claims {
+        if claim.connection == connection {
+            return true;
+        }
+    }
+    false
 }
 
 /// The first claim on the name that has the slot, which is its owner's.

@@ -1,12 +1,11 @@
 // The names with their claims and slots.
 
-ghost use Rattle.std.specs.Prelude.{◌≡◌, None, replicate, IfOk};
-
 use crate::answer::{Dropped, Named};
-use crate::claim::{SlotClaim, connection_of, first_on};
+use crate::claim::{SlotClaim, connection_of, first_on, has_any};
 use crate::claim_list::ClaimList;
 use crate::error::ClaimError;
-use crate::holding::{Holding, hold, known_slot, let_go, rules_at, slot_next, slot_of};
+use crate::holding::rules_at;
+use crate::holdings::Holdings;
 use crate::least::{copy_of, least_after, least_of};
 use crate::marks::owned_slots;
 use crate::plan::plan_of;
@@ -31,7 +30,7 @@ pub const MAX_RULES: u32 = 16384;
 #[derive(Drop)]
 pub struct Claims {
     claims: ClaimList,
-    slots: Vec<Option<Holding>>,
+    slots: Holdings,
 }
 
 impl Model for Claims {
@@ -41,20 +40,9 @@ impl Model for Claims {
 
     ghost use Rattle.owners.specs.Kept.{registry, IsKept};
 
-    ghost view = { λ c. registry c.claims c.slots.items };
+    ghost view = { λ c. registry c.claims c.slots };
 
-    ghost invariant = { λ c. IsKept c.claims c.slots.items };
-}
-
-/// As many free slots as there can be names.
-fn free_slots(alloc: Global) -> Result<Vec<Option<Holding>>, AllocError>
-    ensures { IfOk result (λ slots. slots.items ≡ replicate 1024 None) }
-{
-    let mut slots = Vec::with_capacity(alloc, MAX_NAMES)?;
-    for _place in 0..MAX_NAMES {
-        slots.push(None)?;
-    }
-    Ok(slots)
+    ghost invariant = { λ c. IsKept c.claims c.slots };
 }
 
 impl Claims {
@@ -69,7 +57,7 @@ impl Claims {
         ensures registry { IfOk result (λ names. IsRegistry names) }
     {
         let claims = ClaimList::new(alloc)?;
-        let slots = free_slots(alloc)?;
+        let slots = Holdings::new(alloc)?;
         Ok(Claims { claims, slots })
     }
 
@@ -83,7 +71,7 @@ impl Claims {
         ensures answer { result ≡ request_answer name.now connection flags self.now }
         ensures registry { IsRegistry self.now }
     {
-        let plan = plan_of(&self.claims, self.slots.as_slice(), name, connection, flags)?;
+        let plan = plan_of(&self.claims, &self.slots, name, connection, flags)?;
         Ok(plan.named)
     }
 
@@ -103,7 +91,7 @@ impl Claims {
         ensures after { self.new ≡ after_request name.now connection flags self.old }
         ensures registry { IsRegistry self.new }
     {
-        let plan = plan_of(&self.claims, self.slots.as_slice(), name, connection, flags)?;
+        let plan = plan_of(&self.claims, &self.slots, name, connection, flags)?;
         let claim = SlotClaim {
             connection,
             flags,
@@ -111,7 +99,7 @@ impl Claims {
         };
         let rules = rules_at(self.slots.as_slice(), plan.slot);
         do_step(&mut self.claims, plan.step, claim);
-        hold(&mut self.slots, plan.slot, name, rules);
+        self.slots.hold(plan.slot, name, rules);
         Ok(plan.named)
     }
 
@@ -120,7 +108,7 @@ impl Claims {
         ensures answer { result ≡ release_answer name.now connection self.now }
         ensures registry { IsRegistry self.now }
     {
-        let slot = known_slot(self.slots.as_slice(), name.as_str());
+        let slot = self.slots.known_slot(name.as_str());
         release_answer(&self.claims, slot, name, connection)
     }
 
@@ -130,10 +118,10 @@ impl Claims {
         ensures after { self.new ≡ after_release name.now connection self.old }
         ensures registry { IsRegistry self.new }
     {
-        let slot = known_slot(self.slots.as_slice(), name.as_str());
+        let slot = self.slots.known_slot(name.as_str());
         let named = release_answer(&self.claims, slot, name, connection);
         self.claims.remove(Some(slot), connection);
-        let_go(&mut self.slots, self.claims.as_slice());
+        self.slots.let_go(self.claims.as_slice());
         named
     }
 
@@ -173,8 +161,11 @@ impl Claims {
         ensures after { self.new ≡ after_drop_all connection self.old }
         ensures registry { IsRegistry self.new }
     {
+        if !has_any(self.claims.as_slice(), connection) {
+            return;
+        }
         self.claims.remove(None, connection);
-        let_go(&mut self.slots, self.claims.as_slice());
+        self.slots.let_go(self.claims.as_slice());
     }
 
     /// The primary owner of a name, if it has one.
@@ -182,7 +173,7 @@ impl Claims {
         ensures owner { result ≡ owner_of name.now self.now.claims }
         ensures registry { IsRegistry self.now }
     {
-        let slot = known_slot(self.slots.as_slice(), name);
+        let slot = self.slots.known_slot(name);
         connection_of(first_on(self.claims.as_slice(), slot))
     }
 
@@ -191,7 +182,7 @@ impl Claims {
         ensures queue { result ≡ queue_of name.now self.now.claims }
         ensures registry { IsRegistry self.now }
     {
-        let slot = known_slot(self.slots.as_slice(), name);
+        let slot = self.slots.known_slot(name);
         Queue::new(self.claims.as_slice(), slot)
     }
 
@@ -218,7 +209,7 @@ impl Claims {
         ensures slot { result ≡ slot_of name.now self.now.slots }
         ensures registry { IsRegistry self.now }
     {
-        slot_of(self.slots.as_slice(), name)
+        self.slots.slot_of(name)
     }
 
     /// The slot that a name has, else the lowest free one; None where all are used.
@@ -226,7 +217,7 @@ impl Claims {
         ensures slot { result ≡ slot_next name.now self.now.slots }
         ensures registry { IsRegistry self.now }
     {
-        slot_next(self.slots.as_slice(), name)
+        self.slots.slot_next(name)
     }
 
     /// How many rules have a name as their sender.
@@ -234,7 +225,7 @@ impl Claims {
         ensures rules { result ≡ rules_of name.now self.now.slots }
         ensures registry { IsRegistry self.now }
     {
-        let slot = known_slot(self.slots.as_slice(), name);
+        let slot = self.slots.known_slot(name);
         rules_at(self.slots.as_slice(), slot)
     }
 
@@ -249,11 +240,11 @@ impl Claims {
         ensures after { self.new ≡ after_slot_for name.now self.old }
         ensures registry { IsRegistry self.new }
     {
-        let Some(slot) = slot_next(self.slots.as_slice(), name.as_str()) else {
+        let Some(slot) = self.slots.slot_next(name.as_str()) else {
             return Err(ClaimError::NamesFull);
         };
         let rules = rules_at(self.slots.as_slice(), slot);
-        hold(&mut self.slots, slot, name, rules + 1);
+        self.slots.hold(slot, name, rules + 1);
         Ok(slot)
     }
 
@@ -263,9 +254,9 @@ impl Claims {
         ensures after { self.new ≡ after_slot_free name.now self.old }
         ensures registry { IsRegistry self.new }
     {
-        let slot = known_slot(self.slots.as_slice(), name.as_str());
+        let slot = self.slots.known_slot(name.as_str());
         let rules = rules_at(self.slots.as_slice(), slot);
-        hold(&mut self.slots, slot, name, rules - 1);
-        let_go(&mut self.slots, self.claims.as_slice());
+        self.slots.hold(slot, name, rules - 1);
+        self.slots.let_go(self.claims.as_slice());
     }
 }

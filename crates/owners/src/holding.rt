@@ -1,15 +1,12 @@
 // The slots of names.
 
-ghost use Rattle.std.specs.Prelude.{◌≡◌, ◌+◌, ◌≤◌, ◌<◌, ℕ, Some, option_map, length, slice_get, slice_set, unwrap_or, true};
-ghost use Rattle.owners.specs.Registry.{is_unused, is_held_by, slot_of, slot_next, first_free, rules_at};
-ghost use Rattle.owners.specs.Kept.{are_slots, is_name, name_at, AreLetGo};
+ghost use Rattle.std.specs.Prelude.{◌≡◌, ◌≤◌, length, slice_get, true};
+ghost use Rattle.owners.specs.Registry.{is_unused, is_held_by, slot_of, first_free, rules_at};
+ghost use Rattle.owners.specs.Kept.{are_slots, is_name, name_at, IsFreeFrom, AreLetGo};
 
 use crate::claim::SlotClaim;
 use crate::marks::claimed_slots;
 use crate::well_known::WellKnown;
-
-/// A number that is no slot's.
-const NO_SLOT: u16 = u16::MAX;
 
 /// A name that has a slot, with the number of rules whose sender it is.
 #[derive(Drop)]
@@ -43,7 +40,7 @@ pub(crate) fn slot_of(slots: &[Option<Holding>], name: &str) -> Option<u16>
 }
 
 /// The lowest free slot.
-fn first_free(slots: &[Option<Holding>]) -> Option<u16>
+pub(crate) fn first_free(slots: &[Option<Holding>]) -> Option<u16>
     requires { length slots.now ≤ 1024 }
     ensures { result ≡ first_free slots.now }
 {
@@ -55,25 +52,6 @@ fn first_free(slots: &[Option<Holding>]) -> Option<u16>
         place += 1;
     }
     None
-}
-
-/// The slot that a name has, else the lowest free one.
-pub(crate) fn slot_next(slots: &[Option<Holding>], name: &str) -> Option<u16>
-    requires { length slots.now ≤ 1024 }
-    ensures { result ≡ slot_next name.now slots.now }
-{
-    match slot_of(slots, name) {
-        Some(slot) => Some(slot),
-        None => first_free(slots),
-    }
-}
-
-/// The slot that a name has, or a number that is no slot's.
-pub(crate) fn known_slot(slots: &[Option<Holding>], name: &str) -> u16
-    requires { length slots.now ≤ 1024 }
-    ensures { result ≡ unwrap_or (slot_of name.now slots.now) NO_SLOT }
-{
-    slot_of(slots, name).unwrap_or(NO_SLOT)
 }
 
 /// The name that has a slot.
@@ -97,18 +75,6 @@ pub(crate) fn rules_at(slots: &[Option<Holding>], slot: u16) -> u32
     }
 }
 
-/// Gives a slot to a name that has this number of rules.
-pub(crate) fn hold(slots: &mut Vec<Option<Holding>>, slot: u16, name: &WellKnown, rules: u32)
-    requires { slot < length slots.old.items }
-    ensures slots { slots.new.items ≡ slice_set slots.old.items slot (Some (record { name = name.now; rules = rules })) }
-    ensures size { length slots.new.items ≡ length slots.old.items }
-{
-    slots[slot as usize] = Some(Holding {
-        name: name.copy(),
-        rules,
-    });
-}
-
 /// Whether a slot is let go, by whether its name is claimed.
 fn is_unused(slot: &Option<Holding>, claimed: bool) -> bool
     ensures { result ≡ is_unused claimed slot.now }
@@ -119,14 +85,15 @@ fn is_unused(slot: &Option<Holding>, claimed: bool) -> bool
     }
 }
 
-/// Lets go each slot whose name has neither a claim nor a rule.
-pub(crate) fn let_go(slots: &mut Vec<Option<Holding>>, claims: &[SlotClaim])
+/// Lets go each slot whose name has neither a claim nor a rule, where no slot from the mark `used` on is held.
+pub(crate) fn let_go(slots: &mut Vec<Option<Holding>>, used: usize, claims: &[SlotClaim])
     requires size { length slots.old.items ≤ 1024 }
+    requires used { IsFreeFrom used slots.old.items }
     requires inside { are_slots claims.now ≡ true }
     ensures { AreLetGo claims.now slots.old.items slots.new.items }
 {
     let claimed = claimed_slots(claims);
-    for i in 0..slots.len() {
+    for i in 0..used {
         if is_unused(&slots[i], claimed.contains(i as u16)) {
             slots[i] = None;
         }

@@ -9,6 +9,7 @@ mod claim_list;
 mod claims;
 mod error;
 mod holding;
+mod holdings;
 mod least;
 mod marks;
 mod plan;

@@ -9,7 +9,7 @@ use crate::answer::{Change, NameReply, Named};
 use crate::claim::{connection_of, first_on};
 use crate::claim_list::ClaimList;
 use crate::error::ClaimError;
-use crate::holding::{Holding, slot_next};
+use crate::holdings::Holdings;
 use crate::step::{Step, is_over, reply_of, step_of};
 use crate::well_known::WellKnown;
 
@@ -58,7 +58,7 @@ fn change_for(
 /// The answer to a request, and the step that it makes.
 pub(crate) fn plan_of(
     claims: &ClaimList,
-    slots: &[Option<Holding>],
+    slots: &Holdings,
     name: &WellKnown,
     connection: u64,
     flags: u32,
@@ -66,7 +66,7 @@ pub(crate) fn plan_of(
     requires { IsKept claims.now slots.now }
     ensures { MatchResult result (λ plan. IsPlan claims.now slots.now name.now connection flags plan) (λ error. request_answer name.now connection flags (registry claims.now slots.now) ≡ Err error) }
 {
-    let Some(slot) = slot_next(slots, name.as_str()) else {
+    let Some(slot) = slots.slot_next(name.as_str()) else {
         return Err(ClaimError::NamesFull);
     };
     let owner = first_on(claims.as_slice(), slot);

@@ -9,7 +9,7 @@ use Rattle.owners.proofs.claims.Claims.least_of.Goals as goal
 pub returns-clause-name : goal.returns-clause-name
 returns-clause-name c =
     let cs = c.self.inside.claims in
-    let ss = c.self.inside.slots.items in
+    let ss = c.self.inside.slots in
     let connection = c.args.connection in
     c.least_of.ensures
     ∙ ap (λ l. least (map (claim_name c.as_slice-2.result.now) (filter (is_by connection) l))) c.as_slice.ensures.value
@@ -18,4 +18,4 @@ returns-clause-name c =
     ∙ ap (λ (r : Registry). least_of connection r.claims) c.self.view_is
 
 pub returns-clause-registry : goal.returns-clause-registry
-returns-clause-registry c = subst IsRegistry c.self.view_is (kept_is_registry c.self.inside.claims c.self.inside.slots.items c.self.invariant)
+returns-clause-registry c = subst IsRegistry c.self.view_is (kept_is_registry c.self.inside.claims c.self.inside.slots c.self.invariant)

@@ -9,7 +9,7 @@ use Rattle.owners.proofs.claims.Claims.next_name.Goals as goal
 pub returns-clause-name : goal.returns-clause-name
 returns-clause-name c =
     let cs = c.self.inside.claims in
-    let ss = c.self.inside.slots.items in
+    let ss = c.self.inside.slots in
     let other = option_map (λ (n : Bor (List ℕ)). n.now) c.args.after in
     c.least_after.ensures
     ∙ ap (λ (o : Option (List ℕ)). least (map (claim_name c.as_slice-2.result.now) (filter (is_named_after o c.as_slice-2.result.now) c.as_slice.result.now))) c.copy_of-other.ensures
@@ -19,4 +19,4 @@ returns-clause-name c =
     ∙ ap (λ (r : Registry). next_name other r.claims) c.self.view_is
 
 pub returns-clause-registry : goal.returns-clause-registry
-returns-clause-registry c = subst IsRegistry c.self.view_is (kept_is_registry c.self.inside.claims c.self.inside.slots.items c.self.invariant)
+returns-clause-registry c = subst IsRegistry c.self.view_is (kept_is_registry c.self.inside.claims c.self.inside.slots c.self.invariant)

@@ -4,4 +4,4 @@ use Rattle.owners.proofs.Settled.{kept_is_registry}
 use Rattle.owners.proofs.claims.Claims.rules_of.Goals as goal
 
 pub returns-clause-registry : goal.returns-clause-registry
-returns-clause-registry c = subst IsRegistry c.self.view_is (kept_is_registry c.self.inside.claims c.self.inside.slots.items c.self.invariant)
+returns-clause-registry c = subst IsRegistry c.self.view_is (kept_is_registry c.self.inside.claims c.self.inside.slots c.self.invariant)

@@ -1,7 +1,7 @@
 use Rattle.std.proofs.Common.{◌≡◌, ℕ, ap, ◌∙◌, arith, replicate}
 use Rattle.std.specs.Prelude.{Option, None}
 use Rattle.owners.specs.declared.holding.Holding.{Holding}
-use Rattle.owners.proofs.claims.free_slots.Goals as goal
+use Rattle.owners.proofs.holdings.free_slots.Goals as goal
 
 abbrev free : Option Holding
 free = None
