@@ -1,10 +1,10 @@
 -- What the calls of a pass do, under the lock of the bus (own).
-use Rattle.std.specs.Prelude.{◌≡◌, ◌≢◌, ◌⊎◌, ◌+◌, ◌<◌, Bool, true, false, [], ◌∷◌, ◌++◌, length, Result, Ok, Err}
+use Rattle.std.specs.Prelude.{◌≡◌, ◌≢◌, ◌⊎◌, ◌+◌, ◌<◌, ℕ, Bool, true, false, [], ◌∷◌, ◌++◌, length, Result, Ok, Err}
 use mathlib.Core.List.{IsPrefix}
 use Rattle.program_table.specs.declared.command.Command.{Command}
-use Rattle.program_table.specs.declared.command.Command.TheVariants.{Connect}
+use Rattle.program_table.specs.declared.command.Command.TheVariants.{Connect, DropOne}
 use Rattle.program_table.specs.declared.command.Reply.{Reply}
-use Rattle.program_table.specs.declared.command.Reply.TheVariants.{Connected, Refused}
+use Rattle.program_table.specs.declared.command.Reply.TheVariants.{Connected, Nothing, Refused}
 use Rattle.program_table.specs.declared.refusal.Refusal.{Refusal}
 use Rattle.program_table.specs.Connections.{commands_of}
 use Rattle.program_table.specs.Does.{is_accepted, reply_to}
@@ -16,6 +16,10 @@ use Rattle.passes.specs.Errors.{error_of}
 use Rattle.passes.specs.Passes.{PassState}
 
 module _ {M : Type 0} where
+  -- the connection of this number is there and has no claim on a name, after what is published
+  abbrev pub ClaimsNothing : ℕ → Publication M → Type 0
+  ClaimsNothing connection now = reply_to (after now.history) (DropOne connection) ≡ Nothing
+
   -- What is said of a call through the bus: it is so of what was published when it had the lock, and after it.
   abbrev pub Once : (Publication M → Publication M → Type 0) → Type 0
   Once P = (before : Publication M) × (next : Publication M) × P before next

@@ -6,7 +6,7 @@ ghost use Rattle.program_table.specs.State.{State};
 ghost use Rattle.program_table.specs.History.{after, is_command_of, IsHistory};
 ghost use Rattle.published.specs.Publication.{Publication, nothing_published};
 ghost use Rattle.passes.specs.Passes.{PassState, new_pass};
-ghost use Rattle.passes.specs.Calls.{Answers, Connects};
+ghost use Rattle.passes.specs.Calls.{Answers, ClaimsNothing, Connects};
 ghost use Rattle.passes.specs.Readiness.{Admits, IsReady};
 
 use crate::error::BusError;
@@ -114,6 +114,14 @@ impl<J: Naming, M: Mailbox, R: Wait + Drop> Control<J, M, R> {
             }
             None => Err(BusError::Closed),
         }
+    }
+
+    /// Whether the pass's connection is there and has no claim on a name, so that `drop_name` would find nothing.
+    pub fn claims_nothing(&self, pass: &Pass<J, M>) -> bool
+        ensures { result ≡ true → ClaimsNothing pass.now.connection self.now }
+    {
+        let command = Command::DropOne(pass.connection());
+        matches!(self.state().answer(&command), Reply::Nothing)
     }
 
     /// The published state.

@@ -4,7 +4,7 @@ use Rattle.outbox.specs.Seated.{OutboxId}
 use Rattle.owners.specs.Registry.{max_claims}
 use Rattle.router.specs.BusError.{BusError}
 use Rattle.router.specs.BusError.TheVariants as errors
-use Rattle.router.specs.Calls.{Once, Answers}
+use Rattle.router.specs.Calls.{Once, Answers, ClaimsNothing}
 use Rattle.router.specs.Command.TheVariants.{DropOne, Close}
 use Rattle.router.specs.Reply.{Reply}
 use Rattle.router.specs.Reply.TheVariants as replies
@@ -27,9 +27,11 @@ module _ {M : Type 0} where
   IsGiven outbox_of (Err errors.NoMemory) v giving w = (giving ≡ givings.Refused) × (w ≡ v)
   IsGiven outbox_of (Err _) v giving w = (giving ≡ givings.Last) × (w ≡ v)
 
-  -- the pass gives up its claim on the least of its names
+  -- the pass gives up its claim on the least of its names, or it has none in what is published
   abbrev pub GivesUpName : (M → OutboxId) → PeerState M → Giving → PeerState M → Type 0
-  GivesUpName outbox_of v giving w = HasCalled (λ asked pass. Once (λ before next. Answers false v.pass before (DropOne v.pass.connection) asked pass next)) (λ asked mid. IsGiven outbox_of asked mid giving w) v
+  GivesUpName outbox_of v giving w =
+      HasCalled (λ asked pass. Once (λ before next. Answers false v.pass before (DropOne v.pass.connection) asked pass next)) (λ asked mid. IsGiven outbox_of asked mid giving w) v
+      ⊎ ((giving ≡ givings.Last) × (w ≡ v) × Once (λ before next. ClaimsNothing v.pass.connection before))
 
   -- this many names were given up, one after the other
   abbrev pub GivesUpNames : (M → OutboxId) → ℕ → PeerState M → PeerState M → Type 0

@@ -67,6 +67,9 @@ impl<B: Naming, M: Mailbox> Peer<B, M> {
         ensures { GivesUpName M.outbox_of self.old result self.new }
     {
         let _turn = context.bus.turn(context.rt);
+        if context.bus.claims_nothing(context.rt, &self.pass) {
+            return Giving::Last;
+        }
         let dropped = context.bus.drop_name(context.rt, &mut self.pass);
         self.announce_dropped(context, dropped)
     }

@@ -5,7 +5,7 @@ ghost use mathlib.Core.List.{IsPrefix};
 ghost use Rattle.passes.specs.Command.TheVariants.{Detach, Request, Release, DropOne, Close};
 ghost use Rattle.passes.specs.Publication.{Publication};
 ghost use Rattle.passes.specs.Passes.{PassState, new_pass};
-ghost use Rattle.passes.specs.Calls.{Once, Answers, Connects};
+ghost use Rattle.passes.specs.Calls.{Once, Answers, ClaimsNothing, Connects};
 ghost use Rattle.passes.specs.Readings.{AddsMatch, RemovesMatch, Attaches};
 
 use bpf_code::Ins;
@@ -256,6 +256,13 @@ impl<B: Naming, M: Mailbox, R: Wait + Drop> Bus<B, M, R> {
         ensures connection { pass.new.connection ≡ pass.old.connection }
     {
         self.control(rt).drop_name(pass)
+    }
+
+    /// Whether the connection is there and has no claim on a name, so that `drop_name` would find nothing.
+    pub fn claims_nothing(&self, rt: &impl Wait, pass: &Pass<B, M>) -> bool
+        ensures { result ≡ true → Once (λ before next. ClaimsNothing pass.now.connection before) }
+    {
+        self.control(rt).claims_nothing(pass)
     }
 
     /// Closes the connection, with its entries and claims.
