@@ -6,6 +6,7 @@ use Rattle.router.specs.BusError.{BusError}
 use Rattle.router.specs.BusError.TheVariants as errors
 use Rattle.router.specs.Calls.{Once, Answers, ClaimsNothing}
 use Rattle.router.specs.Command.TheVariants.{DropOne, Close}
+use Rattle.router.specs.Publication.{Publication}
 use Rattle.router.specs.Reply.{Reply}
 use Rattle.router.specs.Reply.TheVariants as replies
 use Rattle.peers.specs.declared.error.AnswerError.{AnswerError}
@@ -31,7 +32,7 @@ module _ {M : Type 0} where
   abbrev pub GivesUpName : (M → OutboxId) → PeerState M → Giving → PeerState M → Type 0
   GivesUpName outbox_of v giving w =
       HasCalled (λ asked pass. Once (λ before next. Answers false v.pass before (DropOne v.pass.connection) asked pass next)) (λ asked mid. IsGiven outbox_of asked mid giving w) v
-      ⊎ ((giving ≡ givings.Last) × (w ≡ v) × Once (λ before next. ClaimsNothing v.pass.connection before))
+      ⊎ ((giving ≡ givings.Last) × (w ≡ v) × Once (λ (before : Publication M) next. ClaimsNothing v.pass.connection before))
 
   -- this many names were given up, one after the other
   abbrev pub GivesUpNames : (M → OutboxId) → ℕ → PeerState M → PeerState M → Type 0

@@ -260,7 +260,7 @@ impl<B: Naming, M: Mailbox, R: Wait + Drop> Bus<B, M, R> {
 
     /// Whether the connection is there and has no claim on a name, so that `drop_name` would find nothing.
     pub fn claims_nothing(&self, rt: &impl Wait, pass: &Pass<B, M>) -> bool
-        ensures { result ≡ true → Once (λ before next. ClaimsNothing pass.now.connection before) }
+        ensures { result ≡ true → Once (λ (before : Publication M) next. ClaimsNothing pass.now.connection before) }
     {
         self.control(rt).claims_nothing(pass)
     }
