@@ -5,27 +5,19 @@ use Rattle.message_build.specs.Asked.{Asked}
 use Rattle.router.specs.BusError.{BusError}
 use Rattle.router.specs.BusError.TheVariants as errors
 use Rattle.router.specs.Calls.{Once, Answers}
-use Rattle.router.specs.Command.TheVariants.{DropOne, Close}
+use Rattle.router.specs.Command.TheVariants.{Close}
 use Rattle.router.specs.Passes.{PassState}
 use Rattle.router.specs.Reply.{Reply}
 use Rattle.peers.specs.declared.error.AnswerError.{AnswerError}
-use Rattle.peers.specs.declared.leaving.Giving.{Giving}
 use Rattle.peers.specs.declared.leaving.Leaving.{Leaving}
 use Rattle.peers.specs.Announcements.{IsSignalled, change_asked}
-use Rattle.peers.specs.Departure.{IsGiven, GivesUpName, IsClosing, Closes, HasLeft}
+use Rattle.peers.specs.Departure.{IsClosing, Closes, HasLeft}
 use Rattle.peers.specs.Passing.{with_pass}
 use Rattle.peers.specs.PeerState.{PeerState, name_of}
 use Rattle.peers.proofs.Calling.{callers_close_none}
 use Rattle.peers.proofs.Rows.{called}
 
 module _ {M : Type 0} where
-  pub given_up : (outbox_of : M → OutboxId) (u v w : PeerState M) (asked : Result Reply BusError) (pass : PassState M) (giving : Giving) → u ≡ v → Once (λ before next. Answers false u.pass before (DropOne u.pass.connection) asked pass next) → IsGiven outbox_of asked (with_pass u pass) giving w
-      → GivesUpName outbox_of v giving w
-  given_up outbox_of u v w asked pass giving is d g =
-      let D : PassState M → Result Reply BusError → PassState M → Type 0 = λ p reply next. Once (λ before after. Answers false p before (DropOne p.connection) reply next after) in
-      let G : Result Reply BusError → PeerState M → Type 0 = λ reply mid. IsGiven outbox_of reply mid giving w in
-      called D G u v asked pass is d g
-
   pub closed : (outbox_of : M → OutboxId) (u v w : PeerState M) (asked : Result Reply BusError) (pass : PassState M) (leaving : Leaving) → u ≡ v → Once (λ before next. Answers true u.pass before (Close u.pass.connection) asked pass next) → IsClosing outbox_of asked (with_pass u pass) leaving w
       → Closes outbox_of v leaving w
   closed outbox_of u v w asked pass leaving is d g =
