@@ -1,5 +1,5 @@
 -- How a peer leaves the bus.
-use Rattle.std.proofs.Common.{◌≡◌, true, false, Some, None, Result, Ok, Err, inl, inr, sym, ap, subst, ◌∙◌}
+use Rattle.std.proofs.Common.{◌≡◌, true, Some, None, Result, Ok, Err, inl, inr, sym, ap, subst, ◌∙◌}
 use Rattle.outbox.specs.Seated.{OutboxId}
 use Rattle.message_build.specs.Asked.{Asked}
 use Rattle.router.specs.BusError.{BusError}
