@@ -32,6 +32,7 @@ fn lend_in_turn<J: Naming, R: Wait + Abort>(rt: &R, alloc: Global, opened: Opene
     expect_closed(rt, &mut first);
     expect_both(rt, &mut second);
     close(rt, &bus, &mut second);
+    assert!(rt; second.is_closed());
     // What it was lent goes back to the bus with it.
     bus.take_back(rt, second);
     first.lend(bus.reader(rt).expect(rt, "what was given back"));
