@@ -1,5 +1,6 @@
 // The end of a session.
 
+ghost use Rattle.std.specs.Prelude.{◌≡◌};
 ghost use Rattle.sessions.specs.Ends.{Ends};
 
 use crossbeam_utils::rule::Protocol;
