@@ -54,7 +54,7 @@ class Steps:
     def __init__(self, rt, crates, names):
         self.rt, self.crates, self.names = rt, crates, names
         self.green = {"libraries": 0, "programs": 0, "crates of tests": 0, "edits": 0, "libraries still": 0, "runs without a proof": 0}
-        self.failed = []
+        self.failed, self.locked = [], set()
 
     def run(self):
         """Does all of it; returns whether all is green."""
@@ -63,7 +63,8 @@ class Steps:
         above = [it for it in tree.with_above(self.crates, self.names) if it not in below]
         if not self.do(self.tasks_of(touched, below)):
             return False
-        libraries = [it for it in above if not it.is_program]
+        # (crates of tests are nobody's library, and are run from their sources in either case)
+        libraries = [it for it in above if not it.is_program and not it.has_tests()]
         if all(tree.stays_proved(self.rt, it) for it in libraries):
             self.green["libraries still"] = len(libraries)
             return self.do({key: task for it in above for key, task in self.runs(it)})
@@ -73,9 +74,14 @@ class Steps:
         """What makes some crates green, and the libraries that they stand on."""
         tasks = {(it.name, "libraries"): self.library(it) for it in below if not it.is_program}
         libraries = sorted((self.crates[name] for name, _ in tasks), key=lambda it: len(it.below()))
-        self.rt.rtlib.lock(libraries)
+        self.lock(libraries)
         tree.forget_above(self.crates, tree.to_build(self.rt, libraries))
         return tasks | {key: task for it in wanted for key, task in self.checks(it)}
+
+    def lock(self, libraries):
+        """Keeps other runs of rt out of these crates' folders, each locked once: a second time this run would wait for itself."""
+        self.rt.rtlib.lock([it for it in libraries if it.name not in self.locked])
+        self.locked |= {it.name for it in libraries}
 
     def checks(self, crate):
         if crate.is_program:
