@@ -1,6 +1,6 @@
 // The slots of names, and how far they are used.
 
-ghost use Rattle.std.specs.Prelude.{◌≡◌, ◌<◌, ◌≤◌, ◌+◌, Some, None, length, replicate, slice_set, unwrap_or, true, IfOk};
+ghost use Rattle.std.specs.Prelude.{◌≡◌, ◌<◌, ◌≤◌, Some, None, length, replicate, slice_set, unwrap_or, true, IfOk};
 ghost use Rattle.owners.specs.Registry.{slot_of, slot_next};
 ghost use Rattle.owners.specs.Kept.{are_slots, IsFreeFrom, AreLetGo};
 

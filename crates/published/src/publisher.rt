@@ -290,7 +290,7 @@ impl<J: Naming, M: Handle, R: Wait + Drop> Publisher<J, M, R> {
     /// A new reader, which is told the published history. `None` where all places of readers are in use.
     pub fn reader(&mut self) -> Option<StateReader<J, M>>
         ensures same { self.new ≡ self.old }
-        ensures told { IfSome result (λ reader. view reader.reader.place ≡ self.old.history) }
+        ensures up_to_date { IfSome result (λ reader. view reader.reader.place ≡ self.old.history) }
     {
         let Ok(mut reader) = self.writer.factory().reader() else {
             return None;

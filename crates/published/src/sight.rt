@@ -37,7 +37,7 @@ where
     reader: Option<ShownReader<J, M>>,
     front: Front<J, M>,
     // The reader may have entered another history than the one that was seen.
-    is_ahead: bool,
+    may_differ: bool,
 }
 
 impl<J: Naming, M: Handle> Model for Sight<J, M>
@@ -52,7 +52,7 @@ where
 
     ghost view = { λ s. s.front };
 
-    ghost invariant = { λ s. s.is_ahead ≡ false → IfSome s.reader (λ r. entered r.place ≡ s.front) };
+    ghost invariant = { λ s. s.may_differ ≡ false → IfSome s.reader (λ r. entered r.place ≡ s.front) };
 }
 
 impl<J: Naming, M: Handle> Sight<J, M> {
@@ -64,7 +64,7 @@ impl<J: Naming, M: Handle> Sight<J, M> {
         Sight {
             reader: Some(reader.reader),
             front,
-            is_ahead: false,
+            may_differ: false,
         }
     }
 
@@ -75,7 +75,7 @@ impl<J: Naming, M: Handle> Sight<J, M> {
         Sight {
             reader: None,
             front,
-            is_ahead: true,
+            may_differ: true,
         }
     }
 
@@ -84,7 +84,7 @@ impl<J: Naming, M: Handle> Sight<J, M> {
         ensures { self.new ≡ self.old }
     {
         self.reader = Some(reader.reader);
-        self.is_ahead = true;
+        self.may_differ = true;
     }
 
     /// Gives up the reader, so that nothing is entered until another is lent. None where there is none, or a visit has it.
@@ -113,7 +113,7 @@ impl<J: Naming, M: Handle> Sight<J, M> {
         ensures { self.new ≡ told_history }
     {
         self.front = told_history;
-        self.is_ahead = true;
+        self.may_differ = true;
     }
 
     /// Takes over a told history: the longer of the two is then seen. One of them begins the other.
@@ -125,7 +125,7 @@ impl<J: Naming, M: Handle> Sight<J, M> {
         if self.front.len() < told_history.len() {
             self.front.begins(told_history);
             self.front = told_history.again();
-            self.is_ahead = true;
+            self.may_differ = true;
         } else {
             told_history.begins(&self.front);
         }
@@ -140,7 +140,7 @@ impl<J: Naming, M: Handle> Sight<J, M> {
         match self.reader.take()?.enter_as::<Sees>() {
             Ok(reading) => {
                 let front = reading.get().front();
-                if self.is_ahead {
+                if self.may_differ {
                     // No history that was told is longer than the published one.
                     if self.front.len() > front.len() {
                         self.reader = Some(reading.leave());
@@ -165,7 +165,7 @@ impl<J: Naming, M: Handle> Sight<J, M> {
         let Visit { reading, front } = visit;
         self.reader = Some(reading.leave());
         self.front = front;
-        self.is_ahead = false;
+        self.may_differ = false;
     }
 }
 
