@@ -1,12 +1,10 @@
 // The texts that a message is looked up by.
 
-ghost use Rattle.std.specs.Prelude.{◌≡◌, ◌≤◌, Some, None, [], ◌∷◌, MatchBool, option_map, if◌then◌else◌};
+ghost use Rattle.std.specs.Prelude.{◌≡◌, ◌≤◌, None, [], ◌∷◌, MatchBool, option_map, if◌then◌else◌};
 ghost use Rattle.std.specs.Option.{ForSome};
-ghost use Rattle.message_value.specs.ShownArguments.{shown_arg};
 ghost use Rattle.message_view.specs.Message.{Message};
 ghost use Rattle.message_view.specs.Valid.{Valid};
-ghost use Rattle.match_rule.specs.Arguments.{text_in as argument_text};
-ghost use Rattle.match_rule.specs.FixedTexts.{arg0_of, fixed_texts, string_in};
+ghost use Rattle.match_rule.specs.FixedTexts.{fixed_texts};
 ghost use Rattle.match_rule.specs.PathNamespaces.{namespace_asked};
 ghost use Rattle.entry_table.specs.HeldTexts.{text_in};
 ghost use Rattle.entry_table.specs.FoundTexts.{is_text_found, are_texts_found, are_namespaces_found, texts_read};
@@ -17,34 +15,13 @@ ghost use Rattle.entry_table.specs.Lookups.{first_texts, of_shape_after};
 use crate::lookup_texts::{hash_of, join_hashes};
 use crate::namespaces::{arg0_namespace, front_after, path_namespace};
 use crate::text_points::TextPoints;
-use match_rule::Rule;
-use message_view::{Arg, View};
+use match_rule::{Rule, arg0_of};
+use message_view::View;
 use std::marker::Model;
 use text_hash::Point;
 
 /// How many lists there are for entries that are looked up by a text, by the hash of their texts.
 pub(crate) const HASH_LISTS: usize = 32768;
-
-/// The text of an argument, where it is a string.
-fn string_of<'a>(arg: Arg<'a>) -> Option<&'a str>
-    ensures { option_map (λ text. text.now) result ≡ string_in (argument_text (Some (shown_arg arg.entry))) }
-{
-    match arg.text {
-        Some(text) => { if arg.code == b's' { Some(text) } else { None } }
-        None => None,
-    }
-}
-
-/// Argument 0 of a message, where it is a string.
-fn arg0_of<'a>(view: &View<'a>) -> Option<&'a str>
-    ensures { (m : Message) → Valid view.now m → option_map (λ text. text.now) result ≡ arg0_of m }
-{
-    let mut args = view.args();
-    match args.next() {
-        None => None,
-        Some(arg) => string_of(arg),
-    }
-}
 
 /// Whether a text, if it is asked for, is the one that is found.
 #[inline(always)]

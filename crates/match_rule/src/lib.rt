@@ -3,6 +3,7 @@
 //! the sentence of each condition.
 #![tactic(auto)]
 
+mod arg0;
 mod condition;
 mod envelope;
 mod fixed;
@@ -20,6 +21,7 @@ mod text;
 mod weight;
 mod word;
 
+pub use arg0::arg0_of;
 pub use condition::Condition;
 pub use envelope::envelope_fits_where_it_holds;
 pub use fixed::FixedTexts;
