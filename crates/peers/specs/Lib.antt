@@ -22,3 +22,4 @@ pub mod Arrival
 pub mod Departure
 pub mod Table
 pub mod Handling
+pub mod Subjects

@@ -31,6 +31,7 @@ mod request;
 mod sending;
 mod serial;
 mod shares;
+mod subject;
 
 pub use all_instructions::AllInstructions;
 pub use context::Context;

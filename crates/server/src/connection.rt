@@ -1,10 +1,11 @@
 // A connection of a worker.
 
+use crate::glance::Glance;
 use crate::hub::Hub;
 use crate::limit::Limit;
 use crate::limits::Limits;
 use crate::note::Cause;
-use crate::scratch::Scratch;
+use crate::scratch::{Aids, Scratch};
 use crate::unfinished::Beginning;
 use endpoints::Link;
 use members::{Arrival, Mail, Member, Post};
@@ -35,6 +36,8 @@ pub(crate) enum Turn {
     Waits,
     /// More may be there to read.
     Again,
+    /// Its next message waits until the end of another client that has gone was seen.
+    Held,
     /// Its client is gone.
     Gone,
     /// The bus ends it.
@@ -52,6 +55,8 @@ pub(crate) struct Connection<J: Naming> {
     beginning: Option<Beginning>,
     /// Its Hello was answered, and it no longer counts among the newcomers.
     pub(crate) is_in: bool,
+    // Its next message is whole, and waits until the end of another client that has gone was seen.
+    is_held: bool,
     /// By which the newcomers know it.
     pub(crate) ticket: u64,
 }
@@ -87,6 +92,7 @@ impl<J: Naming> Connection<J> {
             begun,
             beginning: None,
             is_in: false,
+            is_held: false,
             ticket,
         })
     }
@@ -138,6 +144,20 @@ impl<J: Naming> Connection<J> {
         self.session.number()
     }
 
+    /// Its Hello was answered. Where memory is refused, nobody waits for its end.
+    pub(crate) fn come_in<W: Wait, R: Wait + Drop>(
+        &mut self,
+        rt: &W,
+        hub: &Hub<J, R>,
+        number: u64,
+    ) {
+        self.is_in = true;
+        hub.newcomers.leave(rt, self.ticket);
+        if let Ok(link) = Arc::try_clone(&self.link) {
+            let _ = hub.clients.enter(rt, number, link);
+        }
+    }
+
     /// The poll told of room to write.
     pub(crate) fn has_room<W: Wait>(&self, rt: &W) {
         self.member.has_room(rt);
@@ -156,18 +176,20 @@ impl<J: Naming> Connection<J> {
         scratch: &mut Scratch,
         has_ended: bool,
     ) -> Turn {
-        let (block, lists) = (scratch.block.as_mut_slice(), &mut scratch.lists);
+        let (block, aids) = (scratch.block.as_mut_slice(), &mut scratch.aids);
+        if self.is_held
+            && let Err(turn) = self.take(rt, alloc, hub, aids, &[])
+        {
+            return turn;
+        }
         for _ in 0..READS {
             match self.link.receive(block) {
-                Ok(0) => return self.at_end(rt, alloc, hub, lists),
+                Ok(0) => return self.at_end(rt, alloc, hub, &mut aids.lists),
                 Ok(count) => {
-                    let treated = match self.treat(rt, alloc, hub, lists, &block[..count]) {
+                    let treated = match self.take(rt, alloc, hub, aids, &block[..count]) {
                         Ok(treated) => treated,
-                        Err(error) => return Turn::Ends(Cause::Session(error)),
+                        Err(turn) => return turn,
                     };
-                    if self.note_beginning(rt, alloc, hub).is_err() {
-                        return Turn::Ends(Cause::Limit(Limit::Unfinished));
-                    }
                     if count < block.len() && treated < BUSY && !has_ended {
                         return Turn::Waits;
                     }
@@ -175,7 +197,7 @@ impl<J: Naming> Connection<J> {
                 Err(error) => match error.kind() {
                     ErrorKind::Interrupted => {}
                     ErrorKind::WouldBlock => return Turn::Waits,
-                    _ => return self.at_end(rt, alloc, hub, lists),
+                    _ => return self.at_end(rt, alloc, hub, &mut aids.lists),
                 },
             }
         }
@@ -197,20 +219,39 @@ impl<J: Naming> Connection<J> {
         }
     }
 
-    /// Treats the lines and messages that are whole now, and tells how many there were. What they put is written after
-    /// every few of them, also before an error.
+    /// Treats what came, and notes what it is in the middle of. An error is what becomes of it where its turn is over.
+    fn take<W: Wait + Clock, R: Wait + Drop>(
+        &mut self,
+        rt: &W,
+        alloc: Global,
+        hub: &Hub<J, R>,
+        aids: &mut Aids,
+        bytes: &[u8],
+    ) -> Result<u32, Turn> {
+        match self.treat(rt, alloc, hub, aids, bytes) {
+            Err(error) => Err(Turn::Ends(Cause::Session(error))),
+            Ok(_) if self.is_held => Err(Turn::Held),
+            Ok(treated) => match self.note_beginning(rt, alloc, hub) {
+                Ok(()) => Ok(treated),
+                Err(_) => Err(Turn::Ends(Cause::Limit(Limit::Unfinished))),
+            },
+        }
+    }
+
+    /// Treats the lines and messages that are whole now, as far as none is held, and tells how many there were. What they put is
+    /// written after every few of them, also before an error.
     fn treat<W: Wait, R: Wait + Drop>(
         &mut self,
         rt: &W,
         alloc: Global,
         hub: &Hub<J, R>,
-        lists: &mut RouteLists,
+        aids: &mut Aids,
         bytes: &[u8],
     ) -> Result<u32, SessionError> {
         self.session.feed(bytes)?;
         let mut treated = 0u32;
         for _ in rt.forever() {
-            let some = self.treat_some(rt, alloc, hub, lists);
+            let some = self.treat_some(rt, alloc, hub, aids);
             self.session.push_out(rt);
             let some = some?;
             treated = treated.saturating_add(some);
@@ -226,16 +267,39 @@ impl<J: Naming> Connection<J> {
         rt: &W,
         alloc: Global,
         hub: &Hub<J, R>,
-        lists: &mut RouteLists,
+        aids: &mut Aids,
     ) -> Result<u32, SessionError> {
         for treated in 0..MESSAGES {
+            self.is_held = self.asks_about_one_gone(rt, hub, &mut aids.glance);
+            if self.is_held {
+                return Ok(treated);
+            }
             let shares = hub.limits.shares;
-            let step = self.session.step(rt, alloc, &hub.bus, shares, lists)?;
+            let step = self
+                .session
+                .step(rt, alloc, &hub.bus, shares, &mut aids.lists)?;
             if step == Step::Waits {
                 return Ok(treated);
             }
         }
         Ok(MESSAGES)
+    }
+
+    /// Whether its next message asks the bus about a client that has gone, and whose session hasn't ended: that comes first, as it
+    /// happened first. Whoever has gone too doesn't wait, so that no two wait for each other.
+    fn asks_about_one_gone<W: Wait, R: Wait + Drop>(
+        &mut self,
+        rt: &W,
+        hub: &Hub<J, R>,
+        glance: &mut Glance,
+    ) -> bool {
+        let Some(number) = self.session.next_subject() else {
+            return false;
+        };
+        let Some(link) = hub.clients.link_of(rt, number) else {
+            return false;
+        };
+        glance.sees_end(&link) && !glance.sees_end(&self.link)
     }
 
     /// Notes what it has sent of a message that isn't whole, now that all whole ones are treated.
@@ -277,6 +341,7 @@ impl<J: Naming> Connection<J> {
             begun: _,
             beginning: _,
             is_in: _,
+            is_held: _,
             ticket: _,
         } = self;
         if let Some(rest) = session.end(rt, alloc, &hub.bus) {

@@ -2,6 +2,7 @@
 
 ghost use Rattle.std.specs.Prelude.{◌≡◌};
 
+use crate::clients::Clients;
 use crate::limits::Limits;
 use crate::newcomers::Newcomers;
 use crate::note::{Cause, Note};
@@ -29,6 +30,7 @@ pub(crate) struct Hub<J: Naming, R: Wait + Drop> {
     pub(crate) identity: Identity,
     pub(crate) limits: Limits,
     pub(crate) newcomers: Newcomers,
+    pub(crate) clients: Clients,
     pub(crate) unfinished: Unfinished,
     pub(crate) instructions: Arc<AllInstructions>,
     pub(crate) notes: Notes,
@@ -59,6 +61,7 @@ impl<J: Naming, R: Wait + Drop> Hub<J, R> {
             identity: start.identity,
             limits,
             newcomers: Newcomers::new(alloc, limits.newcomers),
+            clients: Clients::new(alloc),
             unfinished: Unfinished::new(limits.unfinished),
             instructions,
             notes: Notes::new(alloc, start.verbosity),

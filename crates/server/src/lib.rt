@@ -5,8 +5,10 @@
 
 mod accepting;
 mod acceptor;
+mod clients;
 mod connection;
 mod endpoint;
+mod glance;
 mod hub;
 mod input;
 mod limit;

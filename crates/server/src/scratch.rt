@@ -1,23 +1,36 @@
 // What the connections of a worker use in turn.
 
+use crate::glance::Glance;
 use sessions::RouteLists;
-use std::alloc::{AllocError, Global};
+use std::alloc::Global;
+use std::io;
+use std::net::Net;
 
 /// How many bytes one read asks for.
 const BLOCK: usize = 65536;
 
-/// What the connections of a worker use in turn: the block into which they read, and the lists of what they broadcast.
+/// What the connections of a worker use in turn: the block into which they read, and what helps to treat what came.
 #[derive(Drop)]
 pub(crate) struct Scratch {
     pub(crate) block: Vec<u8>,
+    pub(crate) aids: Aids,
+}
+
+/// The lists of what is broadcast, and a look at the sockets of others.
+#[derive(Drop)]
+pub(crate) struct Aids {
     pub(crate) lists: RouteLists,
+    pub(crate) glance: Glance,
 }
 
 impl Scratch {
-    pub(crate) fn new(alloc: Global) -> Result<Scratch, AllocError> {
+    pub(crate) fn new<R: Net>(rt: &R, alloc: Global) -> io::Result<Scratch> {
         Ok(Scratch {
             block: vec![in alloc; 0; BLOCK]?,
-            lists: RouteLists::new(),
+            aids: Aids {
+                lists: RouteLists::new(),
+                glance: Glance::new(rt, alloc)?,
+            },
         })
     }
 }

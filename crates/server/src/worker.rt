@@ -22,6 +22,9 @@ const EVENTS: usize = 256;
 /// How many milliseconds lie between two looks at the connections that may become overdue.
 const GLANCE: u64 = 500;
 
+/// How many milliseconds a connection that is held waits for its next turn.
+const MOMENT: u64 = 1;
+
 /// How many milliseconds to wait where the poll fails.
 const PAUSE: u64 = 50;
 
@@ -42,7 +45,7 @@ impl Desk {
         }
         let events = Events::with_capacity(alloc, EVENTS)?;
         let post = Arc::new(alloc, Post::new(alloc, &poll)?)?;
-        let scratch = Scratch::new(alloc)?;
+        let scratch = Scratch::new(rt, alloc)?;
         Ok(Desk {
             poll,
             events,
@@ -67,9 +70,11 @@ pub(crate) struct Worker<'a, J: Naming, R: Wait + Drop> {
     scratch: Scratch,
     // What it lends to the connection whose turn it is. One that ends gives it back to the bus, where the next is had.
     reader: Option<StateReader<J, Mail>>,
-    // The keys of those that had more to read when their turn was over.
+    // The keys of those that had more to read when their turn was over, or were held.
     again: Vec<usize>,
-    // How many of them may become overdue.
+    // One of them at least may go on at once; the others wait for the end of somebody who has gone.
+    is_eager: bool,
+    // How many of its connections may become overdue.
     watched: u32,
     // When it last looked whether any of those is overdue.
     looked: Option<Instant>,
@@ -121,6 +126,7 @@ impl<'a, J: Naming, R: Wait + Drop> Worker<'a, J, R> {
             scratch,
             reader: None,
             again: Vec::new(alloc),
+            is_eager: false,
             watched: 0,
             looked: None,
             is_ending: false,
@@ -155,8 +161,10 @@ impl<'a, J: Naming, R: Wait + Drop> Worker<'a, J, R> {
 
     /// How long the poll may wait. An idle bus waits without a limit.
     fn patience(&self) -> Option<Duration> {
-        if !self.again.is_empty() {
+        if self.is_eager {
             Some(Duration::from_millis(0))
+        } else if !self.again.is_empty() {
+            Some(Duration::from_millis(MOMENT))
         } else if self.watched > 0 {
             Some(Duration::from_millis(GLANCE))
         } else {
@@ -203,15 +211,18 @@ impl<'a, J: Naming, R: Wait + Drop> Worker<'a, J, R> {
         if !connection.is_in
             && let Some(number) = connection.number()
         {
-            connection.is_in = true;
-            self.hub.newcomers.leave(rt, connection.ticket);
+            connection.come_in(rt, self.hub, number);
             self.hub.notes.leave(rt, Note::Came(number));
         }
         let is_watched = connection.is_watched();
         self.recount(was_watched, is_watched);
         match turn {
             Turn::Waits => {}
-            Turn::Again => self.call_again(rt, key),
+            Turn::Again => {
+                self.is_eager = true;
+                self.call_again(rt, key);
+            }
+            Turn::Held => self.call_again(rt, key),
             Turn::Gone => self.end(rt, key, None),
             Turn::Ends(cause) => self.end(rt, key, Some(cause)),
         }
@@ -231,8 +242,9 @@ impl<'a, J: Naming, R: Wait + Drop> Worker<'a, J, R> {
         }
     }
 
-    /// Gives another turn to those that had more to read.
+    /// Gives another turn to those that had more to read, or were held.
     fn go_on<W: Wait + Clock>(&mut self, rt: &W) {
+        self.is_eager = false;
         for key in mem::replace(&mut self.again, Vec::new(self.alloc)) {
             self.turn(rt, key, false, true);
         }
@@ -309,6 +321,9 @@ impl<'a, J: Naming, R: Wait + Drop> Worker<'a, J, R> {
         self.find_reader(rt);
         connection.lend(self.reader.take());
         connection.end(rt, self.alloc, self.hub);
+        if let Some(number) = number {
+            self.hub.clients.leave(rt, number);
+        }
         if let Some(note) = Note::of_end(number, cause) {
             self.hub.notes.leave(rt, note);
         }

@@ -1,8 +1,9 @@
 // The client that a session serves.
 
-ghost use Rattle.std.specs.Prelude.{◌≡◌, None, is_some};
+ghost use Rattle.std.specs.Prelude.{◌≡◌, None, IfSome, is_some};
 ghost use Rattle.sessions.specs.SessionState.{connection_of};
 ghost use Rattle.sessions.specs.Steps.{Takes, outcome_of};
+ghost use Rattle.sessions.specs.Subjects.{IsSubjectOf, MayHaveSeen};
 
 use crate::error::SessionError;
 use crate::greeting::greet;
@@ -111,6 +112,17 @@ impl<B: Naming, M: Mailbox> Client<B, M> {
         match &mut self.peer {
             Some(peer) => peer.is_shut(),
             None => false,
+        }
+    }
+
+    /// The other connection that a call of the bus is about. `None` before Hello.
+    pub(crate) fn subject_of(&mut self, view: &View<'_>) -> Option<u64>
+        ensures looked { MayHaveSeen self.old self.new }
+        ensures subject { IfSome result (λ number. IsSubjectOf view.now self.new number) }
+    {
+        match &mut self.peer {
+            Some(peer) => peer.subject_of(view),
+            None => None,
         }
     }
 

@@ -1,9 +1,10 @@
 // A client's session.
 
-ghost use Rattle.std.specs.Prelude.{◌≡◌, [], None, IfOk, is_some, length, true};
+ghost use Rattle.std.specs.Prelude.{◌≡◌, [], None, IfOk, IfSome, is_some, length, true};
 ghost use Rattle.auth.specs.Admissions.{any_admission};
 ghost use Rattle.sessions.specs.Steps.{Feeds, Steps, TakesNext, TakesMessage, TakesLine};
 ghost use Rattle.sessions.specs.Ends.{EndsAny};
+ghost use Rattle.sessions.specs.Subjects.{HasLooked, IsNextSubject};
 ghost use Rattle.sessions.specs.SessionState.{connection_of, new_session};
 
 use crate::client::Client;
@@ -23,6 +24,9 @@ use std::alloc::Global;
 use std::collections::LinkedList;
 use std::marker::Model;
 use std::sync::{Arc, Wait};
+
+/// The kind of a call.
+const METHOD_CALL: u8 = 1;
 
 /// One client's session: the talk, then messages, of which the first is Hello. What it answers, and what others send to
 /// its client, waits in the outbox of its mailbox. Contracts see where the talk stands, the bytes that wait to be handled,
@@ -135,6 +139,22 @@ impl<B: Naming, M: Mailbox> Session<B, M> {
         ensures { result ≡ length self.now.unread }
     {
         self.input.unread().len()
+    }
+
+    /// The connection that the next message asks the bus about, by a name that it owns. `None` where no such message is next. A
+    /// client that has gone, and whose session hasn't ended, may still own names; whoever serves many sessions ends that one's
+    /// first, so that clients see each other go in the order in which it happened.
+    pub fn next_subject(&mut self) -> Option<u64>
+        ensures looked { HasLooked self.old self.new }
+        ensures subject { IfSome result (λ number. IsNextSubject self.old.unread self.new.peer number) }
+    {
+        if !self.talk.has_begun() || !may_be_call(self.input.unread()) {
+            return None;
+        }
+        match self.input.front() {
+            Ok(Some(view)) => self.client.subject_of(&view),
+            _ => None,
+        }
     }
 
     /// Keeps the client's next bytes.
@@ -300,5 +320,13 @@ impl<B: Naming, M: Mailbox> Session<B, M> {
             Some(peer) => end(peer, &Context::unlimited(rt, alloc, bus)),
             None => None,
         }
+    }
+}
+
+/// Whether the message that these bytes begin with may be a call, by its kind's byte (D-Bus Specification, "Message Format").
+fn may_be_call(bytes: &[u8]) -> bool {
+    match bytes {
+        [_, kind, ..] => *kind == METHOD_CALL,
+        _ => false,
     }
 }

@@ -1,0 +1,35 @@
+// Whom a call of the bus is about.
+
+ghost use Rattle.std.specs.Prelude.{◌≡◌, IfSome};
+ghost use Rattle.message_view.specs.Message.{Message};
+ghost use Rattle.message_view.specs.Valid.{Valid};
+ghost use Rattle.router.specs.History.{after};
+ghost use Rattle.peers.specs.Passing.{HasSeenMore, with_pass};
+ghost use Rattle.peers.specs.Subjects.{IsSubject};
+
+use crate::dispatch::is_for_bus;
+use crate::owner::Owner;
+use crate::peer::Peer;
+use match_rule::arg0_of;
+use message_view::View;
+use router::{Mailbox, Naming};
+
+impl<B: Naming, M: Mailbox> Peer<B, M> {
+    /// The connection that a call of the bus is about: another than the client's own, which owns the name that is the call's
+    /// first argument, whatever its method is. `None` of any other message, and where the bus doesn't tell.
+    pub fn subject_of(&mut self, view: &View<'_>) -> Option<u64>
+        ensures subject { (m : Message) → Valid view.now m → IfSome result (λ number. IsSubject (after self.new.pass.seen) m self.old.pass.connection number) }
+        ensures later { HasSeenMore self.old.pass self.new.pass }
+        ensures same { self.new ≡ with_pass self.old self.new.pass }
+    {
+        if !is_for_bus(view) {
+            return None;
+        }
+        let caller = self.connection();
+        let name = arg0_of(view)?;
+        match self.owner_named(name) {
+            Ok(Some(Owner::Connection(number))) if number != caller => Some(number),
+            _ => None,
+        }
+    }
+}
