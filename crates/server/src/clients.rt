@@ -1,7 +1,8 @@
 // Clients that have said Hello.
 
 use endpoints::Link;
-use std::alloc::{AllocError, Global};
+use std::alloc::Global;
+use std::io;
 use std::sync::{Arc, Mutex, Wait};
 
 /// A client whose Hello was answered, and whose session hasn't ended.
@@ -25,13 +26,9 @@ impl Clients {
     }
 
     /// Notes a client whose Hello was answered.
-    pub(crate) fn enter<R: Wait>(
-        &self,
-        rt: &R,
-        number: u64,
-        link: Arc<Link>,
-    ) -> Result<(), AllocError> {
-        self.list.lock(rt).push(Client { number, link })
+    pub(crate) fn enter<R: Wait>(&self, rt: &R, number: u64, link: Arc<Link>) -> io::Result<()> {
+        self.list.lock(rt).push(Client { number, link })?;
+        Ok(())
     }
 
     /// Forgets a client whose session has ended.
