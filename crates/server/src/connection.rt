@@ -4,7 +4,7 @@ use crate::glance::Glance;
 use crate::hub::Hub;
 use crate::limit::Limit;
 use crate::limits::Limits;
-use crate::note::Cause;
+use crate::note::{Cause, Note};
 use crate::scratch::{Aids, Scratch};
 use crate::unfinished::Beginning;
 use endpoints::Link;
@@ -144,18 +144,21 @@ impl<J: Naming> Connection<J> {
         self.session.number()
     }
 
-    /// Its Hello was answered. Where memory is refused, nobody waits for its end.
-    pub(crate) fn come_in<W: Wait, R: Wait + Drop>(
-        &mut self,
-        rt: &W,
-        hub: &Hub<J, R>,
-        number: u64,
-    ) {
+    /// Counts its client among those that are in, once its Hello is answered: before the answer is written, so that whoever asks
+    /// about it finds it. Where memory is refused, nobody waits for its end.
+    fn come_in<W: Wait, R: Wait + Drop>(&mut self, rt: &W, hub: &Hub<J, R>) {
+        if self.is_in {
+            return;
+        }
+        let Some(number) = self.number() else {
+            return;
+        };
         self.is_in = true;
         hub.newcomers.leave(rt, self.ticket);
         if let Ok(link) = Arc::try_clone(&self.link) {
             let _ = hub.clients.enter(rt, number, link);
         }
+        hub.notes.leave(rt, Note::Came(number));
     }
 
     /// The poll told of room to write.
@@ -252,6 +255,7 @@ impl<J: Naming> Connection<J> {
         let mut treated = 0u32;
         for _ in rt.forever() {
             let some = self.treat_some(rt, alloc, hub, aids);
+            self.come_in(rt, hub);
             self.session.push_out(rt);
             let some = some?;
             treated = treated.saturating_add(some);

@@ -208,12 +208,6 @@ impl<'a, J: Naming, R: Wait + Drop> Worker<'a, J, R> {
         connection.lend(self.reader.take());
         let turn = connection.read(rt, self.alloc, self.hub, &mut self.scratch, has_ended);
         self.reader = connection.reclaim();
-        if !connection.is_in
-            && let Some(number) = connection.number()
-        {
-            connection.come_in(rt, self.hub, number);
-            self.hub.notes.leave(rt, Note::Came(number));
-        }
         let is_watched = connection.is_watched();
         self.recount(was_watched, is_watched);
         match turn {
