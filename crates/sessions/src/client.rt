@@ -120,10 +120,8 @@ impl<B: Naming, M: Mailbox> Client<B, M> {
         ensures looked { MayHaveSeen self.old self.new }
         ensures subject { IfSome result (λ number. IsSubjectOf view.now self.new number) }
     {
-        match &mut self.peer {
-            Some(peer) => peer.subject_of(view),
-            None => None,
-        }
+        let peer = self.peer.as_mut()?;
+        peer.subject_of(view)
     }
 
     /// Handles a message of the client, which is the first one where it has no peer.
