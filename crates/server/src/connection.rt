@@ -147,9 +147,6 @@ impl<J: Naming> Connection<J> {
     /// Counts its client among those that are in, once its Hello is answered: before the answer is written, so that whoever asks
     /// about it finds it. Where memory is refused, nobody waits for its end.
     fn come_in<W: Wait, R: Wait + Drop>(&mut self, rt: &W, hub: &Hub<J, R>) {
-        if self.is_in {
-            return;
-        }
         let Some(number) = self.number() else {
             return;
         };
@@ -180,28 +177,33 @@ impl<J: Naming> Connection<J> {
         has_ended: bool,
     ) -> Turn {
         let (block, aids) = (scratch.block.as_mut_slice(), &mut scratch.aids);
-        if self.is_held
-            && let Err(turn) = self.take(rt, alloc, hub, aids, &[])
-        {
-            return turn;
-        }
         for _ in 0..READS {
-            match self.link.receive(block) {
-                Ok(0) => return self.at_end(rt, alloc, hub, &mut aids.lists),
-                Ok(count) => {
-                    let treated = match self.take(rt, alloc, hub, aids, &block[..count]) {
-                        Ok(treated) => treated,
-                        Err(turn) => return turn,
-                    };
-                    if count < block.len() && treated < BUSY && !has_ended {
-                        return Turn::Waits;
-                    }
+            // What is held is treated before more is read.
+            let count = if self.is_held {
+                0
+            } else {
+                match self.link.receive(block) {
+                    Ok(0) => return self.at_end(rt, alloc, hub, &mut aids.lists),
+                    Ok(count) => count,
+                    Err(error) => match error.kind() {
+                        ErrorKind::Interrupted => continue,
+                        ErrorKind::WouldBlock => return Turn::Waits,
+                        _ => return self.at_end(rt, alloc, hub, &mut aids.lists),
+                    },
                 }
-                Err(error) => match error.kind() {
-                    ErrorKind::Interrupted => {}
-                    ErrorKind::WouldBlock => return Turn::Waits,
-                    _ => return self.at_end(rt, alloc, hub, &mut aids.lists),
-                },
+            };
+            let treated = match self.treat(rt, alloc, hub, aids, &block[..count]) {
+                Ok(treated) => treated,
+                Err(error) => return Turn::Ends(Cause::Session(error)),
+            };
+            if self.is_held {
+                return Turn::Held;
+            }
+            if self.note_beginning(rt, alloc, hub).is_err() {
+                return Turn::Ends(Cause::Limit(Limit::Unfinished));
+            }
+            if count > 0 && count < block.len() && treated < BUSY && !has_ended {
+                return Turn::Waits;
             }
         }
         Turn::Again
@@ -222,25 +224,6 @@ impl<J: Naming> Connection<J> {
         }
     }
 
-    /// Treats what came, and notes what it is in the middle of. An error is what becomes of it where its turn is over.
-    fn take<W: Wait + Clock, R: Wait + Drop>(
-        &mut self,
-        rt: &W,
-        alloc: Global,
-        hub: &Hub<J, R>,
-        aids: &mut Aids,
-        bytes: &[u8],
-    ) -> Result<u32, Turn> {
-        match self.treat(rt, alloc, hub, aids, bytes) {
-            Err(error) => Err(Turn::Ends(Cause::Session(error))),
-            Ok(_) if self.is_held => Err(Turn::Held),
-            Ok(treated) => match self.note_beginning(rt, alloc, hub) {
-                Ok(()) => Ok(treated),
-                Err(_) => Err(Turn::Ends(Cause::Limit(Limit::Unfinished))),
-            },
-        }
-    }
-
     /// Treats the lines and messages that are whole now, as far as none is held, and tells how many there were. What they put is
     /// written after every few of them, also before an error.
     fn treat<W: Wait, R: Wait + Drop>(
@@ -255,7 +238,9 @@ impl<J: Naming> Connection<J> {
         let mut treated = 0u32;
         for _ in rt.forever() {
             let some = self.treat_some(rt, alloc, hub, aids);
-            self.come_in(rt, hub);
+            if !self.is_in {
+                self.come_in(rt, hub);
+            }
             self.session.push_out(rt);
             let some = some?;
             treated = treated.saturating_add(some);

@@ -25,7 +25,7 @@ use std::collections::LinkedList;
 use std::marker::Model;
 use std::sync::{Arc, Wait};
 
-/// The kind of a call.
+/// The kind of a call, which is the second byte of its message (D-Bus Specification, "Message Format").
 const METHOD_CALL: u8 = 1;
 
 /// One client's session: the talk, then messages, of which the first is Hello. What it answers, and what others send to
@@ -148,7 +148,7 @@ impl<B: Naming, M: Mailbox> Session<B, M> {
         ensures looked { HasLooked self.old self.new }
         ensures subject { IfSome result (λ number. IsNextSubject self.old.unread self.new.peer number) }
     {
-        if !self.talk.has_begun() || !may_be_call(self.input.unread()) {
+        if !self.talk.has_begun() || self.input.unread().get(1).copied() != Some(METHOD_CALL) {
             return None;
         }
         match self.input.front() {
@@ -320,13 +320,5 @@ impl<B: Naming, M: Mailbox> Session<B, M> {
             Some(peer) => end(peer, &Context::unlimited(rt, alloc, bus)),
             None => None,
         }
-    }
-}
-
-/// Whether the message that these bytes begin with may be a call, by its kind's byte (D-Bus Specification, "Message Format").
-fn may_be_call(bytes: &[u8]) -> bool {
-    match bytes {
-        [_, kind, ..] => *kind == METHOD_CALL,
-        _ => false,
     }
 }
