@@ -26,6 +26,8 @@ where
     session: Option<Session<J, Letterbox>>,
     taker: Taker,
     received: Received,
+    // Whom its last message asked the bus about.
+    subject: Option<u64>,
     at_once: usize,
     shares: Shares,
 }
@@ -39,6 +41,7 @@ impl<J: Naming> Client<J> {
             session: Some(Session::admitting(alloc, identity, Admission::any(), letterbox)),
             taker,
             received: Received::new(alloc),
+            subject: None,
             at_once: usize::MAX,
             shares: Shares::unlimited(),
         })
@@ -60,6 +63,7 @@ impl<J: Naming> Client<J> {
             Action::Cut(len) => self.at_once = len,
             Action::Share(shares) => self.shares = shares,
             Action::Get(wanted) => return self.get(place, &wanted),
+            Action::Ask(wanted) => return other_subject(place.alloc, self.subject, wanted),
             Action::End(words) => return self.end(place, words),
             Action::Serve(_) | Action::Machine(_) | Action::User(_) => {
                 return Err(LineError::Unreadable);
@@ -79,7 +83,7 @@ impl<J: Naming> Client<J> {
     fn send<R: Wait>(&mut self, place: &Place<'_, '_, J, R>, bytes: &[u8]) {
         if let Some(session) = &mut self.session {
             for piece in bytes.chunks(self.at_once.max(1)) {
-                treat(place, session, self.shares, piece);
+                treat(place, session, self.shares, &mut self.subject, piece);
             }
         }
     }
@@ -115,11 +119,13 @@ impl<J: Naming> Client<J> {
     }
 }
 
-/// Feeds a session, and lets it treat all that is there whole. Why it ends is told at its end.
+/// Feeds a session, and lets it treat all that is there whole, each message after a look at whom it asks about. Why it ends is told
+/// at its end.
 fn treat<J: Naming, R: Wait>(
     place: &Place<'_, '_, J, R>,
     session: &mut Session<J, Letterbox>,
     shares: Shares,
+    subject: &mut Option<u64>,
     piece: &[u8],
 ) {
     if session.feed(piece).is_err() {
@@ -127,10 +133,26 @@ fn treat<J: Naming, R: Wait>(
     }
     let mut lists = RouteLists::new();
     for _ in 0..u64::MAX {
+        let next = session.next_subject();
         match session.step(place.rt, place.alloc, place.bus, shares, &mut lists) {
-            Ok(Step::Done) => {}
+            Ok(Step::Done) => *subject = next,
             Ok(Step::Waits) | Err(_) => return,
         }
+    }
+}
+
+/// Whom a message asked about, where it isn't the wanted connection.
+fn other_subject(
+    alloc: Global,
+    asked: Option<u64>,
+    wanted: Option<u64>,
+) -> Result<Option<String>, LineError> {
+    if asked == wanted {
+        return Ok(None);
+    }
+    match asked {
+        Some(number) => Ok(Some(format!(in alloc; "asks {number}")?)),
+        None => Ok(Some(String::from_str(alloc, "asks nobody")?)),
     }
 }
 

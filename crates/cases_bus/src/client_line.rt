@@ -48,6 +48,8 @@ pub(crate) enum Action<'a> {
     User(u32),
     /// What it got next.
     Get(Wanted<'a>),
+    /// The connection that its last message asked the bus about, if it was about any.
+    Ask(Option<u64>),
     /// Its bytes end here, and this is how its session ends.
     End(&'a str),
     /// All that it sends is served now.
@@ -89,6 +91,7 @@ impl<'a> Action<'a> {
                 Ok(Action::Send(send_event(alloc, verb, rest)?))
             }
             "gets" | "hears" | "reads" => Ok(Action::Get(wanted_event(alloc, verb, rest)?)),
+            "asks" => Ok(Action::Ask(subject(rest)?)),
             "cuts" => Ok(Action::Cut(rest.parse::<usize>()?)),
             "shares" => Ok(Action::Share(read_shares(rest)?)),
             "enters" => Ok(Action::Enter(entry(alloc)?)),
@@ -110,6 +113,14 @@ fn send_event(alloc: Global, verb: &str, rest: &str) -> Result<Vec<u8>, LineErro
         "repeats" => repeat_bytes(alloc, rest),
         "calls" => bus_call(alloc, rest),
         _ => message(alloc, rest),
+    }
+}
+
+/// The number of a connection, if the word is one.
+fn subject(word: &str) -> Result<Option<u64>, LineError> {
+    match word {
+        "nobody" => Ok(None),
+        _ => Ok(Some(word.parse::<u64>()?)),
     }
 }
 

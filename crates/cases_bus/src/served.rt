@@ -43,7 +43,11 @@ impl Served {
             Action::Serve(serving) => self.serve(place, serving),
             Action::Get(wanted) => return self.received.miss(place.alloc, &wanted),
             Action::End(words) => return self.end(place.alloc, words),
-            Action::Cut(_) | Action::Share(_) | Action::Machine(_) | Action::User(_) => {
+            Action::Cut(_)
+            | Action::Share(_)
+            | Action::Machine(_)
+            | Action::User(_)
+            | Action::Ask(_) => {
                 return Err(LineError::Unreadable);
             }
         }
