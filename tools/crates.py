@@ -208,7 +208,8 @@ def work_of(crate):
 def take_kept(rt, wanted):
     """Takes the libraries of some crates, lowest first, that the gate has proved on this machine from the same files, as far
     as what they stand on is taken too. Only newer kits keep them."""
-    libraries = [it for it in wanted if not it.is_program]
+    # (of a static library the gate keeps that it is proved, and nothing that another crate takes)
+    libraries = [it for it in wanted if it.makes_rlib()]
     if not hasattr(rt, "Kept") or all(is_built(rt, it) for it in libraries):
         return
     kept, there = rt.Kept(libraries), set()

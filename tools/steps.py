@@ -63,8 +63,9 @@ class Steps:
         above = [it for it in tree.with_above(self.crates, self.names) if it not in below]
         if not self.do(self.tasks_of(touched, below)):
             return False
-        # (crates of tests are nobody's library, and are run from their sources in either case)
-        libraries = [it for it in above if not it.is_program and not it.has_tests()]
+        # (crates of tests are nobody's library, and are run from their sources in either case; nor are the static libraries of the
+        # benchmarks, which aren't built here, and stay proved as libraries do)
+        libraries = [it for it in above if it.makes_rlib() and not it.has_tests()]
         if all(tree.stays_proved(self.rt, it) for it in libraries):
             self.green["libraries still"] = len(libraries)
             return self.do({key: task for it in above for key, task in self.runs(it)})
