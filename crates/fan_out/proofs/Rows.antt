@@ -31,7 +31,7 @@ marked_never : (b : Bool) → Some b ≡ Some false → Some b ≡ Some true →
 marked_never b e f = cc
 
 -- a row that isn't noted has no mark
-unmarked_row : (places rows : List Bool) (row j : ℕ) → length places ≡ 256 → AreInRows places rows → row < 16 → slice_get rows row ≡ Some false → 16 * row ≤ j → j < 16 * row + 16 → slice_get places j ≡ Some false
+unmarked_row : (places rows : List Bool) (row j : ℕ) → length places ≡ 4096 → AreInRows places rows → row < 256 → slice_get rows row ≡ Some false → 16 * row ≤ j → j < 16 * row + 16 → slice_get places j ≡ Some false
 unmarked_row places rows row j size in_rows less unnoted from below = go (get_or places j false) (slice_get-get_or places j false (omega arith))
   where
     go : (b : Bool) → slice_get places j ≡ Some b → slice_get places j ≡ Some false
@@ -40,13 +40,13 @@ unmarked_row places rows row j size in_rows less unnoted from below = go (get_or
         let at : j / 16 ≡ row = omega arith in
         absurd (marked_never true (sym (in_rows j e) ∙ ap (slice_get rows) at ∙ unnoted) refl)
 
-pub row_passed : (places rows : List Bool) (row : ℕ) (ns : List ℕ) → length places ≡ 256 → AreInRows places rows → row < 16 → slice_get rows row ≡ Some false → marked_numbers (drop (16 * row) ns) (drop (16 * row) places) ≡ marked_numbers (drop (16 * row + 16) ns) (drop (16 * row + 16) places)
+pub row_passed : (places rows : List Bool) (row : ℕ) (ns : List ℕ) → length places ≡ 4096 → AreInRows places rows → row < 256 → slice_get rows row ≡ Some false → marked_numbers (drop (16 * row) ns) (drop (16 * row) places) ≡ marked_numbers (drop (16 * row + 16) ns) (drop (16 * row + 16) places)
 row_passed places rows row ns size in_rows less unnoted = skip_marks 16 (16 * row) ns places (λ j from below. unmarked_row places rows row j size in_rows less unnoted from below)
 
 -- ---- the places between which all marks lie
 
 -- a place outside has no mark
-outside : (places : List Bool) (low high j : ℕ) → length places ≡ 256 → AreWithin places low high → j < 256 → ((low ≤ j) × (j < high) → ⊥) → slice_get places j ≡ Some false
+outside : (places : List Bool) (low high j : ℕ) → length places ≡ 4096 → AreWithin places low high → j < 4096 → ((low ≤ j) × (j < high) → ⊥) → slice_get places j ≡ Some false
 outside places low high j size within inside out = go (get_or places j false) (slice_get-get_or places j false (omega arith))
   where
     go : (b : Bool) → slice_get places j ≡ Some b → slice_get places j ≡ Some false
@@ -54,7 +54,7 @@ outside places low high j size within inside out = go (get_or places j false) (s
     go true e = absurd (out (within j e))
 
 -- the places before the first mark give no numbers
-pub first_places : (places : List Bool) (low high start : ℕ) (ns : List ℕ) → length places ≡ 256 → AreWithin places low high → low ≤ 256 → start ≤ low → marked_numbers (drop start ns) (drop start places) ≡ marked_numbers ns places
+pub first_places : (places : List Bool) (low high start : ℕ) (ns : List ℕ) → length places ≡ 4096 → AreWithin places low high → low ≤ 4096 → start ≤ low → marked_numbers (drop start ns) (drop start places) ≡ marked_numbers ns places
 first_places places low high start ns size within small before =
     let e : 0 + start ≡ start = omega arith in
     sym (rw e at (skip_marks start 0 ns places (λ j from below. outside places low high j size within (omega arith) (λ (b : (low ≤ j) × (j < high)). omega (arith, b.0)))))
@@ -64,11 +64,11 @@ marked_nothing [] = refl
 marked_nothing (n ∷ ns) = refl
 
 -- nor do those after the last mark
-pub last_places : (places : List Bool) (low high end : ℕ) (ns : List ℕ) → length places ≡ 256 → AreWithin places low high → high ≤ end → marked_numbers (drop end ns) (drop end places) ≡ []
+pub last_places : (places : List Bool) (low high end : ℕ) (ns : List ℕ) → length places ≡ 4096 → AreWithin places low high → high ≤ end → marked_numbers (drop end ns) (drop end places) ≡ []
 last_places places low high end ns size within past =
-    skip_marks (256 - end) end ns places (λ j from below. outside places low high j size within (omega arith) (λ (b : (low ≤ j) × (j < high)). omega (arith, b.1)))
-    ∙ ap (λ (ms : List Bool). marked_numbers (drop (end + (256 - end)) ns) ms) (drop_all (end + (256 - end)) places (omega arith))
-    ∙ marked_nothing (drop (end + (256 - end)) ns)
+    skip_marks (4096 - end) end ns places (λ j from below. outside places low high j size within (omega arith) (λ (b : (low ≤ j) × (j < high)). omega (arith, b.1)))
+    ∙ ap (λ (ms : List Bool). marked_numbers (drop (end + (4096 - end)) ns) ms) (drop_all (end + (4096 - end)) places (omega arith))
+    ∙ marked_nothing (drop (end + (4096 - end)) ns)
 
 module _ {M : Type 0} where
   -- after the last connection there are no numbers

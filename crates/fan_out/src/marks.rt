@@ -8,13 +8,13 @@ use arrayvec::ArrayVec;
 use program_table::Connection;
 
 /// How many recipients a message has at most, which is how many connections a bus has at most.
-pub const MAX_RECIPIENTS: usize = 256;
+pub const MAX_RECIPIENTS: usize = 4096;
 
 /// How many places stand in a row.
 const ROW: usize = 16;
 
 /// How many rows there are.
-const ROWS: usize = 16;
+const ROWS: usize = 256;
 
 /// By how much numbers are divided for their remainders.
 const REMAINDERS: usize = 256;
@@ -31,16 +31,16 @@ fn lesser(a: usize, b: usize) -> usize
 fn greater(a: usize, b: usize) -> usize
     ensures first { a ≤ result }
     ensures second { b ≤ result }
-    ensures most { a ≤ 256 → b ≤ 256 → result ≤ 256 }
+    ensures most { a ≤ 4096 → b ≤ 4096 → result ≤ 4096 }
 {
     if a < b { b } else { a }
 }
 
-/// Which connections are marked, by their places among the connections. A row is noted if it has a mark, and all marks
+/// Which connections are marked, by their places among the connections, with room for as many as there may be. A row is noted if it has a mark, and all marks
 /// lie between two places, so that a few marks are found without a look at each place. The remainders of the marked
 /// connections' numbers are noted, so that most other connections are known without a search for their place.
 #[derive(Drop)]
-pub(crate) struct Marks {
+pub struct Marks {
     pub(crate) places: [bool; MAX_RECIPIENTS],
     rows: [bool; ROWS],
     pub(crate) remainders: [bool; REMAINDERS],
@@ -48,19 +48,19 @@ pub(crate) struct Marks {
     low: usize,
     /// No mark lies at or after this place.
     high: usize,
-    ghost size: { length places ≡ 256 },
-    ghost row_count: { length rows ≡ 16 },
+    ghost size: { length places ≡ 4096 },
+    ghost row_count: { length rows ≡ 256 },
     ghost remainder_count: { length remainders ≡ 256 },
     ghost in_rows: { AreInRows places rows },
     ghost within: { AreWithin places low high },
-    ghost top: { high ≤ 256 },
-    ghost bottom: { low ≤ 256 },
+    ghost top: { high ≤ 4096 },
+    ghost bottom: { low ≤ 4096 },
 }
 
 impl Marks {
     /// No connection is marked.
     #[inline(always)]
-    pub(crate) fn new() -> Marks
+    pub fn new() -> Marks
         ensures { result.places ≡ replicate MAX_RECIPIENTS false }
     {
         Marks {
@@ -70,6 +70,37 @@ impl Marks {
             low: MAX_RECIPIENTS,
             high: 0,
         }
+    }
+
+    /// No connection is marked any more. Only the places between which the marks lie are written.
+    pub(crate) fn clear(&mut self)
+        ensures { self.new.places ≡ replicate MAX_RECIPIENTS false }
+    {
+        for place in self.low..self.high {
+            self.remove(place);
+        }
+        self.begin_anew();
+    }
+
+    /// Takes the mark at a place away, if there is one.
+    fn remove(&mut self, place: usize)
+        requires { place < MAX_RECIPIENTS }
+        ensures places { self.new.places ≡ slice_set self.old.places place false }
+        ensures low { self.new.low ≡ self.old.low }
+        ensures high { self.new.high ≡ self.old.high }
+    {
+        self.places[place] = false;
+    }
+
+    /// Forgets rows and remainders, once no place is marked.
+    fn begin_anew(&mut self)
+        requires { AreWithin self.old.places self.old.high self.old.high }
+        ensures { self.new.places ≡ replicate MAX_RECIPIENTS false }
+    {
+        self.rows = [false; ROWS];
+        self.remainders = [false; REMAINDERS];
+        self.low = MAX_RECIPIENTS;
+        self.high = 0;
     }
 
     pub(crate) fn has(&self, place: usize) -> bool
@@ -117,7 +148,7 @@ impl Marks {
 
     /// Whether a place in the row is marked.
     fn has_row(&self, row: usize) -> bool
-        requires { row < 16 }
+        requires { row < 256 }
         ensures { slice_get self.now.rows row ≡ Some result }
     {
         self.rows[row]
@@ -130,7 +161,7 @@ impl Marks {
         connections: &[Connection<M>],
         numbers: &mut ArrayVec<u64, MAX_RECIPIENTS>,
     )
-        requires place { place < 256 }
+        requires place { place < 4096 }
         requires few { array_vec_len numbers.old ≤ place }
         ensures few { array_vec_len numbers.new ≤ place + 1 }
         ensures listed { numbers.new.items ++ marked_numbers (drop (place + 1) (numbers_of connections.now)) (drop (place + 1) self.now.places) ≡ numbers.old.items ++ marked_numbers (drop place (numbers_of connections.now)) (drop place self.now.places) }
@@ -151,7 +182,7 @@ impl Marks {
         connections: &[Connection<M>],
         numbers: &mut ArrayVec<u64, MAX_RECIPIENTS>,
     )
-        requires row { row < 16 }
+        requires row { row < 256 }
         requires few { array_vec_len numbers.old ≤ 16 * row }
         ensures few { array_vec_len numbers.new ≤ 16 * row + 16 }
         ensures listed { numbers.new.items ++ marked_numbers (drop (16 * row + 16) (numbers_of connections.now)) (drop (16 * row + 16) self.now.places) ≡ numbers.old.items ++ marked_numbers (drop (16 * row) (numbers_of connections.now)) (drop (16 * row) self.now.places) }

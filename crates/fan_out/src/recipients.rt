@@ -360,12 +360,14 @@ pub(crate) fn mark_recipients<'a, M: Handle>(
     }
 }
 
-/// Lists the recipients of a message among the connections of a piece, and tells how many programs were run.
+/// Lists the recipients of a message among the connections of a piece, and tells how many programs were run. Whatever was
+/// marked before isn't any more.
 pub(crate) fn list_recipients<'a, M: Handle>(
     state: &'a BusState<M>,
     sender: Option<u64>,
     view: &View<'a>,
     piece: Piece,
+    marks: &mut Marks,
     recipients: &mut ArrayVec<u64, MAX_RECIPIENTS>,
 ) -> u32
     requires { recipients.old.items ≡ [] }
@@ -373,8 +375,8 @@ pub(crate) fn list_recipients<'a, M: Handle>(
     ensures most { (m : Message) → Valid view.entry.now m → result ≤ length (candidates state.entry.now m) }
     ensures least { length recipients.new.items ≤ result }
 {
-    let mut marks = Marks::new();
-    let runs = mark_recipients(state, sender, view, piece, &mut marks);
+    marks.clear();
+    let runs = mark_recipients(state, sender, view, piece, marks);
     marks.list(state.connections(), recipients);
     runs
 }

@@ -5,7 +5,7 @@ ghost use Rattle.program_table.specs.Recipients.{AreRecipients};
 ghost use Rattle.program_table.specs.Candidates.{candidates};
 ghost use Rattle.fan_out.specs.Pieces.{ArePieceRecipients};
 
-pub use crate::marks::MAX_RECIPIENTS;
+use crate::marks::{MAX_RECIPIENTS, Marks};
 use crate::piece::Piece;
 use crate::recipients::list_recipients;
 use arrayvec::ArrayVec;
@@ -20,23 +20,32 @@ pub fn select<'a, M: Handle>(
 ) -> ArrayVec<u64, MAX_RECIPIENTS>
     ensures { (m : Message) → Valid view.now m → AreRecipients state.now sender m result.items }
 {
+    let mut marks = Marks::new();
     let mut recipients = ArrayVec::new();
-    select_into(state, sender, view, &mut recipients);
+    select_into(state, sender, view, &mut marks, &mut recipients);
     recipients
 }
 
-/// As `select`, into an empty list of the caller's. The list has room for each connection, two kilobytes, which needn't
+/// As `select`, into an empty list of the caller's, by marks of the caller's. Both have room for each connection, which needn't
 /// be cleared and copied for each message.
 pub fn select_into<'a, M: Handle>(
     state: &'a BusState<M>,
     sender: Option<u64>,
     view: &View<'a>,
+    marks: &mut Marks,
     recipients: &mut ArrayVec<u64, MAX_RECIPIENTS>,
 )
     requires { recipients.old.items ≡ [] }
     ensures { (m : Message) → Valid view.now m → AreRecipients state.now sender m recipients.new.items }
 {
-    list_recipients(state, sender, view, Piece { part: 1, of: 1 }, recipients);
+    list_recipients(
+        state,
+        sender,
+        view,
+        Piece { part: 1, of: 1 },
+        marks,
+        recipients,
+    );
 }
 
 /// Recipients, and how many programs were run to find them.
@@ -57,12 +66,14 @@ pub fn select_counted<'a, M: Handle>(
     ensures least { length result.recipients.items ≤ result.runs }
     ensures most { (m : Message) → Valid view.now m → result.runs ≤ length (candidates state.now m) }
 {
+    let mut marks = Marks::new();
     let mut recipients = ArrayVec::new();
     let runs = list_recipients(
         state,
         sender,
         view,
         Piece { part: 1, of: 1 },
+        &mut marks,
         &mut recipients,
     );
     Counted { recipients, runs }
@@ -80,7 +91,9 @@ pub fn select_piece<'a, M: Handle>(
     requires within { part ≤ of }
     ensures { (m : Message) → Valid view.now m → ArePieceRecipients state.now sender m part of result.items }
 {
+    let mut marks = Marks::new();
     let mut recipients = ArrayVec::new();
-    list_recipients(state, sender, view, Piece { part, of }, &mut recipients);
+    let piece = Piece { part, of };
+    list_recipients(state, sender, view, piece, &mut marks, &mut recipients);
     recipients
 }

@@ -188,7 +188,7 @@ module _ {M : Type 0} where
 
   -- the command closes the connection
   abbrev closes : ℕ → Command M → Bool
-  closes c (Connect m) = false
+  closes c (Connect m most) = false
   closes c (AddRule d compiled) = false
   closes c (RemoveRule d rule) = false
   closes c (Attach d attachment) = false
@@ -231,7 +231,7 @@ module _ {M : Type 0} where
     }
 
     step : (x : Command M) → is_ok (row s x) ≡ true → Stepped c s (effect s x) (is_command_of s c x) (closes c x)
-    step (Connect m) ok = record {
+    step (Connect m most) ok = record {
       counts = refl;
       below_last = given_first s.last_connection m s.connections g;
       mine = λ e. counted_first c s.last_connection m s.connections g;

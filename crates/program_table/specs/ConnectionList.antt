@@ -8,7 +8,7 @@ pub record ConnectionList (M : Type 0) : Type 0 where
   pub connections : List (Connection M)
   pub last : ℕ
 
--- numbers rise from 1 to the last one, and there are at most 256
+-- numbers rise from 1 to the last one, and there are at most 4,096
 pub record IsConnectionList {M : Type 0} (c : ConnectionList M) : Type 0 where
   pub rising : IsStrictlyIncreasing (numbers_of c.connections)
   pub below_last : All (λ n. n ≤ c.last) (numbers_of c.connections)

@@ -1,13 +1,21 @@
 -- The connections of a bus, numbered in the order in which they were made (D-Bus Specification, "Message Bus Names":
 -- a unique name is never used again).
-use Rattle.std.specs.Prelude.{ℕ, ◌+◌, Bool, not, List, Option, map, filter, find, option_map, is_some, unwrap_or, ◌==◌, if◌then◌else◌}
+use Rattle.std.specs.Prelude.{ℕ, ◌+◌, Bool, not, ◌||◌, List, Option, length, map, filter, find, option_map, is_some, unwrap_or, nat_le, ◌==◌, if◌then◌else◌}
 use Rattle.program_table.specs.declared.connection.Connection.{Connection}
 
--- how many connections a bus has at most
+-- how many connections a bus has at most, whatever else it is told
 abbrev pub max_connections : ℕ
-max_connections = 256
+max_connections = 4096
+
+-- how many it has at most that isn't told otherwise
+abbrev pub standard_connections : ℕ
+standard_connections = 256
 
 module _ {M : Type 0} where
+  -- there are this many connections, or as many as there may be at most
+  abbrev pub are_full : ℕ → List (Connection M) → Bool
+  are_full most connections = nat_le max_connections (length connections) || nat_le most (length connections)
+
   abbrev pub numbers_of : List (Connection M) → List ℕ
   numbers_of connections = map (λ (c : Connection M). c.number) connections
 

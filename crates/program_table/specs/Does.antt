@@ -1,6 +1,6 @@
 -- What each command is answered and does: the table of commands, a row a case. The refusals of a row are tested in its
 -- order (D-Bus Specification, "Message Bus Messages": AddMatch, RemoveMatch, RequestName, ReleaseName).
-use Rattle.std.specs.Prelude.{◌≡◌, ℕ, ◌+◌, Bool, true, false, not, [], ◌∷◌, ◌++◌, length, Some, is_ok, Result, Ok, Err, nat_le, if◌then◌else◌}
+use Rattle.std.specs.Prelude.{◌≡◌, ℕ, ◌+◌, Bool, true, false, not, [], ◌∷◌, ◌++◌, Some, is_ok, Result, Ok, Err, nat_le, if◌then◌else◌}
 use Rattle.match_rule.specs.RuleTree.{sender_name_of}
 use Rattle.owners.specs.Registry.{least_of}
 use Rattle.entry_table.specs.declared.entry.Filter.TheVariants.{Rule, Attached}
@@ -10,7 +10,7 @@ use Rattle.program_table.specs.declared.command.Reply.{Reply}
 use Rattle.program_table.specs.declared.command.Reply.TheVariants as replies
 use Rattle.program_table.specs.declared.refusal.Refusal.{Refusal}
 use Rattle.program_table.specs.declared.refusal.Refusal.TheVariants as refusals
-use Rattle.program_table.specs.Connections.{max_connections, is_connected, with_command, without_connection}
+use Rattle.program_table.specs.Connections.{are_full, is_connected, with_command, without_connection}
 use Rattle.program_table.specs.Registrations.{Registrations, with_entry, with_sender, without_entry, with_request, without_claim, without_all_of}
 use Rattle.program_table.specs.State.{State}
 use Rattle.program_table.specs.Refusals.{◌>>=◌, refuse_if}
@@ -30,14 +30,14 @@ module _ {M : Type 0} where
   abbrev pub refuse_unconnected : ℕ → State M → Result (Unit {0}) Refusal
   refuse_unconnected c s = refuse_if (not (is_connected c s.connections)) refusals.Closed
 
-  abbrev pub connect_row : State M → Result Reply Refusal
-  connect_row s = do
-    few ← refuse_if (nat_le max_connections (length s.connections)) refusals.ConnectionsFull
+  abbrev pub connect_row : ℕ → State M → Result Reply Refusal
+  connect_row most s = do
+    few ← refuse_if (are_full most s.connections) refusals.ConnectionsFull
     Ok (replies.Connected (s.last_connection + 1))
 
   -- A row: what refuses the command, in this order, and what it is answered where nothing does.
   abbrev pub row : State M → Command M → Result Reply Refusal
-  row s (Connect m) = connect_row s
+  row s (Connect m most) = connect_row most s
   row s (AddRule c compiled) = do
     there ← refuse_unconnected c s
     add_rule_answer compiled s.registrations
@@ -89,7 +89,7 @@ module _ {M : Type 0} where
 
   -- What an accepted command does.
   abbrev pub effect : State M → Command M → State M
-  effect s (Connect m) = with_connection m s
+  effect s (Connect m most) = with_connection m s
   effect s (AddRule c compiled) =
       with_registrations c s (with_sender (sender_name_of compiled.rule) (with_entry c (Rule compiled) s.registrations))
   effect s (RemoveRule c rule) = with_registrations c s (without_entry c (oldest_with c rule s.registrations.entries) s.registrations)
@@ -106,7 +106,7 @@ module _ {M : Type 0} where
 
   -- the command's mailbox, rule or program is shared, which takes memory
   abbrev pub is_sharing : Command M → Bool
-  is_sharing (Connect m) = true
+  is_sharing (Connect m most) = true
   is_sharing (AddRule c compiled) = true
   is_sharing (Attach c attachment) = true
   is_sharing _ = false

@@ -20,7 +20,7 @@ module _ {M : Type 0} where
 
   -- the command names the connection, or is the Connect that makes it
   abbrev pub is_command_of : State M → ℕ → Command M → Bool
-  is_command_of s c (Connect m) = c == (s.last_connection + 1)
+  is_command_of s c (Connect m most) = c == (s.last_connection + 1)
   is_command_of s c (AddRule d compiled) = c == d
   is_command_of s c (RemoveRule d rule) = c == d
   is_command_of s c (Attach d attachment) = c == d

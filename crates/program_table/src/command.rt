@@ -10,8 +10,8 @@ use owners::{Change, Named, WellKnown};
 /// neither.
 #[derive(Drop)]
 pub enum Command<M> {
-    /// A new connection, whose messages go to the mailbox.
-    Connect(M),
+    /// A new connection, whose messages go to the mailbox, where fewer than this many are there.
+    Connect(M, u32),
     /// Adds an entry with a rule (AddMatch).
     AddRule(u64, RuleProgram),
     /// Removes the oldest entry with an equal rule (RemoveMatch).

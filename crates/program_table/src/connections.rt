@@ -2,7 +2,7 @@
 ghost use Rattle.std.specs.Prelude.{◌≡◌, ℕ, ◌<◌, ◌≤◌, [], true, false, nat_le, IfOk, IfSome, MatchOption, length, slice_get, slice_index};
 ghost use Rattle.std.specs.Option.{option_copied};
 ghost use Rattle.std.specs.List.Sorted.{IsStrictlyIncreasing};
-ghost use Rattle.program_table.specs.Connections.{numbers_of, is_connected, mailbox_of, commands_of, with_command, without_connection, max_connections};
+ghost use Rattle.program_table.specs.Connections.{numbers_of, is_connected, mailbox_of, commands_of, with_command, without_connection, max_connections, are_full};
 ghost use Rattle.program_table.specs.Places.{HaveOtherNumbers, IsPlaceOf};
 ghost use Rattle.program_table.specs.ConnectionList.{with_connection, IsConnectionList};
 
@@ -10,8 +10,11 @@ use crate::connection::Connection;
 use std::alloc::{AllocError, Global};
 use std::marker::Model;
 
-/// How many connections a bus has at most.
-pub const MAX_CONNECTIONS: usize = 256;
+/// How many connections a bus has at most, whatever else it is told.
+pub const MAX_CONNECTIONS: usize = 4096;
+
+/// How many connections a bus has at most that isn't told otherwise.
+pub const STANDARD_CONNECTIONS: u32 = 256;
 
 /// The connections, and the last number that was given.
 #[derive(Drop)]
@@ -24,13 +27,14 @@ impl<M> Model for Connections<M> {
     ghost use Rattle.std.specs.Prelude.{◌≤◌, All, length};
     ghost use Rattle.std.specs.Vec.{vec_capacity};
     ghost use Rattle.program_table.specs.declared.connection.Connection.{Connection};
+    ghost use Rattle.program_table.specs.Connections.{max_connections};
     ghost use Rattle.program_table.specs.ConnectionList.{ConnectionList, IsConnectionList};
 
     ghost Value = { ConnectionList M };
 
     ghost view = { λ c. record { connections = c.list.items; last = c.last } };
 
-    ghost invariant = { λ c. IsConnectionList (record { connections = c.list.items; last = c.last }) × (256 ≤ vec_capacity c.list) };
+    ghost invariant = { λ c. IsConnectionList (record { connections = c.list.items; last = c.last }) × (max_connections ≤ vec_capacity c.list) };
 }
 
 impl<M> Connections<M> {
@@ -44,16 +48,17 @@ impl<M> Connections<M> {
         })
     }
 
-    pub(crate) fn is_full(&self) -> bool
-        ensures { result ≡ nat_le max_connections (length self.now.connections) }
+    /// Whether there are this many connections, or as many as there may be at most.
+    pub(crate) fn is_full(&self, most: u32) -> bool
+        ensures { result ≡ are_full most self.now.connections }
     {
-        self.list.len() >= MAX_CONNECTIONS
+        self.list.len() >= MAX_CONNECTIONS || self.list.len() >= most as usize
     }
 
     /// The last number that was given, 0 before the first.
     pub(crate) fn last(&self) -> u64
         ensures value { result ≡ self.now.last }
-        // Numbers rise, none is above the last, and there are at most 256.
+        // Numbers rise, none is above the last, and there are at most 4,096.
         ensures sound { IsConnectionList self.now }
     {
         self.last

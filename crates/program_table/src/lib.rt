@@ -14,6 +14,7 @@ mod state;
 
 pub use command::{Command, Reply};
 pub use connection::Connection;
+pub use connections::{MAX_CONNECTIONS, STANDARD_CONNECTIONS};
 pub use handle::Handle;
 pub use laws::commands_are_counted;
 pub use refusal::Refusal;

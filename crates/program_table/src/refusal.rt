@@ -9,7 +9,7 @@ use std::fmt;
 /// Why a command is refused.
 #[derive(Clone, Copy, Debug, PartialEq, Eq)]
 pub enum Refusal {
-    /// There are 256 connections.
+    /// There are as many connections as the bus may have.
     ConnectionsFull,
     /// There are 16,384 entries, or the last id was given.
     EntriesFull,

@@ -106,7 +106,7 @@ impl<M: Handle> BusState<M> {
         ensures { result ≡ row self.now command.now }
     {
         match command {
-            Command::Connect(_) => self.connect_row(),
+            Command::Connect(_, most) => self.connect_row(*most),
             Command::AddRule(connection, program) => {
                 self.refuse_unconnected(*connection)?;
                 self.registrations.add_rule_answer(program)
@@ -142,11 +142,11 @@ impl<M: Handle> BusState<M> {
         }
     }
 
-    fn connect_row(&self) -> Result<Reply, Refusal>
+    fn connect_row(&self, most: u32) -> Result<Reply, Refusal>
         requires { self.now.commands < max_commands }
-        ensures { result ≡ connect_row self.now }
+        ensures { result ≡ connect_row most self.now }
     {
-        if self.connections.is_full() {
+        if self.connections.is_full(most) {
             Err(Refusal::ConnectionsFull)
         } else {
             Ok(Reply::Connected(self.connections.last() + 1))
@@ -171,7 +171,7 @@ impl<M: Handle> BusState<M> {
         ensures memory { IfErr result (λ _. is_sharing command.now ≡ true) }
     {
         match command {
-            Command::Connect(mailbox) => {
+            Command::Connect(mailbox, _) => {
                 let mailbox = mailbox.share()?;
                 self.connections.push(mailbox);
                 self.commands += 1;
@@ -254,7 +254,7 @@ impl<M: Handle> BusState<M> {
         self.connections.as_slice()
     }
 
-    /// How many connections there are, at most 256.
+    /// How many connections there are, at most 4,096.
     pub fn connection_count(&self) -> usize
         ensures count { result ≡ length self.now.connections }
         ensures few { result ≤ max_connections }

@@ -43,7 +43,7 @@ module _ {M : Type 0} where
   history-push l c h a = accepted-push opening l c h a
 
   effect-commands : (s : State M) (c : Command M) → (effect s c).commands ≡ s.commands + 1
-  effect-commands s (Connect m) = refl
+  effect-commands s (Connect m most) = refl
   effect-commands s (AddRule c compiled) = refl
   effect-commands s (RemoveRule c rule) = refl
   effect-commands s (Attach c attachment) = refl

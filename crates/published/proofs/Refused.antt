@@ -14,7 +14,7 @@ use Rattle.program_table.specs.declared.command.Reply.{Reply}
 use Rattle.program_table.specs.declared.command.Reply.TheVariants as replies
 use Rattle.program_table.specs.declared.refusal.Refusal.{Refusal}
 use Rattle.program_table.specs.declared.refusal.Refusal.TheVariants as refusals
-use Rattle.program_table.specs.Connections.{max_connections}
+use Rattle.program_table.specs.Connections.{are_full}
 use Rattle.program_table.specs.SlotNames.{slot_next}
 use Rattle.program_table.specs.Registrations.{Registrations}
 use Rattle.program_table.specs.Refusals.{◌>>=◌, refuse_if}
@@ -73,7 +73,7 @@ refused_by (Err refusal) e = (refusal, refl)
 
 module _ {M : Type 0} where
   row_tells : (s : State M) (c : Command M) → Tells (row s c)
-  row_tells s (Connect m) = tested (refuse_if (nat_le max_connections (length s.connections)) refusals.ConnectionsFull) (replies.Connected (s.last_connection + 1)) refl
+  row_tells s (Connect m most) = tested (refuse_if (are_full most s.connections) refusals.ConnectionsFull) (replies.Connected (s.last_connection + 1)) refl
   row_tells s (AddRule c compiled) = chained (refuse_unconnected c s) (λ there. add_rule_answer compiled s.registrations) (λ there. add_rule_tells compiled s.registrations)
   row_tells s (RemoveRule c rule) =
       let found = refuse_if (is_none (oldest_with c rule s.registrations.entries)) refusals.RuleNotFound in

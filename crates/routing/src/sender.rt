@@ -92,8 +92,8 @@ impl<C: Mailbox> Sender<C> {
         alloc: Global,
         recipients: &[u64],
         bytes: &Bytes,
-    ) -> Result<ArrayVec<u64, 256>, RouteError>
-        requires few { length recipients.now ≤ 256 }
+    ) -> Result<ArrayVec<u64, 4096>, RouteError>
+        requires few { length recipients.now ≤ 4096 }
         requires rising { RisesFrom 0 recipients.now }
         requires seats { AllHave recipients.now self.old.stops }
         ensures ok { IfOk result (λ refused. Routed bytes.now recipients.now refused.items self.old self.new) }
@@ -116,9 +116,9 @@ impl<C: Mailbox> Sender<C> {
         recipients: &[u64],
         bytes: &Bytes,
         gate: &G,
-        refused: &mut ArrayVec<u64, 256>,
+        refused: &mut ArrayVec<u64, 4096>,
     ) -> Result<(), RouteError>
-        requires few { length recipients.now ≤ 256 }
+        requires few { length recipients.now ≤ 4096 }
         requires rising { RisesFrom 0 recipients.now }
         requires seats { AllHave recipients.now self.old.stops }
         requires none { refused.old.items ≡ [] }
@@ -142,10 +142,10 @@ impl<C: Mailbox> Sender<C> {
         recipients: &[u64],
         bytes: &Bytes,
         gate: &G,
-        refused: &mut ArrayVec<u64, 256>,
+        refused: &mut ArrayVec<u64, 4096>,
     ) -> Result<(), AllocError>
         requires count { self.old.count < u64.MAX }
-        requires few { length recipients.now ≤ 256 }
+        requires few { length recipients.now ≤ 4096 }
         requires rising { RisesFrom 0 recipients.now }
         requires seats { AllHave recipients.now self.old.stops }
         requires none { refused.old.items ≡ [] }

@@ -132,8 +132,8 @@ pub(crate) fn take_seat<C: Mailbox>(
 }
 
 // Lists the recipient, where its outbox refused the put.
-fn note(refused: &mut ArrayVec<u64, 256>, recipient: u64, put: bool)
-    requires { length refused.old.items < 256 }
+fn note(refused: &mut ArrayVec<u64, 4096>, recipient: u64, put: bool)
+    requires { length refused.old.items < 4096 }
     ensures { refused.new.items ≡ cond put refused.old.items (refused.old.items ++ recipient ∷ []) }
 {
     if !put {
@@ -147,12 +147,12 @@ pub(crate) fn put_all<C, R: Wait>(
     stops: &mut [Stop<C>],
     recipients: &[u64],
     shares: &mut Shares,
-    refused: &mut ArrayVec<u64, 256>,
+    refused: &mut ArrayVec<u64, 4096>,
 )
     requires has { AllHave recipients.now stops.old }
     requires rising { RisesFrom 0 recipients.now }
     requires shares { shares.old.left ≡ length recipients.now }
-    requires few { length recipients.now ≤ 256 }
+    requires few { length recipients.now ≤ 4096 }
     requires follows { (n : ℕ) → IfSome (stop_at n stops.old) (λ s. Follows s.seat.view.put shares.old.message.mark) }
     requires none { refused.old.items ≡ [] }
     ensures put { PutTo shares.old.message recipients.now refused.new.items stops.old stops.new }

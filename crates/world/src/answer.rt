@@ -17,12 +17,12 @@ pub enum Answer {
     /// The job isn't open, or there is no such part, or it was asked for before.
     Ignored,
     /// Recipients by rising number.
-    Recipients(ArrayVec<u64, 256>),
+    Recipients(ArrayVec<u64, 4096>),
 }
 
 impl Answer {
     /// The answer to a Piece or an End, from the recipients that were found, if any.
-    pub(crate) fn of_recipients(found: Option<ArrayVec<u64, 256>>) -> Answer
+    pub(crate) fn of_recipients(found: Option<ArrayVec<u64, 4096>>) -> Answer
         ensures { result ≡ recipients_answer found }
     {
         match found {

@@ -13,7 +13,7 @@ const PARTS: usize = 16;
 /// The recipients of a broadcast, and which of their parts were asked for.
 #[derive(Drop)]
 pub(crate) struct Job {
-    recipients: ArrayVec<u64, 256>,
+    recipients: ArrayVec<u64, 4096>,
     parts_done: [bool; PARTS],
 }
 
@@ -26,7 +26,7 @@ impl Model for Job {
 }
 
 impl Job {
-    pub(crate) fn new(recipients: ArrayVec<u64, 256>) -> Job
+    pub(crate) fn new(recipients: ArrayVec<u64, 4096>) -> Job
         ensures { result ≡ opened_job recipients.items }
     {
         Job {
@@ -36,7 +36,7 @@ impl Job {
     }
 
     /// The recipients in a part, from 1, if it was not asked for before. From then on it was.
-    pub(crate) fn take_part(&mut self, part: u32) -> Option<ArrayVec<u64, 256>>
+    pub(crate) fn take_part(&mut self, part: u32) -> Option<ArrayVec<u64, 4096>>
         ensures { MatchOption result ((is_free_in self.old part ≡ false) × (self.new ≡ self.old)) (λ numbers. (is_free_in self.old part ≡ true) × (self.new ≡ with_part part self.old) × (numbers.items ≡ in_part part self.old.recipients)) }
     {
         let index = (part as usize).checked_sub(1)?;
@@ -48,7 +48,7 @@ impl Job {
     }
 
     /// All recipients.
-    pub(crate) fn into_recipients(self) -> ArrayVec<u64, 256>
+    pub(crate) fn into_recipients(self) -> ArrayVec<u64, 4096>
         ensures { result.items ≡ self.recipients }
     {
         self.recipients
@@ -56,8 +56,8 @@ impl Job {
 }
 
 /// The numbers that leave `part - 1` when divided by the number of parts.
-fn in_part(numbers: &[u64], part: u32) -> ArrayVec<u64, 256>
-    requires few { length numbers.now ≤ 256 }
+fn in_part(numbers: &[u64], part: u32) -> ArrayVec<u64, 4096>
+    requires few { length numbers.now ≤ 4096 }
     requires part { 1 ≤ part }
     ensures { result.items ≡ in_part part numbers.now }
 {

@@ -38,7 +38,7 @@ impl Jobs {
     pub(crate) fn begin(
         &mut self,
         number: u64,
-        recipients: ArrayVec<u64, 256>,
+        recipients: ArrayVec<u64, 4096>,
     ) -> Result<(), AllocError>
         ensures ok { OnOk result (SetsJob number (Some (opened_job recipients.items)) self.old self.new) }
         ensures err { OnErr result (self.new ≡ self.old) }
@@ -48,14 +48,14 @@ impl Jobs {
     }
 
     /// The recipients of an open job in a part that was not asked for before.
-    pub(crate) fn take_part(&mut self, number: u64, part: u32) -> Option<ArrayVec<u64, 256>>
+    pub(crate) fn take_part(&mut self, number: u64, part: u32) -> Option<ArrayVec<u64, 4096>>
         ensures { MatchOption result (LacksPart (job_of number self.old) part × SameJobs self.old self.new) (λ numbers. HasPart number part self.old self.new numbers.items) }
     {
         self.jobs.get_mut(&number)?.take_part(part)
     }
 
     /// Ends a job, and answers its recipients.
-    pub(crate) fn end(&mut self, number: u64) -> Option<ArrayVec<u64, 256>>
+    pub(crate) fn end(&mut self, number: u64) -> Option<ArrayVec<u64, 4096>>
         ensures recipients { MatchOption result (job_of number self.old ≡ None) (λ numbers. IsSomeAnd (job_of number self.old) (λ job. numbers.items ≡ job.recipients)) }
         ensures ends { SetsJob number None self.old self.new }
     {

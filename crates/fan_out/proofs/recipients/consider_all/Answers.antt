@@ -9,8 +9,8 @@ pub entries-init : goal.entries-init
 entries-init g c = record {
   view = refl;
   owned = refl;
-  noted = λ k n stands marked. absurd (none_marked 256 k (sym (ap (λ (ms : List Bool). slice_get ms k) c.requires.none_marked) ∙ marked));
-  so_far = marks_begin c.args.state.now c.args.piece.part c.args.piece.of c.args.programs.view.now c.args.programs.owned.now (c.args.first.now ∷ c.args.others.now) 256 c.args.programs.tally.runs c.args.marks.now.places c.requires.none_marked c.requires.none_run;
+  noted = λ k n stands marked. absurd (none_marked 4096 k (sym (ap (λ (ms : List Bool). slice_get ms k) c.requires.none_marked) ∙ marked));
+  so_far = marks_begin c.args.state.now c.args.piece.part c.args.piece.of c.args.programs.view.now c.args.programs.owned.now (c.args.first.now ∷ c.args.others.now) 4096 c.args.programs.tally.runs c.args.marks.now.places c.requires.none_marked c.requires.none_run;
 }
 
 pub consider_with_edition_two-requires-clause-few : goal.consider_with_edition_two-requires-clause-few

@@ -3,7 +3,7 @@ use Rattle.fan_out.proofs.workers.+pieces_from.Goals as goal
 
 pub returns-then-part-of-clause-marks : goal.returns-then-part-of-clause-marks
 returns-then-part-of-clause-marks g t c =
-    none_joined (g.W.Work.finds c.args.work.now) c.args.part c.args.of 256 c.new.result.places c.if-part-of.true c.new.ensures
+    none_joined (g.W.Work.finds c.args.work.now) c.args.part c.args.of 4096 c.new.result.places c.if-part-of.true c.new.ensures
 
 pub returns-clause-marks : goal.returns-clause-marks
 returns-clause-marks g t c =
