@@ -2,7 +2,7 @@
 
 use crate::rules::{Rules, state_of};
 use arrayvec::ArrayVec;
-use fan_out::{select_counted, select_into};
+use fan_out::{Marks, select_counted, select_into};
 use message_view::View;
 use program_table::BusState;
 use std::alloc::Global;
@@ -14,7 +14,7 @@ fn state(alloc: Global, lines: &[u8], of_each: u32) -> Option<BusState<()>> {
     state_of(alloc, Rules { lines, of_each })
 }
 
-/// Reads a message and finds its recipients as often as `turns` says, in one list that is emptied each time: the sum of
+/// Reads a message and finds its recipients as often as `turns` says, in one list that is emptied each time, by the same marks: the sum of
 /// their counts.
 #[unsafe(no_mangle)]
 pub extern "C" fn bench_recipients_select(
@@ -27,12 +27,13 @@ pub extern "C" fn bench_recipients_select(
     let Some(state) = state(alloc, rules, of_each) else {
         return 0;
     };
+    let mut marks = Marks::new();
     let mut recipients = ArrayVec::new();
     let mut sum = 0u64;
     for _turn in 0..turns {
         if let Ok(view) = View::read(message) {
             recipients.clear();
-            select_into(&state, None, &view, &mut recipients);
+            select_into(&state, None, &view, &mut marks, &mut recipients);
             sum = sum.wrapping_add(recipients.len() as u64);
         }
     }

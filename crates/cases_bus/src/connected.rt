@@ -13,7 +13,7 @@ use std::sync::Wait;
 use world_text::{TextAnswer, TextEvent};
 
 /// The recipients of a broadcast, by rising number.
-type Recipients = ArrayVec<u64, 256>;
+type Recipients = ArrayVec<u64, 4096>;
 
 /// A bus, a pass for each of its connections, and the jobs that were begun.
 #[derive(Drop)]

@@ -90,8 +90,8 @@ module _ {M : Type 0} where
     -- fewer commands are published than it has seen
     fewer : length before.history < length v.seen → IsPast v before next
 
-  -- the call that makes the pass's connection
-  abbrev pub Connects : PassState M → Publication M → M → Result Reply BusError → PassState M → Publication M → Type 0
-  Connects v before mailbox (Ok reply) w next = IsDone v before (Connect mailbox) reply w next × (reply ≡ Connected w.connection) × (w.is_closed ≡ false)
-  Connects v before mailbox (Err error) w next =
-      IsRefused v before (Connect mailbox) error w next ⊎ (IsStopped v before w next × (((error ≡ errors.Closed) × IsPast v before next) ⊎ (error ≡ errors.NoMemory)))
+  -- the call that makes the pass's connection, where fewer than this many are there
+  abbrev pub Connects : PassState M → Publication M → M → ℕ → Result Reply BusError → PassState M → Publication M → Type 0
+  Connects v before mailbox most (Ok reply) w next = IsDone v before (Connect mailbox most) reply w next × (reply ≡ Connected w.connection) × (w.is_closed ≡ false)
+  Connects v before mailbox most (Err error) w next =
+      IsRefused v before (Connect mailbox most) error w next ⊎ (IsStopped v before w next × (((error ≡ errors.Closed) × IsPast v before next) ⊎ (error ≡ errors.NoMemory)))

@@ -185,9 +185,14 @@ impl<J: Naming, M: Mailbox, R: Wait + Drop> Control<J, M, R> {
         self.publish(pass, command)
     }
 
-    /// Makes the connection of a pass that has none yet, whose messages go to the mailbox.
-    pub fn connect(&mut self, pass: &mut Pass<J, M>, mailbox: M) -> Result<Reply, BusError>
-        ensures { Connects pass.old self.old mailbox result pass.new self.new }
+    /// Makes the connection of a pass that has none yet, whose messages go to the mailbox, where fewer than this many are there.
+    pub fn connect(
+        &mut self,
+        pass: &mut Pass<J, M>,
+        mailbox: M,
+        most: u32,
+    ) -> Result<Reply, BusError>
+        ensures { Connects pass.old self.old mailbox most result pass.new self.new }
     {
         let connection = pass.connection();
         let _took = pass.took();
@@ -196,7 +201,7 @@ impl<J: Naming, M: Mailbox, R: Wait + Drop> Control<J, M, R> {
         }
         self.tell(pass)?;
         let _commands = self.state().commands();
-        let reply = match self.publisher.value.publish(Command::Connect(mailbox)) {
+        let reply = match self.publisher.value.publish(Command::Connect(mailbox, most)) {
             Ok(reply) => reply,
             Err(PublishError::NoMemory) => return Err(BusError::NoMemory),
             Err(PublishError::Ended) => return Err(BusError::Closed),

@@ -19,7 +19,7 @@ use std::fmt;
 pub enum BusError {
     /// Memory was refused.
     NoMemory,
-    /// There are 256 connections.
+    /// There are as many connections as the bus may have.
     ConnectionsFull,
     /// There are 16,384 entries, or the last id was given.
     EntriesFull,

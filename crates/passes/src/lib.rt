@@ -31,6 +31,6 @@ pub use unicasts::Sent;
 // Passed on from the crates below, so that the crates above need not name those in crates.txt.
 pub use entry_table::IndexKey;
 pub use fan_out::MAX_RECIPIENTS;
-pub use program_table::{Command, Refusal, Reply};
+pub use program_table::{Command, Refusal, Reply, STANDARD_CONNECTIONS};
 pub use published::{Front, Naming, Opened, Published, Shown, StateReader};
 pub use routing::Mailbox;

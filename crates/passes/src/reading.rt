@@ -16,7 +16,7 @@ use crate::error::BusError;
 use crate::names::is_there;
 use crate::pass::Pass;
 use arrayvec::ArrayVec;
-use fan_out::{MAX_RECIPIENTS, may_reach, select_into};
+use fan_out::{MAX_RECIPIENTS, may_reach, select};
 use message_view::View;
 use owners::WellKnown;
 use published::Naming;
@@ -62,8 +62,7 @@ impl<J: Naming, M: Mailbox> Pass<J, M> {
     {
         let visit = self.enter(source)?;
         let sender = source.sender(self.connection());
-        let mut recipients = ArrayVec::new();
-        select_into(visit.state(), sender, view, &mut recipients);
+        let recipients = select(visit.state(), sender, view);
         self.leave(visit);
         Ok(recipients)
     }

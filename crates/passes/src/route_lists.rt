@@ -3,13 +3,14 @@
 ghost use Rattle.std.specs.Prelude.{◌≡◌, []};
 
 use arrayvec::ArrayVec;
-use fan_out::MAX_RECIPIENTS;
+use fan_out::{MAX_RECIPIENTS, Marks};
 
-/// The recipients of a broadcast, and those whose outbox refused it, by rising number. Each list has room for all
-/// connections of a bus, two kilobytes, so whoever sends many messages keeps the lists from one to the next: they needn't
-/// be made for each.
+/// The recipients of a broadcast, and those whose outbox refused it, by rising number, with the marks by which they are
+/// found. Each list has room for as many connections as a bus may have, 32 kilobytes, so whoever sends many messages keeps the
+/// lists from one to the next: they needn't be made for each.
 #[derive(Drop)]
 pub struct RouteLists {
+    pub(crate) marks: Marks,
     pub recipients: ArrayVec<u64, MAX_RECIPIENTS>,
     pub refused: ArrayVec<u64, MAX_RECIPIENTS>,
 }
@@ -21,6 +22,7 @@ impl RouteLists {
         ensures refused { result.refused.items ≡ [] }
     {
         RouteLists {
+            marks: Marks::new(),
             recipients: ArrayVec::new(),
             refused: ArrayVec::new(),
         }

@@ -98,6 +98,7 @@ impl<J: Naming, M: Mailbox> Pass<J, M> {
             view,
             from,
             &mut sender,
+            &mut lists.marks,
             &mut lists.recipients,
         );
         self.leave(visit);

@@ -12,32 +12,46 @@ ghost use Rattle.passes.specs.Seats.{KeepsThere, NothingPut, KeepsShut};
 
 use crate::names::{numbers_in, owner_in};
 use arrayvec::ArrayVec;
-use fan_out::{MAX_RECIPIENTS, select_into};
+use fan_out::{MAX_RECIPIENTS, Marks, select_into};
 use message_view::View;
 use program_table::BusState;
 use routing::{Mailbox, Recipient, Sender};
 use std::alloc::AllocError;
 
-/// A sender with this many seats gives up those at the outboxes of closed connections.
-const MANY_SEATS: usize = 256;
+/// A sender that has so many seats more than there are connections gives up those at the outboxes of closed ones.
+const SPARE_SEATS: usize = 256;
+
+// Whether many of the sender's seats are at the outboxes of closed connections.
+fn has_many_closed<M: Mailbox>(state: &BusState<M>, sender: &Sender<M>) -> bool {
+    sender.seats() > SPARE_SEATS + state.connection_count()
+}
 
 // Gives up the seats at the outboxes of closed connections, where the sender has many.
 fn give_up_closed<M: Mailbox>(state: &BusState<M>, sender: &mut Sender<M>)
     ensures keeps { KeepsThere M.outbox_of state.now sender.old sender.new }
     ensures put { NothingPut state.now sender.old sender.new }
 {
-    if sender.seats() <= MANY_SEATS {
-        return;
+    if has_many_closed(state, sender) {
+        keep_connected(state, sender);
     }
+}
+
+// Keeps the seats at the outboxes of connections that are there. It is a function of its own, since a function clears room for
+// its values whenever it is called, and there are seldom many to give up.
+#[inline(never)]
+fn keep_connected<M: Mailbox>(state: &BusState<M>, sender: &mut Sender<M>)
+    ensures keeps { KeepsThere M.outbox_of state.now sender.old sender.new }
+    ensures put { NothingPut state.now sender.old sender.new }
+{
     let numbers = numbers_in(state);
     sender.retain(numbers.as_slice());
 }
 
 // Whether nothing has to be done: the sender has its seats, and not many others.
-fn is_ready<M: Mailbox>(sender: &Sender<M>, recipients: &[u64]) -> bool
+fn is_ready<M: Mailbox>(state: &BusState<M>, sender: &Sender<M>, recipients: &[u64]) -> bool
     ensures { result ≡ true → AllHave recipients.now sender.now.stops }
 {
-    sender.seats() <= MANY_SEATS && has_all(sender, recipients)
+    !has_many_closed(state, sender) && has_all(sender, recipients)
 }
 
 // Whether the sender has a seat at each of these connections' outboxes.
@@ -104,6 +118,7 @@ pub(crate) fn seat_recipients<'a, M: Mailbox>(
     view: &View<'a>,
     from: Option<u64>,
     sender: &mut Sender<M>,
+    marks: &mut Marks,
     recipients: &mut ArrayVec<u64, MAX_RECIPIENTS>,
 ) -> Result<(), AllocError>
     requires { recipients.old.items ≡ [] }
@@ -115,8 +130,8 @@ pub(crate) fn seat_recipients<'a, M: Mailbox>(
     ensures all { OnOk result (AllHave recipients.new.items sender.new.stops) }
 {
     let _ = view.raw();
-    select_into(state, from, view, recipients);
-    if is_ready(sender, recipients.as_slice()) {
+    select_into(state, from, view, marks, recipients);
+    if is_ready(state, sender, recipients.as_slice()) {
         return Ok(());
     }
     // This call's contract says that entries are of connections.

@@ -2,6 +2,7 @@
 
 ghost use Rattle.std.specs.Prelude.{◌≡◌, ◌⊎◌, ◌<◌, ◌^◌, MatchResult, IfErr, IfSome, false, true, length};
 ghost use mathlib.Core.List.{IsPrefix};
+ghost use Rattle.passes.specs.Connections.{standard_connections};
 ghost use Rattle.passes.specs.Command.TheVariants.{Detach, Request, Release, DropOne, Close};
 ghost use Rattle.passes.specs.Publication.{Publication};
 ghost use Rattle.passes.specs.Passes.{PassState, new_pass};
@@ -13,7 +14,7 @@ use open_calls::{OpenCall, OpenCalls, Shards};
 use owners::WellKnown;
 use passes::{
     BusError, Control, Front, IndexKey, KeptPasses, Mailbox, Naming, Opened, Pass, Reply,
-    StateReader,
+    STANDARD_CONNECTIONS, StateReader,
 };
 use std::alloc::Global;
 use std::sync::{Mutex, MutexGuard, Wait};
@@ -160,16 +161,17 @@ impl<B: Naming, M: Mailbox, R: Wait + Drop> Bus<B, M, R> {
         self.control(rt).tell(pass)
     }
 
-    /// Makes the connection of a pass that has none yet, whose messages go to the mailbox.
+    /// Makes the connection of a pass that has none yet, whose messages go to the mailbox, where fewer than 256 are there: by the
+    /// lock's guard another number is told.
     pub fn connect(
         &self,
         rt: &impl Wait,
         pass: &mut Pass<B, M>,
         mailbox: M,
     ) -> Result<Reply, BusError>
-        ensures { Once (λ before next. Connects pass.old before mailbox result pass.new next) }
+        ensures { Once (λ before next. Connects pass.old before mailbox standard_connections result pass.new next) }
     {
-        self.control(rt).connect(pass, mailbox)
+        self.control(rt).connect(pass, mailbox, STANDARD_CONNECTIONS)
     }
 
     /// Adds an entry with a rule (AddMatch).

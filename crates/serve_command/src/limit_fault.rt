@@ -15,7 +15,7 @@ enum Reason {
     /// It isn't a name, `=` and a number.
     NoPair,
     UnknownName,
-    /// What follows the name of this limit is no number above 0.
+    /// What follows the name of this limit is no number above 0, or a higher one than may be asked for.
     Number(Limit),
 }
 
@@ -50,11 +50,8 @@ impl<'a> fmt::Display for LimitFault<'a> {
             Reason::NoPair => write!(f, "{text}: NAME=N is wanted, NAME one of {names}"),
             Reason::UnknownName => write!(f, "{text}: there is no such limit; there are {names}"),
             Reason::Number(limit) => {
-                let unit = limit.unit();
-                write!(
-                    f,
-                    "{text}: a number of {unit} from 1 to 4294967295 is wanted"
-                )
+                let (unit, most) = (limit.unit(), limit.most());
+                write!(f, "{text}: a number of {unit} from 1 to {most} is wanted")
             }
         }
     }

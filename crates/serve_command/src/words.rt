@@ -323,8 +323,8 @@ fn read_limit(text: &str) -> Result<(Limit, u32), WordFault<'_>> {
         return Err(WordFault::Limit(LimitFault::unknown_name(text)));
     };
     match count_of(number) {
-        Some(number) => Ok((limit, number)),
-        None => Err(WordFault::Limit(LimitFault::of_number(text, limit))),
+        Some(number) if number <= limit.most() => Ok((limit, number)),
+        _ => Err(WordFault::Limit(LimitFault::of_number(text, limit))),
     }
 }
 

@@ -1,7 +1,7 @@
 // What a server has limits of.
 
 ghost use Rattle.std.specs.Prelude.{◌≡◌};
-ghost use Rattle.server.specs.Limits.{standard_of};
+ghost use Rattle.server.specs.Limits.{standard_of, most_of};
 
 /// What a server has a limit of.
 #[derive(Clone, Copy, Debug, PartialEq, Eq)]
@@ -24,6 +24,8 @@ pub enum Limit {
     Unfinished,
     /// How long a connection may send nothing in the middle of a message.
     Silence,
+    /// Connections after Hello, at most 4,096.
+    Connections,
     /// Connections without Hello.
     Newcomers,
     /// How long a connection may be without Hello.
@@ -36,13 +38,15 @@ struct Terms {
     name: &'static str,
     /// The number where no other is asked for.
     standard: u32,
+    /// The highest number that may be asked for.
+    most: u32,
     /// What the number counts.
     unit: &'static str,
 }
 
 impl Limit {
     /// All of them, in the order of the table.
-    pub const ALL: [Limit; 11] = [
+    pub const ALL: [Limit; 12] = [
         Limit::Rules,
         Limit::Instructions,
         Limit::AllInstructions,
@@ -52,6 +56,7 @@ impl Limit {
         Limit::Bytes,
         Limit::Unfinished,
         Limit::Silence,
+        Limit::Connections,
         Limit::Newcomers,
         Limit::Hello,
     ];
@@ -73,6 +78,13 @@ impl Limit {
         self.terms().standard
     }
 
+    /// The highest number that may be asked for.
+    pub fn most(self) -> u32
+        ensures { result ≡ most_of self }
+    {
+        self.terms().most
+    }
+
     /// What its number counts.
     pub fn unit(self) -> &'static str {
         self.terms().unit
@@ -80,62 +92,80 @@ impl Limit {
 
     /// The table of limits.
     fn terms(self) -> Terms
-        ensures { result.standard ≡ standard_of self }
+        ensures standard { result.standard ≡ standard_of self }
+        ensures most { result.most ≡ most_of self }
     {
         match self {
             Limit::Rules => Terms {
                 name: "rules",
                 standard: 512,
+                most: u32::MAX,
                 unit: "rules and programs",
             },
             Limit::Instructions => Terms {
                 name: "instructions",
                 standard: 65_536,
+                most: u32::MAX,
                 unit: "instructions",
             },
             Limit::AllInstructions => Terms {
                 name: "all-instructions",
                 standard: 4_096_000,
+                most: u32::MAX,
                 unit: "instructions",
             },
             Limit::Names => Terms {
                 name: "names",
                 standard: 512,
+                most: u32::MAX,
                 unit: "names",
             },
             Limit::Calls => Terms {
                 name: "calls",
                 standard: 1_024,
+                most: u32::MAX,
                 unit: "calls",
             },
             Limit::Messages => Terms {
                 name: "messages",
                 standard: 16_384,
+                most: u32::MAX,
                 unit: "messages",
             },
             Limit::Bytes => Terms {
                 name: "bytes",
                 standard: 16_777_216,
+                most: u32::MAX,
                 unit: "bytes",
             },
             Limit::Unfinished => Terms {
                 name: "unfinished",
                 standard: 33_554_432,
+                most: u32::MAX,
                 unit: "bytes",
             },
             Limit::Silence => Terms {
                 name: "silence",
                 standard: 30,
+                most: u32::MAX,
                 unit: "seconds",
+            },
+            Limit::Connections => Terms {
+                name: "connections",
+                standard: 256,
+                most: 4_096,
+                unit: "connections",
             },
             Limit::Newcomers => Terms {
                 name: "newcomers",
                 standard: 64,
+                most: u32::MAX,
                 unit: "connections",
             },
             Limit::Hello => Terms {
                 name: "hello",
                 standard: 30,
+                most: u32::MAX,
                 unit: "seconds",
             },
         }

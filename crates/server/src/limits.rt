@@ -9,8 +9,7 @@ use members::Room;
 use sessions::Shares;
 use std::time::Duration;
 
-/// The limits of a server. How many connections there are after Hello is the bus's limit, which it tells a client; so
-/// at most these two numbers together are open at once.
+/// The limits of a server. At most as many connections are open at once as there may be after Hello and without it, together.
 #[derive(Clone, Copy)]
 pub struct Limits {
     /// How many threads serve the connections.
@@ -82,6 +81,7 @@ impl Limits {
             Limit::Bytes => limits.room.bytes = number as usize,
             Limit::Unfinished => limits.unfinished = number,
             Limit::Silence => limits.silence = number,
+            Limit::Connections => limits.shares.connections = number,
             Limit::Newcomers => limits.newcomers = number,
             Limit::Hello => limits.hello = number,
         }

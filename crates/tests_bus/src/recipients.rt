@@ -30,7 +30,7 @@ fn select_by<R: Abort + Threads + Wait>(
     state: &BusState<()>,
     sender: Option<u64>,
     workers: u32,
-) -> Result<ArrayVec<u64, 256>, FanError> {
+) -> Result<ArrayVec<u64, 4096>, FanError> {
     let view = read_message(rt, &S1);
     let gate = open_gate();
     select_many(rt, state, sender, &view, workers, &gate)

@@ -1,6 +1,6 @@
 use Rattle.std.proofs.Common.{◌∙◌}
 use Rattle.passes.proofs.Seats.{gave_up}
-use Rattle.passes.proofs.seating.give_up_closed.Goals as goal
+use Rattle.passes.proofs.seating.keep_connected.Goals as goal
 
 pub returns-clause-keeps : goal.returns-clause-keeps
 returns-clause-keeps g c =
