@@ -1,7 +1,7 @@
 -- The limits of a server (own).
 use Rattle.std.specs.Prelude.{ℕ}
 use Rattle.server.specs.declared.limit.Limit.{Limit}
-use Rattle.server.specs.declared.limit.Limit.TheVariants.{Rules, Instructions, AllInstructions, Names, Calls, Messages, Bytes, Unfinished, Silence, Connections, Newcomers, Hello}
+use Rattle.server.specs.declared.limit.Limit.TheVariants.{Rules, Instructions, AllInstructions, Names, Calls, Messages, Bytes, Unfinished, Silence, Clients, Newcomers, Hello}
 use Rattle.server.specs.declared.limits.Limits.{Limits}
 
 -- the number of each limit where no other is asked for; of rules, names, newcomers and hello it is dbus-daemon's own
@@ -15,13 +15,13 @@ standard_of Messages = 16384
 standard_of Bytes = 16777216
 standard_of Unfinished = 33554432
 standard_of Silence = 30
-standard_of Connections = 256
+standard_of Clients = 256
 standard_of Newcomers = 64
 standard_of Hello = 30
 
 -- the highest number that may be asked for
 abbrev pub most_of : Limit → ℕ
-most_of Connections = 4096
+most_of Clients = 4096
 most_of _ = 4294967295
 
 -- the number of each limit among these
@@ -35,6 +35,6 @@ number_of limits Messages = limits.room.messages
 number_of limits Bytes = limits.room.bytes
 number_of limits Unfinished = limits.unfinished
 number_of limits Silence = limits.silence
-number_of limits Connections = limits.shares.connections
+number_of limits Clients = limits.shares.connections
 number_of limits Newcomers = limits.newcomers
 number_of limits Hello = limits.hello

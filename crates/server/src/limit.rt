@@ -25,7 +25,7 @@ pub enum Limit {
     /// How long a connection may send nothing in the middle of a message.
     Silence,
     /// Connections after Hello, at most 4,096.
-    Connections,
+    Clients,
     /// Connections without Hello.
     Newcomers,
     /// How long a connection may be without Hello.
@@ -56,7 +56,7 @@ impl Limit {
         Limit::Bytes,
         Limit::Unfinished,
         Limit::Silence,
-        Limit::Connections,
+        Limit::Clients,
         Limit::Newcomers,
         Limit::Hello,
     ];
@@ -150,11 +150,11 @@ impl Limit {
                 most: u32::MAX,
                 unit: "seconds",
             },
-            Limit::Connections => Terms {
-                name: "connections",
+            Limit::Clients => Terms {
+                name: "clients",
                 standard: 256,
                 most: 4_096,
-                unit: "connections",
+                unit: "clients",
             },
             Limit::Newcomers => Terms {
                 name: "newcomers",

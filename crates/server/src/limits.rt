@@ -81,7 +81,7 @@ impl Limits {
             Limit::Bytes => limits.room.bytes = number as usize,
             Limit::Unfinished => limits.unfinished = number,
             Limit::Silence => limits.silence = number,
-            Limit::Connections => limits.shares.connections = number,
+            Limit::Clients => limits.shares.connections = number,
             Limit::Newcomers => limits.newcomers = number,
             Limit::Hello => limits.hello = number,
         }

@@ -78,7 +78,7 @@ fn words_that_are_no_row(rt: HostRuntime) {
         ),
         (
             &["--limit", "rulez=5"],
-            "  --limit rulez=5: there is no such limit; there are rules, instructions, all-instructions, names, calls, messages, bytes, unfinished, silence, newcomers, hello",
+            "  --limit rulez=5: there is no such limit; there are rules, instructions, all-instructions, names, calls, messages, bytes, unfinished, silence, clients, newcomers, hello",
         ),
         (
             &["--limit=rules=1", "--limit=rules=0"],
@@ -89,8 +89,12 @@ fn words_that_are_no_row(rt: HostRuntime) {
             "  --limit silence=2s: a number of seconds from 1 to 4294967295 is wanted",
         ),
         (
+            &["--limit", "clients=4097"],
+            "  --limit clients=4097: a number of clients from 1 to 4096 is wanted",
+        ),
+        (
             &["--limit", "names"],
-            "  --limit names: NAME=N is wanted, NAME one of rules, instructions, all-instructions, names, calls, messages, bytes, unfinished, silence, newcomers, hello",
+            "  --limit names: NAME=N is wanted, NAME one of rules, instructions, all-instructions, names, calls, messages, bytes, unfinished, silence, clients, newcomers, hello",
         ),
         (
             &["--print-address", "2"],

@@ -118,7 +118,7 @@ pub(crate) static COMMANDS: [CommandHelp; 7] = [
                 name: "limit",
                 form: Form::Value("NAME=N"),
                 is_required: false,
-                text: "Sets a limit: rules, instructions, all-instructions, names, calls, messages, bytes, unfinished, silence, connections, newcomers, hello",
+                text: "Sets a limit: rules, instructions, all-instructions, names, calls, messages, bytes, unfinished, silence, clients, newcomers, hello",
             },
             ArgumentHelp {
                 name: "log",
