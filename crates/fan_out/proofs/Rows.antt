@@ -1,6 +1,6 @@
 -- Marks in rows, and the remainders of the numbers of marked connections.
 use Rattle.std.proofs.Common.{◌≡◌, ℕ, zero, suc, ◌+◌, ◌-◌, ◌*◌, ◌/◌, ◌%◌, ◌<◌, ◌≤◌, Bool, true, false, List, [], ◌∷◌, ◌++◌, length, get_or, drop, Some, refl, sym, ap, subst, ◌∙◌, add-one, arith}
-use Rattle.std.specs.Prelude.{MatchBool, Contains, slice_get}
+use Rattle.std.specs.Prelude.{MatchBool, Contains, slice_get, set, replicate}
 use Rattle.std.specs.List.Sorted.{IsStrictlyIncreasing}
 use Rattle.std.proofs.lemmas.List.{length-map, drop_all}
 use Rattle.std.proofs.lemmas.Option.{slice_get-get_or, slice_get_within}
@@ -69,6 +69,39 @@ last_places places low high end ns size within past =
     skip_marks (4096 - end) end ns places (λ j from below. outside places low high j size within (omega arith) (λ (b : (low ≤ j) × (j < high)). omega (arith, b.1)))
     ∙ ap (λ (ms : List Bool). marked_numbers (drop (end + (4096 - end)) ns) ms) (drop_all (end + (4096 - end)) places (omega arith))
     ∙ marked_nothing (drop (end + (4096 - end)) ns)
+
+-- ---- marks that are taken away
+
+-- what is marked still was marked before
+pub still_marked : (places : List Bool) (place k : ℕ) → slice_get (set places place false) k ≡ Some true → slice_get places k ≡ Some true
+still_marked [] place k e = cc
+still_marked (m ∷ ms) zero zero e = cc
+still_marked (m ∷ ms) zero (suc k) e = e
+still_marked (m ∷ ms) (suc place) zero e = e
+still_marked (m ∷ ms) (suc place) (suc k) e = still_marked ms place k e
+
+-- and stands elsewhere
+pub marked_elsewhere : (places : List Bool) (place k : ℕ) → slice_get (set places place false) k ≡ Some true → k ≡ place → ⊥
+marked_elsewhere [] place k e same = cc
+marked_elsewhere (m ∷ ms) zero zero e same = cc
+marked_elsewhere (m ∷ ms) zero (suc k) e same = omega (arith, same)
+marked_elsewhere (m ∷ ms) (suc place) zero e same = omega (arith, same)
+marked_elsewhere (m ∷ ms) (suc place) (suc k) e same = marked_elsewhere ms place k e (omega (arith, same))
+
+-- the first mark lies after a place that was the first, once it is taken away
+pub after_first : (places : List Bool) (place high : ℕ) → AreWithin places place high → AreWithin (set places place false) (place + 1) high
+after_first places place high within k e =
+    let inside = within k (still_marked places place k e) in
+    let elsewhere = marked_elsewhere places place k e in
+    (omega (arith, inside.0, elsewhere), inside.1)
+
+-- where all marks lie between a place and none after it, there are none
+pub all_unmarked : (size : ℕ) (places : List Bool) → length places ≡ size → ((k : ℕ) → slice_get places k ≡ Some true → ⊥) → places ≡ replicate size false
+all_unmarked zero [] e none = refl
+all_unmarked zero (m ∷ ms) e none = omega (arith, e)
+all_unmarked (suc size) [] e none = omega (arith, e)
+all_unmarked (suc size) (true ∷ ms) e none = absurd (none 0 refl)
+all_unmarked (suc size) (false ∷ ms) e none = ap (λ (l : List Bool). false ∷ l) (all_unmarked size ms (omega (arith, e)) (λ k marked. none (suc k) marked))
 
 module _ {M : Type 0} where
   -- after the last connection there are no numbers
