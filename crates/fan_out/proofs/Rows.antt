@@ -98,8 +98,8 @@ after_first places place high within k e =
 -- where all marks lie between a place and none after it, there are none
 pub all_unmarked : (size : ℕ) (places : List Bool) → length places ≡ size → ((k : ℕ) → slice_get places k ≡ Some true → ⊥) → places ≡ replicate size false
 all_unmarked zero [] e none = refl
-all_unmarked zero (m ∷ ms) e none = omega (arith, e)
-all_unmarked (suc size) [] e none = omega (arith, e)
+all_unmarked zero (m ∷ ms) e none = let never : ⊥ = omega (arith, e) in absurd never
+all_unmarked (suc size) [] e none = let never : ⊥ = omega (arith, e) in absurd never
 all_unmarked (suc size) (true ∷ ms) e none = absurd (none 0 refl)
 all_unmarked (suc size) (false ∷ ms) e none = ap (λ (l : List Bool). false ∷ l) (all_unmarked size ms (omega (arith, e)) (λ k marked. none (suc k) marked))
 

@@ -17,7 +17,7 @@ mod workers;
 
 pub use error::FanError;
 pub use gate::Gate;
-pub use marks::{MAX_RECIPIENTS, Marks};
 pub use many::{MAX_WORKERS, select_many};
+pub use marks::{MAX_RECIPIENTS, Marks};
 pub use reach::may_reach;
 pub use selection::{Counted, select, select_counted, select_into, select_piece};

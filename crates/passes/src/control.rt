@@ -201,7 +201,11 @@ impl<J: Naming, M: Mailbox, R: Wait + Drop> Control<J, M, R> {
         }
         self.tell(pass)?;
         let _commands = self.state().commands();
-        let reply = match self.publisher.value.publish(Command::Connect(mailbox, most)) {
+        let reply = match self
+            .publisher
+            .value
+            .publish(Command::Connect(mailbox, most))
+        {
             Ok(reply) => reply,
             Err(PublishError::NoMemory) => return Err(BusError::NoMemory),
             Err(PublishError::Ended) => return Err(BusError::Closed),

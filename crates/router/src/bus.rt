@@ -171,7 +171,8 @@ impl<B: Naming, M: Mailbox, R: Wait + Drop> Bus<B, M, R> {
     ) -> Result<Reply, BusError>
         ensures { Once (λ before next. Connects pass.old before mailbox standard_connections result pass.new next) }
     {
-        self.control(rt).connect(pass, mailbox, STANDARD_CONNECTIONS)
+        self.control(rt)
+            .connect(pass, mailbox, STANDARD_CONNECTIONS)
     }
 
     /// Adds an entry with a rule (AddMatch).

@@ -47,7 +47,12 @@ fn expect_owner<R: Abort>(rt: &R, state: &BusState<()>, connection: u64) {
 }
 
 fn connect<R: Abort>(rt: &R, state: &mut BusState<()>, number: u64) {
-    expect_reply(rt, state, Command::Connect((), 256), Reply::Connected(number));
+    expect_reply(
+        rt,
+        state,
+        Command::Connect((), 256),
+        Reply::Connected(number),
+    );
 }
 
 fn expect_counts<R: Abort>(rt: &R, state: &BusState<()>, all: u64, of_first: u64) {

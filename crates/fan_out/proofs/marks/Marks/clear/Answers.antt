@@ -1,4 +1,4 @@
-use Rattle.std.proofs.Common.{◌≡◌, ◌∙◌, Bool, List, ap, sym, refl, arith, subst}
+use Rattle.std.proofs.Common.{◌+◌, ◌∙◌, Bool, List, sym, refl, arith, subst}
 use Rattle.fan_out.specs.Marks.{AreWithin}
 use Rattle.fan_out.proofs.Rows.{after_first}
 use Rattle.fan_out.proofs.marks.Marks.clear.Goals as goal
