@@ -1,4 +1,4 @@
-use Rattle.std.proofs.Common.{[], ◌∷◌, ◌∙◌, Bool, List, refl, sym, ap, arith}
+use Rattle.std.proofs.Common.{◌∷◌, ◌∙◌, Bool, List, refl, sym, ap, arith}
 use Rattle.std.specs.Prelude.{slice_get}
 use Rattle.fan_out.specs.Marking.{AreMarkedSoFar}
 use Rattle.fan_out.proofs.Places.{none_marked}
