@@ -5,7 +5,7 @@
 #include <pthread.h>
 #include <time.h>
 
-enum { WINDOW = 32, MAX_CLIENTS = 256, MAX_TIMES = 1 << 18 };
+enum { WINDOW = 32, USUAL = 250, CROWD = 2000, MAX_CLIENTS = CROWD + 8, MAX_TIMES = 1 << 18 };
 
 /* The seconds that are measured at least, of the bus's processor time and of the clock alike, and those that go before them. */
 #define MEASURED 0.1
@@ -86,10 +86,10 @@ static void measure_windows(const char *object, const char *member, const char *
     measure(window, 8);
 }
 
-/* Has 250 clients join, each with as many rules, the k-th of all by the k-th of the texts in turn. */
-static void join_250(int each, const char *const *rules, int texts) {
+/* Has some clients join, each with as many rules, the k-th of all by the k-th of the texts in turn. */
+static void join_many(int count, int each, const char *const *rules, int texts) {
     char text[256];
-    for (int i = 1; i <= 250; i++) {
+    for (int i = 1; i <= count; i++) {
         join(&clients[i]);
         for (int k = (i - 1) * each; k < i * each; k++) {
             snprintf(text, sizeof text, rules[k % texts], k);
@@ -97,6 +97,8 @@ static void join_250(int each, const char *const *rules, int texts) {
         }
     }
 }
+
+static void join_250(int each, const char *const *rules, int texts) { join_many(USUAL, each, rules, texts); }
 
 /* A signal for the one whose rule has this number, which is then the first of the clients. */
 static void for_one(int number, int each, const char *object, const char *interface, const char *member, const char *argument) {
@@ -163,6 +165,12 @@ static void of_16000(void) {
     const char *rule = "member='m%d'";
     join_250(64, &rule, 1);
     for_one(8000, 64, "/a", "a.b", "m8000", "text");
+}
+
+static void of_a_crowd(void) {
+    const char *rule = "member='m%d'";
+    join_many(CROWD, 4, &rule, 1);
+    for_one(4000, 4, "/a", "a.b", "m4000", "text");
 }
 
 static void all_of_100(void) {
@@ -337,7 +345,7 @@ static const struct mode {
 } modes[] = {
     {"member", by_member}, {"arg0", by_arg0}, {"arg0namespace", by_arg0namespace}, {"path", by_path},
     {"path_namespace", by_path_namespace}, {"interface", by_interface}, {"sender", by_sender}, {"mixed", by_mixed_keys},
-    {"many", of_16000}, {"all", all_of_100}, {"nobody", nobody_listens}, {"burst", bursts}, {"late", latency},
+    {"many", of_16000}, {"crowd", of_a_crowd}, {"all", all_of_100}, {"nobody", nobody_listens}, {"burst", bursts}, {"late", latency},
     {"rules", rules}, {"names", names}, {"comings", comings}, {"pairs", pairs},
 };
 
