@@ -228,7 +228,7 @@ def most_connections():
     for client in range(1, 257):
         lines.append(f"{client} enters")
     lines += ["257 sends 00", "257 says AUTH ANONYMOUS", f"257 hears OK {GUID}", "257 says BEGIN", "257 calls 1 Hello"]
-    refused = wire.message(ERROR, 1, NO_REPLY_EXPECTED, "s", ("LimitsExceeded: connections of the bus",), error_name="org.freedesktop.DBus.Error.LimitsExceeded", reply_serial=1, sender=BUS)
+    refused = wire.message(ERROR, 1, NO_REPLY_EXPECTED, "s", ("LimitsExceeded: connections of the bus (limit clients)",), error_name="org.freedesktop.DBus.Error.LimitsExceeded", reply_serial=1, sender=BUS)
     lines += [gets(257, refused), "257 ends NoHello", "1 ends Ok"]
     answer, _, acquired = Bus(257).welcome()
     lines += [sends(258, TALK + call(1, "Hello")), gets(258, *TALK_ANSWERS, answer, acquired), "258 ends Ok"]

@@ -51,7 +51,7 @@ impl Exceeded {
             Exceeded::AllInstructions => {
                 "instructions of programs of all connections (limit all-instructions)"
             }
-            Exceeded::BusConnections => "connections of the bus",
+            Exceeded::BusConnections => "connections of the bus (limit clients)",
             Exceeded::BusEntries => "rules and programs of the bus",
             Exceeded::BusNames => "names of the bus",
             Exceeded::BusClaims => "owners of names of the bus, and those that wait",
