@@ -112,6 +112,6 @@ module _ {M : Type 0} where
       let at : x.connection ≡ n = ap (λ (p : PassState M). p.connection) to in
       let count : length (own_commands x.connection l) ≡ v.took = ap (λ (c : ℕ). length (own_commands c l)) at ∙ ap length (none_own before m most n h.legal named) ∙ sym z in
       let low : v.took ≤ length (own_commands x.connection v.seen) = omega (arith, z) in
-      let own : is_command_of (after l) x.connection (Connect m most) ≡ true = subst (λ (c : ℕ). is_command_of (after l) c (Connect m most) ≡ true) (sym at) (its_own before m n named) in
+      let own : is_command_of (after l) x.connection (Connect m most) ≡ true = subst (λ (c : ℕ). is_command_of (after l) c (Connect m most) ≡ true) (sym at) (its_own before m most n named) in
       let k : x.took ≡ v.took + 1 = ap (λ (p : PassState M). p.took) to ∙ ap (λ (p : PassState M). p.took + 1) t.same in
       done v before (Connect m most) reply x next (begins_all v w told_history before t) on said low count own more (ap (λ (p : PassState M). p.seen) to ∙ is) k
