@@ -111,7 +111,8 @@ impl<J: Naming> Client<J> {
         match self.session.take() {
             Some(session) => {
                 let outcome = session.end_of_input();
-                let rest = session.end(place.rt, place.alloc, place.bus);
+                let mut lists = RouteLists::new();
+                let rest = session.end(place.rt, place.alloc, place.bus, &mut lists);
                 other_end(place.alloc, outcome, rest.is_some(), wanted)
             }
             None => Err(LineError::Unreadable),

@@ -29,6 +29,7 @@ impl<B: Naming, M: Mailbox> Peer<B, M> {
     pub(crate) fn announce<W: Wait, R: Wait + Drop>(
         &mut self,
         context: &Context<'_, B, M, W, R>,
+        lists: &mut RouteLists,
         change: &Change,
     ) -> Result<(), AnswerError>
         ensures announced { Announces M.outbox_of change.now self.old result self.new }
@@ -36,7 +37,7 @@ impl<B: Naming, M: Mailbox> Peer<B, M> {
     {
         let name = change.name.as_str();
         let lost = self.tell_old_owner(context, change.old, name);
-        let changed = self.tell_changed(context, name, change.old, change.new);
+        let changed = self.tell_changed(context, lists, name, change.old, change.new);
         let acquired = self.tell_new_owner(context, change.new, name);
         lost.and(changed).and(acquired)
     }
@@ -49,13 +50,14 @@ impl<B: Naming, M: Mailbox> Peer<B, M> {
     pub(crate) fn announce_any<W: Wait, R: Wait + Drop>(
         &mut self,
         context: &Context<'_, B, M, W, R>,
+        lists: &mut RouteLists,
         change: &Option<Change>,
     ) -> Result<(), AnswerError>
         ensures announced { AnnouncesAny M.outbox_of change.now self.old result self.new }
         ensures error { IfErr result (λ error. error ≡ AnswerError.NoMemory) }
     {
         match change {
-            Some(change) => self.announce(context, change),
+            Some(change) => self.announce(context, lists, change),
             None => Ok(()),
         }
     }
@@ -68,13 +70,14 @@ impl<B: Naming, M: Mailbox> Peer<B, M> {
     pub(crate) fn announce_arrival<W: Wait, R: Wait + Drop>(
         &mut self,
         context: &Context<'_, B, M, W, R>,
+        lists: &mut RouteLists,
     ) -> Result<(), AnswerError>
         ensures announced { AnnouncesArrival M.outbox_of self.old result self.new }
         ensures error { IfErr result (λ error. error ≡ AnswerError.NoMemory) }
     {
         let number = self.pass.connection();
         let name = UniqueName::new(number);
-        let changed = self.tell_changed(context, name.as_str(), None, Some(number));
+        let changed = self.tell_changed(context, lists, name.as_str(), None, Some(number));
         let acquired = self.tell_new_owner(context, Some(number), name.as_str());
         changed.and(acquired)
     }
@@ -87,12 +90,13 @@ impl<B: Naming, M: Mailbox> Peer<B, M> {
     pub(crate) fn announce_departure<W: Wait, R: Wait + Drop>(
         &mut self,
         context: &Context<'_, B, M, W, R>,
+        lists: &mut RouteLists,
     ) -> Result<(), AnswerError>
         ensures announced { HasSignalled M.outbox_of (change_asked self.old.serial (name_of self.old) (Some self.old.pass.connection) None) self.old result self.new }
     {
         let number = self.pass.connection();
         let name = UniqueName::new(number);
-        self.tell_changed(context, name.as_str(), Some(number), None)
+        self.tell_changed(context, lists, name.as_str(), Some(number), None)
     }
 
     fn tell_old_owner<W: Wait, R: Wait + Drop>(
@@ -177,6 +181,7 @@ impl<B: Naming, M: Mailbox> Peer<B, M> {
     fn tell_changed<W: Wait, R: Wait + Drop>(
         &mut self,
         context: &Context<'_, B, M, W, R>,
+        lists: &mut RouteLists,
         name: &str,
         old: Option<u64>,
         new: Option<u64>,
@@ -197,8 +202,7 @@ impl<B: Naming, M: Mailbox> Peer<B, M> {
             return Err(AnswerError::NoMemory);
         };
         let view = View::of_message(bytes.as_slice());
-        let mut lists = RouteLists::new();
-        self.broadcast(context, Source::Bus, &view, &bytes, &mut lists)
+        self.broadcast(context, Source::Bus, &view, &bytes, lists)
     }
 
     /// Routes a broadcast. The lists are then of this broadcast: its recipients, and those whose outbox refused it.

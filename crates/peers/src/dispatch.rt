@@ -56,7 +56,7 @@ impl<B: Naming, M: Mailbox> Peer<B, M> {
         ensures { Handles M.outbox_of context.now.shares view.now self.old result self.new }
     {
         if is_for_bus(view) {
-            return self.call_bus(context, view);
+            return self.call_bus(context, lists, view);
         }
         match view.destination() {
             Some(name) if is_known(view.kind()) => self.send_to(context, view, name),
@@ -68,13 +68,14 @@ impl<B: Naming, M: Mailbox> Peer<B, M> {
     fn call_bus<W: Wait, R: Wait + Drop>(
         &mut self,
         context: &Context<'_, B, M, W, R>,
+        lists: &mut RouteLists,
         view: &View<'_>,
     ) -> Result<(), AnswerError>
         ensures { (m : Message) → Valid view.now m → CallsBus M.outbox_of context.now.shares m self.old result self.new }
     {
         let request = Request::of(view);
         match Call::read(context.alloc, view) {
-            Ok(call) => self.perform(context, request, call),
+            Ok(call) => self.perform(context, lists, request, call),
             Err(error) => self.refuse(context, request, Refused::from(error)),
         }
     }

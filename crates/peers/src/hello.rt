@@ -14,7 +14,7 @@ use crate::request::Request;
 use crate::serial::Serials;
 use bus_messages::{Body, ErrorName, UniqueName};
 use outbox::Item;
-use router::{Control, Mailbox, Naming, Pass};
+use router::{Control, Mailbox, Naming, Pass, RouteLists};
 use std::sync::Wait;
 
 /// Connects a pass, whose messages go to the client's outbox, under the bus's lock, where fewer than this many are connected.
@@ -71,6 +71,7 @@ impl<B: Naming, M: Mailbox> Peer<B, M> {
     pub fn register<W: Wait, R: Wait + Drop>(
         &mut self,
         context: &Context<'_, B, M, W, R>,
+        lists: &mut RouteLists,
         request: Request,
     ) -> Result<(), AnswerError>
         ensures registered { Registers M.outbox_of request self.old result self.new }
@@ -79,7 +80,7 @@ impl<B: Naming, M: Mailbox> Peer<B, M> {
         let name = UniqueName::new(self.pass.connection());
         self.pass.hold(context.alloc);
         let answered = self.answer_text(context, request, name.as_str());
-        let announced = self.announce_arrival(context);
+        let announced = self.announce_arrival(context, lists);
         self.pass.release();
         answered.and(announced)
     }

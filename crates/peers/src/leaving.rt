@@ -8,7 +8,7 @@ use crate::context::Context;
 use crate::error::AnswerError;
 use crate::peer::Peer;
 use owners::{Change, MAX_CLAIMS};
-use router::{BusError, Mailbox, Naming, Reply};
+use router::{BusError, Mailbox, Naming, Reply, RouteLists};
 use std::sync::Wait;
 
 /// How far a peer's leaving came.
@@ -36,12 +36,16 @@ impl<B: Naming, M: Mailbox> Peer<B, M> {
     /// Gives up the client's names one after the other, each change announced, closes its pass, announces that its own
     /// name is gone, answers NoReply to those who wait for the client's replies, and writes out what was put. A message that
     /// memory refuses is left out.
-    pub fn leave<W: Wait, R: Wait + Drop>(&mut self, context: &Context<'_, B, M, W, R>) -> Leaving
+    pub fn leave<W: Wait, R: Wait + Drop>(
+        &mut self,
+        context: &Context<'_, B, M, W, R>,
+        lists: &mut RouteLists,
+    ) -> Leaving
         ensures leaves { Leaves M.outbox_of self.old result self.new }
         ensures closed { HasLeft result self.new }
     {
-        let leaving = if self.give_up_names(context) {
-            self.close(context)
+        let leaving = if self.give_up_names(context, lists) {
+            self.close(context, lists)
         } else {
             Leaving::Refused
         };
@@ -50,11 +54,15 @@ impl<B: Naming, M: Mailbox> Peer<B, M> {
     }
 
     // Whether no name is left.
-    fn give_up_names<W: Wait, R: Wait + Drop>(&mut self, context: &Context<'_, B, M, W, R>) -> bool
+    fn give_up_names<W: Wait, R: Wait + Drop>(
+        &mut self,
+        context: &Context<'_, B, M, W, R>,
+        lists: &mut RouteLists,
+    ) -> bool
         ensures { AreGivenUp M.outbox_of result self.old self.new }
     {
         for count in 0..=MAX_CLAIMS {
-            match self.give_up_name(context) {
+            match self.give_up_name(context, lists) {
                 Giving::Further => {}
                 Giving::Last => return true,
                 Giving::Refused => return false,
@@ -63,7 +71,11 @@ impl<B: Naming, M: Mailbox> Peer<B, M> {
         false
     }
 
-    fn give_up_name<W: Wait, R: Wait + Drop>(&mut self, context: &Context<'_, B, M, W, R>) -> Giving
+    fn give_up_name<W: Wait, R: Wait + Drop>(
+        &mut self,
+        context: &Context<'_, B, M, W, R>,
+        lists: &mut RouteLists,
+    ) -> Giving
         ensures { GivesUpName M.outbox_of self.old result self.new }
     {
         let _turn = context.bus.turn(context.rt);
@@ -71,20 +83,21 @@ impl<B: Naming, M: Mailbox> Peer<B, M> {
             return Giving::Last;
         }
         let dropped = context.bus.drop_name(context.rt, &mut self.pass);
-        self.announce_dropped(context, dropped)
+        self.announce_dropped(context, lists, dropped)
     }
 
     // Announces what giving up a name changed.
     fn announce_dropped<W: Wait, R: Wait + Drop>(
         &mut self,
         context: &Context<'_, B, M, W, R>,
+        lists: &mut RouteLists,
         dropped: Result<Reply, BusError>,
     ) -> Giving
         ensures { IsGiven M.outbox_of dropped self.old result self.new }
     {
         match dropped {
             Ok(Reply::Changed(change)) => {
-                self.announce_held(context, &change);
+                self.announce_held(context, lists, &change);
                 Giving::Further
             }
             Ok(Reply::Waiting) => Giving::Further,
@@ -98,35 +111,41 @@ impl<B: Naming, M: Mailbox> Peer<B, M> {
     fn announce_held<W: Wait, R: Wait + Drop>(
         &mut self,
         context: &Context<'_, B, M, W, R>,
+        lists: &mut RouteLists,
         change: &Change,
     )
         ensures { (announced : Result (Unit {0}) AnswerError) × Announces M.outbox_of change.now self.old announced self.new }
     {
         self.pass.hold(context.alloc);
-        let _ = self.announce(context, change);
+        let _ = self.announce(context, lists, change);
         self.pass.release();
     }
 
     // Takes the connection off the bus.
-    fn close<W: Wait, R: Wait + Drop>(&mut self, context: &Context<'_, B, M, W, R>) -> Leaving
+    fn close<W: Wait, R: Wait + Drop>(
+        &mut self,
+        context: &Context<'_, B, M, W, R>,
+        lists: &mut RouteLists,
+    ) -> Leaving
         ensures leaves { Closes M.outbox_of self.old result self.new }
         ensures closed { HasLeft result self.new }
     {
         let closed = context.bus.close(context.rt, &mut self.pass);
-        self.announce_closed(context, closed)
+        self.announce_closed(context, lists, closed)
     }
 
     // Announces that the client's unique name is gone, if its pass was closed, and ends the calls that wait.
     fn announce_closed<W: Wait, R: Wait + Drop>(
         &mut self,
         context: &Context<'_, B, M, W, R>,
+        lists: &mut RouteLists,
         closed: Result<Reply, BusError>,
     ) -> Leaving
         ensures { IsClosing M.outbox_of closed self.old result self.new }
     {
         match closed {
             Ok(_) => {
-                let _ = self.announce_departure(context);
+                let _ = self.announce_departure(context, lists);
                 self.end_calls(context);
                 Leaving::Done
             }

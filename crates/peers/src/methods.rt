@@ -13,7 +13,7 @@ use crate::peer::Peer;
 use crate::refused::Refused;
 use crate::request::Request;
 use bus_messages::{Body, Call, ErrorName, introspection};
-use router::{Mailbox, Naming};
+use router::{Mailbox, Naming, RouteLists};
 use std::sync::Wait;
 
 /// What StartServiceByName answers of a name that has an owner (D-Bus Specification, DBUS_START_REPLY_ALREADY_RUNNING).
@@ -28,6 +28,7 @@ impl<B: Naming, M: Mailbox> Peer<B, M> {
     pub(crate) fn perform<W: Wait, R: Wait + Drop>(
         &mut self,
         context: &Context<'_, B, M, W, R>,
+        lists: &mut RouteLists,
         request: Request,
         call: Call<'_>,
     ) -> Result<(), AnswerError>
@@ -40,8 +41,10 @@ impl<B: Naming, M: Mailbox> Peer<B, M> {
             Call::RemoveMatch(text) => self.remove_match(context, request, text),
             Call::Attach(edition, program) => self.attach(context, request, edition, program),
             Call::Detach(id) => self.detach(context, request, id),
-            Call::RequestName(name, flags) => self.request_name(context, request, name, flags),
-            Call::ReleaseName(name) => self.release_name(context, request, name),
+            Call::RequestName(name, flags) => self.request_name(
+                context, lists, request, name, flags,
+            ),
+            Call::ReleaseName(name) => self.release_name(context, lists, request, name),
             Call::GetNameOwner(name) => self.get_name_owner(context, request, name),
             Call::NameHasOwner(name) => self.name_has_owner(context, request, name),
             Call::ListQueuedOwners(name) => self.list_queued_owners(context, request, name),

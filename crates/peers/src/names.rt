@@ -13,13 +13,14 @@ use crate::refused::Refused;
 use crate::request::Request;
 use bus_messages::{Body, ErrorName};
 use owners::{Named, WellKnown};
-use router::{BusError, Mailbox, Naming, Reply};
+use router::{BusError, Mailbox, Naming, Reply, RouteLists};
 use std::sync::Wait;
 
 impl<B: Naming, M: Mailbox> Peer<B, M> {
     pub(crate) fn request_name<W: Wait, R: Wait + Drop>(
         &mut self,
         context: &Context<'_, B, M, W, R>,
+        lists: &mut RouteLists,
         request: Request,
         name: &str,
         flags: u32,
@@ -37,12 +38,13 @@ impl<B: Naming, M: Mailbox> Peer<B, M> {
         let bus = context.bus;
         let asked = bus.request_name(context.rt, &mut self.pass, &name, flags);
         self.holdings.note_request(&name, &asked);
-        self.answer_named(context, request, asked)
+        self.answer_named(context, lists, request, asked)
     }
 
     pub(crate) fn release_name<W: Wait, R: Wait + Drop>(
         &mut self,
         context: &Context<'_, B, M, W, R>,
+        lists: &mut RouteLists,
         request: Request,
         name: &str,
     ) -> Result<(), AnswerError>
@@ -55,12 +57,13 @@ impl<B: Naming, M: Mailbox> Peer<B, M> {
         let _turn = context.bus.turn(context.rt);
         let released = context.bus.release_name(context.rt, &mut self.pass, &name);
         self.holdings.note_release(&name, &released);
-        self.answer_named(context, request, released)
+        self.answer_named(context, lists, request, released)
     }
 
     fn answer_named<W: Wait, R: Wait + Drop>(
         &mut self,
         context: &Context<'_, B, M, W, R>,
+        lists: &mut RouteLists,
         request: Request,
         reply: Result<Reply, BusError>,
     ) -> Result<(), AnswerError>
@@ -68,7 +71,7 @@ impl<B: Naming, M: Mailbox> Peer<B, M> {
         ensures error { NeverSlow request.wants_answer result }
     {
         match reply {
-            Ok(Reply::Name(named)) => self.tell_named(context, request, &named),
+            Ok(Reply::Name(named)) => self.tell_named(context, lists, request, &named),
             Ok(_) => Ok(()),
             Err(error) => self.refuse(context, request, Refused::from(error)),
         }
@@ -79,6 +82,7 @@ impl<B: Naming, M: Mailbox> Peer<B, M> {
     fn tell_named<W: Wait, R: Wait + Drop>(
         &mut self,
         context: &Context<'_, B, M, W, R>,
+        lists: &mut RouteLists,
         request: Request,
         named: &Named,
     ) -> Result<(), AnswerError>
@@ -87,7 +91,7 @@ impl<B: Naming, M: Mailbox> Peer<B, M> {
     {
         self.pass.hold(context.alloc);
         let answered = self.answer(context, request, Body::Number(named.answer.number()));
-        let announced = self.announce_any(context, &named.change);
+        let announced = self.announce_any(context, lists, &named.change);
         self.pass.release();
         answered.and(announced)
     }

@@ -321,7 +321,13 @@ impl<J: Naming> Connection<J> {
     }
 
     /// Ends it: what its socket still takes is written, and the socket is closed.
-    pub(crate) fn end<W: Wait, R: Wait + Drop>(self, rt: &W, alloc: Global, hub: &Hub<J, R>) {
+    pub(crate) fn end<W: Wait, R: Wait + Drop>(
+        self,
+        rt: &W,
+        alloc: Global,
+        hub: &Hub<J, R>,
+        lists: &mut RouteLists,
+    ) {
         hub.unfinished.give_back(self.beginning_len());
         let Connection {
             session,
@@ -333,7 +339,7 @@ impl<J: Naming> Connection<J> {
             is_held: _,
             ticket: _,
         } = self;
-        if let Some(rest) = session.end(rt, alloc, &hub.bus) {
+        if let Some(rest) = session.end(rt, alloc, &hub.bus, lists) {
             hub.keep_rest(rt, rest);
         }
         member.end(rt);

@@ -314,7 +314,7 @@ impl<'a, J: Naming, R: Wait + Drop> Worker<'a, J, R> {
         let number = connection.number();
         self.find_reader(rt);
         connection.lend(self.reader.take());
-        connection.end(rt, self.alloc, self.hub);
+        connection.end(rt, self.alloc, self.hub, &mut self.scratch.aids.lists);
         if let Some(number) = number {
             self.hub.clients.leave(rt, number);
         }

@@ -142,7 +142,7 @@ impl<B: Naming, M: Mailbox> Client<B, M> {
                 let handled = peer.handle(context, lists, view);
                 outcome_of(handled)
             }
-            None => self.arrive(context, view),
+            None => self.arrive(context, lists, view),
         }
     }
 
@@ -150,6 +150,7 @@ impl<B: Naming, M: Mailbox> Client<B, M> {
     fn arrive<W: Wait, R: Wait + Drop>(
         &mut self,
         context: &Context<'_, B, M, W, R>,
+        lists: &mut RouteLists,
         view: &View<'_>,
     ) -> Result<(), SessionError>
         requires { self.old ≡ None }
@@ -163,7 +164,7 @@ impl<B: Naming, M: Mailbox> Client<B, M> {
                 if let Some(all) = self.all.take() {
                     peer.share_instructions(all);
                 }
-                let registered = peer.register(context, Request::of(view));
+                let registered = peer.register(context, lists, Request::of(view));
                 self.peer = Some(peer);
                 outcome_of(registered)
             }

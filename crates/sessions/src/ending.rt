@@ -4,7 +4,10 @@ ghost use Rattle.std.specs.Prelude.{◌≡◌};
 ghost use Rattle.sessions.specs.Ends.{Ends};
 
 use crossbeam_utils::rule::Protocol;
-use peers::{Bus, Command, Context, Leaving, Mailbox, Naming, Peer, Published, Shown, StateReader};
+use peers::{
+    Bus, Command, Context, Leaving, Mailbox, Naming, Peer, Published, RouteLists, Shown,
+    StateReader,
+};
 use std::alloc::Global;
 use std::collections::LinkedList;
 use std::marker::Model;
@@ -55,7 +58,8 @@ impl<B: Naming, M: Mailbox> Rest<B, M> {
         ensures { Ends M.outbox_of self result }
     {
         let Rest { peer } = self;
-        end(peer, &Context::unlimited(rt, alloc, bus))
+        let mut lists = RouteLists::new();
+        end(peer, &Context::unlimited(rt, alloc, bus), &mut lists)
     }
 }
 
@@ -63,10 +67,11 @@ impl<B: Naming, M: Mailbox> Rest<B, M> {
 pub(crate) fn end<B: Naming, M: Mailbox, W: Wait, R: Wait + Drop>(
     mut peer: Peer<B, M>,
     context: &Context<'_, B, M, W, R>,
+    lists: &mut RouteLists,
 ) -> Option<Rest<B, M>>
     ensures { Ends M.outbox_of peer result }
 {
-    match peer.leave(context) {
+    match peer.leave(context, lists) {
         Leaving::Refused => Some(Rest { peer }),
         Leaving::Done | Leaving::Ended => {
             context.give_back(peer.into_pass());

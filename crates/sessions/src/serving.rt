@@ -40,7 +40,8 @@ pub fn serve_one<B: Naming, W: Wait, R: Wait + Drop, I: Read + Drop, O: Write + 
     } else {
         outcome
     };
-    (outcome, session.end(rt, alloc, bus))
+    let mut lists = RouteLists::new();
+    (outcome, session.end(rt, alloc, bus, &mut lists))
 }
 
 /// A session with an outbox of its own, and what writes that out.

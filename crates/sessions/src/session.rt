@@ -305,19 +305,21 @@ impl<B: Naming, M: Mailbox> Session<B, M> {
         }
     }
 
-    /// Ends the session: its names are given up and its connection is closed, each change announced and written out.
+    /// Ends the session: its names are given up and its connection is closed, each change announced, by the caller's lists, and
+    /// written out.
     /// Answers what is left of it where memory was refused for that. Its reader, lent or its own, is given back to the bus.
     pub fn end<W: Wait, R: Wait + Drop>(
         self,
         rt: &W,
         alloc: Global,
         bus: &Bus<B, M, R>,
+        lists: &mut RouteLists,
     ) -> Option<Rest<B, M>>
         ensures { EndsAny M.outbox_of self.peer result }
     {
         let Session { client, .. } = self;
         match client.into_peer() {
-            Some(peer) => end(peer, &Context::unlimited(rt, alloc, bus)),
+            Some(peer) => end(peer, &Context::unlimited(rt, alloc, bus), lists),
             None => None,
         }
     }
