@@ -1,23 +1,21 @@
-// The endpoints of a bus, and where clients wait; and the input by whose end it ends.
+// The endpoints of a bus, and the clients that wait there.
 
 use crate::endpoint::Endpoint;
-use crate::input::{INPUT, watch_input};
 use crate::note::Note;
 use crate::notes::Notes;
 use crate::reserve::Reserve;
 use endpoints::{Link, is_of_descriptors};
 use mio::unix::SourceFd;
-use mio::{Events, Interest, Poll, Token};
+use mio::{Interest, Poll, Token};
 use std::alloc::Global;
 use std::fs::{File, Files};
+use std::io;
 use std::io::ErrorKind;
-use std::net::Net;
 use std::sync::Wait;
-use std::time::{Clock, Duration};
-use std::{io, thread};
 
-/// How many milliseconds to wait after an accept, or a look at the poll, that failed.
-const PAUSE: u64 = 50;
+/// The token of the first endpoint in the poll of the worker that accepts. Those of the others are lower, one after the other, and
+/// the keys of connections are lower still.
+const FIRST: usize = usize::MAX - 2;
 
 /// An endpoint, and whether clients may wait there.
 #[derive(Drop)]
@@ -26,74 +24,88 @@ struct Backlog<'a> {
     has_clients: bool,
 }
 
-/// All endpoints of a bus, with a poll over them and, where that is asked for, over standard input. The endpoints take turns.
+/// All endpoints of a bus, which take turns.
 #[derive(Drop)]
 pub(crate) struct Acceptor<'a> {
-    poll: Poll,
-    events: Events,
     backlogs: Vec<Backlog<'a>>,
     // Whose turn it is.
     turn: usize,
     reserve: Reserve,
-    // Standard input is watched, and its other end was closed.
-    is_input_closed: bool,
+    // How many connections are still accepted, if there is an end.
+    left: Option<u64>,
 }
 
 impl<'a> Acceptor<'a> {
-    pub(crate) fn new<R: Files<File = File> + Net>(
+    /// The endpoints, of which the poll tells from now on, until as many connections are accepted as are asked for.
+    pub(crate) fn new<R: Files<File = File>>(
         rt: &R,
         alloc: Global,
+        poll: &Poll,
         endpoints: &'a [Endpoint],
-        until_closed: bool,
+        count: Option<u64>,
     ) -> io::Result<Acceptor<'a>> {
-        let poll = Poll::new(rt)?;
-        if until_closed {
-            watch_input(&poll)?;
-        }
         let mut backlogs = Vec::with_capacity(alloc, endpoints.len())?;
         for (i, endpoint) in endpoints.iter().enumerate() {
             endpoint.set_nonblocking()?;
             let descriptor = endpoint.descriptor();
             let mut source = SourceFd(&descriptor);
+            let token = Token(FIRST.saturating_sub(i));
             poll.registry()
-                .register(&mut source, Token(i), Interest::READABLE)?;
+                .register(&mut source, token, Interest::READABLE)?;
             backlogs.push(Backlog {
                 endpoint,
                 has_clients: false,
             })?;
         }
         Ok(Acceptor {
-            poll,
-            events: Events::with_capacity(alloc, endpoints.len().saturating_add(1))?,
             backlogs,
             turn: 0,
             reserve: Reserve::new(rt),
-            is_input_closed: false,
+            left: count,
         })
     }
 
-    /// The next connection, waited for, and the endpoint by which it comes; `None` once the input is closed.
-    pub(crate) fn accept<W: Files<File = File> + Wait + Clock>(
+    /// Notes that the poll told of an endpoint. Answers false where the token is of none.
+    pub(crate) fn note(&mut self, token: Token) -> bool {
+        let Some(i) = FIRST.checked_sub(token.0) else {
+            return false;
+        };
+        match self.backlogs.get_mut(i) {
+            Some(backlog) => {
+                backlog.has_clients = true;
+                true
+            }
+            None => false,
+        }
+    }
+
+    /// Whether clients may wait at an endpoint.
+    pub(crate) fn has_clients(&self) -> bool {
+        self.backlogs.iter().any(|backlog| backlog.has_clients)
+    }
+
+    /// Whether as many connections were accepted as were asked for.
+    pub(crate) fn is_done(&self) -> bool {
+        self.left == Some(0)
+    }
+
+    /// The next connection, and the endpoint by which it comes, if there is one.
+    pub(crate) fn accept<W: Files<File = File> + Wait>(
         &mut self,
         rt: &W,
         notes: &Notes,
     ) -> Option<(Link, &'a Endpoint)> {
-        for _ in rt.forever() {
-            self.look(rt);
-            if self.is_input_closed {
-                return None;
-            }
-            for _ in 0..self.backlogs.len() {
-                if let Some(accepted) = self.accept_in_turn(rt, notes) {
-                    return Some(accepted);
-                }
+        for _ in 0..self.backlogs.len() {
+            if let Some(accepted) = self.accept_in_turn(rt, notes) {
+                self.left = self.left.map(|left| left.saturating_sub(1));
+                return Some(accepted);
             }
         }
-        unreachable!()
+        None
     }
 
     /// The next connection at the endpoint whose turn it is, if there is one.
-    fn accept_in_turn<W: Files<File = File> + Wait + Clock>(
+    fn accept_in_turn<W: Files<File = File> + Wait>(
         &mut self,
         rt: &W,
         notes: &Notes,
@@ -109,37 +121,11 @@ impl<'a> Acceptor<'a> {
         let link = backlog.accept(rt, notes, &mut self.reserve)?;
         Some((link, backlog.endpoint))
     }
-
-    /// Looks whether clients have come to an endpoint, and whether the input is closed. It waits for one of these only where no
-    /// clients are there, so that the input is looked at before each accept, however many come.
-    fn look<W: Wait + Clock>(&mut self, rt: &W) {
-        let patience = self.patience();
-        if self.poll.poll(&mut self.events, patience).is_err() {
-            pause(rt);
-            return;
-        }
-        for event in self.events.iter() {
-            if event.token() == INPUT {
-                self.is_input_closed = event.is_read_closed() || event.is_error();
-            } else if let Some(backlog) = self.backlogs.get_mut(event.token().0) {
-                backlog.has_clients = true;
-            }
-        }
-    }
-
-    /// How long the poll may wait.
-    fn patience(&self) -> Option<Duration> {
-        if self.backlogs.iter().any(|backlog| backlog.has_clients) {
-            Some(Duration::from_millis(0))
-        } else {
-            None
-        }
-    }
 }
 
 impl<'a> Backlog<'a> {
     /// The next connection, if there is one. A connection for which no descriptor is left is closed.
-    fn accept<W: Files<File = File> + Wait + Clock>(
+    fn accept<W: Files<File = File> + Wait>(
         &mut self,
         rt: &W,
         notes: &Notes,
@@ -152,13 +138,13 @@ impl<'a> Backlog<'a> {
             }
             Err(error) if is_of_descriptors(&error) => self.accept_by_reserve(rt, notes, reserve),
             Err(error) => {
-                self.note_failure(rt, &error);
+                self.note_failure(&error);
                 None
             }
         }
     }
 
-    fn accept_by_reserve<W: Files<File = File> + Wait + Clock>(
+    fn accept_by_reserve<W: Files<File = File> + Wait>(
         &mut self,
         rt: &W,
         notes: &Notes,
@@ -173,22 +159,16 @@ impl<'a> Backlog<'a> {
                 None
             }
             Err(error) => {
-                self.note_failure(rt, &error);
+                self.note_failure(&error);
                 None
             }
         }
     }
 
     /// Nobody waits at the endpoint, or the accept is tried again in a while: a connection that was reset in the queue is gone.
-    fn note_failure<W: Wait + Clock>(&mut self, rt: &W, error: &io::Error) {
+    fn note_failure(&mut self, error: &io::Error) {
         if error.kind() == ErrorKind::WouldBlock {
             self.has_clients = false;
-        } else {
-            pause(rt);
         }
     }
-}
-
-fn pause<W: Wait + Clock>(rt: &W) {
-    thread::sleep(rt, Duration::from_millis(PAUSE));
 }

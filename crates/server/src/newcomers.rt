@@ -3,7 +3,7 @@
 use endpoints::Link;
 use std::alloc::Global;
 use std::io;
-use std::sync::{Arc, Condvar, Mutex, Wait};
+use std::sync::{Arc, Mutex, Wait};
 
 /// A connection that hasn't said Hello.
 #[derive(Drop)]
@@ -12,11 +12,21 @@ struct Newcomer {
     link: Arc<Link>,
 }
 
+/// Whether a client waits for a place, and who goes for it.
+#[derive(Clone, Copy, PartialEq, Eq)]
+enum Wanted {
+    /// Nobody waits.
+    Nothing,
+    /// The oldest newcomer was told to go.
+    OneGoes,
+    /// The first that comes has to go, since none was there.
+    TheFirst,
+}
+
 #[derive(Drop)]
 struct Places {
     free: u32,
-    // Somebody waits for a place, and no newcomer was there to go for it.
-    is_wanted: bool,
+    wanted: Wanted,
     last_ticket: u64,
     // Those that workers have taken in, the oldest first.
     newcomers: Vec<Newcomer>,
@@ -26,11 +36,12 @@ impl Places {
     /// Makes the oldest newcomer go: its worker finds its socket shut, and gives its place back. Where none is there yet,
     /// the first that comes has to go.
     fn send_off_the_oldest(&mut self) {
-        let is_there = !self.newcomers.is_empty();
-        if is_there {
+        if self.newcomers.is_empty() {
+            self.wanted = Wanted::TheFirst;
+        } else {
             self.newcomers.remove(0).link.shut();
+            self.wanted = Wanted::OneGoes;
         }
-        self.is_wanted = !is_there;
     }
 
     /// Whether a newcomer of this ticket was there, which is there no longer.
@@ -45,7 +56,6 @@ impl Places {
 #[derive(Drop)]
 pub(crate) struct Newcomers {
     places: Mutex<Places>,
-    given_back: Condvar,
 }
 
 impl Newcomers {
@@ -53,25 +63,26 @@ impl Newcomers {
         Newcomers {
             places: Mutex::new(Places {
                 free: count,
-                is_wanted: false,
+                wanted: Wanted::Nothing,
                 last_ticket: 0,
                 newcomers: Vec::new(alloc),
             }),
-            given_back: Condvar::new(),
         }
     }
 
-    /// Takes a place for a connection that was accepted, and waits for it where none is free.
-    pub(crate) fn take_place<R: Wait>(&self, rt: &R) {
+    /// Takes a place for a connection that comes, if one is free. If not, one newcomer goes, and its place can be taken once it is
+    /// given back.
+    pub(crate) fn take_place<R: Wait>(&self, rt: &R) -> bool {
         let mut places = self.places.lock(rt);
-        if places.free == 0 {
+        if places.free > 0 {
+            places.free = places.free.saturating_sub(1);
+            places.wanted = Wanted::Nothing;
+            return true;
+        }
+        if places.wanted == Wanted::Nothing {
             places.send_off_the_oldest();
         }
-        let mut places = self
-            .given_back
-            .wait_while(rt, places, |places| places.free == 0);
-        places.is_wanted = false;
-        places.free = places.free.saturating_sub(1);
+        false
     }
 
     /// Notes a connection that has a place, and gives its ticket.
@@ -80,7 +91,7 @@ impl Newcomers {
         let ticket = places.last_ticket.saturating_add(1);
         places.newcomers.push(Newcomer { ticket, link })?;
         places.last_ticket = ticket;
-        if places.is_wanted && places.free == 0 {
+        if places.wanted == Wanted::TheFirst && places.free == 0 {
             places.send_off_the_oldest();
         }
         Ok(ticket)
@@ -97,6 +108,5 @@ impl Newcomers {
     pub(crate) fn give_back<R: Wait>(&self, rt: &R) {
         let mut places = self.places.lock(rt);
         places.free = places.free.saturating_add(1);
-        self.given_back.notify_one();
     }
 }

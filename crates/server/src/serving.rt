@@ -2,8 +2,6 @@
 
 ghost use Rattle.std.specs.Prelude.{◌≡◌};
 
-use crate::accepting::accept_all;
-use crate::acceptor::Acceptor;
 use crate::endpoint::Endpoint;
 use crate::hub::Hub;
 use crate::limits::Limits;
@@ -72,8 +70,8 @@ where
     run(rt, alloc, &hub, endpoints, &start, log)
 }
 
-/// Starts the workers and, where notes are wanted, the thread that writes them; accepts, and waits for all of them to end. Where
-/// there is no thread for the log, the bus goes on without it.
+/// Starts the workers and, where notes are wanted, the thread that writes them; is the first of the workers itself, which accepts, and
+/// waits for all of them to end. Where there is no thread for the log, or for a worker, the bus goes on without it.
 fn run<J: Naming + Send + Sync, R, L>(
     rt: &R,
     alloc: Global,
@@ -86,14 +84,16 @@ where
     R: Files<File = File> + RandomSource + Threads + Wait + Clock + Net + Sync,
     L: Log + Sync,
 {
-    let mut acceptor = Acceptor::new(rt, alloc, endpoints, start.until_closed)?;
+    let first = Desk::new(rt, alloc, start.until_closed)?;
+    let acceptor = first.acceptor(rt, alloc, endpoints, start.count)?;
     let mut posts = Vec::with_capacity(alloc, hub.limits.workers)?;
+    posts.push(first.post()?)?;
     thread::scope(thread::scope_env(), rt, |scope| {
         if hub.notes.are_wanted() {
             let writer = move || hub.notes.write_all(rt, log);
             let _ = Builder::new().spawn_scoped(scope, writer);
         }
-        for _ in 0..hub.limits.workers {
+        for _ in 1..hub.limits.workers {
             let Ok(desk) = Desk::new(rt, alloc, start.until_closed) else {
                 continue;
             };
@@ -101,21 +101,14 @@ where
                 continue;
             };
             hub.notes.begin(rt);
-            let worker = move || work(rt, alloc, hub, desk);
+            let worker = move || work(rt, alloc, hub, desk, None, &[]);
             if Builder::new().spawn_scoped(scope, worker).is_err() {
                 hub.notes.finish(rt);
             } else if let Err(refused) = posts.push(post) {
                 refused.value.finish();
             }
         }
-        accept_all(rt, alloc, &mut acceptor, start.count, hub, posts.as_slice());
-        for post in posts.iter() {
-            post.finish();
-        }
-        hub.notes.finish(rt);
+        work(rt, alloc, hub, first, Some(acceptor), posts.as_slice());
     });
-    if posts.is_empty() {
-        return Err(ErrorKind::OutOfMemory.into());
-    }
     Ok(())
 }

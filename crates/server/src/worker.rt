@@ -1,6 +1,8 @@
 // What a worker does.
 
+use crate::acceptor::Acceptor;
 use crate::connection::{Connection, Turn};
+use crate::endpoint::Endpoint;
 use crate::hub::Hub;
 use crate::input::{INPUT, watch_input};
 use crate::limit::Limit;
@@ -11,7 +13,9 @@ use mio::{Events, Poll, Token};
 use sessions::{Naming, StateReader};
 use slab::Slab;
 use std::alloc::{AllocError, Global};
+use std::fs::{File, Files};
 use std::net::Net;
+use std::random::RandomSource;
 use std::sync::{Arc, Wait};
 use std::time::{Clock, Duration, Instant};
 use std::{io, mem, thread};
@@ -24,6 +28,9 @@ const GLANCE: u64 = 500;
 
 /// How many milliseconds a connection that is held waits for its next turn.
 const MOMENT: u64 = 1;
+
+/// How many connections are accepted before those that are in have their turn.
+const ACCEPTS: u32 = 16;
 
 /// How many milliseconds to wait where the poll fails.
 const PAUSE: u64 = 50;
@@ -54,6 +61,17 @@ impl Desk {
         })
     }
 
+    /// What accepts at these endpoints, for the worker at this desk, until as many connections have come as are asked for.
+    pub(crate) fn acceptor<'a, R: Files<File = File>>(
+        &self,
+        rt: &R,
+        alloc: Global,
+        endpoints: &'a [Endpoint],
+        count: Option<u64>,
+    ) -> io::Result<Acceptor<'a>> {
+        Acceptor::new(rt, alloc, &self.poll, endpoints, count)
+    }
+
     /// The worker as others see it.
     pub(crate) fn post(&self) -> Result<Arc<Post>, AllocError> {
         Arc::try_clone(&self.post)
@@ -68,6 +86,12 @@ pub(crate) struct Worker<'a, J: Naming, R: Wait + Drop> {
     post: Arc<Post>,
     connections: Slab<Connection<J>>,
     scratch: Scratch,
+    // Where it accepts connections, if it is the one that does, until no more come.
+    acceptor: Option<Acceptor<'a>>,
+    // Among whom it hands them out: itself, and then the others.
+    posts: &'a [Arc<Post>],
+    // Whose turn it was.
+    last: usize,
     // What it lends to the connection whose turn it is. One that ends gives it back to the bus, where the next is had.
     reader: Option<StateReader<J, Mail>>,
     // The keys of those that had more to read when their turn was over, or were held.
@@ -82,20 +106,26 @@ pub(crate) struct Worker<'a, J: Naming, R: Wait + Drop> {
     is_ending: bool,
 }
 
-/// Serves until no more connections come and all have ended. The end of the input that is watched ends them.
-pub(crate) fn work<J: Naming, R: Wait + Drop, W: Wait + Clock>(
+/// Serves until no more connections come and all have ended. The end of the input that is watched ends them. The first of the workers
+/// accepts connections, and hands them out among all of them, of which it is the first.
+pub(crate) fn work<'a, J: Naming, R: Wait + Drop, W>(
     rt: &W,
     alloc: Global,
-    hub: &Hub<J, R>,
+    hub: &'a Hub<J, R>,
     desk: Desk,
-) {
+    acceptor: Option<Acceptor<'a>>,
+    posts: &'a [Arc<Post>],
+)
+where
+    W: Files<File = File> + RandomSource + Wait + Clock,
+{
     let Desk {
         mut poll,
         mut events,
         post,
         scratch,
     } = desk;
-    let mut worker = Worker::new(alloc, hub, post, scratch);
+    let mut worker = Worker::new(alloc, hub, post, scratch, acceptor, posts);
     for _ in rt.forever() {
         if poll.poll(&mut events, worker.patience()).is_err() {
             thread::sleep(rt, Duration::from_millis(PAUSE));
@@ -103,6 +133,7 @@ pub(crate) fn work<J: Naming, R: Wait + Drop, W: Wait + Clock>(
         }
         worker.answer(rt, &events);
         worker.go_on(rt);
+        worker.accept(rt);
         worker.end_overdue_ones(rt);
         if worker.is_done(rt) {
             hub.notes.finish(rt);
@@ -117,6 +148,8 @@ impl<'a, J: Naming, R: Wait + Drop> Worker<'a, J, R> {
         hub: &'a Hub<J, R>,
         post: Arc<Post>,
         scratch: Scratch,
+        acceptor: Option<Acceptor<'a>>,
+        posts: &'a [Arc<Post>],
     ) -> Worker<'a, J, R> {
         Worker {
             alloc,
@@ -124,6 +157,9 @@ impl<'a, J: Naming, R: Wait + Drop> Worker<'a, J, R> {
             post,
             connections: Slab::new(alloc),
             scratch,
+            acceptor,
+            posts,
+            last: 0,
             reader: None,
             again: Vec::new(alloc),
             is_eager: false,
@@ -141,10 +177,76 @@ impl<'a, J: Naming, R: Wait + Drop> Worker<'a, J, R> {
                 self.take_in(rt);
             } else if event.token() == INPUT {
                 if has_ended {
+                    self.stop_accepting();
                     self.end_all(rt);
                 }
-            } else {
+            } else if !self.is_of_endpoint(event.token()) {
                 self.turn(rt, event.token().0, event.is_writable(), has_ended);
+            }
+        }
+    }
+
+    /// Notes what the poll told of an endpoint. Answers false where the token is of none.
+    fn is_of_endpoint(&mut self, token: Token) -> bool {
+        match &mut self.acceptor {
+            Some(acceptor) => acceptor.note(token),
+            None => false,
+        }
+    }
+
+    /// Accepts some of those that wait at the endpoints, as far as there are places, and hands them out in turn.
+    fn accept<W: Files<File = File> + RandomSource + Wait + Clock>(&mut self, rt: &W) {
+        for _ in 0..ACCEPTS {
+            let Some(arrival) = self.next_arrival(rt) else {
+                return;
+            };
+            self.hand_out(rt, arrival);
+        }
+        self.is_eager = true;
+    }
+
+    /// The next connection, with what its talk admits, if one waits and there is a place for it.
+    fn next_arrival<W: Files<File = File> + RandomSource + Wait>(
+        &mut self,
+        rt: &W,
+    ) -> Option<Arrival> {
+        let acceptor = self.acceptor.as_mut()?;
+        if acceptor.is_done() {
+            self.stop_accepting();
+            return None;
+        }
+        if !acceptor.has_clients() || !self.hub.newcomers.take_place(rt) {
+            return None;
+        }
+        let Some((link, endpoint)) = acceptor.accept(rt, &self.hub.notes) else {
+            self.hub.newcomers.give_back(rt);
+            return None;
+        };
+        let admission = endpoint.mechanisms.admission(rt, self.alloc);
+        Some(Arrival { link, admission })
+    }
+
+    /// Hands a connection to the worker whose turn it is.
+    fn hand_out<W: Wait + Clock>(&mut self, rt: &W, arrival: Arrival) {
+        self.last = self.last.checked_add(1).unwrap_or(0);
+        if self.last >= self.posts.len() {
+            self.last = 0;
+        }
+        match self.posts.get(self.last) {
+            Some(post) if self.last > 0 => {
+                if post.hand_in(rt, arrival).is_err() {
+                    self.hub.turn_away(rt, Cause::MEMORY);
+                }
+            }
+            _ => self.take(rt, arrival),
+        }
+    }
+
+    /// No more connections come.
+    fn stop_accepting(&mut self) {
+        if self.acceptor.take().is_some() {
+            for post in self.posts {
+                post.finish();
             }
         }
     }
@@ -163,7 +265,7 @@ impl<'a, J: Naming, R: Wait + Drop> Worker<'a, J, R> {
     fn patience(&self) -> Option<Duration> {
         if self.is_eager {
             Some(Duration::from_millis(0))
-        } else if !self.again.is_empty() {
+        } else if !self.again.is_empty() || self.has_clients_waiting() {
             Some(Duration::from_millis(MOMENT))
         } else if self.watched > 0 {
             Some(Duration::from_millis(GLANCE))
@@ -172,15 +274,28 @@ impl<'a, J: Naming, R: Wait + Drop> Worker<'a, J, R> {
         }
     }
 
-    /// Takes in the connections that were handed over. Where memory runs out, or the bus ends, a connection is closed.
+    /// Whether clients wait at an endpoint for a place, or for an accept that failed.
+    fn has_clients_waiting(&self) -> bool {
+        match &self.acceptor {
+            Some(acceptor) => acceptor.has_clients(),
+            None => false,
+        }
+    }
+
+    /// Takes in the connections that were handed over.
     fn take_in<W: Wait + Clock>(&mut self, rt: &W) {
         for arrival in self.post.take_arrivals(rt, self.alloc) {
-            self.hub.retry_rests(rt, self.alloc);
-            if self.is_ending {
-                self.hub.turn_away(rt, Cause::BusEnds);
-            } else if self.welcome(rt, arrival).is_err() {
-                self.hub.turn_away(rt, Cause::MEMORY);
-            }
+            self.take(rt, arrival);
+        }
+    }
+
+    /// Takes in a connection. Where memory runs out, or the bus ends, it is closed.
+    fn take<W: Wait + Clock>(&mut self, rt: &W, arrival: Arrival) {
+        self.hub.retry_rests(rt, self.alloc);
+        if self.is_ending {
+            self.hub.turn_away(rt, Cause::BusEnds);
+        } else if self.welcome(rt, arrival).is_err() {
+            self.hub.turn_away(rt, Cause::MEMORY);
         }
     }
 
