@@ -206,7 +206,7 @@ impl<'a, J: Naming, R: Wait + Drop> Worker<'a, J, R> {
     }
 
     /// The next connection, with what its talk admits, if one waits and there is a place for it.
-    fn next_arrival<W: Files<File = File> + RandomSource + Wait>(
+    fn next_arrival<W: Files<File = File> + RandomSource + Wait + Clock>(
         &mut self,
         rt: &W,
     ) -> Option<Arrival> {
