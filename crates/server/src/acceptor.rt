@@ -33,6 +33,8 @@ pub(crate) struct Acceptor<'a> {
     reserve: Reserve,
     // How many connections are still accepted, if there is an end.
     left: Option<u64>,
+    // One that was accepted, until there is a place for it.
+    next: Option<(Link, &'a Endpoint)>,
 }
 
 impl<'a> Acceptor<'a> {
@@ -62,6 +64,7 @@ impl<'a> Acceptor<'a> {
             turn: 0,
             reserve: Reserve::new(rt),
             left: count,
+            next: None,
         })
     }
 
@@ -79,18 +82,30 @@ impl<'a> Acceptor<'a> {
         }
     }
 
-    /// Whether clients may wait at an endpoint.
+    /// Whether clients wait for a place, or may wait at an endpoint.
     pub(crate) fn has_clients(&self) -> bool {
-        self.backlogs.iter().any(|backlog| backlog.has_clients)
+        self.next.is_some() || self.backlogs.iter().any(|backlog| backlog.has_clients)
     }
 
-    /// Whether as many connections were accepted as were asked for.
+    /// Whether as many connections were taken as were asked for.
     pub(crate) fn is_done(&self) -> bool {
-        self.left == Some(0)
+        self.left == Some(0) && self.next.is_none()
     }
 
-    /// The next connection, and the endpoint by which it comes, if there is one.
-    pub(crate) fn accept<W: Files<File = File> + Wait>(
+    /// Accepts the next connection, if none waits for a place yet. Answers whether one does.
+    pub(crate) fn has_next<W: Files<File = File> + Wait>(&mut self, rt: &W, notes: &Notes) -> bool {
+        if self.next.is_none() && self.left != Some(0) {
+            self.next = self.accept(rt, notes);
+        }
+        self.next.is_some()
+    }
+
+    /// Gives out the connection that waits for a place, and the endpoint by which it came.
+    pub(crate) fn take_next(&mut self) -> Option<(Link, &'a Endpoint)> {
+        self.next.take()
+    }
+
+    fn accept<W: Files<File = File> + Wait>(
         &mut self,
         rt: &W,
         notes: &Notes,

@@ -215,13 +215,10 @@ impl<'a, J: Naming, R: Wait + Drop> Worker<'a, J, R> {
             self.stop_accepting();
             return None;
         }
-        if !acceptor.has_clients() || !self.hub.newcomers.take_place(rt) {
+        if !acceptor.has_next(rt, &self.hub.notes) || !self.hub.newcomers.take_place(rt) {
             return None;
         }
-        let Some((link, endpoint)) = acceptor.accept(rt, &self.hub.notes) else {
-            self.hub.newcomers.give_back(rt);
-            return None;
-        };
+        let (link, endpoint) = acceptor.take_next()?;
         let admission = endpoint.mechanisms.admission(rt, self.alloc);
         Some(Arrival { link, admission })
     }
