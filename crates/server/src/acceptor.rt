@@ -68,6 +68,13 @@ impl<'a> Acceptor<'a> {
         })
     }
 
+    /// Whether an accept may have to wait, for a lock on the file of a keyring that somebody left.
+    pub(crate) fn may_wait(&self) -> bool {
+        self.backlogs
+            .iter()
+            .any(|backlog| backlog.endpoint.mechanisms.keyring.is_some())
+    }
+
     /// Notes that the poll told of an endpoint. Answers false where the token is of none.
     pub(crate) fn note(&mut self, token: Token) -> bool {
         let Some(i) = FIRST.checked_sub(token.0) else {

@@ -71,7 +71,8 @@ where
 }
 
 /// Starts the workers and, where notes are wanted, the thread that writes them; is the first of the workers itself, which accepts, and
-/// waits for all of them to end. Where there is no thread for the log, or for a worker, the bus goes on without it.
+/// waits for all of them to end; there is one more where it serves nobody itself. Where there is no thread for the log, or for a
+/// worker, the bus goes on without it.
 fn run<J: Naming + Send + Sync, R, L>(
     rt: &R,
     alloc: Global,
@@ -86,6 +87,7 @@ where
 {
     let first = Desk::new(rt, alloc, start.until_closed)?;
     let acceptor = first.acceptor(rt, alloc, endpoints, start.count)?;
+    let spare = usize::from(acceptor.may_wait());
     let mut posts = Vec::with_capacity(alloc, hub.limits.workers)?;
     posts.push(first.post()?)?;
     thread::scope(thread::scope_env(), rt, |scope| {
@@ -93,7 +95,7 @@ where
             let writer = move || hub.notes.write_all(rt, log);
             let _ = Builder::new().spawn_scoped(scope, writer);
         }
-        for _ in 1..hub.limits.workers {
+        for _ in 1..hub.limits.workers.saturating_add(spare) {
             let Ok(desk) = Desk::new(rt, alloc, start.until_closed) else {
                 continue;
             };

@@ -90,6 +90,8 @@ pub(crate) struct Worker<'a, J: Naming, R: Wait + Drop> {
     acceptor: Option<Acceptor<'a>>,
     // Among whom it hands them out: itself, and then the others.
     posts: &'a [Arc<Post>],
+    // The first of those who get any: another, where an accept may have to wait, for which nobody who is served should.
+    first: usize,
     // Whose turn it was.
     last: usize,
     // What it lends to the connection whose turn it is. One that ends gives it back to the bus, where the next is had.
@@ -142,6 +144,14 @@ where
     }
 }
 
+/// The place of the first worker to which connections are handed out.
+fn first_served(acceptor: &Option<Acceptor<'_>>) -> usize {
+    match acceptor {
+        Some(acceptor) if acceptor.may_wait() => 1,
+        _ => 0,
+    }
+}
+
 impl<'a, J: Naming, R: Wait + Drop> Worker<'a, J, R> {
     fn new(
         alloc: Global,
@@ -157,6 +167,7 @@ impl<'a, J: Naming, R: Wait + Drop> Worker<'a, J, R> {
             post,
             connections: Slab::new(alloc),
             scratch,
+            first: first_served(&acceptor),
             acceptor,
             posts,
             last: 0,
@@ -227,7 +238,7 @@ impl<'a, J: Naming, R: Wait + Drop> Worker<'a, J, R> {
     fn hand_out<W: Wait + Clock>(&mut self, rt: &W, arrival: Arrival) {
         self.last = self.last.checked_add(1).unwrap_or(0);
         if self.last >= self.posts.len() {
-            self.last = 0;
+            self.last = self.first;
         }
         match self.posts.get(self.last) {
             Some(post) if self.last > 0 => {
