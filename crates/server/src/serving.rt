@@ -7,7 +7,7 @@ use crate::hub::Hub;
 use crate::limits::Limits;
 use crate::note::Verbosity;
 use crate::notes::Log;
-use crate::worker::{Desk, work};
+use crate::worker::{Desk, accept_and_work, work};
 use members::Mail;
 use sessions::{Identity, IndexKey, Naming, Opened};
 use std::alloc::Global;
@@ -103,14 +103,14 @@ where
                 continue;
             };
             hub.notes.begin(rt);
-            let worker = move || work(rt, alloc, hub, desk, None, &[]);
+            let worker = move || work(rt, alloc, hub, desk);
             if Builder::new().spawn_scoped(scope, worker).is_err() {
                 hub.notes.finish(rt);
             } else if let Err(refused) = posts.push(post) {
                 refused.value.finish();
             }
         }
-        work(rt, alloc, hub, first, Some(acceptor), posts.as_slice());
+        accept_and_work(rt, alloc, hub, first, acceptor, posts.as_slice());
     });
     Ok(())
 }

@@ -108,14 +108,37 @@ pub(crate) struct Worker<'a, J: Naming, R: Wait + Drop> {
     is_ending: bool,
 }
 
-/// Serves until no more connections come and all have ended. The end of the input that is watched ends them. The first of the workers
-/// accepts connections, and hands them out among all of them, of which it is the first.
-pub(crate) fn work<'a, J: Naming, R: Wait + Drop, W>(
+/// Serves the connections that are handed over, until no more come and all have ended. The end of the input that is watched ends
+/// them.
+pub(crate) fn work<J: Naming, R: Wait + Drop, W: Wait + Clock>(
+    rt: &W,
+    alloc: Global,
+    hub: &Hub<J, R>,
+    desk: Desk,
+) {
+    let Desk {
+        mut poll,
+        mut events,
+        post,
+        scratch,
+    } = desk;
+    let mut worker = Worker::new(alloc, hub, post, scratch, None, &[]);
+    for _ in rt.forever() {
+        worker.serve(rt, &mut poll, &mut events);
+        if worker.is_done(rt) {
+            hub.notes.finish(rt);
+            return;
+        }
+    }
+}
+
+/// Serves as the first of the workers, which accepts connections, and hands them out among all, of whom it is the first.
+pub(crate) fn accept_and_work<'a, J: Naming, R: Wait + Drop, W>(
     rt: &W,
     alloc: Global,
     hub: &'a Hub<J, R>,
     desk: Desk,
-    acceptor: Option<Acceptor<'a>>,
+    acceptor: Acceptor<'a>,
     posts: &'a [Arc<Post>],
 )
 where
@@ -127,16 +150,10 @@ where
         post,
         scratch,
     } = desk;
-    let mut worker = Worker::new(alloc, hub, post, scratch, acceptor, posts);
+    let mut worker = Worker::new(alloc, hub, post, scratch, Some(acceptor), posts);
     for _ in rt.forever() {
-        if poll.poll(&mut events, worker.patience()).is_err() {
-            thread::sleep(rt, Duration::from_millis(PAUSE));
-            events.clear();
-        }
-        worker.answer(rt, &events);
-        worker.go_on(rt);
+        worker.serve(rt, &mut poll, &mut events);
         worker.accept(rt);
-        worker.end_overdue_ones(rt);
         if worker.is_done(rt) {
             hub.notes.finish(rt);
             return;
@@ -178,6 +195,17 @@ impl<'a, J: Naming, R: Wait + Drop> Worker<'a, J, R> {
             looked: None,
             is_ending: false,
         }
+    }
+
+    /// Waits at the poll, and serves the connections of which it tells.
+    fn serve<W: Wait + Clock>(&mut self, rt: &W, poll: &mut Poll, events: &mut Events) {
+        if poll.poll(events, self.patience()).is_err() {
+            thread::sleep(rt, Duration::from_millis(PAUSE));
+            events.clear();
+        }
+        self.answer(rt, events);
+        self.go_on(rt);
+        self.end_overdue_ones(rt);
     }
 
     /// Does what the poll told of.
