@@ -3,6 +3,7 @@
 //! happens is noted, and a thread of its own writes the notes.
 #![tactic(auto)]
 
+mod accepting;
 mod acceptor;
 mod clients;
 mod connection;

@@ -1,5 +1,6 @@
 // What a worker does.
 
+use crate::accepting::first_served;
 use crate::acceptor::Acceptor;
 use crate::connection::{Connection, Turn};
 use crate::endpoint::Endpoint;
@@ -28,9 +29,6 @@ const GLANCE: u64 = 500;
 
 /// How many milliseconds a connection that is held waits for its next turn.
 const MOMENT: u64 = 1;
-
-/// How many connections are accepted before those that are in have their turn.
-const ACCEPTS: u32 = 16;
 
 /// How many milliseconds to wait where the poll fails.
 const PAUSE: u64 = 50;
@@ -81,25 +79,26 @@ impl Desk {
 /// A worker, with its share of the connections.
 #[derive(Drop)]
 pub(crate) struct Worker<'a, J: Naming, R: Wait + Drop> {
-    alloc: Global,
-    hub: &'a Hub<J, R>,
+    pub(crate) alloc: Global,
+    pub(crate) hub: &'a Hub<J, R>,
     post: Arc<Post>,
     connections: Slab<Connection<J>>,
     scratch: Scratch,
-    // Where it accepts connections, if it is the one that does, until no more come.
-    acceptor: Option<Acceptor<'a>>,
-    // Among whom it hands them out: itself, and then the others.
-    posts: &'a [Arc<Post>],
-    // The first of those who get any: another, where an accept may have to wait, for which nobody who is served should.
-    first: usize,
-    // Whose turn it was.
-    last: usize,
+    /// Where it accepts connections, if it is the one that does, until no more come.
+    pub(crate) acceptor: Option<Acceptor<'a>>,
+    /// Among whom it hands them out: itself, and then the others.
+    pub(crate) posts: &'a [Arc<Post>],
+    /// The first of those who get any: another, where an accept may have to wait, for which nobody who is served should.
+    pub(crate) first: usize,
+    /// Whose turn it was.
+    pub(crate) last: usize,
     // What it lends to the connection whose turn it is. One that ends gives it back to the bus, where the next is had.
     reader: Option<StateReader<J, Mail>>,
     // The keys of those that had more to read when their turn was over, or were held.
     again: Vec<usize>,
-    // One of them at least may go on at once; the others wait for the end of somebody who has gone.
-    is_eager: bool,
+    /// One of them at least may go on at once, where the others wait for the end of somebody who has gone; or clients still wait at
+    /// an endpoint.
+    pub(crate) is_eager: bool,
     // How many of its connections may become overdue.
     watched: u32,
     // When it last looked whether any of those is overdue.
@@ -116,13 +115,7 @@ pub(crate) fn work<J: Naming, R: Wait + Drop, W: Wait + Clock>(
     hub: &Hub<J, R>,
     desk: Desk,
 ) {
-    let Desk {
-        mut poll,
-        mut events,
-        post,
-        scratch,
-    } = desk;
-    let mut worker = Worker::new(alloc, hub, post, scratch, None, &[]);
+    let (mut worker, mut poll, mut events) = Worker::new(alloc, hub, desk, None, &[]);
     for _ in rt.forever() {
         worker.serve(rt, &mut poll, &mut events);
         if worker.is_done(rt) {
@@ -144,13 +137,7 @@ pub(crate) fn accept_and_work<'a, J: Naming, R: Wait + Drop, W>(
 where
     W: Files<File = File> + RandomSource + Wait + Clock,
 {
-    let Desk {
-        mut poll,
-        mut events,
-        post,
-        scratch,
-    } = desk;
-    let mut worker = Worker::new(alloc, hub, post, scratch, Some(acceptor), posts);
+    let (mut worker, mut poll, mut events) = Worker::new(alloc, hub, desk, Some(acceptor), posts);
     for _ in rt.forever() {
         worker.serve(rt, &mut poll, &mut events);
         worker.accept(rt);
@@ -161,24 +148,22 @@ where
     }
 }
 
-/// The place of the first worker to which connections are handed out.
-fn first_served(acceptor: &Option<Acceptor<'_>>) -> usize {
-    match acceptor {
-        Some(acceptor) if acceptor.may_wait() => 1,
-        _ => 0,
-    }
-}
-
 impl<'a, J: Naming, R: Wait + Drop> Worker<'a, J, R> {
+    /// The worker at a desk, with what it waits at.
     fn new(
         alloc: Global,
         hub: &'a Hub<J, R>,
-        post: Arc<Post>,
-        scratch: Scratch,
+        desk: Desk,
         acceptor: Option<Acceptor<'a>>,
         posts: &'a [Arc<Post>],
-    ) -> Worker<'a, J, R> {
-        Worker {
+    ) -> (Worker<'a, J, R>, Poll, Events) {
+        let Desk {
+            poll,
+            events,
+            post,
+            scratch,
+        } = desk;
+        let worker = Worker {
             alloc,
             hub,
             post,
@@ -194,7 +179,8 @@ impl<'a, J: Naming, R: Wait + Drop> Worker<'a, J, R> {
             watched: 0,
             looked: None,
             is_ending: false,
-        }
+        };
+        (worker, poll, events)
     }
 
     /// Waits at the poll, and serves the connections of which it tells.
@@ -225,68 +211,6 @@ impl<'a, J: Naming, R: Wait + Drop> Worker<'a, J, R> {
         }
     }
 
-    /// Notes what the poll told of an endpoint. Answers false where the token is of none.
-    fn is_of_endpoint(&mut self, token: Token) -> bool {
-        match &mut self.acceptor {
-            Some(acceptor) => acceptor.note(token),
-            None => false,
-        }
-    }
-
-    /// Accepts some of those that wait at the endpoints, as far as there are places, and hands them out in turn.
-    fn accept<W: Files<File = File> + RandomSource + Wait + Clock>(&mut self, rt: &W) {
-        for _ in 0..ACCEPTS {
-            let Some(arrival) = self.next_arrival(rt) else {
-                return;
-            };
-            self.hand_out(rt, arrival);
-        }
-        self.is_eager = true;
-    }
-
-    /// The next connection, with what its talk admits, if one waits and there is a place for it.
-    fn next_arrival<W: Files<File = File> + RandomSource + Wait + Clock>(
-        &mut self,
-        rt: &W,
-    ) -> Option<Arrival> {
-        let acceptor = self.acceptor.as_mut()?;
-        if acceptor.is_done() {
-            self.stop_accepting();
-            return None;
-        }
-        if !acceptor.has_next(rt, &self.hub.notes) || !self.hub.newcomers.take_place(rt) {
-            return None;
-        }
-        let (link, endpoint) = acceptor.take_next()?;
-        let admission = endpoint.mechanisms.admission(rt, self.alloc);
-        Some(Arrival { link, admission })
-    }
-
-    /// Hands a connection to the worker whose turn it is.
-    fn hand_out<W: Wait + Clock>(&mut self, rt: &W, arrival: Arrival) {
-        self.last = self.last.checked_add(1).unwrap_or(0);
-        if self.last >= self.posts.len() {
-            self.last = self.first;
-        }
-        match self.posts.get(self.last) {
-            Some(post) if self.last > 0 => {
-                if post.hand_in(rt, arrival).is_err() {
-                    self.hub.turn_away(rt, Cause::MEMORY);
-                }
-            }
-            _ => self.take(rt, arrival),
-        }
-    }
-
-    /// No more connections come.
-    fn stop_accepting(&mut self) {
-        if self.acceptor.take().is_some() {
-            for post in self.posts {
-                post.finish();
-            }
-        }
-    }
-
     /// Whether no more connections come, and all have ended.
     fn is_done<W: Wait + Clock>(&mut self, rt: &W) -> bool {
         if !self.post.is_finished() {
@@ -310,14 +234,6 @@ impl<'a, J: Naming, R: Wait + Drop> Worker<'a, J, R> {
         }
     }
 
-    /// Whether clients wait at an endpoint for a place, or for an accept that failed.
-    fn has_clients_waiting(&self) -> bool {
-        match &self.acceptor {
-            Some(acceptor) => acceptor.has_clients(),
-            None => false,
-        }
-    }
-
     /// Takes in the connections that were handed over.
     fn take_in<W: Wait + Clock>(&mut self, rt: &W) {
         for arrival in self.post.take_arrivals(rt, self.alloc) {
@@ -326,7 +242,7 @@ impl<'a, J: Naming, R: Wait + Drop> Worker<'a, J, R> {
     }
 
     /// Takes in a connection. Where memory runs out, or the bus ends, it is closed.
-    fn take<W: Wait + Clock>(&mut self, rt: &W, arrival: Arrival) {
+    pub(crate) fn take<W: Wait + Clock>(&mut self, rt: &W, arrival: Arrival) {
         self.hub.retry_rests(rt, self.alloc);
         if self.is_ending {
             self.hub.turn_away(rt, Cause::BusEnds);
