@@ -225,8 +225,9 @@ class Connection:
         return line
 
     def fill(self, timeout=None):
-        ready, _, _ = select.select([self.link], [], [], self.timeout if timeout is None else timeout)
-        if not ready:
+        poll = select.poll()
+        poll.register(self.link, select.POLLIN)
+        if not poll.poll(1000 * (self.timeout if timeout is None else timeout)):
             raise TimeoutError
         data = self.link.recv(1 << 20)
         if not data:
