@@ -67,7 +67,8 @@ class Bus:
 <busconfig><type>session</type><listen>{wanted}</listen><auth>EXTERNAL</auth><auth>ANONYMOUS</auth><allow_anonymous/>
 <policy context="default"><allow send_destination="*" eavesdrop="true"/><allow eavesdrop="true"/><allow own="*"/></policy>
 <limit name="max_incoming_bytes">1000000000</limit><limit name="max_outgoing_bytes">1000000000</limit>
-<limit name="max_message_size">1000000000</limit><limit name="max_completed_connections">100000</limit><limit name="max_connections_per_user">100000</limit>
+<limit name="max_message_size">1000000000</limit>
+<limit name="max_completed_connections">100000</limit><limit name="max_connections_per_user">100000</limit>
 <limit name="max_match_rules_per_connection">100000</limit><limit name="max_names_per_connection">50000</limit></busconfig>""")
         return path
 
