@@ -14,8 +14,8 @@ fn state(alloc: Global, lines: &[u8], of_each: u32) -> Option<BusState<()>> {
     state_of(alloc, Rules { lines, of_each })
 }
 
-/// Reads a message and finds its recipients as often as `turns` says, in one list that is emptied each time, by the same marks: the sum of
-/// their counts.
+/// Reads a message and finds its recipients as often as `turns` says, in one list that is emptied each time, by the
+/// same marks: the sum of their counts.
 #[unsafe(no_mangle)]
 pub extern "C" fn bench_recipients_select(
     alloc: Global,

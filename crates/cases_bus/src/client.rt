@@ -120,8 +120,8 @@ impl<J: Naming> Client<J> {
     }
 }
 
-/// Feeds a session, and lets it treat all that is there whole, each message after a look at whom it asks about. Why it ends is told
-/// at its end.
+/// Feeds a session, and lets it treat all that is there whole, each message after a look at whom it asks about. Why it
+/// ends is told at its end.
 fn treat<J: Naming, R: Wait>(
     place: &Place<'_, '_, J, R>,
     session: &mut Session<J, Letterbox>,

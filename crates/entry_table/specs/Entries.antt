@@ -1,5 +1,5 @@
 -- The entries of the bus (own).
-use Rattle.std.specs.Prelude.{ℕ, ◌≤◌, Bool, true, false, not, ◌&&◌, ◌||◌, List, [], filter, length, ◌==◌, nat_le, All, AllPairs, ◌<◌}
+use Rattle.std.specs.Prelude.{ℕ, ◌≤◌, Bool, true, false, not, ◌&&◌, ◌||◌, List, [], Option, Some, None, filter, length, ◌==◌, nat_le, nat_lt, All, AllPairs, ◌<◌}
 use Rattle.match_rule.specs.RuleTree.{RuleTree, rule_eq}
 use Rattle.entry_table.specs.declared.entry.Entry.{Entry}
 use Rattle.entry_table.specs.declared.entry.Filter.{Filter}
@@ -41,6 +41,11 @@ abbrev pub is_rule : RuleTree → Filter → Bool
 is_rule rule (Rule compiled) = rule_eq compiled.rule rule
 is_rule rule (Attached program) = false
 
+-- the rule, unless the filter is a program that was attached
+abbrev pub rule_of : Filter → Option RuleTree
+rule_of (Rule compiled) = Some compiled.rule
+rule_of (Attached program) = None
+
 abbrev pub is_attached : Filter → Bool
 is_attached (Rule compiled) = false
 is_attached (Attached program) = true
@@ -52,6 +57,10 @@ has_rule connection rule e = is_of connection e && is_rule rule e.filter
 -- it is the connection's attachment of this id
 abbrev pub is_attachment : ℕ → ℕ → Entry → Bool
 is_attachment connection id e = is_of connection e && (e.id == id && is_attached e.filter)
+
+-- it is the connection's, has a rule, and its id is above this one
+abbrev pub is_rule_after : ℕ → ℕ → Entry → Bool
+is_rule_after connection id e = is_of connection e && (nat_lt id e.id && not (is_attached e.filter))
 
 -- the entries that fail the test
 abbrev pub entries_but : (Entry → Bool) → Entries → Entries

@@ -1,8 +1,8 @@
 -- Inner: the search for the oldest entry that is wanted.
-use Rattle.std.specs.Prelude.{ℕ, ◌≤◌, ◌<◌, ◌≡◌, Bool, true, false, ◌&&◌, List, [], ◌∷◌, map, reverse, length, Option, Some, None, ◌==◌, if◌then◌else◌}
+use Rattle.std.specs.Prelude.{ℕ, ◌≤◌, ◌<◌, ◌≡◌, Bool, true, false, not, ◌&&◌, List, [], ◌∷◌, map, reverse, length, Option, Some, None, ◌==◌, nat_lt, if◌then◌else◌}
 use Rattle.entry_table.specs.declared.entry.Entry.{Entry}
 use Rattle.entry_table.specs.declared.search.Wanted.{Wanted}
-use Rattle.entry_table.specs.declared.search.Wanted.TheVariants.{Any, Id, EqualRule, Attachment}
+use Rattle.entry_table.specs.declared.search.Wanted.TheVariants.{Any, Id, EqualRule, Attachment, RuleAfter}
 use Rattle.entry_table.specs.Entries.{is_of, is_rule, is_attached}
 use Rattle.entry_table.specs.PlacedEntries.{Placed}
 
@@ -12,6 +12,7 @@ suits Any e = true
 suits (Id id) e = e.id == id
 suits (EqualRule rule) e = is_rule rule.now e.filter
 suits (Attachment id) e = e.id == id && is_attached e.filter
+suits (RuleAfter id) e = nat_lt id e.id && not (is_attached e.filter)
 
 abbrev pub is_wanted : Wanted → ℕ → Entry → Bool
 is_wanted wanted connection e = is_of connection e && suits wanted e

@@ -14,11 +14,11 @@ pub enum Filter {
 }
 
 impl Filter {
-    ghost use Rattle.std.specs.Prelude.{◌≡◌, ◌↔◌, IfOk, IsTrue};
+    ghost use Rattle.std.specs.Prelude.{◌≡◌, ◌↔◌, IfOk, IsTrue, option_map};
     ghost use Rattle.message_view.specs.Message.{Message};
     ghost use Rattle.message_view.specs.Valid.{Valid};
     ghost use Rattle.entry_table.specs.Envelopes.{FilterFits};
-    ghost use Rattle.entry_table.specs.Entries.{is_rule, is_attached};
+    ghost use Rattle.entry_table.specs.Entries.{is_rule, is_attached, rule_of};
     ghost use Rattle.entry_table.specs.TextKeys.{shape_of};
     ghost use Rattle.entry_table.specs.EntryTexts.{lookup_texts};
 
@@ -59,6 +59,16 @@ impl Filter {
         match self {
             Filter::Rule(compiled) => *compiled.rule() == *rule,
             Filter::Attached(_) => false,
+        }
+    }
+
+    /// The rule, unless it is an attached program.
+    pub fn rule(&self) -> Option<&Rule>
+        ensures { option_map (λ rule. rule.now) result ≡ rule_of self.now }
+    {
+        match self {
+            Filter::Rule(compiled) => Some(compiled.rule()),
+            Filter::Attached(_) => None,
         }
     }
 

@@ -16,6 +16,8 @@ pub(crate) enum Wanted<'a> {
     Id(u32),
     EqualRule(&'a Rule),
     Attachment(u32),
+    /// A rule whose id is above this one.
+    RuleAfter(u32),
 }
 
 /// Whether an entry is what is wanted, whoever has it.
@@ -27,6 +29,7 @@ fn suits(wanted: Wanted<'_>, entry: &Entry) -> bool
         Wanted::Id(id) => entry.id == id,
         Wanted::EqualRule(rule) => entry.filter.is_rule(rule),
         Wanted::Attachment(id) => entry.id == id && entry.filter.is_attached(),
+        Wanted::RuleAfter(id) => entry.id > id && !entry.filter.is_attached(),
     }
 }
 

@@ -39,7 +39,7 @@ impl EntryTable {
     ghost use Rattle.message_view.specs.Valid.{Valid};
     ghost use Rattle.match_rule.specs.FixedTexts.{texts_from};
     ghost use Rattle.entry_table.specs.declared.entry.Entry.{Entry};
-    ghost use Rattle.entry_table.specs.Entries.{Entries, no_entries, is_full, AreEntries, is_of, is_entry, has_rule, is_attachment, entries_but};
+    ghost use Rattle.entry_table.specs.Entries.{Entries, no_entries, is_full, AreEntries, is_of, is_entry, has_rule, is_attachment, is_rule_after, entries_but};
     ghost use Rattle.entry_table.specs.OfferedEntries.{AreOffered};
     ghost use Rattle.entry_table.specs.Searching.{is_wanted};
 
@@ -114,6 +114,29 @@ impl EntryTable {
             connection,
         );
         found.is_some()
+    }
+
+    /// How many entries there are.
+    pub fn len(&self) -> usize
+        ensures { result ≡ length self.now.entries }
+    {
+        self.count
+    }
+
+    /// The connection's oldest entry with a rule whose id is above this one.
+    pub fn next_rule(&self, connection: u64, after: u32) -> Option<&Entry>
+        ensures { option_map (λ e. e.now) result ≡ find (is_rule_after connection after) self.now.entries }
+    {
+        let found = last_place(
+            &self.shelf,
+            self.shelf.of_connection(connection),
+            Wanted::RuleAfter(after),
+            connection,
+        );
+        match found {
+            Some(place) => self.shelf.get(place),
+            None => None,
+        }
     }
 
     /// Takes out the oldest entry of a connection that is wanted.

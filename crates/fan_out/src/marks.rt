@@ -36,9 +36,10 @@ fn greater(a: usize, b: usize) -> usize
     if a < b { b } else { a }
 }
 
-/// Which connections are marked, by their places among the connections, with room for as many as there may be. A row is noted if it has a mark, and all marks
-/// lie between two places, so that a few marks are found without a look at each place. The remainders of the marked
-/// connections' numbers are noted, so that most other connections are known without a search for their place.
+/// Which connections are marked, by their places among the connections, with room for as many as there may be. A row is
+/// noted if it has a mark, and all marks lie between two places, so that a few marks are found without a look at each
+/// place. The remainders of the marked connections' numbers are noted, so that most other connections are known without
+/// a search for their place.
 #[derive(Drop)]
 pub struct Marks {
     pub(crate) places: [bool; MAX_RECIPIENTS],

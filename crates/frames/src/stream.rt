@@ -70,7 +70,8 @@ impl Frames {
         Ok(())
     }
 
-    /// The next message, lent where it lies; `None` where no whole message is there and more bytes are needed. It stays the next one until `skip`.
+    /// The next message, lent where it lies; `None` where no whole message is there and more bytes are needed. It stays
+    /// the next one until `skip`.
     ///
     /// # Errors
     ///

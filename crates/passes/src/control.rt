@@ -185,7 +185,8 @@ impl<J: Naming, M: Mailbox, R: Wait + Drop> Control<J, M, R> {
         self.publish(pass, command)
     }
 
-    /// Makes the connection of a pass that has none yet, whose messages go to the mailbox, where fewer than this many are there.
+    /// Makes the connection of a pass that has none yet, whose messages go to the mailbox, where fewer than this many
+    /// are there.
     pub fn connect(
         &mut self,
         pass: &mut Pass<J, M>,

@@ -18,7 +18,8 @@ use program_table::BusState;
 use routing::{Mailbox, Recipient, Sender};
 use std::alloc::AllocError;
 
-/// By how many seats a sender may have more than there are connections, before it gives up those at the outboxes of closed ones.
+/// By how many seats a sender may have more than there are connections, before it gives up those at the outboxes of
+/// closed ones.
 const SPARE_SEATS: usize = 256;
 
 // Whether many of the sender's seats are at the outboxes of closed connections.

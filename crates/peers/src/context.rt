@@ -25,8 +25,8 @@ impl<'a, B: Naming, M: Mailbox, W: Wait, R: Wait + Drop> Context<'a, B, M, W, R>
         }
     }
 
-    /// Gives a pass's reader, if it has one, back to the bus. A pass whose connection the bus couldn't close, since the bus has ended,
-    /// is dropped.
+    /// Gives a pass's reader, if it has one, back to the bus. A pass whose connection the bus couldn't close, since the
+    /// bus has ended, is dropped.
     pub fn give_back(&self, pass: Pass<B, M>) {
         if pass.is_closed() || pass.connection() == 0 {
             self.bus.take_back(self.rt, pass);

@@ -37,8 +37,8 @@ impl Shares {
         }
     }
 
-    /// What a client of `dbusfan serve` may have: 512 rules and programs, 65,536 instructions, 512 names, and 1,024 calls that wait,
-    /// on a bus of 256 connections.
+    /// What a client of `dbusfan serve` may have: 512 rules and programs, 65,536 instructions, 512 names, and 1,024
+    /// calls that wait, on a bus of 256 connections.
     pub fn standard() -> Shares
         ensures { result ≡ record { entries = 512; instructions = 65536; names = 512; calls = 1024; connections = standard_connections } }
     {

@@ -6,7 +6,7 @@ ghost use Rattle.program_table.specs.SlotSearch.{claim_refusal};
 use crate::command::Reply;
 use crate::refusal::Refusal;
 use crate::removal::{self, sender_of};
-use entry_table::{Attachment, EntryTable, Filter, IndexKey, Offers, RuleProgram};
+use entry_table::{Attachment, Entry, EntryTable, Filter, IndexKey, Offers, RuleProgram};
 use match_rule::Rule;
 use message_view::View;
 use owners::{ClaimError, Claims, Dropped, Queue, WellKnown};
@@ -33,7 +33,7 @@ impl Model for RegistrationTable {
 }
 
 impl RegistrationTable {
-    ghost use Rattle.std.specs.Prelude.{◌≡◌, ◌<◌, ℕ, true, Ok, IfOk, IfSome, Some, option_map, is_ok};
+    ghost use Rattle.std.specs.Prelude.{◌≡◌, ◌<◌, ℕ, true, length, find, Ok, IfOk, IfSome, Some, option_map, is_ok};
     ghost use Rattle.message_view.specs.Message.{Message};
     ghost use Rattle.message_view.specs.Valid.{Valid};
     ghost use Rattle.match_rule.specs.RuleTree.{sender_name_of};
@@ -44,6 +44,7 @@ impl RegistrationTable {
     ghost use Rattle.program_table.specs.SlotSearch.{rule_slot};
     ghost use Rattle.entry_table.specs.declared.entry.Filter.TheVariants as filters;
     ghost use Rattle.match_rule.specs.FixedTexts.{texts_from};
+    ghost use Rattle.entry_table.specs.Entries.{is_rule_after};
     ghost use Rattle.entry_table.specs.OfferedEntries.{AreOffered};
     ghost use Rattle.program_table.specs.SlotNames.{slot_next};
     ghost use Rattle.program_table.specs.Recipients.{AreOwnedSlots};
@@ -256,6 +257,20 @@ impl RegistrationTable {
         ensures sound { AreRegistrations self.now }
     {
         self.entries.entries_for(view, sender)
+    }
+
+    /// How many entries there are.
+    pub(crate) fn entry_count(&self) -> usize
+        ensures { result ≡ length self.now.entries.entries }
+    {
+        self.entries.len()
+    }
+
+    /// A connection's oldest entry with a rule whose id is above this one.
+    pub(crate) fn next_rule(&self, connection: u64, after: u32) -> Option<&Entry>
+        ensures { option_map (λ e. e.now) result ≡ find (is_rule_after connection after) self.now.entries.entries }
+    {
+        self.entries.next_rule(connection, after)
     }
 
     /// The primary owner of a name.

@@ -6,7 +6,7 @@ use crate::connections::Connections;
 use crate::handle::Handle;
 use crate::refusal::Refusal;
 use crate::registration_table::RegistrationTable;
-use entry_table::{IndexKey, Offers};
+use entry_table::{Entry, IndexKey, Offers};
 use match_rule::Rule;
 use message_view::View;
 use owners::{Queue, WellKnown};
@@ -35,13 +35,14 @@ impl<M: Handle> Model for BusState<M> {
 }
 
 impl<M: Handle> BusState<M> {
-    ghost use Rattle.std.specs.Prelude.{◌≡◌, ◌<◌, ◌≤◌, ℕ, length, true, false, None, IfOk, IfErr, IfSome, MatchResult, MatchOption, option_map, option_copied, slice_get};
+    ghost use Rattle.std.specs.Prelude.{◌≡◌, ◌<◌, ◌≤◌, ℕ, length, find, true, false, None, IfOk, IfErr, IfSome, MatchResult, MatchOption, option_map, option_copied, slice_get};
     ghost use Rattle.message_view.specs.Message.{Message};
     ghost use Rattle.message_view.specs.Valid.{Valid};
     ghost use Rattle.summary.specs.Sets.{has_slot, IsSet};
     ghost use Rattle.owners.specs.Queues.{owner_of, queue_of};
     ghost use Rattle.owners.specs.Registry.{max_names, next_name};
     ghost use Rattle.match_rule.specs.FixedTexts.{texts_from};
+    ghost use Rattle.entry_table.specs.Entries.{is_rule_after};
     ghost use Rattle.entry_table.specs.OfferedEntries.{AreOffered};
     ghost use Rattle.program_table.specs.Connections.{max_connections, numbers_of, mailbox_of, commands_of, is_connected};
     ghost use Rattle.program_table.specs.SlotNames.{slot_next};
@@ -315,6 +316,20 @@ impl<M: Handle> BusState<M> {
         }
         self.refuse_unconnected(connection)?;
         self.registrations.rule_slot(rule)
+    }
+
+    /// How many entries there are, of all connections.
+    pub fn entry_count(&self) -> usize
+        ensures { result ≡ length self.now.registrations.entries.entries }
+    {
+        self.registrations.entry_count()
+    }
+
+    /// A connection's oldest entry with a rule whose id is above this one.
+    pub fn next_rule(&self, connection: u64, after: u32) -> Option<&Entry>
+        ensures { option_map (λ e. e.now) result ≡ find (is_rule_after connection after) self.now.registrations.entries.entries }
+    {
+        self.registrations.next_rule(connection, after)
     }
 
     /// The connections that own a name or wait for it, in order, the primary owner first.

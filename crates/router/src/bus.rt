@@ -102,8 +102,8 @@ impl<B: Naming, M: Mailbox, R: Wait + Drop> Bus<B, M, R> {
         self.calls.take_call_to(rt, callee)
     }
 
-    /// A new pass with a reader of its own, which has no connection, and has sent nothing. A reader that was given back has seen
-    /// what it had.
+    /// A new pass with a reader of its own, which has no connection, and has sent nothing. A reader that was given back
+    /// has seen what it had.
     ///
     /// # Errors
     ///
@@ -161,8 +161,8 @@ impl<B: Naming, M: Mailbox, R: Wait + Drop> Bus<B, M, R> {
         self.control(rt).tell(pass)
     }
 
-    /// Makes the connection of a pass that has none yet, whose messages go to the mailbox, where fewer than 256 are there: by the
-    /// lock's guard another number is told.
+    /// Makes the connection of a pass that has none yet, whose messages go to the mailbox, where fewer than 256 are
+    /// there: by the lock's guard another number is told.
     pub fn connect(
         &self,
         rt: &impl Wait,

@@ -84,8 +84,8 @@ impl<C: Mailbox> Sender<C> {
     }
 
     /// Puts a broadcast with these bytes into the outboxes of its recipients, whose numbers rise, and answers those whose
-    /// outbox refused it, a shut one included. The shares of the message are taken before the first put, so after an error nothing was
-    /// put and the count isn't used.
+    /// outbox refused it, a shut one included. The shares of the message are taken before the first put, so after an
+    /// error nothing was put and the count isn't used.
     pub fn route<R: Wait>(
         &mut self,
         rt: &R,

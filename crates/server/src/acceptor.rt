@@ -13,8 +13,8 @@ use std::io;
 use std::io::ErrorKind;
 use std::sync::Wait;
 
-/// The token of the first endpoint in the poll of the worker that accepts. Those of the others are lower, one after the other, and
-/// the keys of connections are lower still.
+/// The token of the first endpoint in the poll of the worker that accepts. Those of the others are lower, one after the
+/// other, and the keys of connections are lower still.
 const FIRST: usize = usize::MAX - 2;
 
 /// An endpoint, and whether clients may wait there.

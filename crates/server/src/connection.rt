@@ -144,8 +144,8 @@ impl<J: Naming> Connection<J> {
         self.session.number()
     }
 
-    /// Counts its client among those that are in, once its Hello is answered: before the answer is written, so that whoever asks
-    /// about it finds it. Where memory is refused, nobody waits for its end.
+    /// Counts its client among those that are in, once its Hello is answered: before the answer is written, so that
+    /// whoever asks about it finds it. Where memory is refused, nobody waits for its end.
     fn come_in<W: Wait, R: Wait + Drop>(&mut self, rt: &W, hub: &Hub<J, R>) {
         let Some(number) = self.number() else {
             return;
@@ -224,8 +224,8 @@ impl<J: Naming> Connection<J> {
         }
     }
 
-    /// Treats the lines and messages that are whole now, as far as none is held, and tells how many there were. What they put is
-    /// written after every few of them, also before an error.
+    /// Treats the lines and messages that are whole now, as far as none is held, and tells how many there were. What
+    /// they put is written after every few of them, also before an error.
     fn treat<W: Wait, R: Wait + Drop>(
         &mut self,
         rt: &W,
@@ -274,8 +274,8 @@ impl<J: Naming> Connection<J> {
         Ok(MESSAGES)
     }
 
-    /// Whether its next message asks the bus about a client that has gone, and whose session hasn't ended: that comes first, as it
-    /// happened first. Whoever has gone too doesn't wait, so that no two wait for each other.
+    /// Whether its next message asks the bus about a client that has gone, and whose session hasn't ended: that comes
+    /// first, as it happened first. Whoever has gone too doesn't wait, so that no two wait for each other.
     fn asks_about_one_gone<W: Wait, R: Wait + Drop>(
         &mut self,
         rt: &W,

@@ -1,6 +1,6 @@
-//! The bus on its listening sockets: a few workers, each of which waits at a poll of its own for its share of the connections; the
-//! first one accepts them, and hands the others theirs. A session never waits for its client, and whoever puts a message writes it. What
-//! happens is noted, and a thread of its own writes the notes.
+//! The bus on its listening sockets: a few workers, each of which waits at a poll of its own for its share of the
+//! connections; the first one accepts them, and hands the others theirs. A session never waits for its client, and
+//! whoever puts a message writes it. What happens is noted, and a thread of its own writes the notes.
 #![tactic(auto)]
 
 mod accepting;

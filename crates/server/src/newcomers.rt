@@ -70,8 +70,8 @@ impl Newcomers {
         }
     }
 
-    /// Takes a place for a connection that comes, if one is free. If not, one newcomer goes, and its place can be taken once it is
-    /// given back.
+    /// Takes a place for a connection that comes, if one is free. If not, one newcomer goes, and its place can be taken
+    /// once it is given back.
     pub(crate) fn take_place<R: Wait>(&self, rt: &R) -> bool {
         let mut places = self.places.lock(rt);
         if places.free > 0 {

@@ -24,7 +24,8 @@ impl Reserve {
         }
     }
 
-    /// Notes whether a connection was closed for want of a descriptor. Answers whether it is the first one since others weren't.
+    /// Notes whether a connection was closed for want of a descriptor. Answers whether it is the first one since others
+    /// weren't.
     pub(crate) fn note(&mut self, is_needed: bool) -> bool {
         let was_needed = self.is_needed;
         self.is_needed = is_needed;

@@ -70,9 +70,9 @@ where
     run(rt, alloc, &hub, endpoints, &start, log)
 }
 
-/// Starts the workers and, where notes are wanted, the thread that writes them; is the first of the workers itself, which accepts, and
-/// waits for all of them to end; there is one more where it serves nobody itself. Where there is no thread for the log, or for a
-/// worker, the bus goes on without it.
+/// Starts the workers and, where notes are wanted, the thread that writes them; is the first of the workers itself,
+/// which accepts, and waits for all of them to end; there is one more where it serves nobody itself. Where there is no
+/// thread for the log, or for a worker, the bus goes on without it.
 fn run<J: Naming + Send + Sync, R, L>(
     rt: &R,
     alloc: Global,

@@ -96,8 +96,8 @@ pub(crate) struct Worker<'a, J: Naming, R: Wait + Drop> {
     reader: Option<StateReader<J, Mail>>,
     // The keys of those that had more to read when their turn was over, or were held.
     again: Vec<usize>,
-    /// One of them at least may go on at once, where the others wait for the end of somebody who has gone; or clients still wait at
-    /// an endpoint.
+    /// One of them at least may go on at once, where the others wait for the end of somebody who has gone; or clients
+    /// still wait at an endpoint.
     pub(crate) is_eager: bool,
     // How many of its connections may become overdue.
     watched: u32,
@@ -107,8 +107,8 @@ pub(crate) struct Worker<'a, J: Naming, R: Wait + Drop> {
     is_ending: bool,
 }
 
-/// Serves the connections that are handed over, until no more come and all have ended. The end of the input that is watched ends
-/// them.
+/// Serves the connections that are handed over, until no more come and all have ended. The end of the input that is
+/// watched ends them.
 pub(crate) fn work<J: Naming, R: Wait + Drop, W: Wait + Clock>(
     rt: &W,
     alloc: Global,
@@ -357,8 +357,8 @@ impl<'a, J: Naming, R: Wait + Drop> Worker<'a, J, R> {
         None
     }
 
-    /// Ends all connections, and those that come from now on, since the bus ends. Their sockets are shut first, so that no client
-    /// has to wait for the ends of those before it.
+    /// Ends all connections, and those that come from now on, since the bus ends. Their sockets are shut first, so that
+    /// no client has to wait for the ends of those before it.
     fn end_all<W: Wait>(&mut self, rt: &W) {
         self.is_ending = true;
         for (_, connection) in self.connections.iter() {

@@ -43,7 +43,8 @@ pub(crate) fn take_all<R: Wait + Abort>(rt: &R, alloc: Global, outbox: &Outbox) 
     items
 }
 
-/// That just this many broadcasts of each of the origins 1 and 2 stand in the outbox, in the order of their counts. They are taken.
+/// That just this many broadcasts of each of the origins 1 and 2 stand in the outbox, in the order of their counts.
+/// They are taken.
 pub(crate) fn expect_both_in_order<R: Wait + Abort>(
     rt: &R,
     alloc: Global,
