@@ -132,6 +132,12 @@ impl Outbox {
         Some(item)
     }
 
+    /// How much waits: messages, and their bytes. Others may put some and take some at any time.
+    pub fn waiting(&self) -> Room {
+        let inner: &Inner = &self.inner;
+        inner.waiting.count()
+    }
+
     /// Whether the outbox is shut. Once shut it stays so.
     pub fn is_shut(&self, seat: &mut Seat) -> bool
         requires { seat.old.outbox ≡ self.now }

@@ -58,6 +58,15 @@ impl Waiting {
         before / MESSAGE < room.messages as u64 && before % MESSAGE < room.bytes as u64
     }
 
+    /// How much is counted now.
+    pub(crate) fn count(&self) -> Room {
+        let word = self.word.load(Ordering::SeqCst);
+        Room {
+            messages: (word / MESSAGE) as usize,
+            bytes: (word % MESSAGE) as usize,
+        }
+    }
+
     /// A message of this length that was counted doesn't wait any more.
     pub(crate) fn leave(&self, len: usize) {
         self.word.fetch_sub(weight(len), Ordering::SeqCst);

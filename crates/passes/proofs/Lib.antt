@@ -4,6 +4,7 @@ pub mod Commands
 pub mod Joining
 pub mod Finding
 pub mod NameOrder
+pub mod RuleOrder
 pub mod NameOwners
 pub mod Seats
 pub mod Sending

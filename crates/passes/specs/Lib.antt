@@ -22,3 +22,4 @@ pub mod Readiness
 pub mod Readings
 pub mod Compiling
 pub mod Asking
+pub mod Census

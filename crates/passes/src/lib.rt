@@ -6,6 +6,7 @@
 
 mod by_workers;
 mod calls;
+mod census;
 mod control;
 mod error;
 mod holding;

@@ -1,0 +1,73 @@
+// What the published state has of each connection, as it is told to whoever looks into the bus. It takes memory.
+
+ghost use Rattle.std.specs.Prelude.{◌≡◌, ℕ, IfOk, MatchOption, length};
+ghost use Rattle.program_table.specs.History.{after};
+ghost use Rattle.passes.specs.Census.{AreRulesOf};
+ghost use Rattle.passes.specs.NameOwners.{IsOwner};
+ghost use Rattle.passes.specs.Names.{AreNames};
+
+use crate::control::Control;
+use crate::names::{names_in, owner_in};
+use entry_table::{Filter, RuleProgram};
+use owners::WellKnown;
+use program_table::{BusState, Connection};
+use published::Naming;
+use routing::Mailbox;
+use std::alloc::{AllocError, Global};
+use std::sync::Wait;
+
+/// The rules of a connection, the oldest first.
+fn rules_in<M: Mailbox>(
+    state: &BusState<M>,
+    alloc: Global,
+    connection: u64,
+) -> Result<Vec<RuleProgram>, AllocError>
+    ensures { IfOk result (λ rules. AreRulesOf connection state.now.registrations.entries.entries rules.items) }
+{
+    let mut rules: Vec<RuleProgram> = Vec::new(alloc);
+    let mut last = 0;
+    'rules: while let Some(entry) = state.next_rule(connection, last) {
+        if let Filter::Rule(program) = &entry.filter {
+            rules.push(program.share()?)?;
+        }
+        last = entry.id;
+    }
+    Ok(rules)
+}
+
+impl<J: Naming, M: Mailbox, R: Wait + Drop> Control<J, M, R> {
+    /// The connections by rising number.
+    pub fn connections(&self) -> &[Connection<M>]
+        ensures { result.now ≡ (after self.now.history).connections }
+    {
+        self.state().connections()
+    }
+
+    /// How many rules and attached programs there are, of all connections.
+    pub fn entry_count(&self) -> usize
+        ensures { result ≡ length (after self.now.history).registrations.entries.entries }
+    {
+        self.state().entry_count()
+    }
+
+    /// The connection that owns a name, which is unique or well-known.
+    pub fn owner_of(&self, name: &str) -> Option<u64>
+        ensures { MatchOption result ((n : ℕ) → IsOwner (after self.now.history) name.now n → ⊥) (λ n. IsOwner (after self.now.history) name.now n) }
+    {
+        owner_in(self.state(), name)
+    }
+
+    /// The owned well-known names in the order of bytes.
+    pub fn names(&self, alloc: Global) -> Result<Vec<WellKnown>, AllocError>
+        ensures { IfOk result (λ names. AreNames (after self.now.history).registrations.claims names.items) }
+    {
+        names_in(self.state(), alloc)
+    }
+
+    /// The rules of a connection, the oldest first.
+    pub fn rules_of(&self, alloc: Global, connection: u64) -> Result<Vec<RuleProgram>, AllocError>
+        ensures { IfOk result (λ rules. AreRulesOf connection (after self.now.history).registrations.entries.entries rules.items) }
+    {
+        rules_in(self.state(), alloc, connection)
+    }
+}
