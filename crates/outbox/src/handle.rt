@@ -9,6 +9,7 @@ use crate::item::Item;
 use crate::room::{Room, Waiting};
 use crate::rule::{Look, Merging, Puts, SeatView, Shut, Shutting, Takes};
 use crate::seats::Seat;
+use crate::tally::Tally;
 use atomic_table::Table;
 use crossbeam_queue::RuledSegQueue;
 use std::alloc::{AllocError, Global};
@@ -19,6 +20,7 @@ use std::sync::{Arc, Wait};
 pub(crate) struct Inner {
     queue: RuledSegQueue<Item, SeatView, Merging>,
     waiting: Waiting,
+    tally: Tally,
     word: Table<(), bool, (), Shutting, Global>,
     ghost words: { word.shared.table_id.words ≡ 1 },
 }
@@ -28,6 +30,7 @@ impl Drop for Inner {
         let Inner {
             queue,
             waiting: _,
+            tally: _,
             word: _,
         } = self;
         queue.destroy();
@@ -64,6 +67,7 @@ impl Outbox {
         let inner = Inner {
             queue,
             waiting,
+            tally: Tally::new(),
             word,
         };
         let inner = Arc::new(alloc, inner)?;
@@ -136,6 +140,12 @@ impl Outbox {
     pub fn waiting(&self) -> Room {
         let inner: &Inner = &self.inner;
         inner.waiting.count()
+    }
+
+    /// What is counted of its client.
+    pub fn tally(&self) -> &Tally {
+        let inner: &Inner = &self.inner;
+        &inner.tally
     }
 
     /// Whether the outbox is shut. Once shut it stays so.

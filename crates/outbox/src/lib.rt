@@ -12,6 +12,7 @@ mod room;
 mod rule;
 mod seats;
 mod taker;
+mod tally;
 
 pub use handle::Outbox;
 pub use item::Item;
@@ -21,3 +22,4 @@ pub use room::{ROOM, Room};
 pub use rule::{ReleaseView, SeatView};
 pub use seats::Seat;
 pub use taker::{Delivery, Taker};
+pub use tally::{Counts, Tally};

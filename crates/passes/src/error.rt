@@ -88,7 +88,7 @@ impl BusError {
     }
 
     /// The error of a text that isn't read.
-    pub(crate) fn of_text(fault: RuleError) -> BusError
+    pub fn of_text(fault: RuleError) -> BusError
         ensures { result ≡ rule_error fault }
     {
         match fault {
