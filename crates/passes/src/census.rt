@@ -22,7 +22,7 @@ fn rules_in<M: Mailbox>(
     alloc: Global,
     connection: u64,
 ) -> Result<Vec<RuleProgram>, AllocError>
-    ensures { IfOk result (λ rules. AreRulesOf connection state.now.registrations.entries.entries rules.items) }
+    ensures { IfOk result (λ rules. AreRulesOf connection state.now.registrations.entries rules.items) }
 {
     let mut rules: Vec<RuleProgram> = Vec::new(alloc);
     let mut last = 0;
@@ -45,7 +45,7 @@ impl<J: Naming, M: Mailbox, R: Wait + Drop> Control<J, M, R> {
 
     /// How many rules and attached programs there are, of all connections.
     pub fn entry_count(&self) -> usize
-        ensures { result ≡ length (after self.now.history).registrations.entries.entries }
+        ensures { result ≡ length (after self.now.history).registrations.entries }
     {
         self.state().entry_count()
     }
@@ -66,7 +66,7 @@ impl<J: Naming, M: Mailbox, R: Wait + Drop> Control<J, M, R> {
 
     /// The rules of a connection, the oldest first.
     pub fn rules_of(&self, alloc: Global, connection: u64) -> Result<Vec<RuleProgram>, AllocError>
-        ensures { IfOk result (λ rules. AreRulesOf connection (after self.now.history).registrations.entries.entries rules.items) }
+        ensures { IfOk result (λ rules. AreRulesOf connection (after self.now.history).registrations.entries rules.items) }
     {
         rules_in(self.state(), alloc, connection)
     }

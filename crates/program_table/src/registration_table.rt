@@ -261,14 +261,14 @@ impl RegistrationTable {
 
     /// How many entries there are.
     pub(crate) fn entry_count(&self) -> usize
-        ensures { result ≡ length self.now.entries.entries }
+        ensures { result ≡ length self.now.entries }
     {
         self.entries.len()
     }
 
     /// A connection's oldest entry with a rule whose id is above this one.
     pub(crate) fn next_rule(&self, connection: u64, after: u32) -> Option<&Entry>
-        ensures { option_map (λ e. e.now) result ≡ find (is_rule_after connection after) self.now.entries.entries }
+        ensures { option_map (λ e. e.now) result ≡ find (is_rule_after connection after) self.now.entries }
     {
         self.entries.next_rule(connection, after)
     }

@@ -320,14 +320,14 @@ impl<M: Handle> BusState<M> {
 
     /// How many entries there are, of all connections.
     pub fn entry_count(&self) -> usize
-        ensures { result ≡ length self.now.registrations.entries.entries }
+        ensures { result ≡ length self.now.registrations.entries }
     {
         self.registrations.entry_count()
     }
 
     /// A connection's oldest entry with a rule whose id is above this one.
     pub fn next_rule(&self, connection: u64, after: u32) -> Option<&Entry>
-        ensures { option_map (λ e. e.now) result ≡ find (is_rule_after connection after) self.now.registrations.entries.entries }
+        ensures { option_map (λ e. e.now) result ≡ find (is_rule_after connection after) self.now.registrations.entries }
     {
         self.registrations.next_rule(connection, after)
     }
