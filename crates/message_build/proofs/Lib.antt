@@ -14,3 +14,4 @@ pub mod KeptFields
 pub mod StampedMessages
 pub mod HeaderArrays
 pub mod AllKept
+pub mod Dicts

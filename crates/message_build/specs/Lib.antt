@@ -8,3 +8,5 @@ pub mod MessageBytes
 pub mod Headers
 pub mod HeaderFields
 pub mod Adding
+pub mod NamedFacts
+pub mod TextLists

@@ -11,6 +11,9 @@ ghost use Rattle.message_build.specs.Growing.{Appends};
 use message_value::{Order, padding};
 use std::alloc::AllocError;
 
+/// The alignment of a dict entry.
+pub(crate) const ENTRY_ALIGNMENT: usize = 8;
+
 /// Appends zeros up to a multiple.
 pub(crate) fn align(bytes: &mut Vec<u8>, alignment: usize) -> Result<(), AllocError>
     requires { 0 < alignment × alignment ≤ 8 }

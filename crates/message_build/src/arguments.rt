@@ -14,7 +14,7 @@ use message_value::Order;
 use std::alloc::AllocError;
 
 /// Appends `more` to `list` after `grown` has grown. Where either is refused, `grown` is cut back to `len`.
-fn complete(
+pub(crate) fn complete(
     pushed: Result<(), AllocError>,
     grown: &mut Vec<u8>,
     len: usize,

@@ -14,7 +14,7 @@ use message_value::Order;
 use std::alloc::AllocError;
 
 /// How many bytes the length of an array has.
-const LENGTH_LEN: usize = 4;
+pub(crate) const LENGTH_LEN: usize = 4;
 
 /// Appends the strings one after the other.
 fn push_elements(bytes: &mut Vec<u8>, strings: &[&str]) -> Result<(), AllocError>
