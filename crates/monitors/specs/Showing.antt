@@ -1,0 +1,32 @@
+-- What becomes of a message that is shown to a monitor (own).
+use Rattle.std.specs.Prelude.{◌≡◌, ◌++◌, ◌∷◌, [], ℕ, Bool, true, false, List, None}
+use Rattle.message_view.specs.Message.{Message}
+use Rattle.outbox.specs.Items.{Item}
+use Rattle.monitors.specs.declared.shown.Shown.{Shown}
+use Rattle.monitors.specs.declared.shown.Shown.TheVariants.{Put, Unwanted, LeftOut, Refused}
+use Rattle.monitors.specs.Watching.{Watching}
+use Rattle.monitors.specs.Wanting.{Wants, WantsNot}
+
+abbrev pub is_refused : Shown → Bool
+is_refused Refused = true
+is_refused _ = false
+
+-- a message that an outbox gives out at once
+abbrev pub message_of : List ℕ → Item
+message_of bytes = record { bytes = bytes; mark = None; hold = None }
+
+-- the monitor after a message was put into its outbox
+abbrev pub with_put : Item → Watching → Watching
+with_put message monitor = record monitor { put = monitor.put ++ message ∷ [] }
+
+-- the message was put, or nothing changed
+abbrev pub PutThere : Item → Shown → Watching → Watching → Type 0
+PutThere message Put old new = new ≡ with_put message old
+PutThere message Refused old new = new ≡ old
+PutThere message _ old new = ⊥
+
+-- what the monitor wants is put, unless memory or the outbox refuses it, and nothing else is
+abbrev pub ShownThere : (List ℕ → Bool → Type 0) → Message → List ℕ → Shown → Watching → Watching → Type 0
+ShownThere answers m bytes Put old new = (new ≡ with_put (message_of bytes) old) × Wants answers m old.rules
+ShownThere answers m bytes Unwanted old new = (new ≡ old) × WantsNot answers m old.rules
+ShownThere answers m bytes _ old new = (new ≡ old) × Wants answers m old.rules
