@@ -225,6 +225,138 @@ def gone_in_mid_message(bus):
     return [went.body[2] == "", bus.connect().name is not None]
 
 
+MONITORING = "org.freedesktop.DBus.Monitoring"
+STATS = "org.freedesktop.DBus.Debug.Stats"
+
+
+def met(one):
+    """The member or the error of each message that came, until none comes for a moment."""
+    one.link.settimeout(1)
+    found = []
+    try:
+        while True:
+            got = one.receive()
+            found.append(got.member or got.error_name or ("answer", got.reply_serial))
+    except TimeoutError:
+        return found
+
+
+@row("wire", ["InvalidArgs", "MatchRuleInvalid", "UnknownInterface", (), ["NameAcquired", "NameLost", "NameLost"], False, "NameHasNoOwner"])
+def becomes_a_monitor(bus):
+    one, two = bus.connect(), bus.connect()
+    one.call("RequestName", "su", ("com.example.Watching", 0))
+    become = lambda rules, flags, **options: error_of(one.call, "BecomeMonitor", "asu", (rules, flags), interface=MONITORING, **options)
+    seen = [become([], 1), become(["nothing='x'"], 0), become([], 0, path="/a"), become([], 0)]
+    told = [got for got in met(one) if got in ("NameLost", "NameAcquired")]
+    seen.append(told[-3:])
+    seen.append(two.call("NameHasOwner", "s", ("com.example.Watching",))[0])
+    return seen + [error_of(two.call, "GetNameOwner", "s", (one.name,))]
+
+
+@row("wire", [["Hello", ("answer", 1), "NameOwnerChanged", "NameAcquired"], ["Echo", ("answer", 9)], ["Told", "Shout"], ["com.example.Error.No"], "NameLost"])
+def a_monitor_sees_what_passes(bus):
+    watcher, two = bus.connect(), bus.connect()
+    two.call("RequestName", "su", ("com.example.Service", 0))
+    watcher.call("BecomeMonitor", "asu", ([], 0), interface=MONITORING)
+    met(watcher)
+    three = bus.connect()
+    seen = [met(watcher)]
+    three.serial = 8
+    serial = three.send(wire.METHOD_CALL, 0, "s", ("ping",), path="/x", interface="a.b", member="Echo", destination="com.example.Service")
+    asked = next(got for got in iter(two.receive, None) if got.kind == wire.METHOD_CALL)
+    two.send(wire.METHOD_RETURN, 1, "s", asked.body, reply_serial=serial, destination=asked.sender)
+    seen.append(met(watcher))
+    two.send(wire.SIGNAL, 0, path="/x", interface="a.b", member="Told", destination=three.name)
+    two.signal("/x", "a.b", "Shout")
+    seen.append(met(watcher))
+    serial = three.send(wire.METHOD_CALL, 0, path="/x", interface="a.b", member="Fail", destination=two.name)
+    asked = next(got for got in iter(two.receive, None) if got.kind == wire.METHOD_CALL and got.member == "Fail")
+    two.send(wire.ERROR, 1, error_name="com.example.Error.No", reply_serial=asked.serial, destination=asked.sender)
+    seen.append(met(watcher)[1:])
+    two.close()
+    return seen + [met(watcher)[0]]
+
+
+@row("wire", [["Hello", "Ping"], ["Named"], ["Changed", "Changed"]])
+def monitors_by_their_rules(bus):
+    by_member, by_name, by_both, two, three = (bus.connect() for _ in range(5))
+    two.call("RequestName", "su", ("com.example.Sender", 0))
+    for one, rules in ((by_member, ["type='method_call',interface='org.freedesktop.DBus'", "member='Ping'"]), (by_name, ["type='signal',sender='com.example.Sender',member='Named'"]), (by_both, ["member='Changed'"])):
+        one.call("BecomeMonitor", "asu", (rules, 0), interface=MONITORING)
+        met(one)
+    bus.connect().call("Ping", interface="org.freedesktop.DBus.Peer")
+    seen = [[got for got in met(by_member) if got in ("Hello", "Ping")]]
+    two.signal("/a", "a.b", "Named")
+    three.signal("/a", "a.b", "Named")
+    seen.append(met(by_name))
+    two.signal("/a", "a.b", "Changed")
+    two.send(wire.SIGNAL, 0, path="/a", interface="a.b", member="Changed", destination=three.name)
+    return seen + [met(by_both)]
+
+
+@row("wire", ["closed", True])
+def a_monitor_sends_nothing(bus):
+    one, two = bus.connect(), bus.connect()
+    two.call("AddMatch", "s", ("member='Sent'",))
+    one.call("BecomeMonitor", "asu", ([], 0), interface=MONITORING)
+    one.signal("/a", "a.b", "Sent")
+    try:
+        while True:
+            one.receive()
+    except (wire.Closed, ConnectionError):
+        seen = ["closed"]
+    two.call("Ping", interface="org.freedesktop.DBus.Peer")
+    return seen + [not any(got.member == "Sent" for got in two.waiting)]
+
+
+@row("wire", [[2, 2, 3], [":1.1", 2, 2, 0], "NameHasNoOwner", "InvalidArgs", "UnknownInterface"])
+def counts_of_the_bus(bus):
+    one, two = bus.connect(), bus.connect()
+    for rule in ("member='c'", "path='/a'"):
+        two.call("AddMatch", "s", (rule,))
+    two.call("RequestName", "su", ("com.example.Counted", 0))
+    ask = lambda member, *words, **options: error_of(one.call, member, *words, interface=STATS, **options)
+    facts = {name: fact[1] for name, fact in ask("GetStats")[0].items()}
+    seen = [[facts[name] for name in ("ActiveConnections", "MatchRules", "BusNames")]]
+    facts = {name: fact[1] for name, fact in ask("GetConnectionStats", "s", ("com.example.Counted",))[0].items()}
+    facts["UniqueName"] = ":1.1" if facts["UniqueName"] == two.name else facts["UniqueName"]
+    seen.append([facts[name] for name in ("UniqueName", "MatchRules", "BusNames", "OutgoingBytes")])
+    return seen + [ask("GetConnectionStats", "s", (name,)) for name in ("com.example.Nobody", BUS)] + [ask("GetStats", path="/a")]
+
+
+@row("wire", [[3, 2, 0, 2], [3, 2, 0, 2]], ours_alone=True)
+def counts_of_what_was_sent(bus):
+    one, two = bus.connect(), bus.connect()
+    one.call("AddMatch", "s", ("member='c'",))
+    two.call("AddMatch", "s", ("member='c'",))
+    one.signal("/a", "a.b", "c")
+    one.signal("/a", "a.b", "x")
+    one.signal("/a", "a.b", "x")
+    one.send(wire.SIGNAL, 0, path="/a", interface="a.b", member="x", destination=two.name)
+    one.send(wire.METHOD_CALL, wire.NO_REPLY_EXPECTED, path="/a", interface="a.b", member="x", destination=two.name)
+    one.call("Ping", interface="org.freedesktop.DBus.Peer")
+    numbers = lambda facts: [facts[name][1] for name in ("Broadcasts", "Recipients", "RefusedPuts", "Unicasts")]
+    seen = [numbers(two.call("GetConnectionStats", "s", (one.name,), interface=STATS)[0])]
+    one.close()
+    wait_until(lambda: not two.call("NameHasOwner", "s", (one.name,))[0])
+    return seen + [numbers(two.call("GetStats", interface=STATS)[0])]
+
+
+RULES = [
+    "type='signal',member='c'", "interface='a.b',path='/a/b',arg0='x',arg12='y'", "path_namespace='/a',arg2path='/b/',arg0namespace='com.example'",
+    "sender='com.example.Sender',destination=':1.5',arg1='it'\\''s, so'", "type='method_call',eavesdrop='true'", "",
+]
+
+
+@row("wire", [sorted(sorted(re.split(r",(?=[a-z0-9_]+=')", rule)) for rule in RULES), []])
+def all_rules_as_texts(bus):
+    one, two = bus.connect(), bus.connect()
+    for rule in RULES:
+        two.call("AddMatch", "s", (rule,))
+    found = one.call("GetAllMatchRules", interface=STATS)[0]
+    return [sorted(sorted(re.split(r",(?=[a-z0-9_]+=')", rule)) for rule in found[two.name]), found[one.name]]
+
+
 # dbus-send
 
 
@@ -282,6 +414,19 @@ def signals_by_rules(bus):
         one.signal("/a", "a.b", "Unseen")
         one.signal("/a", "a.b", "Seen", "s", ("last",))
         return [shown, watcher.has('string "last"'), "Unseen" in watcher.text()]
+    finally:
+        watcher.stop()
+
+
+@row("dbus-monitor", [True, True, True])
+def calls_of_others(bus):
+    watcher = Watcher("dbus-monitor", "--address", bus.address)
+    try:
+        one, two = bus.connect(), bus.connect()
+        shown = wait_until(lambda: bus.connect().close() or "member=Hello" in watcher.text())
+        one.send(wire.METHOD_CALL, 1, "s", ("asked",), path="/x", interface="a.b", member="Ask", destination=two.name)
+        asked = watcher.has('string "asked"')
+        return [shown, asked, f"sender={one.name} -> destination={two.name}" in watcher.text()]
     finally:
         watcher.stop()
 
@@ -361,3 +506,29 @@ def lists_names(bus):
     one = bus.connect()
     one.call("RequestName", "su", ("com.example.Listed", 0))
     return "com.example.Listed" in busctl(bus, "list", "--no-pager")
+
+
+@row("busctl", [True, True])
+def monitors_the_bus(bus):
+    watcher = Watcher("busctl", f"--address={bus.address}", "monitor", "--no-pager")
+    try:
+        one, two = bus.connect(), bus.connect()
+        shown = wait_until(lambda: one.signal("/a", "a.b", "Seen", "s", ("text",)) and "Member=Seen" in watcher.text())
+        one.send(wire.METHOD_CALL, 1, "s", ("asked",), path="/x", interface="a.b", member="Ask", destination=two.name)
+        return [shown, watcher.has('STRING "asked"')]
+    finally:
+        watcher.stop()
+
+
+@row("busctl", [True, True])
+def captures_the_bus(bus):
+    with tempfile.TemporaryFile() as file:
+        capture = subprocess.Popen(["busctl", f"--address={bus.address}", "capture"], stdout=file, stderr=subprocess.DEVNULL)
+        try:
+            one = bus.connect()
+            read = lambda: (file.seek(0), file.read())[1]
+            shown = wait_until(lambda: one.signal("/a", "a.b", "Captured", "s", ("text",)) and b"Captured" in read())
+            return [shown, read()[:4] in (b"\xd4\xc3\xb2\xa1", b"\n\r\r\n")]
+        finally:
+            capture.kill()
+            capture.wait()

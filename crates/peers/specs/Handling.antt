@@ -17,6 +17,7 @@ use Rattle.peers.specs.Passing.{HasBroadcast, IsRequestOf, is_call}
 use Rattle.peers.specs.PeerState.{PeerState}
 use Rattle.peers.specs.Table.{Performs}
 use Rattle.peers.specs.declared.error.AnswerError.{AnswerError}
+use Rattle.peers.specs.declared.error.AnswerError.TheVariants.{Monitor}
 use Rattle.peers.specs.declared.refused.Refused.TheVariants.{Error}
 use Rattle.peers.specs.declared.request.Request.{Request}
 use Rattle.peers.specs.declared.shares.Shares.{Shares}
@@ -58,7 +59,12 @@ module _ {M : Type 0} where
   HandledAs outbox_of shares bytes m true v result w = CallsBus outbox_of shares m v result w
   HandledAs outbox_of shares bytes m false v result w = PassesOn outbox_of bytes (is_known m.kind) (is_signal m.kind) (destination_of m) v result w
 
+  -- A client that watches the bus may send nothing; its pass is closed.
+  abbrev pub HandledOf : (M → OutboxId) → Bool → Shares → List ℕ → PeerState M → Result (Unit {0}) AnswerError → PeerState M → Type 0
+  HandledOf outbox_of true shares bytes v result w = (result ≡ Err Monitor) × (w ≡ v)
+  HandledOf outbox_of false shares bytes v result w = (m : Message) → Valid bytes m → HandledAs outbox_of shares bytes m (is_for_bus m) v result w
+
   -- A message of these bytes is handled: a call of the bus is answered, a signal without destination is a broadcast, another
   -- message with a destination goes there, and all else is dropped. What the client takes of the bus is within these shares.
   abbrev pub Handles : (M → OutboxId) → Shares → List ℕ → PeerState M → Result (Unit {0}) AnswerError → PeerState M → Type 0
-  Handles outbox_of shares bytes v result w = (m : Message) → Valid bytes m → HandledAs outbox_of shares bytes m (is_for_bus m) v result w
+  Handles outbox_of shares bytes v result w = HandledOf outbox_of v.pass.is_closed shares bytes v result w

@@ -20,6 +20,8 @@ pub mod Calling
 pub mod NameRows
 pub mod Arrival
 pub mod Departure
+pub mod Monitoring
+pub mod Stats
 pub mod Table
 pub mod Handling
 pub mod Subjects

@@ -172,6 +172,7 @@ impl<B: Naming, M: Mailbox> Peer<B, M> {
         let Ok(bytes) = built_message else {
             return Err(AnswerError::NoMemory);
         };
+        context.bus.show(context.rt, context.alloc, None, &bytes);
         match self.pass.send_to(context.rt, context.alloc, Source::Bus, to.as_str(), &bytes) {
             Ok(_) => Ok(()),
             Err(_) => Err(AnswerError::NoMemory),
@@ -224,6 +225,11 @@ impl<B: Naming, M: Mailbox> Peer<B, M> {
         ensures routed { Broadcasts M.outbox_of source bytes.now self.old.pass result lists.new.recipients.items lists.new.refused.items self.new.pass }
         ensures same { self.new ≡ with_pass self.old self.new.pass }
     {
+        let number = match source {
+            Source::Own => Some(self.pass.connection()),
+            Source::Bus => None,
+        };
+        context.bus.show(context.rt, context.alloc, number, bytes);
         let routed = self
             .pass
             .broadcast(context.rt, context.alloc, source, view, bytes, lists);

@@ -135,14 +135,15 @@ impl<B: Naming, M: Mailbox> Peer<B, M> {
         self.put(context, bytes)
     }
 
-    // Puts a message to the client, held with what its pass holds.
-    fn put<W: Wait, R: Wait + Drop>(
+    /// Puts a message to the client, held with what its pass holds.
+    pub(crate) fn put<W: Wait, R: Wait + Drop>(
         &mut self,
         context: &Context<'_, B, M, W, R>,
         bytes: Bytes,
     ) -> Result<(), AnswerError>
         ensures { IsPut (λ put. put ≡ bytes) self.old result self.new }
     {
+        context.bus.show(context.rt, context.alloc, None, &bytes);
         match self.pass.message(context.alloc, bytes) {
             Ok(message) => self.own.put(context.rt, message),
             Err(_) => Err(AnswerError::NoMemory),

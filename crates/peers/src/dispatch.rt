@@ -46,7 +46,8 @@ impl<B: Naming, M: Mailbox> Peer<B, M> {
     ///
     /// # Errors
     ///
-    /// `Slow` if an answer has no room, `NoMemory` if a message can't be passed on or answered for want of memory.
+    /// `Monitor` if the client watches the bus. `Slow` if an answer has no room, `NoMemory` if a message can't be passed on
+    /// or answered for want of memory.
     pub fn handle<W: Wait, R: Wait + Drop>(
         &mut self,
         context: &Context<'_, B, M, W, R>,
@@ -55,6 +56,9 @@ impl<B: Naming, M: Mailbox> Peer<B, M> {
     ) -> Result<(), AnswerError>
         ensures { Handles M.outbox_of context.now.shares view.now self.old result self.new }
     {
+        if self.pass.is_closed() {
+            return Err(AnswerError::Monitor);
+        }
         if is_for_bus(view) {
             return self.call_bus(context, lists, view);
         }
@@ -73,6 +77,7 @@ impl<B: Naming, M: Mailbox> Peer<B, M> {
     ) -> Result<(), AnswerError>
         ensures { (m : Message) → Valid view.now m → CallsBus M.outbox_of context.now.shares m self.old result self.new }
     {
+        self.show(context, view);
         let request = Request::of(view);
         match Call::read(context.alloc, view) {
             Ok(call) => self.perform(context, lists, request, call),

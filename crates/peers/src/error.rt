@@ -10,6 +10,8 @@ pub enum AnswerError {
     Slow,
     /// Memory was refused, or the bus has ended.
     NoMemory,
+    /// The client watches the bus, and may send nothing.
+    Monitor,
 }
 
 impl fmt::Display for AnswerError {
@@ -17,6 +19,7 @@ impl fmt::Display for AnswerError {
         f.write_str(match self {
             AnswerError::Slow => "Slow",
             AnswerError::NoMemory => "NoMemory",
+            AnswerError::Monitor => "Monitor",
         })
     }
 }

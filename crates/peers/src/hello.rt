@@ -55,6 +55,7 @@ pub fn put_refusal<B: Naming, M: Mailbox, W: Wait, R: Wait + Drop>(
     }
     let serial = Serials::new().take();
     let bytes = error_bytes(context.alloc, serial, None, request, name)?;
+    context.bus.show(context.rt, context.alloc, None, &bytes);
     match Item::new(context.alloc, bytes) {
         Ok(message) => own.put(context.rt, message),
         Err(_) => Err(AnswerError::NoMemory),

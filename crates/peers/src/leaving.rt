@@ -33,7 +33,7 @@ enum Giving {
 }
 
 impl<B: Naming, M: Mailbox> Peer<B, M> {
-    /// Gives up the client's names one after the other, each change announced, closes its pass, announces that its own
+    /// Watches the bus no more, gives up the client's names one after the other, each change announced, closes its pass, announces that its own
     /// name is gone, answers NoReply to those who wait for the client's replies, and writes out what was put. A message that
     /// memory refuses is left out.
     pub fn leave<W: Wait, R: Wait + Drop>(
@@ -44,6 +44,10 @@ impl<B: Naming, M: Mailbox> Peer<B, M> {
         ensures leaves { Leaves M.outbox_of self.old result self.new }
         ensures closed { HasLeft result self.new }
     {
+        context
+            .bus
+            .monitors()
+            .remove(context.rt, self.pass.connection());
         let leaving = if self.give_up_names(context, lists) {
             self.close(context, lists)
         } else {
@@ -145,6 +149,7 @@ impl<B: Naming, M: Mailbox> Peer<B, M> {
     {
         match closed {
             Ok(_) => {
+                context.bus.gone().add(self.own.tally().counts());
                 let _ = self.announce_departure(context, lists);
                 self.end_calls(context);
                 Leaving::Done

@@ -20,6 +20,7 @@ mod identity;
 mod leaving;
 mod matches;
 mod methods;
+mod monitoring;
 mod names;
 mod own_outbox;
 mod owner;
@@ -31,6 +32,7 @@ mod request;
 mod sending;
 mod serial;
 mod shares;
+mod stats;
 mod subject;
 
 pub use all_instructions::AllInstructions;

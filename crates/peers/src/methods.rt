@@ -87,6 +87,12 @@ impl<B: Naming, M: Mailbox> Peer<B, M> {
             Call::Get(property) => self.answer(context, request, Body::Property(property)),
             Call::GetAll => self.answer(context, request, Body::Properties),
             Call::GetAllOfNone => self.answer(context, request, Body::EmptyDict),
+            Call::BecomeMonitor(rules, flags) => {
+                self.become_monitor(context, lists, request, rules.as_slice(), flags)
+            }
+            Call::GetStats => self.get_stats(context, request),
+            Call::GetConnectionStats(name) => self.get_connection_stats(context, request, name),
+            Call::GetAllMatchRules => self.get_all_match_rules(context, request),
             Call::UpdateActivationEnvironment => self.answer(context, request, Body::Nothing),
         }
     }

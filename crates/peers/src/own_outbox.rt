@@ -3,7 +3,7 @@
 ghost use Rattle.std.specs.Prelude.{◌≡◌, ◌++◌, ◌∷◌, [], None, IfOk, MatchResult};
 
 use crate::error::AnswerError;
-use outbox::{Item, Seat};
+use outbox::{Item, Seat, Tally};
 use router::Mailbox;
 use std::alloc::AllocError;
 use std::marker::Model;
@@ -62,6 +62,11 @@ impl<M: Mailbox> OwnOutbox<M> {
             Ok(()) => Ok(()),
             Err(_) => Err(AnswerError::Slow),
         }
+    }
+
+    /// What is counted of the client.
+    pub(crate) fn tally(&self) -> &Tally {
+        self.mailbox.outbox().tally()
     }
 
     /// Whether the outbox was shut, since a message found no room.

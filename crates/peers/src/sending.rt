@@ -23,7 +23,7 @@ use std::sync::Wait;
 
 impl<B: Naming, M: Mailbox> Peer<B, M> {
     /// Passes on a signal without destination, stamped with the client's name, to its recipients. Most broadcasts are for
-    /// nobody, and aren't even stamped. One that would be above the limits with its sender is dropped.
+    /// nobody, and aren't even stamped, unless somebody watches the bus. One that would be above the limits with its sender is dropped.
     ///
     /// # Errors
     ///
@@ -36,13 +36,21 @@ impl<B: Naming, M: Mailbox> Peer<B, M> {
     ) -> Result<(), AnswerError>
         ensures { HasBroadcast M.outbox_of view.now self.old result self.new }
     {
-        if self.reaches_nobody(view) {
+        if context.bus.monitors().is_empty() && self.reaches_nobody(view) {
+            self.own.tally().count_broadcast(0, 0);
             return Ok(());
         }
         match stamp_message(context.alloc, view, &self.name) {
             Ok(bytes) => {
                 let stamped = View::of_message(bytes.as_slice());
-                self.broadcast(context, Source::Own, &stamped, &bytes, lists)
+                let routed = self.broadcast(context, Source::Own, &stamped, &bytes, lists);
+                if routed.is_ok() {
+                    let refused = lists.refused.len();
+                    self.own
+                        .tally()
+                        .count_broadcast(lists.recipients.len(), refused);
+                }
+                routed
             }
             Err(StampError::TooLarge) => Ok(()),
             Err(StampError::NoMemory) => Err(AnswerError::NoMemory),
@@ -82,6 +90,9 @@ impl<B: Naming, M: Mailbox> Peer<B, M> {
     ) -> Result<(), AnswerError>
         ensures { GoesOn M.outbox_of view.now to.now bytes.now self.old result self.new }
     {
+        self.own.tally().count_unicast();
+        let number = Some(self.pass.connection());
+        context.bus.show(context.rt, context.alloc, number, bytes);
         match view.kind() {
             Kind::MethodCall => self.send_call(context, view, to, bytes),
             Kind::MethodReturn => self.send_reply(context, view, to, bytes),
@@ -155,7 +166,7 @@ impl<B: Naming, M: Mailbox> Peer<B, M> {
 }
 
 /// The message as it is passed on, with its sender.
-fn stamp_message(alloc: Global, view: &View<'_>, sender: &UniqueName) -> Result<Bytes, StampError>
+pub(crate) fn stamp_message(alloc: Global, view: &View<'_>, sender: &UniqueName) -> Result<Bytes, StampError>
     ensures stamps { (m : Message) → Valid view.now m → Stamps m (unique_name sender.now) result }
     ensures valid { IfOk result (λ bytes. (m : Message) × Valid bytes m) }
 {

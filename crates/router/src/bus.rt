@@ -10,7 +10,9 @@ ghost use Rattle.passes.specs.Calls.{Once, Answers, ClaimsNothing, Connects};
 ghost use Rattle.passes.specs.Readings.{AddsMatch, RemovesMatch, Attaches};
 
 use bpf_code::Ins;
+use monitors::Monitors;
 use open_calls::{OpenCall, OpenCalls, Shards};
+use outbox::Tally;
 use owners::WellKnown;
 use passes::{
     BusError, Control, Front, IndexKey, KeptPasses, Mailbox, Naming, Opened, Pass, Reply,
@@ -32,6 +34,10 @@ pub struct Bus<B: Naming, M: Mailbox, R: Wait + Drop> {
     turns: Mutex<()>,
     // The calls that went through and wait for their replies.
     calls: Shards,
+    // Those who watch all that goes through.
+    pub(crate) monitors: Monitors<M>,
+    // What those have sent who have left.
+    gone: Tally,
 }
 
 impl<B: Naming, M: Mailbox, R: Wait + Drop> Bus<B, M, R> {
@@ -71,6 +77,8 @@ impl<B: Naming, M: Mailbox, R: Wait + Drop> Bus<B, M, R> {
                 kept: Mutex::new(kept),
                 turns: Mutex::new(()),
                 calls: Shards::new(alloc),
+                monitors: Monitors::new(alloc),
+                gone: Tally::new(),
             }),
             Err(_) => Err(BusError::NoMemory),
         }
@@ -100,6 +108,11 @@ impl<B: Naming, M: Mailbox, R: Wait + Drop> Bus<B, M, R> {
         ensures { IfSome result (λ call. call.callee ≡ callee) }
     {
         self.calls.take_call_to(rt, callee)
+    }
+
+    /// What those have sent who have left the bus.
+    pub fn gone(&self) -> &Tally {
+        &self.gone
     }
 
     /// A new pass with a reader of its own, which has no connection, and has sent nothing. A reader that was given back

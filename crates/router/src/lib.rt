@@ -8,9 +8,11 @@ mod gated;
 mod letterbox;
 mod routes;
 mod unicasts;
+mod watching;
 
 pub use bus::Bus;
 pub use letterbox::Letterbox;
+pub use monitors::Monitors;
 pub use open_calls::{OpenCall, OpenCalls};
 pub use passes::{BusError, Control, Pass, RouteLists, Sent, Source};
 

@@ -5,7 +5,7 @@ use Rattle.frames.specs.declared.error.FrameError.TheVariants as frame_errors
 use Rattle.peers.specs.declared.error.AnswerError.{AnswerError}
 use Rattle.peers.specs.declared.error.AnswerError.TheVariants as answer_errors
 use Rattle.sessions.specs.declared.error.SessionError.{SessionError}
-use Rattle.sessions.specs.declared.error.SessionError.TheVariants.{Auth, Message, NoHello, Read, Write, Slow, NoMemory}
+use Rattle.sessions.specs.declared.error.SessionError.TheVariants.{Auth, Message, NoHello, Read, Write, Slow, NoMemory, Monitor}
 
 abbrev pub number_of : SessionError → ℕ
 number_of Auth = 1
@@ -15,6 +15,7 @@ number_of Read = 4
 number_of Write = 5
 number_of Slow = 6
 number_of NoMemory = 7
+number_of Monitor = 8
 
 abbrev pub name_of : SessionError → List ℕ
 name_of Auth = codes "Auth"
@@ -24,6 +25,7 @@ name_of Read = codes "Read"
 name_of Write = codes "Write"
 name_of Slow = codes "Slow"
 name_of NoMemory = codes "NoMemory"
+name_of Monitor = codes "Monitor"
 
 -- what ends a session whose bytes aren't kept
 abbrev pub error_of_frame : FrameError → SessionError
@@ -34,3 +36,4 @@ error_of_frame frame_errors.NoMemory = NoMemory
 abbrev pub error_of_answer : AnswerError → SessionError
 error_of_answer answer_errors.Slow = Slow
 error_of_answer answer_errors.NoMemory = NoMemory
+error_of_answer answer_errors.Monitor = Monitor

@@ -164,6 +164,7 @@ impl<B: Naming, M: Mailbox> Client<B, M> {
                 if let Some(all) = self.all.take() {
                     peer.share_instructions(all);
                 }
+                peer.show(context, view);
                 let registered = peer.register(context, lists, Request::of(view));
                 self.peer = Some(peer);
                 outcome_of(registered)

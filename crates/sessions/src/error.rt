@@ -26,6 +26,8 @@ pub enum SessionError {
     Slow,
     /// Memory was refused, or the bus has ended.
     NoMemory,
+    /// A client that watches the bus sent a message.
+    Monitor,
 }
 
 impl SessionError {
@@ -41,6 +43,7 @@ impl SessionError {
             SessionError::Write => 5,
             SessionError::Slow => 6,
             SessionError::NoMemory => 7,
+            SessionError::Monitor => 8,
         }
     }
 
@@ -56,6 +59,7 @@ impl SessionError {
             SessionError::Write => "Write",
             SessionError::Slow => "Slow",
             SessionError::NoMemory => "NoMemory",
+            SessionError::Monitor => "Monitor",
         }
     }
 }
@@ -95,6 +99,7 @@ impl From<AnswerError> for SessionError {
         match error {
             AnswerError::Slow => SessionError::Slow,
             AnswerError::NoMemory => SessionError::NoMemory,
+            AnswerError::Monitor => SessionError::Monitor,
         }
     }
 }

@@ -1,0 +1,240 @@
+// What the bus tells whoever looks into it (D-Bus has no standard for these calls; they are dbus-daemon's).
+
+ghost use Rattle.std.specs.Prelude.{◌≡◌};
+ghost use Rattle.peers.specs.Answers.{NeverSlow};
+ghost use Rattle.peers.specs.Stats.{AnswersInsight, AnswersInsightLater, IsInsight};
+
+use crate::context::Context;
+use crate::error::AnswerError;
+use crate::owner::Owner;
+use crate::peer::Peer;
+use crate::refused::Refused;
+use crate::request::Request;
+use bus_messages::{Body, ErrorName, Fact, NamedFact, TextList, UniqueName};
+use outbox::{Counts, Room};
+use router::{Bus, Control, Mailbox, Naming};
+use rule_text::rule_text;
+use std::alloc::{AllocError, Global};
+use std::sync::Wait;
+
+/// What is known of one client, or of all together.
+#[derive(Clone, Copy)]
+struct Stats {
+    rules: usize,
+    names: usize,
+    waiting: Room,
+    counts: Counts,
+}
+
+/// A number as it is told: one that is too great is the greatest.
+fn told(number: u64) -> Fact<'static> {
+    Fact::Number(u32::try_from(number).unwrap_or(u32::MAX))
+}
+
+fn named<'a>(name: &'a str, fact: Fact<'a>) -> NamedFact<'a> {
+    NamedFact { name, fact }
+}
+
+impl Stats {
+    /// The facts of both calls, of which the first one is told by the caller.
+    fn facts<'a>(&self, first: NamedFact<'a>) -> [NamedFact<'a>; 9] {
+        [
+            first,
+            named("MatchRules", told(self.rules as u64)),
+            named("BusNames", told(self.names as u64)),
+            named("OutgoingMessages", told(self.waiting.messages as u64)),
+            named("OutgoingBytes", told(self.waiting.bytes as u64)),
+            named("Broadcasts", told(self.counts.broadcasts)),
+            named("Recipients", told(self.counts.recipients)),
+            named("RefusedPuts", told(self.counts.refused)),
+            named("Unicasts", told(self.counts.unicasts)),
+        ]
+    }
+}
+
+/// How many connections there are, and what is known of all of them, and of those that have left.
+fn stats_of_all<B: Naming, M: Mailbox, W: Wait, R: Wait + Drop>(
+    rt: &W,
+    alloc: Global,
+    bus: &Bus<B, M, R>,
+) -> Result<(usize, Stats), AllocError> {
+    let mut counts = bus.gone().counts();
+    let mut waiting = Room {
+        messages: 0,
+        bytes: 0,
+    };
+    let control = bus.control(rt);
+    let connections = control.connections();
+    for connection in connections {
+        let outbox = connection.mailbox.outbox();
+        let here = outbox.waiting();
+        counts = counts.with(outbox.tally().counts());
+        waiting = Room {
+            messages: waiting.messages.saturating_add(here.messages),
+            bytes: waiting.bytes.saturating_add(here.bytes),
+        };
+    }
+    let clients = connections.len();
+    let names = control.names(alloc)?.len();
+    let stats = Stats {
+        rules: control.entry_count(),
+        names: names.saturating_add(clients),
+        waiting,
+        counts,
+    };
+    Ok((clients, stats))
+}
+
+/// What is known of one connection, unless it has gone.
+fn stats_of<B: Naming, M: Mailbox, W: Wait, R: Wait + Drop>(
+    rt: &W,
+    alloc: Global,
+    bus: &Bus<B, M, R>,
+    number: u64,
+) -> Result<Option<Stats>, AllocError> {
+    let control = bus.control(rt);
+    let Some(connection) = control
+        .connections()
+        .iter()
+        .find(|connection| connection.number == number)
+    else {
+        return Ok(None);
+    };
+    let outbox = connection.mailbox.outbox();
+    let mut names = 1usize;
+    for name in &control.names(alloc)? {
+        if control.owner_of(name.as_str()) == Some(number) {
+            names = names.saturating_add(1);
+        }
+    }
+    Ok(Some(Stats {
+        rules: control.rules_of(alloc, number)?.len(),
+        names,
+        waiting: outbox.waiting(),
+        counts: outbox.tally().counts(),
+    }))
+}
+
+/// The numbers of all connections, rising.
+fn numbers<B: Naming, M: Mailbox, R: Wait + Drop>(
+    alloc: Global,
+    control: &Control<B, M, R>,
+) -> Result<Vec<u64>, AllocError> {
+    let connections = control.connections();
+    let mut numbers = Vec::with_capacity(alloc, connections.len())?;
+    for connection in connections {
+        numbers.push(connection.number)?;
+    }
+    Ok(numbers)
+}
+
+/// The rules of a connection as texts, the oldest first.
+fn rules_of<B: Naming, M: Mailbox, W: Wait, R: Wait + Drop>(
+    rt: &W,
+    alloc: Global,
+    bus: &Bus<B, M, R>,
+    number: u64,
+) -> Result<TextList, AllocError> {
+    let rules = bus.control(rt).rules_of(alloc, number)?;
+    let mut texts = Vec::with_capacity(alloc, rules.len())?;
+    for rule in &rules {
+        texts.push(rule_text(alloc, rule.rule())?)?;
+    }
+    let mut key = String::new(alloc);
+    key.push_str(UniqueName::new(number).as_str())?;
+    Ok(TextList { key, texts })
+}
+
+/// The rules of all connections. The lock of the bus is taken for each of them anew.
+fn rules_of_all<B: Naming, M: Mailbox, W: Wait, R: Wait + Drop>(
+    rt: &W,
+    alloc: Global,
+    bus: &Bus<B, M, R>,
+) -> Result<Vec<TextList>, AllocError> {
+    let numbers = numbers(alloc, &bus.control(rt))?;
+    let mut lists = Vec::with_capacity(alloc, numbers.len())?;
+    for number in &numbers {
+        lists.push(rules_of(rt, alloc, bus, *number)?)?;
+    }
+    Ok(lists)
+}
+
+impl<B: Naming, M: Mailbox> Peer<B, M> {
+    pub(crate) fn get_stats<W: Wait, R: Wait + Drop>(
+        &mut self,
+        context: &Context<'_, B, M, W, R>,
+        request: Request,
+    ) -> Result<(), AnswerError>
+        ensures row { AnswersInsight request self.old result self.new }
+        ensures error { NeverSlow request.wants_answer result }
+    {
+        if let Err(why) = self.check_insight() {
+            return self.refuse(context, request, why);
+        }
+        match stats_of_all(context.rt, context.alloc, context.bus) {
+            Ok((clients, stats)) => {
+                let facts = stats.facts(named("ActiveConnections", told(clients as u64)));
+                self.answer(context, request, Body::Facts(&facts))
+            }
+            Err(_) => self.refuse(context, request, Refused::Error(ErrorName::NoMemory)),
+        }
+    }
+
+    pub(crate) fn get_connection_stats<W: Wait, R: Wait + Drop>(
+        &mut self,
+        context: &Context<'_, B, M, W, R>,
+        request: Request,
+        name: &str,
+    ) -> Result<(), AnswerError>
+        ensures row { AnswersInsightLater request self.old result self.new }
+        ensures error { NeverSlow request.wants_answer result }
+    {
+        match self.owner_named(name) {
+            Ok(Some(Owner::Connection(number))) => {
+                self.answer_connection_stats(context, request, number)
+            }
+            Ok(_) => self.refuse(context, request, Refused::Error(ErrorName::NameHasNoOwner)),
+            Err(why) => self.refuse(context, request, why),
+        }
+    }
+
+    fn answer_connection_stats<W: Wait, R: Wait + Drop>(
+        &mut self,
+        context: &Context<'_, B, M, W, R>,
+        request: Request,
+        number: u64,
+    ) -> Result<(), AnswerError>
+        ensures row { AnswersInsight request self.old result self.new }
+        ensures error { NeverSlow request.wants_answer result }
+    {
+        if let Err(why) = self.check_insight() {
+            return self.refuse(context, request, why);
+        }
+        let name = UniqueName::new(number);
+        match stats_of(context.rt, context.alloc, context.bus, number) {
+            Ok(Some(stats)) => {
+                let facts = stats.facts(named("UniqueName", Fact::Text(name.as_str())));
+                self.answer(context, request, Body::Facts(&facts))
+            }
+            Ok(None) => self.refuse(context, request, Refused::Error(ErrorName::NameHasNoOwner)),
+            Err(_) => self.refuse(context, request, Refused::Error(ErrorName::NoMemory)),
+        }
+    }
+
+    pub(crate) fn get_all_match_rules<W: Wait, R: Wait + Drop>(
+        &mut self,
+        context: &Context<'_, B, M, W, R>,
+        request: Request,
+    ) -> Result<(), AnswerError>
+        ensures row { AnswersInsight request self.old result self.new }
+        ensures error { NeverSlow request.wants_answer result }
+    {
+        if let Err(why) = self.check_insight() {
+            return self.refuse(context, request, why);
+        }
+        match rules_of_all(context.rt, context.alloc, context.bus) {
+            Ok(lists) => self.answer(context, request, Body::TextLists(lists.as_slice())),
+            Err(_) => self.refuse(context, request, Refused::Error(ErrorName::NoMemory)),
+        }
+    }
+}
