@@ -166,7 +166,11 @@ impl<B: Naming, M: Mailbox> Peer<B, M> {
 }
 
 /// The message as it is passed on, with its sender.
-pub(crate) fn stamp_message(alloc: Global, view: &View<'_>, sender: &UniqueName) -> Result<Bytes, StampError>
+pub(crate) fn stamp_message(
+    alloc: Global,
+    view: &View<'_>,
+    sender: &UniqueName,
+) -> Result<Bytes, StampError>
     ensures stamps { (m : Message) → Valid view.now m → Stamps m (unique_name sender.now) result }
     ensures valid { IfOk result (λ bytes. (m : Message) × Valid bytes m) }
 {

@@ -193,7 +193,10 @@ impl<B: Naming, M: Mailbox> Peer<B, M> {
             Ok(Some(Owner::Connection(number))) => {
                 self.answer_connection_stats(context, request, number)
             }
-            Ok(_) => self.refuse(context, request, Refused::Error(ErrorName::NameHasNoOwner)),
+            Ok(Some(Owner::Bus)) => {
+                self.refuse(context, request, Refused::Error(ErrorName::InvalidArgs))
+            }
+            Ok(None) => self.refuse(context, request, Refused::Error(ErrorName::NameHasNoOwner)),
             Err(why) => self.refuse(context, request, why),
         }
     }
