@@ -27,8 +27,8 @@ module _ {M : Type 0} where
       subst P (sym closed) (refl, refl)
 
   -- that of another client
-  pub handled_open : (outbox_of : M → OutboxId) (shares : Shares) (bytes : List ℕ) (v w : PeerState M) (result : Result (Unit {0}) AnswerError) → v.pass.is_closed ≡ false → ((m : Message) → Valid bytes m → HandledAs outbox_of shares bytes m (is_for_bus m) v result w)
+  pub handled_unwatching : (outbox_of : M → OutboxId) (shares : Shares) (bytes : List ℕ) (v w : PeerState M) (result : Result (Unit {0}) AnswerError) → v.pass.is_closed ≡ false → ((m : Message) → Valid bytes m → HandledAs outbox_of shares bytes m (is_for_bus m) v result w)
       → Handles outbox_of shares bytes v result w
-  handled_open outbox_of shares bytes v w result open h =
+  handled_unwatching outbox_of shares bytes v w result is_open h =
       let P : Bool → Type 0 = λ b. HandledOf outbox_of b shares bytes v result w in
-      subst P (sym open) h
+      subst P (sym is_open) h

@@ -15,6 +15,7 @@ use bus_messages::{Body, ErrorName, UniqueName, name_lost};
 use match_rule::Rule;
 use message_view::View;
 use router::{BusError, Mailbox, Naming, RouteLists};
+use rule_text::rule_text;
 use std::alloc::Global;
 use std::sync::Wait;
 
@@ -139,10 +140,28 @@ impl<B: Naming, M: Mailbox> Peer<B, M> {
 fn read_rules(alloc: Global, texts: &[&str]) -> Result<Vec<Rule>, Refused> {
     let mut rules = Vec::with_capacity(alloc, texts.len())?;
     for text in texts {
-        match Rule::read(alloc, text) {
-            Ok(rule) => rules.push(rule)?,
-            Err(fault) => return Err(Refused::from(BusError::of_text(fault))),
-        }
+        rules.push(read_open_rule(alloc, text)?)?;
     }
     Ok(rules)
+}
+
+/// A rule of a monitor, which is of messages to others too, whatever it says of that itself.
+fn read_open_rule(alloc: Global, text: &str) -> Result<Rule, Refused> {
+    let rule = read_rule(alloc, text)?;
+    if rule.eavesdrops() {
+        return Ok(rule);
+    }
+    let mut text = rule_text(alloc, &rule)?;
+    if !text.is_empty() {
+        text.push_str(",")?;
+    }
+    text.push_str("eavesdrop='true'")?;
+    read_rule(alloc, text.as_str())
+}
+
+fn read_rule(alloc: Global, text: &str) -> Result<Rule, Refused> {
+    match Rule::read(alloc, text) {
+        Ok(rule) => Ok(rule),
+        Err(fault) => Err(Refused::from(BusError::of_text(fault))),
+    }
 }
