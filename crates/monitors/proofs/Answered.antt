@@ -1,5 +1,5 @@
 -- Whether a rule holds, given what was answered of its sender name.
-use Rattle.std.proofs.Common.{ℕ, ◌≡◌, ◌⊎◌, Bool, true, false, List, [], ◌∷◌, length, Option, Some, None, refl, inl, inr, arith, ap}
+use Rattle.std.proofs.Common.{ℕ, ◌≡◌, Bool, true, false, List, [], ◌∷◌, length, Option, Some, None, refl, inr, arith, ap}
 use Rattle.std.specs.Prelude.{◌↔◌, IsTrue, IfSome, MatchBool, All, Any}
 use Rattle.message_view.specs.Message.{Message}
 use Rattle.match_rule.specs.RuleTree.{RuleTree, sender_name_of}

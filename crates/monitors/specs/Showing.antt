@@ -3,7 +3,7 @@ use Rattle.std.specs.Prelude.{◌≡◌, ◌++◌, ◌∷◌, [], ℕ, Bool, tru
 use Rattle.message_view.specs.Message.{Message}
 use Rattle.outbox.specs.Items.{Item}
 use Rattle.monitors.specs.declared.shown.Shown.{Shown}
-use Rattle.monitors.specs.declared.shown.Shown.TheVariants.{Put, Unwanted, LeftOut, Refused}
+use Rattle.monitors.specs.declared.shown.Shown.TheVariants.{Put, Unwanted, Refused}
 use Rattle.monitors.specs.Watching.{Watching}
 use Rattle.monitors.specs.Wanting.{Wants, WantsNot}
 

@@ -1,5 +1,5 @@
--- Which messages a monitor gets (D-Bus Specification, "org.freedesktop.DBus.Monitoring.BecomeMonitor"). Whether the sender owns
--- a rule's sender name is what `answers` allows, and each rule has an answer of its own.
+-- Which messages a monitor gets (D-Bus Specification, "org.freedesktop.DBus.Monitoring.BecomeMonitor"). Whether the
+-- sender owns a rule's sender name is what `answers` allows, and each rule has an answer of its own.
 use Rattle.std.specs.Prelude.{◌≡◌, ◌⊎◌, ℕ, Bool, List, [], All, Any, IfSome}
 use Rattle.message_view.specs.Message.{Message}
 use Rattle.match_rule.specs.RuleTree.{RuleTree, sender_name_of}

@@ -77,9 +77,9 @@ impl<M: Mailbox> Monitors<M> {
         self.count.store(list.len(), Ordering::SeqCst);
     }
 
-    /// Puts a message into the outbox of each monitor with a rule that holds of it, or without rules, and has it written out.
-    /// One whose outbox refuses it, since it is full or shut, gets no more, and is taken away. Where memory is refused the
-    /// monitor misses the message.
+    /// Puts a message into the outbox of each monitor with a rule that holds of it, or without rules, and has it
+    /// written out. One whose outbox refuses it, since it is full or shut, gets no more, and is taken away. Where
+    /// memory is refused the monitor misses the message.
     pub fn show<W: Wait, O: Owner>(
         &self,
         rt: &W,

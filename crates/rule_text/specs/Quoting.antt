@@ -2,8 +2,8 @@
 use Rattle.std.specs.Prelude.{ℕ, List, [], ◌∷◌, ◌++◌, ◌==◌, codes, if◌then◌else◌}
 use Rattle.std.specs.List.{flat_map}
 
--- An apostrophe can't stand between apostrophes: the quoting ends, a backslash makes an apostrophe of the next byte, and the
--- quoting begins again.
+-- An apostrophe can't stand between apostrophes: the quoting ends, a backslash makes an apostrophe of the next byte,
+-- and the quoting begins again.
 abbrev pub escape_of : ℕ → List ℕ
 escape_of byte = if byte == 39 then codes "'\\''" else byte ∷ []
 

@@ -1,4 +1,4 @@
-use Rattle.std.proofs.Common.{ℕ, ◌≡◌, ◌≤◌, ◌-◌, vec_len}
+use Rattle.std.proofs.Common.{◌-◌, vec_len}
 use Rattle.monitors.proofs.monitors.show_all.Given as goal
 
 abbrev pub decreases-monitors : goal.decreases-monitors

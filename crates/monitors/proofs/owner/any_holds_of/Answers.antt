@@ -1,6 +1,6 @@
-use Rattle.std.proofs.Common.{ℕ, ◌≡◌, sym, subst}
+use Rattle.std.proofs.Common.{sym}
 use Rattle.match_rule.proofs.OneSender.{more_hold}
-use Rattle.monitors.specs.Wanting.{HoldsFor, FailsFor}
+use Rattle.monitors.specs.Wanting.{FailsFor}
 use Rattle.monitors.proofs.owner.any_holds_of.Goals as goal
 
 pub loop-rule-preserved : goal.loop-rule-preserved

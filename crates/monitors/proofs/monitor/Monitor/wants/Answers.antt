@@ -1,4 +1,4 @@
-use Rattle.std.proofs.Common.{ℕ, ◌≡◌, Bool, List, length, subst, sym, ap, ◌∙◌, arith, rules}
+use Rattle.std.proofs.Common.{ℕ, ◌≡◌, Bool, List, length, subst, arith, rules}
 use Rattle.std.specs.Prelude.{MatchBool}
 use Rattle.match_rule.specs.RuleTree.{RuleTree}
 use Rattle.monitors.specs.Wanting.{Wants, WantsNot}
@@ -9,6 +9,6 @@ pub returns : goal.returns
 returns g c = λ m valid.
     let answers : List ℕ → Bool → Type 0 = g.O.Owner.answers c.args.owner.now in
     let same : c.as_slice-rules.result.now ≡ c.args.self.now.rules = search rules in
-    let some : length c.as_slice-rules.result.now ≡ 0 → ⊥ = λ e. omega arith in
+    let some : length c.as_slice-rules.result.now ≡ 0 → ⊥ = λ e. first_of (grind arith, cc) in
     subst (λ (rules : List RuleTree). MatchBool c.any_holds_of.result (Wants answers m rules) (WantsNot answers m rules)) same
     (wants_by_rules answers m c.as_slice-rules.result.now c.any_holds_of.result some (c.any_holds_of.ensures m valid))
