@@ -2,3 +2,4 @@ pub mod CalledMethods
 pub mod TextArguments
 pub mod NumberArguments
 pub mod Introspecting
+pub mod TextElements

@@ -3,12 +3,16 @@ use Rattle.std.specs.Prelude.{ℕ, ◌+◌, ◌-◌, ◌/◌, List, [], ◌∷�
 use Rattle.std.specs.Int.{w16}
 use Rattle.std.specs.Simd.{first_chunks}
 use Rattle.bpf_code.specs.declared.instruction.Ins.{Ins}
+use Rattle.signature.specs.DataType.{basic}
 use Rattle.summary.specs.declared.edition.Edition.{Edition}
 use Rattle.summary.specs.declared.edition.Edition.TheVariants.{One, Two}
 use Rattle.message_value.specs.declared.order.Order.{Order}
 use Rattle.message_value.specs.Arguments.{Argument}
+use Rattle.message_value.specs.declared.error.MsgError.{MsgError}
 use Rattle.message_value.specs.Order.{number_of, word_of}
+use Rattle.message_value.specs.Reading.{At, inside, each_at, value_at}
 use Rattle.message_value.specs.Spelling.{padding}
+use Rattle.message_value.specs.Value.{Value, text}
 use Rattle.bus_messages.specs.declared.call.CallError.{CallError}
 use Rattle.bus_messages.specs.declared.call.CallError.TheVariants.{InvalidArgs, BadEdition}
 
@@ -78,6 +82,40 @@ program_at message order (argument ∷ more) = option_map (instructions_of order
 
 abbrev pub first_program : Given → Option (List Ins)
 first_program args_left = program_at args_left.message args_left.order args_left.left
+
+-- a text with the zeros before it
+abbrev pub text_element : Order → At → Result (Value × At) MsgError
+text_element order at = value_at 0 order (basic 115) at
+
+-- The elements of an array of texts. They begin at a multiple of four, so that their places may be counted from 0.
+abbrev pub text_elements : Order → List ℕ → Result (List Value) MsgError
+text_elements order bytes = each_at (text_element order) (length bytes) (inside 0 bytes)
+
+-- the bytes of a text
+abbrev pub bytes_in : Value → List ℕ
+bytes_in (text bytes) = bytes
+bytes_in _ = []
+
+-- one text after the other
+abbrev pub texts_of : Result (List Value) MsgError → Option (List (List ℕ))
+texts_of (Ok values) = Some (map bytes_in values)
+texts_of (Err fault) = None
+
+-- the bytes of the elements of an array of texts: after the four bytes of its length
+abbrev pub texts_bytes : List ℕ → Argument → Option (List ℕ)
+texts_bytes message argument = between (argument.place + 4) (argument.place + argument.len) message
+
+abbrev pub texts_within : Order → Option (List ℕ) → Option (List (List ℕ))
+texts_within order None = None
+texts_within order (Some bytes) = texts_of (text_elements order bytes)
+
+-- the texts of the array that the first argument is
+abbrev pub texts_at : List ℕ → Order → List Argument → Option (List (List ℕ))
+texts_at message order [] = None
+texts_at message order (argument ∷ more) = texts_within order (texts_bytes message argument)
+
+abbrev pub first_texts : Given → Option (List (List ℕ))
+first_texts args_left = texts_at args_left.message args_left.order args_left.left
 
 -- the edition of a number
 abbrev pub edition_of : Option ℕ → Result Edition CallError

@@ -6,8 +6,10 @@ use Rattle.message_value.specs.Spelling.{value_bytes}
 use Rattle.message_value.specs.Value.{Value, text, number, elements, entries, of_type, no_entries, one_entry}
 use Rattle.message_build.specs.Asked.{Asked}
 use Rattle.message_build.specs.Adding.{with_argument, with_raw, string_values}
+use Rattle.message_build.specs.NamedFacts.{fact_entries}
+use Rattle.message_build.specs.TextLists.{text_list_entries}
 use Rattle.bus_messages.specs.declared.body.Body.{Body}
-use Rattle.bus_messages.specs.declared.body.Body.TheVariants.{Nothing, Text, Number, Truth, Texts, EmptyDict, Property, Properties, User}
+use Rattle.bus_messages.specs.declared.body.Body.TheVariants.{Nothing, Text, Number, Truth, Texts, EmptyDict, Property, Properties, User, Facts, TextLists}
 use Rattle.bus_messages.specs.Properties.{value_of, all_properties}
 
 -- what is known of a client: the number of the user that it runs as
@@ -38,3 +40,5 @@ with_body asked EmptyDict = with_value asked (dict 115 variant) (entries no_entr
 with_body asked (Property property) = with_value asked variant (value_of property)
 with_body asked Properties = with_value asked (dict 115 variant) all_properties
 with_body asked (User n) = with_value asked (dict 115 variant) (user_properties n)
+with_body asked (Facts facts) = with_argument asked (dict 115 variant) (entries (fact_entries facts.now))
+with_body asked (TextLists lists) = with_argument asked (dict 115 (array (basic 115))) (entries (text_list_entries lists.now))

@@ -1,5 +1,6 @@
 -- What the bus understands of a call (D-Bus Specification, "Message Bus Messages").
-use Rattle.std.specs.Prelude.{◌≡◌, ◌≢◌, ◌⊎◌, ℕ, Bool, true, false, List, Option, Some, None, Result, Ok, Err, if◌then◌else◌}
+use Rattle.std.specs.Prelude.{◌≡◌, ◌≢◌, ◌⊎◌, ℕ, Bool, true, false, List, map, Option, Some, None, Result, Ok, Err, if◌then◌else◌}
+use Rattle.std.specs.Borrow.{Bor}
 use Rattle.std.specs.Str.{bytes_eq}
 use Rattle.bpf_code.specs.declared.instruction.Ins.{Ins}
 use Rattle.signature.specs.DataType.{spellings}
@@ -13,7 +14,7 @@ use Rattle.bus_messages.specs.declared.call.CallError.{CallError}
 use Rattle.bus_messages.specs.declared.call.CallError.TheVariants.{UnknownMethod, UnknownInterface, UnknownProperty, PropertyReadOnly, InvalidArgs, BadEdition, NoMemory}
 use Rattle.bus_messages.specs.declared.method.Method.{Method}
 use Rattle.bus_messages.specs.declared.method.Method.TheVariants as names
-use Rattle.bus_messages.specs.Arguments.{Given, later, first_text, first_number, first_program, edition_of}
+use Rattle.bus_messages.specs.Arguments.{Given, later, first_text, first_number, first_program, first_texts, edition_of}
 use Rattle.bus_messages.specs.Introspection.{is_interface}
 use Rattle.bus_messages.specs.Methods.{MethodRow, bus, method_called}
 use Rattle.bus_messages.specs.Properties.{property_of}
@@ -71,6 +72,11 @@ IsCallOf (calls.Get property) method args_left = (method ≡ names.Get) × Names
 IsCallOf calls.GetAll method args_left = (method ≡ names.GetAll) × NamesInterface true args_left
 IsCallOf calls.GetAllOfNone method args_left = (method ≡ names.GetAll) × NamesInterface false args_left
 IsCallOf calls.UpdateActivationEnvironment method args_left = method ≡ names.UpdateActivationEnvironment
+IsCallOf (calls.BecomeMonitor rules flags) method args_left =
+    (method ≡ names.BecomeMonitor) × (first_texts args_left ≡ Some (map (λ (rule : Bor (List ℕ)). rule.now) rules.items)) × (first_number (later args_left) ≡ Some flags)
+IsCallOf calls.GetStats method args_left = method ≡ names.GetStats
+IsCallOf (calls.GetConnectionStats name) method args_left = IsTextCall names.GetConnectionStats method args_left name.now
+IsCallOf calls.GetAllMatchRules method args_left = method ≡ names.GetAllMatchRules
 
 -- An argument that a method takes isn't where its type puts it. A method that reads none lacks none.
 abbrev pub Lacks : Method → Given → Type 0
@@ -82,18 +88,23 @@ Lacks names.GetId args_left = ⊥
 Lacks names.GetMachineId args_left = ⊥
 Lacks names.Introspect args_left = ⊥
 Lacks names.UpdateActivationEnvironment args_left = ⊥
+Lacks names.GetStats args_left = ⊥
+Lacks names.GetAllMatchRules args_left = ⊥
 Lacks names.RequestName args_left = (first_text args_left ≡ None) ⊎ (first_number (later args_left) ≡ None)
 Lacks names.Attach args_left = first_program args_left ≡ None
 Lacks names.AttachEdition args_left = (first_number args_left ≡ None) ⊎ (first_program (later args_left) ≡ None)
 Lacks names.Detach args_left = first_number args_left ≡ None
+Lacks names.BecomeMonitor args_left = (first_texts args_left ≡ None) ⊎ (first_number (later args_left) ≡ None)
 Lacks names.Get args_left = (first_text args_left ≡ None) ⊎ (first_text (later args_left) ≡ None)
 Lacks names.Set args_left = (first_text args_left ≡ None) ⊎ (first_text (later args_left) ≡ None)
 Lacks _ args_left = first_text args_left ≡ None
 
-abbrev pub takes_program : Method → Bool
-takes_program names.Attach = true
-takes_program names.AttachEdition = true
-takes_program _ = false
+-- which methods take an argument that is kept: a program, or texts
+abbrev pub takes_list : Method → Bool
+takes_list names.Attach = true
+takes_list names.AttachEdition = true
+takes_list names.BecomeMonitor = true
+takes_list _ = false
 
 -- which methods name a property after its interface, and which at least an interface
 abbrev pub names_property : Method → Bool
@@ -112,7 +123,7 @@ Refuses UnknownInterface method args_left = (names_interface method ≡ true) ×
 Refuses UnknownProperty method args_left = (names_property method ≡ true) × NamesProperty None args_left
 Refuses PropertyReadOnly method args_left = (method ≡ names.Set) × (property : Property) × NamesProperty (Some property) args_left
 Refuses BadEdition method args_left = (method ≡ names.AttachEdition) × (edition_of (first_number args_left) ≡ Err BadEdition)
-Refuses NoMemory method args_left = takes_program method ≡ true
+Refuses NoMemory method args_left = takes_list method ≡ true
 Refuses InvalidArgs method args_left = Lacks method args_left
 
 -- the method that a message calls

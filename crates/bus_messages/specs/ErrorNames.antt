@@ -5,11 +5,12 @@ use Rattle.match_key.specs.Errors.{name_of}
 use Rattle.bpf_code.specs.Numbers.{text_at}
 use Rattle.bpf_verify.specs.Numbers.{verify_error_name, verify_error_place}
 use Rattle.bus_messages.specs.declared.error_name.ErrorName.{ErrorName}
-use Rattle.bus_messages.specs.declared.error_name.ErrorName.TheVariants.{AdtAuditDataUnknown, Failed, InvalidArgs, LimitsExceeded, MatchRuleInvalid, MatchRuleNotFound, NameHasNoOwner, NoMemory, NoReply, ServiceUnknown, PropertyReadOnly, SelinuxSecurityContextUnknown, UnixProcessIdUnknown, UnknownInterface, UnknownMethod, UnknownProperty, BadProgram, BadEdition, NoAttachment}
+use Rattle.bus_messages.specs.declared.error_name.ErrorName.TheVariants.{AccessDenied, AdtAuditDataUnknown, Failed, InvalidArgs, LimitsExceeded, MatchRuleInvalid, MatchRuleNotFound, NameHasNoOwner, NoMemory, NoReply, ServiceUnknown, PropertyReadOnly, SelinuxSecurityContextUnknown, UnixProcessIdUnknown, UnknownInterface, UnknownMethod, UnknownProperty, BadProgram, BadEdition, NoAttachment}
 use Rattle.bus_messages.specs.declared.exceeded.Exceeded.{Exceeded}
 use Rattle.bus_messages.specs.declared.exceeded.Exceeded.TheVariants as limits
 
 abbrev pub word_of : ErrorName → List ℕ
+word_of AccessDenied = codes "AccessDenied"
 word_of AdtAuditDataUnknown = codes "AdtAuditDataUnknown"
 word_of Failed = codes "Failed"
 word_of InvalidArgs = codes "InvalidArgs"
@@ -66,6 +67,7 @@ limit_of limits.MessageLen = codes "bytes of the message with its sender"
 
 -- what was wrong
 abbrev pub sentence_of : ErrorName → List ℕ
+sentence_of AccessDenied = codes "only the user of the bus may do that"
 sentence_of AdtAuditDataUnknown = codes "the bus knows no audit sessions"
 sentence_of Failed = codes "Hello came before, or the bus has no answer"
 sentence_of InvalidArgs = codes "these are not arguments of the method"

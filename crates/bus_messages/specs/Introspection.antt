@@ -5,11 +5,11 @@ use Rattle.std.specs.Str.{bytes_eq}
 use Rattle.signature.specs.DataType.{DataTypes, slices}
 use Rattle.signature.specs.Trees.{types_of}
 use Rattle.bus_messages.specs.declared.introspect.TheConstants.{HEAD, SIGNALS}
-use Rattle.bus_messages.specs.Methods.{MethodRow, methods, bus, peer, programs, introspectable, properties}
+use Rattle.bus_messages.specs.Methods.{MethodRow, methods, bus, peer, programs, introspectable, properties, monitoring, stats}
 
 -- the interfaces of the bus, in the order in which they are described
 abbrev pub interfaces : List (List ℕ)
-interfaces = bus ∷ peer ∷ programs ∷ introspectable ∷ properties ∷ []
+interfaces = bus ∷ peer ∷ programs ∷ introspectable ∷ properties ∷ monitoring ∷ stats ∷ []
 
 -- whether the bus has an interface
 abbrev pub is_interface : List ℕ → Bool

@@ -1,9 +1,10 @@
--- The methods of the bus (D-Bus Specification, "Message Bus Messages", "Standard Interfaces").
+-- The methods of the bus (D-Bus Specification, "Message Bus Messages", "Standard Interfaces"; those of Debug.Stats are the
+-- reference bus's).
 use Rattle.std.specs.Prelude.{ℕ, Bool, true, List, [], ◌∷◌, codes, Option, Some, None, ◌&&◌}
 use Rattle.std.specs.List.{find}
 use Rattle.std.specs.Str.{bytes_eq}
 use Rattle.bus_messages.specs.declared.method.Method.{Method}
-use Rattle.bus_messages.specs.declared.method.Method.TheVariants.{Hello, AddMatch, RemoveMatch, RequestName, ReleaseName, GetNameOwner, NameHasOwner, ListNames, Ping, Attach, AttachEdition, Detach, StartServiceByName, ListActivatableNames, ListQueuedOwners, GetId, GetConnectionUnixUser, GetConnectionUnixProcessId, GetConnectionCredentials, GetAdtAuditSessionData, GetConnectionSelinuxSecurityContext, GetMachineId, Introspect, Get, GetAll, Set, UpdateActivationEnvironment}
+use Rattle.bus_messages.specs.declared.method.Method.TheVariants.{Hello, AddMatch, RemoveMatch, RequestName, ReleaseName, GetNameOwner, NameHasOwner, ListNames, Ping, Attach, AttachEdition, Detach, StartServiceByName, ListActivatableNames, ListQueuedOwners, GetId, GetConnectionUnixUser, GetConnectionUnixProcessId, GetConnectionCredentials, GetAdtAuditSessionData, GetConnectionSelinuxSecurityContext, GetMachineId, Introspect, Get, GetAll, Set, UpdateActivationEnvironment, BecomeMonitor, GetStats, GetConnectionStats, GetAllMatchRules}
 
 -- a method, what it is called, and the signatures of its arguments and of its answer
 pub record MethodRow : Type 0 where
@@ -27,6 +28,12 @@ introspectable = codes "org.freedesktop.DBus.Introspectable"
 
 abbrev pub properties : List ℕ
 properties = codes "org.freedesktop.DBus.Properties"
+
+abbrev pub monitoring : List ℕ
+monitoring = codes "org.freedesktop.DBus.Monitoring"
+
+abbrev pub stats : List ℕ
+stats = codes "org.freedesktop.DBus.Debug.Stats"
 
 abbrev pub row_of : Method → List ℕ → List ℕ → List ℕ → List ℕ → MethodRow
 row_of method interface member takes gives = record { method = method; interface = interface; member = member; takes = takes; gives = gives }
@@ -61,6 +68,10 @@ methods =
     ∷ row_of GetAll properties (codes "GetAll") (codes "s") (codes "a{sv}")
     ∷ row_of Set properties (codes "Set") (codes "ssv") []
     ∷ row_of UpdateActivationEnvironment bus (codes "UpdateActivationEnvironment") (codes "a{ss}") []
+    ∷ row_of BecomeMonitor monitoring (codes "BecomeMonitor") (codes "asu") []
+    ∷ row_of GetStats stats (codes "GetStats") [] (codes "a{sv}")
+    ∷ row_of GetConnectionStats stats (codes "GetConnectionStats") (codes "s") (codes "a{sv}")
+    ∷ row_of GetAllMatchRules stats (codes "GetAllMatchRules") [] (codes "a{sas}")
     ∷ []
 
 -- a call that names no interface may be of any

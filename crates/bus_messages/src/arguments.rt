@@ -1,19 +1,21 @@
 // The arguments of a call, read one after the other.
 
-ghost use Rattle.std.specs.Prelude.{◌≡◌, ◌⊎◌, Some, None, drop, option_map, IfOk, IfErr, MatchResult};
+ghost use Rattle.std.specs.Prelude.{◌≡◌, ◌⊎◌, Some, None, drop, option_map, IfOk, IfErr, IfSome, MatchResult, map, length, ◌+◌, ◌<◌, ◌^◌};
 ghost use Rattle.std.specs.Int.{w16};
 ghost use Rattle.message_value.specs.Order.{number_of};
+ghost use Rattle.message_value.specs.Answers.{Reads};
 ghost use Rattle.message_value.specs.ShownArguments.{shown_arg};
+ghost use Rattle.message_value.specs.Value.{text};
 ghost use Rattle.message_view.specs.Message.{Message};
 ghost use Rattle.message_view.specs.Valid.{Valid};
 ghost use Rattle.bus_messages.specs.declared.call.CallError.TheVariants.{InvalidArgs, NoMemory};
-ghost use Rattle.bus_messages.specs.Arguments.{later, first_text, number_from, first_number, instruction_of, instructions_of, elements_of, first_program, edition_of};
+ghost use Rattle.bus_messages.specs.Arguments.{later, first_text, number_from, first_number, instruction_of, instructions_of, elements_of, first_program, text_element, text_elements, texts_of, texts_bytes, first_texts, edition_of};
 ghost use Rattle.bus_messages.specs.Calls.{given_by};
 
 use crate::call::CallError;
 use bpf_code::Ins;
-use message_value::{Arg, Args, Order, padding};
-use message_view::View;
+use message_value::{Arg, Args, Cursor, Order, TextType, padding};
+use message_view::{MsgError, View};
 use std::alloc::{AllocError, Global};
 use std::marker::Model;
 use summary::Edition;
@@ -95,6 +97,45 @@ fn instructions(alloc: Global, order: Order, bytes: &[u8]) -> Result<Vec<Ins>, A
     Ok(program)
 }
 
+/// The elements of an array of texts.
+fn text_elements<'a>(message: &'a [u8], array: &Arg<'_>) -> Option<&'a [u8]>
+    ensures elements { option_map (λ bytes. bytes.now) result ≡ texts_bytes message.entry.now (shown_arg array.now) }
+    ensures short { IfSome result (λ bytes. length bytes.now < 2 ^ 32) }
+{
+    let place = array.place as usize;
+    message.get(place + LENGTH_LEN..place + array.len as usize)
+}
+
+/// The next text of an array, with the zeros before it.
+#[tactic(auto, unfolding(message_value::specs::Reading::value_by))]
+fn next_text<'a>(cursor: &mut Cursor<'a>, order: Order) -> Result<&'a str, MsgError>
+    ensures { Reads (λ t. text t.now) result cursor.new (text_element order cursor.old) }
+{
+    cursor.align(4)?;
+    TextType::String.read_value(cursor, order)
+}
+
+/// The texts one after the other.
+fn texts<'a>(alloc: Global, order: Order, bytes: &'a [u8]) -> Result<Vec<&'a str>, CallError>
+    requires { length bytes.now < 2 ^ 32 }
+    ensures { MatchResult result
+        (λ texts. texts_of (text_elements order bytes.entry.now) ≡ Some (map (λ text. text.now) texts.items))
+        (λ error. ((error ≡ InvalidArgs) × (texts_of (text_elements order bytes.entry.now) ≡ None)) ⊎ (error ≡ NoMemory)) }
+{
+    let mut cursor = Cursor::new(0, bytes, MsgError::ArrayLength);
+    let mut texts = Vec::new(alloc);
+    for _ in 0..bytes.len() {
+        if cursor.is_empty() {
+            break;
+        }
+        let text = next_text(&mut cursor, order)?;
+        if texts.push(text).is_err() {
+            return Err(CallError::NoMemory);
+        }
+    }
+    Ok(texts)
+}
+
 impl<'a> Arguments<'a> {
     pub(crate) fn of(view: &View<'a>) -> Arguments<'a>
         ensures { (m : Message) → Valid view.now m → result ≡ given_by m }
@@ -137,6 +178,17 @@ impl<'a> Arguments<'a> {
             2 => Ok(Edition::Two),
             _ => Err(CallError::BadEdition),
         }
+    }
+
+    pub(crate) fn texts(&mut self, alloc: Global) -> Result<Vec<&'a str>, CallError>
+        ensures read { MatchResult result
+            (λ texts. first_texts self.old ≡ Some (map (λ text. text.now) texts.items))
+            (λ error. ((error ≡ InvalidArgs) × (first_texts self.old ≡ None)) ⊎ (error ≡ NoMemory)) }
+        ensures rest { self.new ≡ later self.old }
+    {
+        let array = self.left.next().ok_or(CallError::InvalidArgs)?;
+        let bytes = text_elements(self.message, &array).ok_or(CallError::InvalidArgs)?;
+        texts(alloc, self.order, bytes)
     }
 
     pub(crate) fn program(&mut self, alloc: Global) -> Result<Vec<Ins>, CallError>

@@ -8,7 +8,7 @@ ghost use Rattle.message_build.specs.Adding.{Adds};
 ghost use Rattle.bus_messages.specs.Bodies.{user_properties, with_body};
 
 use crate::property::Property;
-use message_build::{BuildError, Builder};
+use message_build::{BuildError, Builder, NamedFact, TextList};
 
 /// The signature of a dictionary of properties.
 const PROPERTIES: &[u8] = b"a{sv}";
@@ -19,12 +19,13 @@ const NO_PROPERTIES: &[u8] = &[0; 8];
 /// The bus's features, an array of one string, as a variant.
 const FEATURES: &[u8] = b"\x02as\0\x14\0\0\0\x0f\0\0\0HeaderFiltering\0";
 
-/// The bus's interfaces, an array of one string, as a variant.
-const INTERFACES: &[u8] = b"\x02as\0\x1c\0\0\0\x17\0\0\0org.example.ProgramBus1\0";
+/// The bus's interfaces, an array of strings, as a variant.
+const INTERFACES: &[u8] =
+    b"\x02as\0\x68\0\0\0\x1f\0\0\0org.freedesktop.DBus.Monitoring\0\x20\0\0\0org.freedesktop.DBus.Debug.Stats\0\0\0\0\x17\0\0\0org.example.ProgramBus1\0";
 
-/// Both properties of the bus: 100 bytes of entries.
+/// Both properties of the bus: 176 bytes of entries.
 const BUS_PROPERTIES: &[u8] =
-    b"\x64\0\0\0\0\0\0\0\x08\0\0\0Features\0\x02as\0\0\0\0\x14\0\0\0\x0f\0\0\0HeaderFiltering\0\0\0\0\0\x0a\0\0\0Interfaces\0\x02as\0\0\x1c\0\0\0\x17\0\0\0org.example.ProgramBus1\0";
+    b"\xb0\0\0\0\0\0\0\0\x08\0\0\0Features\0\x02as\0\0\0\0\x14\0\0\0\x0f\0\0\0HeaderFiltering\0\0\0\0\0\x0a\0\0\0Interfaces\0\x02as\0\0\x68\0\0\0\x1f\0\0\0org.freedesktop.DBus.Monitoring\0\x20\0\0\0org.freedesktop.DBus.Debug.Stats\0\0\0\0\x17\0\0\0org.example.ProgramBus1\0";
 
 /// The user of this number as an `a{sv}`, whose one entry is UnixUserID: 24 bytes.
 fn user_bytes(number: u32) -> [u8; 32]
@@ -53,6 +54,10 @@ pub enum Body<'a> {
     Properties,
     /// What is known of a client, as an `a{sv}`: the number of the user that it runs as.
     User(u32),
+    /// An `a{sv}`.
+    Facts(&'a [NamedFact<'a>]),
+    /// An `a{sas}`.
+    TextLists(&'a [TextList]),
 }
 
 impl Body<'_> {
@@ -75,6 +80,8 @@ impl Body<'_> {
             Body::Property(Property::Interfaces) => builder.raw_body(b"v", INTERFACES),
             Body::Properties => builder.raw_body(PROPERTIES, BUS_PROPERTIES),
             Body::User(number) => builder.raw_body(PROPERTIES, &user_bytes(number)),
+            Body::Facts(facts) => builder.arg_facts(facts),
+            Body::TextLists(lists) => builder.arg_text_lists(lists),
         }
     }
 }

@@ -15,7 +15,7 @@ use crate::error_name::ErrorName;
 use crate::method::{BUS, Method, MethodEntry, is_interface};
 use crate::property::{Property, property_of};
 use bpf_code::Ins;
-use message_view::View;
+use message_view::{MsgError, View};
 use std::alloc::{AllocError, Global};
 use std::fmt;
 use summary::Edition;
@@ -56,6 +56,11 @@ pub enum Call<'a> {
     GetAllOfNone,
     /// The environment of services, of which this bus starts none.
     UpdateActivationEnvironment,
+    /// The rules of a monitor; the flags have no meaning.
+    BecomeMonitor(Vec<&'a str>, u32),
+    GetStats,
+    GetConnectionStats(&'a str),
+    GetAllMatchRules,
 }
 
 /// Why a message is no call that the bus answers.
@@ -101,6 +106,17 @@ impl fmt::Display for CallError {
 }
 
 impl std::error::Error for CallError {}
+
+impl From<MsgError> for CallError {
+    ghost use Rattle.std.specs.Prelude.{◌≡◌};
+    ghost use Rattle.bus_messages.specs.declared.call.CallError.TheVariants.{InvalidArgs};
+
+    ghost from_gives = { λ _ error. error ≡ InvalidArgs };
+
+    fn from(_fault: MsgError) -> CallError {
+        CallError::InvalidArgs
+    }
+}
 
 impl From<AllocError> for CallError {
     ghost use Rattle.std.specs.Prelude.{◌≡◌};
@@ -209,6 +225,13 @@ impl<'a> Call<'a> {
                 Err(CallError::PropertyReadOnly)
             }
             Method::UpdateActivationEnvironment => Ok(Call::UpdateActivationEnvironment),
+            Method::BecomeMonitor => Ok(Call::BecomeMonitor(
+                arguments.texts(alloc)?,
+                arguments.number()?,
+            )),
+            Method::GetStats => Ok(Call::GetStats),
+            Method::GetConnectionStats => Ok(Call::GetConnectionStats(arguments.text()?)),
+            Method::GetAllMatchRules => Ok(Call::GetAllMatchRules),
         }
     }
 

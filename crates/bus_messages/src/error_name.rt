@@ -11,6 +11,7 @@ use std::fmt;
 /// The error that the bus answers a call with, and what it says of it.
 #[derive(Clone, Copy, Debug, PartialEq, Eq)]
 pub enum ErrorName {
+    AccessDenied,
     AdtAuditDataUnknown,
     Failed,
     InvalidArgs,
@@ -50,6 +51,7 @@ impl ErrorName {
         ensures { result.now ≡ full_name self }
     {
         match self {
+            ErrorName::AccessDenied => "org.freedesktop.DBus.Error.AccessDenied",
             ErrorName::AdtAuditDataUnknown => "org.freedesktop.DBus.Error.AdtAuditDataUnknown",
             ErrorName::Failed => "org.freedesktop.DBus.Error.Failed",
             ErrorName::InvalidArgs => "org.freedesktop.DBus.Error.InvalidArgs",
@@ -87,6 +89,10 @@ impl ErrorName {
         ensures sentence { result.sentence.now ≡ sentence_of self }
     {
         match self {
+            ErrorName::AccessDenied => Terms {
+                word: "AccessDenied",
+                sentence: "only the user of the bus may do that",
+            },
             ErrorName::AdtAuditDataUnknown => Terms {
                 word: "AdtAuditDataUnknown",
                 sentence: "the bus knows no audit sessions",

@@ -21,7 +21,7 @@ pub use error_name::ErrorName;
 pub use exceeded::Exceeded;
 pub use introspect::introspection;
 pub use laws::{number_is_read, text_is_read, text_is_there};
-pub use message_build::BuildError;
+pub use message_build::{BuildError, Fact, NamedFact, TextList};
 pub use property::Property;
 pub use sent::{error, name_acquired, name_lost, name_owner_changed, reply};
 pub use unique_name::UniqueName;

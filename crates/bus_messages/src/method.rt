@@ -36,6 +36,10 @@ pub(crate) enum Method {
     GetAll,
     Set,
     UpdateActivationEnvironment,
+    BecomeMonitor,
+    GetStats,
+    GetConnectionStats,
+    GetAllMatchRules,
 }
 
 /// What a method is called, and the signatures of its arguments and of its answer.
@@ -58,14 +62,32 @@ const INTROSPECTABLE: &str = "org.freedesktop.DBus.Introspectable";
 
 const PROPERTIES: &str = "org.freedesktop.DBus.Properties";
 
+const MONITORING: &str = "org.freedesktop.DBus.Monitoring";
+
+const STATS: &str = "org.freedesktop.DBus.Debug.Stats";
+
 /// The interfaces of the bus, in the order in which Introspect gives them.
-pub(crate) static INTERFACES: [&str; 5] = [BUS, PEER, PROGRAMS, INTROSPECTABLE, PROPERTIES];
+pub(crate) static INTERFACES: [&str; 7] = [
+    BUS,
+    PEER,
+    PROGRAMS,
+    INTROSPECTABLE,
+    PROPERTIES,
+    MONITORING,
+    STATS,
+];
 
 /// Whether the bus has an interface.
 pub(crate) fn is_interface(name: &str) -> bool
     ensures { result ≡ is_interface name.now }
 {
-    name == BUS || name == PEER || name == PROGRAMS || name == INTROSPECTABLE || name == PROPERTIES
+    name == BUS
+        || name == PEER
+        || name == PROGRAMS
+        || name == INTROSPECTABLE
+        || name == PROPERTIES
+        || name == MONITORING
+        || name == STATS
 }
 
 macro_rules! rows {
@@ -81,7 +103,7 @@ macro_rules! rows {
 }
 
 /// Each method. A call that names no interface is of the first row with its member.
-static ROWS: [MethodEntry; 27] = rows! {
+static ROWS: [MethodEntry; 31] = rows! {
     Hello BUS "Hello" ("") -> "s";
     AddMatch BUS "AddMatch" ("s") -> "";
     RemoveMatch BUS "RemoveMatch" ("s") -> "";
@@ -109,6 +131,10 @@ static ROWS: [MethodEntry; 27] = rows! {
     GetAll PROPERTIES "GetAll" ("s") -> "a{sv}";
     Set PROPERTIES "Set" ("ssv") -> "";
     UpdateActivationEnvironment BUS "UpdateActivationEnvironment" ("a{ss}") -> "";
+    BecomeMonitor MONITORING "BecomeMonitor" ("asu") -> "";
+    GetStats STATS "GetStats" ("") -> "a{sv}";
+    GetConnectionStats STATS "GetConnectionStats" ("s") -> "a{sv}";
+    GetAllMatchRules STATS "GetAllMatchRules" ("") -> "a{sas}";
 };
 
 /// Every method of the bus.
