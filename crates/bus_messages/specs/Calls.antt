@@ -4,7 +4,7 @@ use Rattle.std.specs.Borrow.{Bor}
 use Rattle.std.specs.Str.{bytes_eq}
 use Rattle.bpf_code.specs.declared.instruction.Ins.{Ins}
 use Rattle.signature.specs.DataType.{spellings}
-use Rattle.message_view.specs.Message.{Message, interface_of, member_of}
+use Rattle.message_view.specs.Message.{Message, interface_of, member_of, path_of}
 use Rattle.message_view.specs.Spelling.{message_bytes, arguments_of}
 use Rattle.summary.specs.declared.edition.Edition.{Edition}
 use Rattle.summary.specs.declared.edition.Edition.TheVariants.{One}
@@ -16,7 +16,7 @@ use Rattle.bus_messages.specs.declared.method.Method.{Method}
 use Rattle.bus_messages.specs.declared.method.Method.TheVariants as names
 use Rattle.bus_messages.specs.Arguments.{Given, later, first_text, first_number, first_program, first_texts, edition_of}
 use Rattle.bus_messages.specs.Introspection.{is_interface}
-use Rattle.bus_messages.specs.Methods.{MethodRow, bus, method_called}
+use Rattle.bus_messages.specs.Methods.{MethodRow, bus, is_misplaced, method_called}
 use Rattle.bus_messages.specs.Properties.{property_of}
 use Rattle.bus_messages.specs.declared.property.Property.{Property}
 
@@ -141,12 +141,17 @@ abbrev pub Understands : Method → Given → Result Call CallError → Type 0
 Understands method args_left (Ok call) = IsCallOf call method args_left
 Understands method args_left (Err error) = Refuses error method args_left
 
--- What a message is read as: of a method that isn't there, that its interface or the method isn't known; of another signature
--- than the method's, `InvalidArgs`; else as the method's arguments say.
-abbrev pub ReadsAs : Option (List ℕ) → Option MethodRow → List ℕ → Given → Result Call CallError → Type 0
-ReadsAs interface None signature args_left read = read ≡ Err (unknown_call interface)
-ReadsAs interface (Some row) signature args_left read =
+-- A call of a method: at another path than the bus has it, the interface isn't known there; of another signature than the
+-- method's, `InvalidArgs`; else as the method's arguments say.
+abbrev pub ReadsRow : Bool → MethodRow → List ℕ → Given → Result Call CallError → Type 0
+ReadsRow true row signature args_left read = read ≡ Err UnknownInterface
+ReadsRow false row signature args_left read =
     ((signature ≡ row.takes) × Understands row.method args_left read) ⊎ ((signature ≢ row.takes) × (read ≡ Err InvalidArgs))
+
+-- what a message is read as; of a method that isn't there, that its interface or the method isn't known
+abbrev pub ReadsAs : Option (List ℕ) → Option (List ℕ) → Option MethodRow → List ℕ → Given → Result Call CallError → Type 0
+ReadsAs interface path None signature args_left read = read ≡ Err (unknown_call interface)
+ReadsAs interface path (Some row) signature args_left read = ReadsRow (is_misplaced row.interface path) row signature args_left read
 
 -- the arguments of a message
 abbrev pub given_by : Message → Given
@@ -154,4 +159,4 @@ given_by m = record { message = message_bytes m; order = m.order; left = argumen
 
 -- what a message is read as, as a call of the bus
 abbrev pub IsReadAs : Message → Result Call CallError → Type 0
-IsReadAs m read = ReadsAs (interface_of m) (row_called (interface_of m) (member_of m)) (spellings m.types) (given_by m) read
+IsReadAs m read = ReadsAs (interface_of m) (path_of m) (row_called (interface_of m) (member_of m)) (spellings m.types) (given_by m) read

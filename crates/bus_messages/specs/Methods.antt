@@ -1,6 +1,6 @@
 -- The methods of the bus (D-Bus Specification, "Message Bus Messages", "Standard Interfaces"; those of Debug.Stats are the
 -- reference bus's).
-use Rattle.std.specs.Prelude.{ℕ, Bool, true, List, [], ◌∷◌, codes, Option, Some, None, ◌&&◌}
+use Rattle.std.specs.Prelude.{ℕ, Bool, true, false, not, ◌||◌, List, [], ◌∷◌, codes, Option, Some, None, ◌&&◌}
 use Rattle.std.specs.List.{find}
 use Rattle.std.specs.Str.{bytes_eq}
 use Rattle.bus_messages.specs.declared.method.Method.{Method}
@@ -73,6 +73,15 @@ methods =
     ∷ row_of GetConnectionStats stats (codes "GetConnectionStats") (codes "s") (codes "a{sv}")
     ∷ row_of GetAllMatchRules stats (codes "GetAllMatchRules") [] (codes "a{sas}")
     ∷ []
+
+-- the path at which the bus's own properties are, and what looks into it
+abbrev pub is_bus_path : Option (List ℕ) → Bool
+is_bus_path (Some path) = bytes_eq path (codes "/org/freedesktop/DBus")
+is_bus_path None = false
+
+-- a call of an interface isn't at the path at which the bus has it: some are at any path
+abbrev pub is_misplaced : List ℕ → Option (List ℕ) → Bool
+is_misplaced interface path = (bytes_eq interface properties || (bytes_eq interface monitoring || bytes_eq interface stats)) && not (is_bus_path path)
 
 -- a call that names no interface may be of any
 abbrev pub is_of : Option (List ℕ) → List ℕ → Bool

@@ -12,7 +12,7 @@ ghost use Rattle.bus_messages.specs.Rows.{method_row_of};
 
 use crate::arguments::Arguments;
 use crate::error_name::ErrorName;
-use crate::method::{BUS, Method, MethodEntry, is_interface};
+use crate::method::{BUS, Method, MethodEntry, is_interface, is_misplaced};
 use crate::property::{Property, property_of};
 use bpf_code::Ins;
 use message_view::{MsgError, View};
@@ -235,11 +235,12 @@ impl<'a> Call<'a> {
         }
     }
 
-    /// Reads a message as a call of the bus, whatever its path and its destination are.
+    /// Reads a message as a call of the bus, whatever its destination is, and of some interfaces whatever its path is.
     ///
     /// # Errors
     ///
-    /// `UnknownInterface` and `UnknownMethod` where the bus has no method of the interface and the member, `InvalidArgs`
+    /// `UnknownInterface` and `UnknownMethod` where the bus has no method of the interface and the member, `UnknownInterface`
+    /// also where it has the method at another path, `InvalidArgs`
     /// where the body has another signature than the method takes, `BadEdition` where a summary's edition isn't 1 or 2,
     /// `UnknownInterface`, `UnknownProperty` and `PropertyReadOnly` of properties, and `NoMemory`.
     pub fn read(alloc: Global, view: &View<'a>) -> Result<Call<'a>, CallError>
@@ -248,6 +249,9 @@ impl<'a> Call<'a> {
         let Some(row) = row_called(view.interface(), view.member()) else {
             return Err(unknown_call(view.interface()));
         };
+        if is_misplaced(row.interface, view.path()) {
+            return Err(CallError::UnknownInterface);
+        }
         if view.signature() != row.takes.as_bytes() {
             return Err(CallError::InvalidArgs);
         }

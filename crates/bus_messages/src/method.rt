@@ -2,7 +2,7 @@
 
 ghost use Rattle.std.specs.Prelude.{◌≡◌, map, option_map};
 ghost use Rattle.std.specs.List.{find};
-ghost use Rattle.bus_messages.specs.Methods.{methods, is_of, is_called, method_called};
+ghost use Rattle.bus_messages.specs.Methods.{methods, is_of, is_called, is_bus_path, is_misplaced, method_called};
 ghost use Rattle.bus_messages.specs.Introspection.{is_interface};
 ghost use Rattle.bus_messages.specs.Rows.{method_row_of};
 
@@ -88,6 +88,27 @@ pub(crate) fn is_interface(name: &str) -> bool
         || name == PROPERTIES
         || name == MONITORING
         || name == STATS
+}
+
+/// The path at which the bus's own properties are, and what looks into it (D-Bus Specification, "Message Bus Messages").
+const BUS_PATH: &str = "/org/freedesktop/DBus";
+
+/// Whether a call of an interface isn't at the path at which the bus has it: some are at any path.
+pub(crate) fn is_misplaced(interface: &str, path: Option<&str>) -> bool
+    ensures { result ≡ is_misplaced interface.now (option_map (λ name. name.now) path.entry) }
+{
+    let is_at_one_path = interface == PROPERTIES || interface == MONITORING || interface == STATS;
+    is_at_one_path && !is_bus_path(path)
+}
+
+/// Whether it is the bus's own path.
+fn is_bus_path(path: Option<&str>) -> bool
+    ensures { result ≡ is_bus_path (option_map (λ name. name.now) path.entry) }
+{
+    match path {
+        Some(path) => path == BUS_PATH,
+        None => false,
+    }
 }
 
 macro_rules! rows {

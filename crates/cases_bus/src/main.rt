@@ -69,11 +69,12 @@ const BY_WORLD: [&str; 11] = [
 
 const BY_PASSES: [&str; 2] = ["passes.lists", "outside_of_worlds.lists"];
 
-const OF_SESSIONS: [&str; 5] = [
+const OF_SESSIONS: [&str; 6] = [
     "talks.cases",
     "methods.cases",
     "names.cases",
     "passing.cases",
+    "monitors.cases",
     "bytes.cases",
 ];
 
