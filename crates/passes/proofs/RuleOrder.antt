@@ -1,5 +1,5 @@
 -- After each rule of a connection fewer are left.
-use Rattle.std.proofs.Common.{◌≡◌, ℕ, ◌+◌, ◌<◌, ◌≤◌, inl, inr, Bool, true, false, not, ◌&&◌, List, [], ◌∷◌, length, Option, Some, None, refl, sym, ap, ◌∙◌, arith, cond}
+use Rattle.std.proofs.Common.{◌≡◌, ℕ, ◌+◌, ◌<◌, ◌≤◌, inl, inr, Bool, true, false, not, ◌&&◌, List, [], ◌∷◌, length, Some, refl, sym, ◌∙◌, ap, arith, cond}
 use Rattle.std.specs.Prelude.{filter, find, nat_lt}
 use Rattle.std.proofs.lemmas.Bool.{false≢true, cases_Bool, and_parts, cond-true, cond-false, ltb-true, lt-ltb}
 use Rattle.entry_table.specs.declared.entry.Entry.{Entry}
@@ -32,6 +32,14 @@ if_length : (b : Bool) (x : Entry) (ys : List Entry) → length (cond b (x ∷ y
 if_length true x ys = omega arith
 if_length false x ys = omega arith
 
+counted : (b : Bool) → b ≡ true → 1 ≤ cond b 1 0
+counted true h = omega arith
+counted false h = absurd (false≢true h)
+
+not_counted : (b : Bool) → b ≡ false → cond b 1 0 ≤ 0
+not_counted true h = absurd (false≢true (sym h))
+not_counted false h = omega arith
+
 no_more : (b d : Bool) → (d ≡ true → b ≡ true) → cond d 1 0 ≤ cond b 1 0
 no_more true true h = omega arith
 no_more true false h = omega arith
@@ -54,8 +62,8 @@ shorter p q weaker e fails (x ∷ xs) found =
       | inl passes ↦ (
           let same : x ≡ e = some_same x e (sym (cond-true (p x) (Some x) (find p xs) passes) ∙ found) in
           let rest = no_longer p q weaker xs in
-          let one : cond (p x) 1 0 ≡ 1 = cond-true (p x) 1 0 passes in
-          let none : cond (q x) 1 0 ≡ 0 = cond-false (q x) 1 0 (ap q same ∙ fails) in
+          let one = counted (p x) passes in
+          let none = not_counted (q x) (ap q same ∙ fails) in
           omega (arith, if_length (p x) x (filter p xs), if_length (q x) x (filter q xs), rest, one, none))
       | inr other ↦ (
           let rest = shorter p q weaker e fails xs (sym (cond-false (p x) (Some x) (find p xs) other) ∙ found) in
@@ -85,7 +93,7 @@ fewer_left connection id e es found =
   where
     not_less : (n : ℕ) → nat_lt n n ≡ false
     not_less n = elim (cases_Bool (nat_lt n n)) [
-      | inl h ↦ absurd (omega (ltb-true n n h))
+      | inl h ↦ absurd (omega (arith, ltb-true n n h))
       | inr h ↦ h
     ]
 

@@ -1,5 +1,6 @@
 -- The rules of a connection (own).
-use Rattle.std.specs.Prelude.{◌≡◌, ℕ, List, [], ◌∷◌, Some, None, find}
+use Rattle.std.specs.Prelude.{◌≡◌, ℕ, List, [], ◌∷◌, ◌++◌, Some, None, find}
+use Rattle.entry_table.specs.declared.entry.Filter.{Filter}
 use Rattle.entry_table.specs.declared.entry.Entry.{Entry}
 use Rattle.entry_table.specs.CompiledRule.{CompiledRule}
 use Rattle.entry_table.specs.Entries.{is_rule_after, rule_of}
@@ -13,3 +14,7 @@ AreRulesFrom connection id entries (rule ∷ rules) =
 -- all rules of a connection, the oldest first; no id is 0
 abbrev pub AreRulesOf : ℕ → List Entry → List CompiledRule → Type 0
 AreRulesOf connection entries rules = AreRulesFrom connection 0 entries rules
+
+-- the rule of a filter came after those that were there
+abbrev pub IsPushed : Filter → List CompiledRule → List CompiledRule → Type 0
+IsPushed filter old new = (rule : CompiledRule) × (rule_of filter ≡ Some rule.rule) × (new ≡ old ++ rule ∷ [])

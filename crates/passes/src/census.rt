@@ -1,20 +1,32 @@
 // What the published state has of each connection, as it is told to whoever looks into the bus. It takes memory.
 
-ghost use Rattle.std.specs.Prelude.{◌≡◌, ℕ, IfOk, MatchOption, length};
+ghost use Rattle.std.specs.Prelude.{◌≡◌, ℕ, false, IfOk, MatchOption, length};
+ghost use Rattle.entry_table.specs.Entries.{is_attached};
 ghost use Rattle.program_table.specs.History.{after};
-ghost use Rattle.passes.specs.Census.{AreRulesOf};
+ghost use Rattle.passes.specs.Census.{AreRulesOf, IsPushed};
 ghost use Rattle.passes.specs.NameOwners.{IsOwner};
 ghost use Rattle.passes.specs.Names.{AreNames};
 
 use crate::control::Control;
 use crate::names::{names_in, owner_in};
-use entry_table::{Filter, RuleProgram};
+use entry_table::{Entry, Filter, RuleProgram};
 use owners::WellKnown;
 use program_table::{BusState, Connection};
 use published::Naming;
 use routing::Mailbox;
 use std::alloc::{AllocError, Global};
 use std::sync::Wait;
+
+/// Adds the rule of an entry that has one.
+fn push_rule(rules: &mut Vec<RuleProgram>, entry: &Entry) -> Result<(), AllocError>
+    requires { is_attached entry.now.filter ≡ false }
+    ensures { IfOk result (λ _. IsPushed entry.now.filter rules.old.items rules.new.items) }
+{
+    if let Filter::Rule(program) = &entry.filter {
+        rules.push(program.share()?)?;
+    }
+    Ok(())
+}
 
 /// The rules of a connection, the oldest first.
 fn rules_in<M: Mailbox>(
@@ -27,9 +39,7 @@ fn rules_in<M: Mailbox>(
     let mut rules: Vec<RuleProgram> = Vec::new(alloc);
     let mut last = 0;
     'rules: while let Some(entry) = state.next_rule(connection, last) {
-        if let Filter::Rule(program) = &entry.filter {
-            rules.push(program.share()?)?;
-        }
+        push_rule(&mut rules, entry)?;
         last = entry.id;
     }
     Ok(rules)
