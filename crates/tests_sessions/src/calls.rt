@@ -13,12 +13,17 @@ const PEER: &str = "org.freedesktop.DBus.Peer";
 
 const PROGRAMS: &str = "org.example.ProgramBus1";
 
+const STATS: &str = "org.freedesktop.DBus.Debug.Stats";
+
 const PROPERTIES: &str = "org.freedesktop.DBus.Properties";
 
 // The argument `x`, and what comes after it.
 const TEXT: &[u8] = b"\x01\0\0\0x\0";
 
 const TEXT_AND_FIVE: &[u8] = b"\x01\0\0\0x\0\0\0\x05\0\0\0";
+
+// An array of `x` and `yz`, and what comes after it.
+const TWO_TEXTS_AND_FIVE: &[u8] = b"\x0f\0\0\0\x01\0\0\0x\0\0\0\x02\0\0\0yz\0\0\x05\0\0\0";
 
 const FIVE: &[u8] = b"\x05\0\0\0";
 
@@ -32,7 +37,7 @@ pub(crate) fn message<R: Abort>(
     body: &[u8],
 ) -> Vec<u8> {
     let mut builder = Builder::new(alloc, Kind::MethodCall, 0, 1);
-    builder.path("/a");
+    builder.path("/org/freedesktop/DBus");
     if !interface.is_empty() {
         builder.interface(interface);
     }
@@ -78,12 +83,22 @@ fn rest_of<'a>(call: &Call<'a>) -> (&'static str, &'a str, u32) {
         Call::GetAll => ("GetAll", "", 0),
         Call::GetAllOfNone => ("GetAll", "none", 0),
         Call::UpdateActivationEnvironment => ("UpdateActivationEnvironment", "", 0),
+        Call::GetStats => ("GetStats", "", 0),
+        Call::GetConnectionStats(name) => ("GetConnectionStats", *name, 0),
+        Call::GetAllMatchRules => ("GetAllMatchRules", "", 0),
+        Call::BecomeMonitor(rules, flags) => {
+            (
+                "BecomeMonitor",
+                rules.as_slice().last().copied().unwrap_or(""),
+                *flags,
+            )
+        }
         _ => ("another", "", 0),
     }
 }
 
 // Interface, member, signature and body of a call, and its text and its number.
-const CALLS: [(&str, &str, &[u8], &[u8], &str, u32); 22] = [
+const CALLS: [(&str, &str, &[u8], &[u8], &str, u32); 26] = [
     (BUS, "Hello", b"", b"", "", 0),
     (BUS, "AddMatch", b"s", TEXT, "x", 0),
     (BUS, "RemoveMatch", b"s", TEXT, "x", 0),
@@ -126,6 +141,17 @@ const CALLS: [(&str, &str, &[u8], &[u8], &str, u32); 22] = [
         b"",
         "",
         0,
+    ),
+    (STATS, "GetStats", b"", b"", "", 0),
+    (STATS, "GetConnectionStats", b"s", TEXT, "x", 0),
+    (STATS, "GetAllMatchRules", b"", b"", "", 0),
+    (
+        "org.freedesktop.DBus.Monitoring",
+        "BecomeMonitor",
+        b"asu",
+        TWO_TEXTS_AND_FIVE,
+        "yz",
+        5,
     ),
 ];
 

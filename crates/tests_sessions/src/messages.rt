@@ -2,7 +2,8 @@
 // cases_bus (`hello_reply`, `hello_and_match`).
 
 use bus_messages::{
-    Body, BuildError, Bytes, ErrorName, Property, error, name_lost, name_owner_changed, reply,
+    Body, BuildError, Bytes, ErrorName, Fact, NamedFact, Property, error, name_lost,
+    name_owner_changed, reply,
 };
 use message_view::View;
 use std::alloc::Global;
@@ -47,7 +48,7 @@ fn lost(rt: HostRuntime) {
 }
 
 // The bytes of each body, as the D-Bus Specification marshals the values.
-const BODIES: [(Body<'static>, &[u8], &[u8]); 6] = [
+const BODIES: [(Body<'static>, &[u8], &[u8]); 7] = [
     (Body::Number(2), b"u", b"\x02\0\0\0"),
     (Body::Truth(true), b"b", b"\x01\0\0\0"),
     (
@@ -57,6 +58,20 @@ const BODIES: [(Body<'static>, &[u8], &[u8]); 6] = [
     ),
     (Body::EmptyDict, b"a{sv}", b"\0\0\0\0\0\0\0\0"),
     (
+        Body::Facts(&[
+            NamedFact {
+                name: "A",
+                fact: Fact::Number(7),
+            },
+            NamedFact {
+                name: "Bc",
+                fact: Fact::Text("de"),
+            },
+        ]),
+        b"a{sv}",
+        b"#\0\0\0\0\0\0\0\x01\0\0\0A\0\x01u\0\0\0\0\x07\0\0\0\x02\0\0\0Bc\0\x01s\0\0\0\x02\0\0\0de\0",
+    ),
+    (
         Body::Property(Property::Features),
         b"v",
         b"\x02as\0\x14\0\0\0\x0f\0\0\0HeaderFiltering\0",
@@ -64,7 +79,7 @@ const BODIES: [(Body<'static>, &[u8], &[u8]); 6] = [
     (
         Body::Property(Property::Interfaces),
         b"v",
-        b"\x02as\0\x1c\0\0\0\x17\0\0\0org.example.ProgramBus1\0",
+        b"\x02as\0h\0\0\0\x1f\0\0\0org.freedesktop.DBus.Monitoring\0 \0\0\0org.freedesktop.DBus.Debug.Stats\0\0\0\0\x17\0\0\0org.example.ProgramBus1\0",
     ),
 ];
 
@@ -90,7 +105,7 @@ fn bodies(rt: HostRuntime) {
 fn expect_properties<R: Abort>(rt: &R, sent: Bytes) {
     let view = View::read(sent.as_slice()).expect(rt, "a message");
     assert_eq!(rt; view.signature(), b"a{sv}".as_slice());
-    assert_eq!(rt; view.body().len(), 108);
+    assert_eq!(rt; view.body().len(), 184);
     assert_eq!(rt; view.body().get(12..20), Some(b"Features".as_slice()));
     assert_eq!(rt; view.body().get(60..70), Some(b"Interfaces".as_slice()));
     forget(sent);
