@@ -231,13 +231,13 @@ STATS = "org.freedesktop.DBus.Debug.Stats"
 
 def met(one):
     """The member or the error of each message that came, until none comes for a moment."""
-    one.link.settimeout(1)
-    found = []
+    one.timeout, found = 0.5, []
     try:
         while True:
             got = one.receive()
             found.append(got.member or got.error_name or ("answer", got.reply_serial))
     except TimeoutError:
+        one.timeout = 10
         return found
 
 
