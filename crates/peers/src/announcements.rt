@@ -234,8 +234,21 @@ impl<B: Naming, M: Mailbox> Peer<B, M> {
             .pass
             .broadcast(context.rt, context.alloc, source, view, bytes, lists);
         match routed {
-            Ok(()) => Ok(()),
+            Ok(()) => {
+                self.count_broadcast(source, lists);
+                Ok(())
+            }
             Err(_) => Err(AnswerError::NoMemory),
+        }
+    }
+
+    // Counts a broadcast, unless it is the bus's.
+    fn count_broadcast(&self, source: Source, lists: &RouteLists) {
+        if source == Source::Own {
+            let refused = lists.refused.len();
+            self.own
+                .tally()
+                .count_broadcast(lists.recipients.len(), refused);
         }
     }
 }

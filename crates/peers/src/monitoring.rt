@@ -1,8 +1,13 @@
 // Clients that watch all that goes through the bus.
 
-ghost use Rattle.std.specs.Prelude.{◌≡◌, IfErr};
-ghost use Rattle.peers.specs.Answers.{NeverSlow};
-ghost use Rattle.peers.specs.Monitoring.{BecomesMonitor, Watches, GoesUnder, LosesOwnName};
+ghost use Rattle.std.specs.Prelude.{◌≡◌, codes, IfErr};
+ghost use Rattle.message_build.specs.Asked.{Asked};
+ghost use Rattle.message_build.specs.Building.{AreAsked};
+ghost use Rattle.bus_messages.specs.Sent.{Builds};
+ghost use Rattle.peers.specs.Announcements.{told_asked};
+ghost use Rattle.peers.specs.Answers.{IsPut, NeverSlow, after_serial};
+ghost use Rattle.peers.specs.Monitoring.{BecomesMonitor, Watches, GoesUnder};
+ghost use Rattle.peers.specs.PeerState.{name_of};
 
 use crate::context::Context;
 use crate::error::AnswerError;
@@ -11,7 +16,7 @@ use crate::peer::Peer;
 use crate::refused::Refused;
 use crate::request::Request;
 use crate::sending::stamp_message;
-use bus_messages::{Body, ErrorName, UniqueName, name_lost};
+use bus_messages::{Body, BuildError, Bytes, ErrorName, UniqueName, name_lost};
 use match_rule::Rule;
 use message_view::View;
 use router::{BusError, Mailbox, Naming, RouteLists};
@@ -118,21 +123,38 @@ impl<B: Naming, M: Mailbox> Peer<B, M> {
     {
         match self.leave(context, lists) {
             Leaving::Done => {
-                self.lose_own_name(context);
+                // One whose outbox has no room for this is Slow at its next step.
+                let _ = self.lose_own_name(context);
                 Ok(())
             }
             Leaving::Ended | Leaving::Refused => Err(AnswerError::NoMemory),
         }
     }
 
-    // A client whose outbox has no room for this is Slow at its next step.
-    fn lose_own_name<W: Wait, R: Wait + Drop>(&mut self, context: &Context<'_, B, M, W, R>)
-        ensures { LosesOwnName self.old self.new }
+    // Tells the client that it has lost its unique name.
+    fn lose_own_name<W: Wait, R: Wait + Drop>(
+        &mut self,
+        context: &Context<'_, B, M, W, R>,
+    ) -> Result<(), AnswerError>
+        ensures { IsPut (AreAsked (told_asked self.old.serial (codes "NameLost") (name_of self.old) self.old.pass.connection)) (after_serial self.old) result self.new }
     {
         let serial = self.serials.take();
         let name = UniqueName::new(self.pass.connection());
-        if let Ok(bytes) = name_lost(context.alloc, serial, name.as_str(), name.as_str()) {
-            let _ = self.put(context, bytes);
+        let built_message = name_lost(context.alloc, serial, name.as_str(), name.as_str());
+        self.tell_client(context, built_message)
+    }
+
+    // Puts a message of the bus to the client itself.
+    fn tell_client<W: Wait, R: Wait + Drop>(
+        &mut self,
+        context: &Context<'_, B, M, W, R>,
+        built_message: Result<Bytes, BuildError>,
+    ) -> Result<(), AnswerError>
+        ensures { (asked : Asked) → Builds asked built_message → IsPut (AreAsked asked) self.old result self.new }
+    {
+        match built_message {
+            Ok(bytes) => self.put(context, bytes),
+            Err(_) => Err(AnswerError::NoMemory),
         }
     }
 }

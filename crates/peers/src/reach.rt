@@ -3,15 +3,36 @@
 ghost use Rattle.std.specs.Prelude.{◌≡◌, true};
 ghost use Rattle.peers.specs.Passing.{HasSeenMore, IsForNobody, with_pass};
 
+use crate::context::Context;
 use crate::peer::Peer;
 use message_view::View;
 use router::{Mailbox, Naming};
+use std::sync::Wait;
 
 impl<B: Naming, M: Mailbox> Peer<B, M> {
     /// Whether this message, stamped with the client's name, is for nobody, after a history that begins with what the pass had
-    /// seen, and is seen then. Most broadcasts are, and needn't be stamped. If the bus doesn't tell, the answer is
-    /// false.
-    pub(crate) fn reaches_nobody(&mut self, view: &View<'_>) -> bool
+    /// seen, and is seen then. Most broadcasts are, and needn't be stamped. If the bus doesn't tell, or somebody watches it, the
+    /// answer is false.
+    pub(crate) fn reaches_nobody<W: Wait, R: Wait + Drop>(
+        &mut self,
+        context: &Context<'_, B, M, W, R>,
+        view: &View<'_>,
+    ) -> bool
+        ensures nobody { result ≡ true → IsForNobody view.now self.old self.new.pass }
+        ensures later { HasSeenMore self.old.pass self.new.pass }
+        ensures same { self.new ≡ with_pass self.old self.new.pass }
+    {
+        if !context.bus.monitors().is_empty() {
+            return false;
+        }
+        let reaches_nobody = self.is_for_nobody(view);
+        if reaches_nobody {
+            self.own.tally().count_broadcast(0, 0);
+        }
+        reaches_nobody
+    }
+
+    fn is_for_nobody(&mut self, view: &View<'_>) -> bool
         ensures nobody { result ≡ true → IsForNobody view.now self.old self.new.pass }
         ensures later { HasSeenMore self.old.pass self.new.pass }
         ensures same { self.new ≡ with_pass self.old self.new.pass }

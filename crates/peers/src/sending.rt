@@ -36,21 +36,13 @@ impl<B: Naming, M: Mailbox> Peer<B, M> {
     ) -> Result<(), AnswerError>
         ensures { HasBroadcast M.outbox_of view.now self.old result self.new }
     {
-        if context.bus.monitors().is_empty() && self.reaches_nobody(view) {
-            self.own.tally().count_broadcast(0, 0);
+        if self.reaches_nobody(context, view) {
             return Ok(());
         }
         match stamp_message(context.alloc, view, &self.name) {
             Ok(bytes) => {
                 let stamped = View::of_message(bytes.as_slice());
-                let routed = self.broadcast(context, Source::Own, &stamped, &bytes, lists);
-                if routed.is_ok() {
-                    let refused = lists.refused.len();
-                    self.own
-                        .tally()
-                        .count_broadcast(lists.recipients.len(), refused);
-                }
-                routed
+                self.broadcast(context, Source::Own, &stamped, &bytes, lists)
             }
             Err(StampError::TooLarge) => Ok(()),
             Err(StampError::NoMemory) => Err(AnswerError::NoMemory),

@@ -168,16 +168,21 @@ impl<B: Naming, M: Mailbox> Peer<B, M> {
         ensures row { AnswersInsight request self.old result self.new }
         ensures error { NeverSlow request.wants_answer result }
     {
-        if let Err(why) = self.check_insight() {
-            return self.refuse(context, request, why);
-        }
-        match stats_of_all(context.rt, context.alloc, context.bus) {
+        match self.look_at_all(context) {
             Ok((clients, stats)) => {
                 let facts = stats.facts(named("ActiveConnections", told(clients as u64)));
                 self.answer(context, request, Body::Facts(&facts))
             }
-            Err(_) => self.refuse(context, request, Refused::Error(ErrorName::NoMemory)),
+            Err(why) => self.refuse(context, request, why),
         }
+    }
+
+    fn look_at_all<W: Wait, R: Wait + Drop>(
+        &self,
+        context: &Context<'_, B, M, W, R>,
+    ) -> Result<(usize, Stats), Refused> {
+        self.check_insight()?;
+        Ok(stats_of_all(context.rt, context.alloc, context.bus)?)
     }
 
     pub(crate) fn get_connection_stats<W: Wait, R: Wait + Drop>(
@@ -189,38 +194,43 @@ impl<B: Naming, M: Mailbox> Peer<B, M> {
         ensures row { AnswersInsightLater request self.old result self.new }
         ensures error { NeverSlow request.wants_answer result }
     {
-        match self.owner_named(name) {
-            Ok(Some(Owner::Connection(number))) => {
-                self.answer_connection_stats(context, request, number)
-            }
-            Ok(Some(Owner::Bus)) => {
-                self.refuse(context, request, Refused::Error(ErrorName::InvalidArgs))
-            }
-            Ok(None) => self.refuse(context, request, Refused::Error(ErrorName::NameHasNoOwner)),
-            Err(why) => self.refuse(context, request, why),
-        }
+        let owner = self.owner_named(name);
+        self.answer_connection_stats(context, request, owner)
     }
 
     fn answer_connection_stats<W: Wait, R: Wait + Drop>(
         &mut self,
         context: &Context<'_, B, M, W, R>,
         request: Request,
-        number: u64,
+        owner: Result<Option<Owner>, Refused>,
     ) -> Result<(), AnswerError>
         ensures row { AnswersInsight request self.old result self.new }
         ensures error { NeverSlow request.wants_answer result }
     {
-        if let Err(why) = self.check_insight() {
-            return self.refuse(context, request, why);
-        }
-        let name = UniqueName::new(number);
-        match stats_of(context.rt, context.alloc, context.bus, number) {
-            Ok(Some(stats)) => {
+        match self.look_at(context, owner) {
+            Ok((number, stats)) => {
+                let name = UniqueName::new(number);
                 let facts = stats.facts(named("UniqueName", Fact::Text(name.as_str())));
                 self.answer(context, request, Body::Facts(&facts))
             }
-            Ok(None) => self.refuse(context, request, Refused::Error(ErrorName::NameHasNoOwner)),
-            Err(_) => self.refuse(context, request, Refused::Error(ErrorName::NoMemory)),
+            Err(why) => self.refuse(context, request, why),
+        }
+    }
+
+    fn look_at<W: Wait, R: Wait + Drop>(
+        &self,
+        context: &Context<'_, B, M, W, R>,
+        owner: Result<Option<Owner>, Refused>,
+    ) -> Result<(u64, Stats), Refused> {
+        self.check_insight()?;
+        let number = match owner? {
+            Some(Owner::Connection(number)) => number,
+            Some(Owner::Bus) => return Err(Refused::Error(ErrorName::InvalidArgs)),
+            None => return Err(Refused::Error(ErrorName::NameHasNoOwner)),
+        };
+        match stats_of(context.rt, context.alloc, context.bus, number)? {
+            Some(stats) => Ok((number, stats)),
+            None => Err(Refused::Error(ErrorName::NameHasNoOwner)),
         }
     }
 
@@ -232,12 +242,17 @@ impl<B: Naming, M: Mailbox> Peer<B, M> {
         ensures row { AnswersInsight request self.old result self.new }
         ensures error { NeverSlow request.wants_answer result }
     {
-        if let Err(why) = self.check_insight() {
-            return self.refuse(context, request, why);
-        }
-        match rules_of_all(context.rt, context.alloc, context.bus) {
+        match self.look_at_rules(context) {
             Ok(lists) => self.answer(context, request, Body::TextLists(lists.as_slice())),
-            Err(_) => self.refuse(context, request, Refused::Error(ErrorName::NoMemory)),
+            Err(why) => self.refuse(context, request, why),
         }
+    }
+
+    fn look_at_rules<W: Wait, R: Wait + Drop>(
+        &self,
+        context: &Context<'_, B, M, W, R>,
+    ) -> Result<Vec<TextList>, Refused> {
+        self.check_insight()?;
+        Ok(rules_of_all(context.rt, context.alloc, context.bus)?)
     }
 }

@@ -2,7 +2,7 @@ use Rattle.std.proofs.Common.{◌∙◌, sym, ap}
 use Rattle.std.specs.Prelude.{option_map}
 use Rattle.peers.specs.Handling.{is_known}
 use Rattle.peers.proofs.Handling.{handled_to}
-use Rattle.peers.proofs.peer.Peer.handle.Goals as goal
+use Rattle.peers.proofs.peer.Peer.handle_open.Goals as goal
 
 pub returns-in-Some : goal.returns-in-Some
 returns-in-Some g c m valid =
