@@ -2,8 +2,8 @@ use Rattle.std.proofs.Common.{◌≡◌, sym, ap, ◌∙◌, true≢false}
 use Rattle.unique_name.specs.UniqueNames.{unique_name}
 use Rattle.peers.specs.PeerState.{PeerState, name_of}
 use Rattle.peers.proofs.StampedTexts.{stamped_for_nobody}
-use Rattle.peers.proofs.peer.Peer.reaches_nobody.Goals as goal
-use Rattle.peers.proofs.peer.Peer.reaches_nobody.Goals.{in-Ok, in-Err}
+use Rattle.peers.proofs.peer.Peer.is_for_nobody.Goals as goal
+use Rattle.peers.proofs.peer.Peer.is_for_nobody.Goals.{in-Ok, in-Err}
 
 pub returns-clause-nobody : goal.returns-clause-nobody
 returns-clause-nobody g c =
